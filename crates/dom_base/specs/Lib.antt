@@ -1,0 +1,3 @@
+pub mod Conduction
+pub mod Names
+pub mod Tri
