@@ -1,0 +1,4 @@
+pub mod CircuitData
+pub mod Nets
+pub mod Ports
+pub mod Pushes

@@ -1,0 +1,42 @@
+use Rattle.std.specs.Prelude.{ℕ, ◌+◌, ◌≤◌, ◌≡◌, ◌^◌, max, List, [], ◌∷◌, length, nat_eq}
+use Rattle.std.specs.Cmp.Lexicographic.{pointwise}
+use Rattle.std.specs.List.{position_or_len, IsDistinct}
+use Rattle.indexmap.specs.IndexSet.{insert_key}
+use Rattle.deck.specs.declared.device.Device.{Device}
+
+-- the number of a net, or the number of nets where the name is new
+abbrev pub place_of : List (List ℕ) → List ℕ → ℕ
+place_of nets name = position_or_len (pointwise nat_eq name) nets
+
+-- the nets, with this one at the end where it is new
+abbrev pub with_net : List (List ℕ) → List ℕ → List (List ℕ)
+with_net nets name = insert_key (pointwise nat_eq) nets name
+
+-- the nets after the drain, the gate and the source of a device, in this order
+abbrev pub with_nets : List (List ℕ) → List ℕ → List ℕ → List ℕ → List (List ℕ)
+with_nets nets d g s = with_net (with_net (with_net nets d) g) s
+
+-- the net numbers that devices name, in order: drain before gate before source
+abbrev pub ends : List Device → List ℕ
+ends [] = []
+ends (d ∷ ds) = d.drain ∷ d.gate ∷ d.source ∷ ends ds
+
+-- where the numbers below n stand already, each further number is at most the next new one:
+-- nets are numbered in order of first appearance
+abbrev pub IsNumbered : ℕ → List ℕ → Type 0
+IsNumbered n [] = Unit {0}
+IsNumbered n (e ∷ es) = (e ≤ n) × IsNumbered (max n (e + 1)) es
+
+-- how many numbers stand in the end
+abbrev pub used : ℕ → List ℕ → ℕ
+used n [] = n
+used n (e ∷ es) = used (max n (e + 1)) es
+
+-- what holds of every circuit: the limits, no net twice, the ports first, and the other nets
+-- in order of first appearance over the devices
+pub record IsCircuit (ports : ℕ) (nets : List (List ℕ)) (devices : List Device) : Type 0 where
+  pub few_ports : ports ≤ 2 ^ 20
+  pub few_devices : length devices ≤ 2 ^ 24
+  pub distinct : IsDistinct (pointwise nat_eq) nets
+  pub in_order : IsNumbered ports (ends devices)
+  pub all_used : length nets ≡ used ports (ends devices)

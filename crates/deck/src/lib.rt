@@ -1,0 +1,10 @@
+//! Circuits of transistors: their ports, their nets and their devices.
+#![tactic(auto)]
+
+mod circuit;
+mod device;
+mod phase;
+
+pub use circuit::Circuit;
+pub use device::Device;
+pub use phase::Phase;
