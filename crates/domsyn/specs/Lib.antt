@@ -1,0 +1,4 @@
+pub mod OneTable
+pub mod OneTableData
+pub mod Table
+pub mod Words

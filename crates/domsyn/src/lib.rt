@@ -1,0 +1,12 @@
+//! The command `synth` over a shelf of files and a sink.
+#![tactic(auto)]
+
+mod check;
+mod cut;
+mod letter;
+mod one_table;
+mod print;
+mod read;
+
+pub use letter::Letter;
+pub use one_table::{OneTable, Row};
