@@ -1,0 +1,10 @@
+pub mod CellLaws
+pub mod Cells
+pub mod Known
+pub mod Lists
+pub mod Reach
+pub mod Spellings
+pub mod Stages
+pub mod Tests
+pub mod Trees
+pub mod Worked

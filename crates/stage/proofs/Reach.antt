@@ -1,0 +1,36 @@
+-- Paths whose devices all have a property, without the list of devices.
+use Rattle.std.proofs.Common.{◌≡◌, ℕ, Bool, true, false, List, [], ◌∷◌, sym, ◌∙◌, inl, inr}
+use Rattle.std.specs.Prelude.{◌⊎◌}
+use Rattle.std.specs.List.{AllByRecursion}
+use Rattle.deck.specs.declared.device.Device.{Device}
+use Rattle.deck.specs.Paths.{Path, one, more, Ends}
+
+-- devices with Q join the first net to the second, end to end, with no source net inside
+pub data Reach (Q : Device → Type 0) (is_source : ℕ → Bool) : ℕ → ℕ → Type 0 where
+  last : {d : Device} {a b : ℕ} → Q d → Ends d a b → Reach Q is_source a b
+  step : {d : Device} {a m b : ℕ} → Q d → Ends d a m → is_source m ≡ false → Reach Q is_source m b → Reach Q is_source a b
+
+pub Reach-from_path : (Q : Device → Type 0) (is_source : ℕ → Bool) {a b : ℕ} {p : List Device} → Path is_source a p b → AllByRecursion Q p → Reach Q is_source a b
+Reach-from_path Q is_source (one e) h = last h.0 e
+Reach-from_path Q is_source (more e n r) h = step h.0 e n (Reach-from_path Q is_source r h.1)
+
+pub path_from_Reach : (Q : Device → Type 0) (is_source : ℕ → Bool) {a b : ℕ} → Reach Q is_source a b → (p : List Device) × Path is_source a p b × AllByRecursion Q p
+path_from_Reach Q is_source (last {d = d} q e) = (d ∷ [], one e, (q, tt))
+path_from_Reach Q is_source (step {d = d} q e n r) =
+    let t = path_from_Reach Q is_source r in (d ∷ t.0, more e n t.1, (q, t.2))
+
+-- one path after another
+pub Reach-trans : {Q : Device → Type 0} {is_source : ℕ → Bool} {a m b : ℕ} → Reach Q is_source a m → is_source m ≡ false → Reach Q is_source m b → Reach Q is_source a b
+Reach-trans (last q e) n s = step q e n s
+Reach-trans (step q e k r) n s = step q e k (Reach-trans r n s)
+
+-- what holds of the first net, and what each device keeps unless it leads to a source with T, holds of the last
+pub Reach-kept : {Q : Device → Type 0} {is_source : ℕ → Bool} (S : ℕ → Type 0) (T : ℕ → Type 0) {a b : ℕ}
+    → ((d : Device) (x y : ℕ) → Q d → Ends d x y → S x → S y ⊎ ((is_source y ≡ true) × T y))
+    → S a → Reach Q is_source a b → S b ⊎ ((is_source b ≡ true) × T b)
+Reach-kept S T {a} {b} keep s (last {d = d} q e) = keep d a b q e s
+Reach-kept S T {a} keep s (step {d = d} {m = m} q e n r) =
+    elim (keep d a m q e s) [ inl x ↦ Reach-kept S T keep x r | inr y ↦ absurd (clash (sym n ∙ y.0)) ]
+  where
+    clash : false ≡ true → ⊥
+    clash x = cc

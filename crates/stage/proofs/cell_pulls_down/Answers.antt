@@ -1,0 +1,8 @@
+use Rattle.stage.proofs.CellLaws.{may_pull_down_where_not_zero, pulls_down_where_one}
+use Rattle.stage.proofs.cell_pulls_down.Goals as goal
+
+pub returns-clause-definite : goal.returns-clause-definite
+returns-clause-definite c = pulls_down_where_one
+
+pub returns-clause-possible : goal.returns-clause-possible
+returns-clause-possible c = may_pull_down_where_not_zero

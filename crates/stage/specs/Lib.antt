@@ -1,0 +1,7 @@
+pub mod Card
+pub mod Cell
+pub mod Known
+pub mod Laws
+pub mod Stage
+pub mod Tree
+pub mod Worked

@@ -1,0 +1,47 @@
+use Rattle.std.specs.Prelude.{◌≡◌, ℕ, List, [], ◌∷◌, ◌++◌, map, nat_lt}
+use Rattle.dom_base.specs.declared.kind.Kind.TheVariants.{N as nch, P as pch, Keep}
+use Rattle.deck.specs.declared.device.Device.{Device}
+use Rattle.stage.specs.Card.{device_of}
+use Rattle.stage.specs.Cell.{CellNets, IsCell, cell, inverter}
+use Rattle.stage.specs.Tree.{Tree, Leaf, Series, spell}
+
+-- The circuit of an And of two inputs. The nets are vdd, vss, ck1, lm, lmb, ls, lsb, rs, rsb, i_a, i_b,
+-- o_f, d0, z0, t0_0 and f0, numbered from 0.
+abbrev pub and_devices : List Device
+and_devices =
+    record { kind = pch; drain = 12; gate = 2; source = 0 }
+    ∷ record { kind = Keep; drain = 12; gate = 13; source = 0 }
+    ∷ record { kind = nch; drain = 12; gate = 9; source = 14 }
+    ∷ record { kind = nch; drain = 14; gate = 10; source = 15 }
+    ∷ record { kind = nch; drain = 15; gate = 2; source = 1 }
+    ∷ record { kind = pch; drain = 13; gate = 12; source = 0 }
+    ∷ record { kind = nch; drain = 13; gate = 12; source = 1 }
+    ∷ record { kind = pch; drain = 11; gate = 12; source = 0 }
+    ∷ record { kind = nch; drain = 11; gate = 12; source = 1 }
+    ∷ []
+
+-- the nets of its cell
+abbrev pub and_nets : CellNets ℕ
+and_nets = record { vdd = 0; vss = 1; clock = 2; dynamic = 12; output = 13; foot = 15; inner = λ j. 14 }
+
+-- and the tree: both inputs in series
+abbrev pub and_tree : Tree ℕ
+and_tree = Series (Leaf 9) (Leaf 10)
+
+-- the circuit is the cell and the inverter of the output port
+abbrev pub AndIsSpelled : Type 0
+AndIsSpelled = map device_of (cell and_nets and_tree ++ inverter 0 1 12 11) ≡ and_devices
+
+-- and it holds the cell as the laws of paths in a cell want it; the ports but o_f are the sources
+abbrev pub AndHoldsCell : Type 0
+AndHoldsCell = IsCell and_devices (λ n. nat_lt n 11) and_nets and_tree
+
+-- three leaves in series from d to f by the inner nets t 0 and t 1: the outer series takes t 0
+abbrev pub ThreeInSeries : Type 0
+ThreeInSeries =
+    (t : ℕ → ℕ) (d f a b c : ℕ)
+    → spell nch t (Series (Series (Leaf a) (Leaf b)) (Leaf c)) d f 0
+    ≡ record { kind = nch; drain = d; gate = a; source = t 1 }
+    ∷ record { kind = nch; drain = t 1; gate = b; source = t 0 }
+    ∷ record { kind = nch; drain = t 0; gate = c; source = f }
+    ∷ []
