@@ -1,7 +1,17 @@
 //! Circuits.
+ghost use Rattle.std.specs.Prelude.{◌≡◌, ◌<◌, ◌≤◌, ◌+◌, ◌^◌, ◌++◌, All, IfOk, OnErr, OnOk, Some, length, nat_eq, slice_get};
+ghost use Rattle.std.specs.Cmp.Lexicographic.{pointwise};
+ghost use Rattle.std.specs.List.{IsDistinct};
+ghost use Rattle.deck.specs.Nets.{IsCircuit};
+ghost use Rattle.deck.specs.Ports.{IsOutput, IsPin};
+ghost use Rattle.deck.specs.Pushes.{new_circuit, pushed};
+
+use crate::number::{add_all, number_ends};
+use crate::ports::leading_nets;
 use crate::{Device, Phase};
-use dom_base::NetName;
+use dom_base::{Kind, NetName, OutOfMemory};
 use indexmap::IndexSet;
+use std::alloc::Global;
 use std::marker::Model;
 
 /// A subcircuit of transistors. Its first `ports` nets are its ports; the other nets stand in
@@ -25,4 +35,94 @@ impl Model for Circuit {
     ghost view = { λ c. record { name = c.name; phases = c.phases.items; ports = c.ports; nets = c.nets.keys; devices = c.devices.items } };
 
     ghost invariant = { λ c. IsCircuit c.ports c.nets.keys c.devices.items };
+}
+
+impl Circuit {
+    /// A circuit without devices. Its ports are `vdd`, `vss`, the clocks `ck1` to `ckP` with P for
+    /// `clocks`, the clocks and resets of latches `lm`, `lmb`, `ls`, `lsb`, `rs`, `rsb`, then `pins`
+    /// and then `outs`. The one error is want of memory.
+    pub fn new(
+        alloc: Global,
+        name: NetName,
+        phases: Vec<Phase>,
+        clocks: u8,
+        pins: &[NetName],
+        outs: &[NetName],
+    ) -> Result<Circuit, OutOfMemory>
+        requires some_clock { 1 ≤ clocks }
+        requires few_clocks { clocks ≤ 4 }
+        requires pins_begin { All IsPin pins.now }
+        requires outs_begin { All IsOutput outs.now }
+        requires apart { IsDistinct (pointwise nat_eq) (pins.now ++ outs.now) }
+        requires few { length pins.now + length outs.now ≤ 1000000 }
+        ensures { IfOk result (λ c. c ≡ new_circuit name phases.items clocks pins.now outs.now) }
+    {
+        let mut nets = leading_nets(alloc, clocks)?;
+        add_all(&mut nets, pins)?;
+        add_all(&mut nets, outs)?;
+        let devices = Vec::new(alloc);
+        let ports = nets.len() as u32;
+        Ok(Circuit {
+            name,
+            phases,
+            ports,
+            nets,
+            devices,
+        })
+    }
+
+    /// Adds a device between the nets of these names at the end. A net that is new takes the next
+    /// number, drain before gate before source. The one error is want of memory, and it leaves the
+    /// circuit as it was.
+    pub fn push(
+        &mut self,
+        kind: Kind,
+        drain: &NetName,
+        gate: &NetName,
+        source: &NetName,
+    ) -> Result<(), OutOfMemory>
+        requires { length self.old.devices < 2 ^ 24 }
+        ensures ok { OnOk result (self.new ≡ pushed self.old kind drain.now gate.now source.now) }
+        ensures err { OnErr result (self.new ≡ self.old) }
+    {
+        let before = self.nets.len();
+        match number_ends(&mut self.nets, drain, gate, source) {
+            Ok((drain, gate, source)) => {
+                let device = Device {
+                    kind,
+                    drain: drain as u32,
+                    gate: gate as u32,
+                    source: source as u32,
+                };
+                match self.devices.push(device) {
+                    Ok(()) => Ok(()),
+                    Err(_) => {
+                        self.nets.truncate(before);
+                        Err(OutOfMemory)
+                    }
+                }
+            }
+            Err(failed) => {
+                self.nets.truncate(before);
+                Err(failed)
+            }
+        }
+    }
+
+    /// The name of the net with this number, from 0.
+    pub fn net(&self, place: u32) -> &NetName
+        requires { place < length self.now.nets }
+        ensures name { slice_get self.now.nets place ≡ Some result.now }
+        ensures whole { IsCircuit self.now.ports self.now.nets self.now.devices }
+    {
+        self.nets.get_index(place as usize).unwrap()
+    }
+
+    /// The number of devices, at most 16,777,216.
+    pub fn device_count(&self) -> u32
+        ensures count { result ≡ length self.now.devices }
+        ensures whole { IsCircuit self.now.ports self.now.nets self.now.devices }
+    {
+        self.devices.len() as u32
+    }
 }

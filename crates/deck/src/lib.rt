@@ -3,7 +3,11 @@
 
 mod circuit;
 mod device;
+mod number;
 mod phase;
+mod ports;
+#[cfg(test)]
+mod tests;
 
 pub use circuit::Circuit;
 pub use device::Device;
