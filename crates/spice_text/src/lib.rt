@@ -8,6 +8,8 @@ mod cards;
 mod line;
 mod ports;
 mod roles;
+#[cfg(test)]
+mod tests;
 
 use cards::{put_cards, put_phases};
 use deck::Circuit;
