@@ -1,5 +1,6 @@
-use Rattle.std.proofs.Common.{ℕ, ◌+◌, List, ◌++◌, Option, None, Some, length, take, drop, ap, ◌∙◌, append_assoc, arith, length-append}
+use Rattle.std.proofs.Common.{ℕ, ◌+◌, ◌≤◌, List, ◌++◌, Option, None, Some, length, take, drop, ap, ◌∙◌, append_assoc, arith, length-append}
 use Rattle.std.proofs.Math.Seq.{take-add, take-append-add}
+use Rattle.std.proofs.lemmas.List.{take-append-le}
 use Rattle.std.specs.Io.KnownBytes.{Appends}
 use Rattle.dom_io.specs.Pieces.{AppendsPrefix}
 
@@ -22,5 +23,15 @@ AppendsPrefix-then a b c xs ys h k = record {
   grown = rw (take-append-add xs ys k.count) (Appends-then a b c xs (take k.count ys) h k.grown);
 }
 
+-- a part of the front is a part of the whole
+pub AppendsPrefix-front : (a b : Option (List ℕ)) (xs ys : List ℕ) → AppendsPrefix a b xs → AppendsPrefix a b (xs ++ ys)
+AppendsPrefix-front a b xs ys h =
+    let low : h.count ≤ length xs = omega (arith, h.part) in
+    record {
+      count = h.count;
+      part = omega (arith, length-append xs ys, h.part);
+      grown = rw (take-append-le h.count xs ys) h.grown;
+    }
+
 -- for a function that puts several texts one after another
-pub ruleset put_twice = (AppendsPrefix-then)
+pub ruleset put_twice = (AppendsPrefix-then, AppendsPrefix-front)

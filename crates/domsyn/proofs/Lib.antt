@@ -4,3 +4,5 @@ pub mod Apart
 pub mod NetNames
 pub mod Spelling
 pub mod Literals
+pub mod Commands
+pub mod Fetched

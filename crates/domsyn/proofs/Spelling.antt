@@ -1,13 +1,17 @@
-use Rattle.std.proofs.Common.{◌≡◌, ℕ, zero, suc, ◌<◌, ◌≤◌, ◌+◌, ◌-◌, ◌/◌, min, List, [], ◌∷◌, ◌++◌, length, map, take, drop, get_or, refl, sym, ap, ◌∙◌, arith, length-take, length-drop, add-one}
+use Rattle.std.proofs.Common.{true, ◌≡◌, ℕ, zero, suc, ◌≤◌, ◌+◌, List, [], ◌∷◌, ◌++◌, length, map, take, drop, get_or, refl, sym, ap, ◌∙◌, arith, length-take, length-drop}
+use Rattle.std.specs.Prelude.{codes}
 use Rattle.std.proofs.lemmas.List.{take-map, drop-map, length-map}
 use Rattle.dom_base.specs.declared.kind.Kind.{Kind}
+use Rattle.dom_base.specs.declared.kind.Kind.TheVariants.{N as nch, P as pch, Keep}
 use Rattle.deck.specs.CircuitData.{CircuitData}
-use Rattle.deck.specs.Pushes.{pushed}
+use Rattle.deck.specs.Pushes.{pushed, new_circuit}
 use Rattle.stage.specs.Card.{Card, with_cards}
+use Rattle.stage.specs.Cell.{CellNets, cell, dynamic_stage, inverter}
 use Rattle.stage.specs.Tree.{Tree, Leaf, Series, Parallel, spell, inner_count}
 use Rattle.domsyn.specs.Balanced.{balanced, balanced_within, first_half}
 use Rattle.domsyn.specs.declared.letter.Letter.{Letter}
-use Rattle.domsyn.specs.Deck.{row_tree, table_tree, literals}
+use Rattle.domsyn.specs.OneTableData.{OneTableData}
+use Rattle.domsyn.specs.Deck.{row_tree, table_tree, literals, pin_name, output_name, cell_nets, circuit_of}
 
 pub with_cards-append : (c : CircuitData) (xs ys : List (Card (List ℕ))) → with_cards c (xs ++ ys) ≡ with_cards (with_cards c xs) ys
 with_cards-append c [] ys = refl
@@ -129,3 +133,32 @@ pub one_row : (rows : List (List Letter)) (row : List Letter) → length rows �
 one_row [] row one is = absurd (omega arith)
 one_row (x ∷ []) row one is = ap (λ r. r ∷ []) (sym is)
 one_row (x ∷ y ∷ more) row one is = absurd (omega arith)
+
+-- the cards of a cell, appended part by part
+pub cell_cards : (old a b c d new : CircuitData) (nets : CellNets (List ℕ)) (tree : Tree (List ℕ))
+    → a ≡ pushed old pch nets.dynamic nets.clock nets.vdd → b ≡ pushed a Keep nets.dynamic nets.output nets.vdd
+    → c ≡ with_cards b (spell nch nets.inner tree nets.dynamic nets.foot 0) → d ≡ pushed c nch nets.foot nets.clock nets.vss
+    → new ≡ with_cards d (inverter nets.vdd nets.vss nets.dynamic nets.output) → new ≡ with_cards old (cell nets tree)
+cell_cards old a b c d new nets tree one two three four five =
+    let inv : List (Card (List ℕ)) = inverter nets.vdd nets.vss nets.dynamic nets.output in
+    let spelled : List (Card (List ℕ)) = spell nch nets.inner tree nets.dynamic nets.foot 0 in
+    let foot : Card (List ℕ) = record { kind = nch; drain = nets.foot; gate = nets.clock; source = nets.vss } in
+    let kept : CircuitData = pushed (pushed old pch nets.dynamic nets.clock nets.vdd) Keep nets.dynamic nets.output nets.vdd in
+    let b_is : b ≡ kept = two ∙ ap (λ x. pushed x Keep nets.dynamic nets.output nets.vdd) one in
+    let c_is : c ≡ with_cards kept spelled = three ∙ ap (λ x. with_cards x spelled) b_is in
+    let d_is : d ≡ with_cards kept (spelled ++ foot ∷ []) = four ∙ ap (λ x. pushed x nch nets.foot nets.clock nets.vss) c_is ∙ sym (with_cards-append kept spelled (foot ∷ [])) in
+    five ∙ ap (λ x. with_cards x inv) d_is ∙ sym (with_cards-append old (dynamic_stage nets tree) inv)
+
+pub circuit_of_parts : (t : OneTableData) (start celled done : CircuitData) (pins : List (List ℕ)) (rows : List (List Letter)) (model out vdd vss dynamic : List ℕ)
+    → model ≡ t.model → rows ≡ t.rows → pins ≡ map pin_name t.inputs → out ≡ output_name t.output → vdd ≡ codes "vdd" → vss ≡ codes "vss" → dynamic ≡ codes "d0"
+    → start ≡ new_circuit model (record { net = out; plus = true } ∷ []) 1 pins (out ∷ [])
+    → celled ≡ with_cards start (cell cell_nets (table_tree [] rows pins))
+    → done ≡ with_cards celled (inverter vdd vss dynamic out)
+    → done ≡ circuit_of t
+circuit_of_parts t start celled done pins rows model out vdd vss dynamic is_model is_rows is_pins is_out is_vdd is_vss is_dynamic one two three =
+    let cells : List (Card (List ℕ)) = cell cell_nets (table_tree [] t.rows (map pin_name t.inputs)) in
+    let inv : List (Card (List ℕ)) = inverter (codes "vdd") (codes "vss") (codes "d0") (output_name t.output) in
+    let begin : CircuitData = new_circuit t.model (record { net = output_name t.output; plus = true } ∷ []) 1 (map pin_name t.inputs) (output_name t.output ∷ []) in
+    let started : start ≡ begin = one ∙ (λ i. new_circuit (is_model i) (record { net = is_out i; plus = true } ∷ []) 1 (is_pins i) (is_out i ∷ [])) in
+    let made : celled ≡ with_cards begin cells = two ∙ (λ i. with_cards (started i) (cell cell_nets (table_tree [] (is_rows i) (is_pins i)))) in
+    three ∙ (λ i. with_cards (made i) (inverter (is_vdd i) (is_vss i) (is_dynamic i) (is_out i))) ∙ sym (with_cards-append begin cells inv)

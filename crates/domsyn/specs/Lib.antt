@@ -4,4 +4,5 @@ pub mod Deck
 pub mod OneTable
 pub mod OneTableData
 pub mod Table
+pub mod Top
 pub mod Words

@@ -1,6 +1,7 @@
 //! The deck of a network of one table: one domino cell and the inverter of its output.
-ghost use Rattle.std.specs.Prelude.{◌≡◌, ◌≤◌, ◌<◌, ◌+◌, ◌*◌, ◌^◌, ◌++◌, ◌∷◌, IfOk, OnOk, All, length, count_by, codes, []};
+ghost use Rattle.std.specs.Prelude.{◌≡◌, ◌≤◌, ◌<◌, ◌+◌, ◌*◌, ◌^◌, ◌++◌, ◌∷◌, IfOk, OnOk, All, length, count_by, codes, map, true, []};
 ghost use Rattle.dom_base.specs.declared.kind.Kind.TheVariants.{N as nch};
+ghost use Rattle.deck.specs.Pushes.{new_circuit};
 ghost use Rattle.stage.specs.Card.{with_cards};
 ghost use Rattle.stage.specs.Cell.{cell, inverter};
 ghost use Rattle.stage.specs.Tree.{spell, inner_count};
@@ -13,6 +14,40 @@ use crate::{OneTable, Row};
 use deck::{Circuit, Phase};
 use dom_base::{Kind, NetName, OutOfMemory};
 use std::alloc::Global;
+use std::slice;
+
+/// The circuit of the network: its cell, and the inverter of its output.
+pub(crate) fn build(alloc: Global, table: &OneTable) -> Result<Circuit, OutOfMemory>
+    requires { IsOneTable table.now }
+    ensures { IfOk result (λ circuit. circuit ≡ circuit_of table.now) }
+{
+    let names = CellNames::new(alloc)?;
+    let all_pins = pin_names(alloc, &table.inputs)?;
+    let pins = all_pins.as_slice();
+    let out = net_name(alloc, b"o_", table.output.as_bytes())?;
+    let mut circuit = without_devices(alloc, table, pins, &out)?;
+    push_cell(alloc, &mut circuit, &table.rows, pins, &names)?;
+    push_inverter(&mut circuit, &names, &names.dynamic, &out)?;
+    Ok(circuit)
+}
+
+fn without_devices(
+    alloc: Global,
+    table: &OneTable,
+    pins: &[NetName],
+    out: &NetName,
+) -> Result<Circuit, OutOfMemory>
+    requires is_one_table { IsOneTable table.now }
+    requires pins { pins.now ≡ map pin_name table.now.inputs }
+    requires out { out.now ≡ output_name table.now.output }
+    ensures { IfOk result (λ circuit. circuit ≡ new_circuit table.now.model (record { net = out.now; plus = true } ∷ []) 1 pins.now (out.now ∷ [])) }
+{
+    let name = net_name(alloc, b"", table.model.as_bytes())?;
+    let net = net_name(alloc, b"", out.as_bytes())?;
+    let mut phases = Vec::new(alloc);
+    phases.push(Phase { net, plus: true })?;
+    Circuit::new(alloc, name, phases, 1, pins, slice::from_ref(out))
+}
 
 /// Appends the devices of an And of nets in series from `top` to `bottom`. Its first inner net has
 /// the number `inner`; gives the number after its last one.

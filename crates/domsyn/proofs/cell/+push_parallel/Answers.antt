@@ -1,12 +1,10 @@
-use Rattle.std.proofs.Common.{◌≡◌, ◌≤◌, ◌+◌, ◌∙◌, ap, sym, subst, take, drop, length, arith, length-take, [], ◌∷◌, List, ℕ}
+use Rattle.std.proofs.Common.{◌≡◌, ◌≤◌, ◌+◌, ◌∙◌, ap, take, drop, length, arith, []}
 use Rattle.std.proofs.lemmas.Result.{on_ok_weaker, IfOk-weaker}
 use Rattle.dom_base.specs.declared.kind.Kind.TheVariants.{N as nch}
 use Rattle.stage.specs.Tree.{inner_count}
-use Rattle.domsyn.specs.OneTable.{IsRow}
 use Rattle.domsyn.specs.Balanced.{first_half}
-use Rattle.domsyn.specs.Deck.{cell_nets, table_tree, row_tree, literals}
-use Rattle.domsyn.proofs.Literals.{literals-bounds}
-use Rattle.domsyn.proofs.Spelling.{parallel_cards, inner_count-table_tree, inner_count-row_tree, one_row}
+use Rattle.domsyn.specs.Deck.{cell_nets, table_tree}
+use Rattle.domsyn.proofs.Spelling.{parallel_cards, inner_count-table_tree}
 use Rattle.domsyn.proofs.cell.+push_parallel.Goals as goal
 
 pub returns-clause-next : goal.returns-clause-next

@@ -1,4 +1,4 @@
-use Rattle.std.proofs.Common.{◌≡◌, ◌≤◌, length, take}
+use Rattle.std.proofs.Common.{◌≡◌, take}
 use Rattle.domsyn.specs.Deck.{literals}
 use Rattle.domsyn.proofs.cell.literals_of.Given as goal
 

@@ -1,4 +1,4 @@
-use Rattle.std.proofs.Common.{◌≡◌, ◌∙◌, ◌∷◌, ◌++◌, [], ◌+◌, take, length, nat_eq, sym, ap, arith, rules, eq-eqb, eqb-true, length-append}
+use Rattle.std.proofs.Common.{◌≡◌, ◌∙◌, ◌∷◌, ◌++◌, [], take, length, nat_eq, sym, ap, arith, rules, eq-eqb, eqb-true, length-append}
 use Rattle.std.specs.Cmp.Lexicographic.{pointwise}
 use Rattle.indexmap.specs.IndexSet.{insert_key, insert_all}
 use Rattle.indexmap.proofs.SetLemmas.{set_all_push}

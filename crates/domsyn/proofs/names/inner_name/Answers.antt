@@ -1,6 +1,4 @@
-use Rattle.std.proofs.Common.{◌<◌, ◌^◌, arith, subst, sym, ◌++◌, ℕ, List}
-use Rattle.std.specs.Prelude.{codes}
-use Rattle.dom_base.specs.Names.{IsNetName}
+use Rattle.std.proofs.Common.{arith}
 use Rattle.domsyn.proofs.NetNames.{inner_is_net}
 use Rattle.domsyn.proofs.names.inner_name.Goals as goal
 

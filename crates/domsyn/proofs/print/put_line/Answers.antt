@@ -1,4 +1,4 @@
-use Rattle.std.proofs.Common.{ℕ, append_assoc, List, refl}
+use Rattle.std.proofs.Common.{append_assoc}
 use Rattle.std.proofs.lemmas.Grind.{flat_map-append}
 use Rattle.domsyn.proofs.print.put_line.Goals as goal
 

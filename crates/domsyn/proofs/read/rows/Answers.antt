@@ -1,4 +1,4 @@
-use Rattle.std.proofs.Common.{◌≡◌, ◌≢◌, [], ℕ, List, length, rules, arith, ap, length-append}
+use Rattle.std.proofs.Common.{◌≡◌, length, rules, arith, ap, length-append}
 use Rattle.domsyn.proofs.Reading.{rows_step, rows_done, rows_some, none_at_length}
 use Rattle.domsyn.proofs.read.rows.Goals as goal
 use Rattle.domsyn.proofs.read.rows.Goals.{then-rows-test+then-rest-ne46+else-len-le-MOST_ROWS, then-rows-test+else-rest-ne46, else-rows-test}

@@ -1,8 +1,6 @@
 use Rattle.std.proofs.Common.{◌≡◌, ◌∷◌, [], ◌∙◌, ◌++◌, refl, length}
 use Rattle.std.specs.Prelude.{codes, All}
 use Rattle.std.proofs.lemmas.List.Elements.{All-nil, All-cons, All-append}
-use Rattle.domsyn.specs.OneTableData.{OneTableData}
-use Rattle.domsyn.specs.OneTable.{IsPlainName}
 use Rattle.domsyn.specs.Words.{IsWord}
 use Rattle.domsyn.proofs.Reading.{printed_lines, plain_is_word, plain_are_words, rows_are_some, visible_from_test}
 use Rattle.domsyn.proofs.read.scan.Goals as goal

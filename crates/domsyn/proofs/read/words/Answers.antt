@@ -1,4 +1,4 @@
-use Rattle.std.proofs.Common.{◌≡◌, ◌≢◌, [], ℕ, List, length, rules, arith, ap, length-append}
+use Rattle.std.proofs.Common.{◌≡◌, ◌≢◌, [], length, rules, arith, ap, length-append}
 use Rattle.domsyn.proofs.Reading.{words_step, words_done, none_at_length}
 use Rattle.domsyn.proofs.read.words.Goals as goal
 use Rattle.domsyn.proofs.read.words.Goals.{then-words-test+else-len-le-MOST_INPUTS, else-words-test}

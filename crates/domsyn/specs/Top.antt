@@ -1,0 +1,63 @@
+use Rattle.std.specs.Prelude.{ℕ, ◌≡◌, ◌≢◌, ◌≤◌, ◌⊎◌, ◌==◌, false, List, [], ◌∷◌, ◌++◌, Option, Some, MatchOption, IfSome, length, nat_eq, codes, if◌then◌else◌}
+use Rattle.std.specs.List.{starts_with}
+use Rattle.std.specs.Io.KnownBytes.{Appends}
+use Rattle.dom_io.specs.Held.{file_limit, held}
+use Rattle.dom_io.specs.Pieces.{AppendsPrefix}
+use Rattle.dom_io.specs.Faults.{Rose}
+use Rattle.spice_text.specs.Text.{IsWritten}
+use Rattle.domsyn.specs.OneTable.{IsOneTable, printed}
+use Rattle.domsyn.specs.OneTableData.{OneTableData}
+use Rattle.domsyn.specs.Deck.{circuit_of}
+
+-- a word that names a file: not empty, and not begun with `-`
+pub record IsFileWord (word : List ℕ) : Type 0 where
+  pub some : word ≢ []
+  pub no_dash : starts_with nat_eq word (codes "-") ≡ false
+
+-- the words ask for the deck of a file
+pub record Asks (words : List (List ℕ)) (file : List ℕ) : Type 0 where
+  pub words_are : words ≡ codes "synth" ∷ file ∷ []
+  pub is_file : IsFileWord file
+
+-- plain bytes: no more than a file may have, and the printed form of a network that is built
+pub record IsPlain (bytes : List ℕ) : Type 0 where
+  pub table : OneTableData
+  pub is_one_table : IsOneTable table
+  pub within : length bytes ≤ file_limit
+  pub text : bytes ≡ printed table
+
+-- plain bytes and the text of the deck of their network
+pub record IsDeckOf (bytes text : List ℕ) : Type 0 where
+  pub table : OneTableData
+  pub is_one_table : IsOneTable table
+  pub within : length bytes ≤ file_limit
+  pub printed_is : bytes ≡ printed table
+  pub written : IsWritten (circuit_of table) text
+
+-- the text that the words ask for: the deck of the file's bytes, which are those of the map where the files are told
+pub record IsAnswer (files : Option (List (List ℕ × List ℕ))) (words : List (List ℕ)) (text : List ℕ) : Type 0 where
+  pub file : List ℕ
+  pub bytes : List ℕ
+  pub asks : Asks words file
+  pub held_is : IfSome files (λ told. held told file ≡ Some bytes)
+  pub deck : IsDeckOf bytes text
+
+-- room for the text that the words ask for, and for every length where the files are not told
+abbrev pub HasRoomForAnswer : Option (List (List ℕ × List ℕ)) → List (List ℕ) → (ℕ → Type 0) → Type 0
+HasRoomForAnswer files words room = MatchOption files ((n : ℕ) → room n) (λ _. (text : List ℕ) → IsAnswer files words text → room (length text))
+
+abbrev pub usage_line : List ℕ
+usage_line = codes "usage: domsyn synth FILE | flat FILE | run FILE STIM | sim DECK STIM | cosim FILE DECK STIM | report FILE | bench SEED SIZE\n"
+
+-- the line on `err` for a status, where the words ask for the file
+abbrev pub line_of : ℕ → List ℕ → List ℕ
+line_of status file =
+    if status == 1 then codes "domsyn: " ++ file ++ codes ": not built\n"
+    else (if status == 2 then usage_line
+    else (if status == 3 then codes "domsyn: " ++ file ++ codes ": cannot read\n"
+    else (if status == 4 then codes "domsyn: cannot write\n"
+    else (if status == 5 then codes "domsyn: out of memory\n" else []))))
+
+-- a sink that had taken some bytes and failed so often took the whole line, or a part of it and its count of faults rose
+abbrev pub Tells : Option (List ℕ) → Option (List ℕ) → ℕ → ℕ → List ℕ → Type 0
+Tells old new before now line = Appends old new line ⊎ (AppendsPrefix old new line × Rose before now)
