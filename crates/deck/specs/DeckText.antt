@@ -2,6 +2,7 @@ use Rattle.std.specs.Prelude.{ℕ, ◌≤◌, ◌≡◌, ◌≢◌, ◌^◌, Boo
 use Rattle.std.specs.List.{AllZip, IsDistinct, filter_map, list_any}
 use Rattle.std.specs.Str.{str_to_ascii_lowercase}
 use Rattle.std.specs.Cmp.Lexicographic.{pointwise}
+use Rattle.dom_base.specs.Names.{IsNetName}
 use Rattle.dom_base.specs.Lines.{is_control, lines, words, unindented}
 use Rattle.dom_base.specs.declared.kind.Kind.{Kind}
 use Rattle.dom_base.specs.declared.kind.Kind.TheVariants.{N as nch, P as pch, Keep}
@@ -144,3 +145,9 @@ pub record IsDeckOf (text : List ℕ) (circuit : CircuitData) : Type 0 where
 pub record IsGoodCircuit (c : CircuitData) : Type 0 where
   pub name_good : HasNoEquals c.name
   pub ports_good : All HasNoEquals (take c.ports c.nets)
+
+-- a circuit whose names are names of nets
+pub record HasNetNames (c : CircuitData) : Type 0 where
+  pub name_is : IsNetName c.name
+  pub nets_are : All IsNetName c.nets
+  pub phases_are : All (λ phase. IsNetName phase.net) c.phases

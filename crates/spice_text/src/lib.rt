@@ -4,8 +4,11 @@
 ghost use Rattle.std.specs.Prelude.{IfOk};
 ghost use Rattle.spice_text.specs.Text.{IsWritten};
 
+mod law;
+
 use deck::Circuit;
 use dom_base::OutOfMemory;
+pub use law::written_reads_back;
 use std::alloc::Global;
 
 pub fn write(alloc: Global, circuit: &Circuit) -> Result<Vec<u8>, OutOfMemory>
