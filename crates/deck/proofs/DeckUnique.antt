@@ -1,12 +1,12 @@
 -- A text is the deck of at most one circuit.
-use Rattle.std.proofs.Common.{◌≡◌, ◌≢◌, ℕ, Bool, true, false, List, [], ◌∷◌, ◌++◌, filter, not, nat_eq, codes, refl, ap, sym, ◌∙◌}
+use Rattle.std.proofs.Common.{◌≡◌, ℕ, Bool, true, false, List, [], ◌∷◌, ◌++◌, nat_eq, codes, refl, ap, sym, ◌∙◌}
 use Rattle.std.specs.List.{AllZip}
 use Rattle.std.specs.Cmp.Lexicographic.{pointwise}
 use Rattle.std.proofs.lemmas.List.{same_from_push}
 use Rattle.dom_base.specs.declared.kind.Kind.{Kind}
 use Rattle.dom_base.specs.declared.kind.Kind.TheVariants.{N as nch, P as pch, Keep}
 use Rattle.deck.specs.CircuitData.{CircuitData}
-use Rattle.deck.specs.DeckText.{is_skipped, deck_cards, deck_phases, model_word, NamedDevice, IsDeviceCard, bare_circuit, with_devices, IsDeckOf}
+use Rattle.deck.specs.DeckText.{deck_phases, model_word, NamedDevice, IsDeviceCard, bare_circuit, with_devices, IsDeckOf}
 
 -- of two equal words both pass a test or none
 tell_apart : (test : List ℕ → Bool) (a b : List ℕ) → test a ≡ true → test b ≡ false → a ≡ b → ⊥

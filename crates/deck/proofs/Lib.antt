@@ -1,4 +1,6 @@
+pub mod DeckCircuits
 pub mod DeckExamples
+pub mod DeckNames
 pub mod DeckUnique
 pub mod Distinct
 pub mod Growth

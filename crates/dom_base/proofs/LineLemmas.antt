@@ -1,9 +1,9 @@
 -- Lines of a text that was put together from lines, and words of a line that was put together from words.
-use Rattle.std.proofs.Common.{◌≡◌, ◌≢◌, ℕ, ◌<◌, Bool, true, false, ◌==◌, if◌then◌else◌, List, [], ◌∷◌, ◌++◌, map, filter, zero, suc, refl, ap, sym, ◌∙◌, arith, append_assoc, append-nil, All}
+use Rattle.std.proofs.Common.{◌≡◌, ℕ, true, false, ◌==◌, if◌then◌else◌, List, [], ◌∷◌, ◌++◌, map, filter, refl, ap, ◌∙◌, append_assoc, append-nil, All}
 use Rattle.std.specs.List.{slice_split, flat_map, AllByRecursion}
 use Rattle.std.proofs.lemmas.List.Elements.{All-tail, All-head}
 use Rattle.std.proofs.lemmas.List.Splits.{slice_split_at, slice_split_none}
-use Rattle.dom_base.specs.Lines.{is_line_feed, is_blank, is_word, some_piece, without_empty_last, without_return, lines, words, unindented}
+use Rattle.dom_base.specs.Lines.{is_line_feed, is_blank, is_word, without_empty_last, without_return, lines, words, unindented}
 
 -- a line with the LF that ends it
 abbrev pub ended : List ℕ → List ℕ

@@ -1,5 +1,5 @@
 -- The rows of devices are plain, and they are the cards of the devices.
-use Rattle.std.proofs.Common.{◌≡◌, ◌≢◌, ℕ, ◌<◌, ◌≤◌, ◌+◌, ◌*◌, ◌/◌, ◌%◌, ◌^◌, zero, suc, List, [], ◌∷◌, ◌++◌, map, length, codes, refl, ap, sym, ◌∙◌, arith, inl, inr, All}
+use Rattle.std.proofs.Common.{◌≡◌, ℕ, ◌<◌, ◌≤◌, ◌+◌, ◌%◌, ◌^◌, List, [], ◌∷◌, map, length, codes, refl, ap, arith, inl, inr, All}
 use Rattle.std.specs.List.{AllByRecursion, AllZip, enumerate_from}
 use Rattle.std.specs.Fmt.{decimal}
 use Rattle.std.proofs.lemmas.Fmt.{decimal_by_steps}
@@ -9,7 +9,7 @@ use Rattle.dom_base.specs.declared.kind.Kind.{Kind}
 use Rattle.dom_base.specs.declared.kind.Kind.TheVariants.{N as nch, P as pch, Keep}
 use Rattle.dom_base.proofs.PlainWords.{IsNetName-from_test}
 use Rattle.deck.specs.declared.device.Device.{Device}
-use Rattle.deck.specs.DeckText.{model_word, NamedDevice, IsDeviceCard}
+use Rattle.deck.specs.DeckText.{model_word, IsDeviceCard}
 use Rattle.spice_text.specs.Text.{model_of, bulk_of, name_of}
 use Rattle.spice_text.proofs.PushedNets.{named, IsDeviceBelow}
 use Rattle.spice_text.proofs.ReadRows.{IsPlainRow}

@@ -1,13 +1,13 @@
 -- The devices of a circuit, given by the names of their nets, give its nets and devices back.
-use Rattle.std.proofs.Common.{◌≡◌, ℕ, ◌<◌, ◌≤◌, ◌+◌, zero, suc, max, Bool, true, false, ◌||◌, if◌then◌else◌, List, [], ◌∷◌, ◌++◌, map, length, take, refl, ap, sym, ◌∙◌, arith, nat_eq, append-nil, append_assoc}
+use Rattle.std.proofs.Common.{◌≡◌, ℕ, ◌<◌, ◌≤◌, ◌+◌, zero, suc, max, Bool, true, false, if◌then◌else◌, List, [], ◌∷◌, ◌++◌, map, length, take, refl, ap, sym, ◌∙◌, arith, nat_eq, append-nil, append_assoc}
 use Rattle.std.specs.Cmp.Lexicographic.{pointwise, bytes_decides}
 use Rattle.std.specs.List.{AllByRecursion, IsDistinct, list_any}
-use Rattle.dom_base.specs.declared.kind.Kind.{Kind}
+use Rattle.dom_base.proofs.Each.{AllByRecursion-take}
 use Rattle.deck.specs.declared.device.Device.{Device}
 use Rattle.deck.specs.declared.phase.Phase.{Phase}
 use Rattle.deck.specs.CircuitData.{CircuitData}
 use Rattle.deck.specs.DeckText.{NamedDevice, with_devices}
-use Rattle.deck.specs.Nets.{place_of, with_net, with_nets, ends, IsNumbered, used}
+use Rattle.deck.specs.Nets.{place_of, with_net, ends, IsNumbered, used}
 use Rattle.deck.specs.Pushes.{pushed}
 use Rattle.deck.proofs.Order.{used-ge}
 use Rattle.spice_text.specs.Text.{name_of}
@@ -66,17 +66,12 @@ with_net-take (x ∷ xs) d (suc n) (suc e) le lt =
     behind true = refl
     behind false = refl
 
-all_take : {X : Type 0} (P : X → Type 0) (n : ℕ) (xs : List X) → AllByRecursion P xs → AllByRecursion P (take n xs)
-all_take P zero xs h = tt
-all_take P (suc n) [] h = tt
-all_take P (suc n) (x ∷ xs) h = (h.0, all_take P n xs h.1)
-
 -- the first of some names that differ
 pub IsDistinct-take : (n : ℕ) (nets : List (List ℕ)) → IsDistinct (pointwise nat_eq) nets → IsDistinct (pointwise nat_eq) (take n nets)
 unfolding IsDistinct
 IsDistinct-take zero nets d = tt
 IsDistinct-take (suc n) [] d = tt
-IsDistinct-take (suc n) (x ∷ nets) d = (all_take (λ y. pointwise nat_eq x y ≡ false) n nets d.0, IsDistinct-take n nets d.1)
+IsDistinct-take (suc n) (x ∷ nets) d = (AllByRecursion-take (λ y. pointwise nat_eq x y ≡ false) n nets d.0, IsDistinct-take n nets d.1)
 
 -- the numbers of a device are below a bound
 pub record IsDeviceBelow (bound : ℕ) (d : Device) : Type 0 where

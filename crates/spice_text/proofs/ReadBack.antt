@@ -1,18 +1,21 @@
 -- The text of a circuit is a deck, and its circuit is that one.
-use Rattle.std.proofs.Common.{◌≡◌, ◌≢◌, ℕ, ◌≤◌, ◌<◌, ◌+◌, ◌^◌, Bool, true, false, not, ◌&&◌, if◌then◌else◌, nat_eq, List, [], ◌∷◌, ◌++◌, map, filter, length, take, codes, refl, ap, sym, ◌∙◌, subst, arith, append-nil, append_assoc, length-take, min, Option, Some, None, All, ◌⊎◌, inl, inr}
+use Rattle.std.proofs.Common.{◌≡◌, ℕ, ◌≤◌, Bool, true, false, not, nat_eq, List, [], ◌∷◌, ◌++◌, map, filter, length, take, codes, refl, ap, sym, ◌∙◌, subst, arith, append-nil, append_assoc, Option, Some, None, All, ◌⊎◌, inl, inr}
 use Rattle.std.specs.Cmp.Lexicographic.{pointwise}
-use Rattle.std.specs.List.{AllByRecursion, flat_map, filter_map, list_any, enumerate_from}
+use Rattle.std.specs.List.{AllByRecursion, flat_map, filter_map}
 use Rattle.std.proofs.lemmas.List.{take_all, length-take-le, length-map}
-use Rattle.std.proofs.lemmas.List.Elements.{All-take, All-cons, All-nil, All-weaker, All-from_recursion, recursion_from_All, filter_map-append}
+use Rattle.std.proofs.lemmas.List.Elements.{All-take, All-cons, All-weaker, All-from_recursion, recursion_from_All, filter_map-append}
 use Rattle.dom_base.specs.Lines.{is_control}
 use Rattle.dom_base.specs.Names.{IsNetName}
+use Rattle.dom_base.proofs.Each.{AllByRecursion-append, AllByRecursion-left, AllByRecursion-right, AllByRecursion-groups, AllByRecursion-map, filter_all}
 use Rattle.dom_base.proofs.PlainWords.{IsNetName-from_test, no_control-name, no_control_in-name}
 use Rattle.deck.specs.declared.device.Device.{Device}
 use Rattle.deck.specs.declared.phase.Phase.{Phase}
 use Rattle.deck.specs.CircuitData.{CircuitData}
-use Rattle.deck.specs.DeckText.{deck_cards, deck_phases, card_lines, cards_of, is_skipped, phase_of, signed_phase, first_word, bare_circuit, with_devices, BeginsACard, HasNoEquals, IsDeckOf, IsGoodCircuit, HasNetNames}
+use Rattle.deck.specs.DeckText.{deck_cards, deck_phases, card_lines, cards_of, is_skipped, phase_of, bare_circuit, with_devices, BeginsACard, HasNoEquals, IsDeckOf, IsGoodCircuit, HasNetNames}
 use Rattle.deck.specs.Nets.{ends, used, IsCircuit}
 use Rattle.deck.specs.Ports.{leading_ports, HasRoles}
+use Rattle.deck.proofs.DeckCircuits.{IsDeckOf-circuit, IsDeckOf-good}
+use Rattle.deck.proofs.DeckNames.{IsDeckOf-names}
 use Rattle.deck.proofs.Order.{used-ge}
 use Rattle.spice_text.specs.Text.{sign_of, eights, text_with, IsWritten}
 use Rattle.spice_text.proofs.DeviceRows.{all_cards, cards_plain, cards_are}
@@ -20,31 +23,6 @@ use Rattle.spice_text.proofs.PushedNets.{named, state, devices_below, with_devic
 use Rattle.spice_text.proofs.ReadRows.{row_line, text_of_rows, IsPlainRow, IsNoEnd, IsComment, IsOfCard, Begins, plus_rows, deck_phases-rows, card_lines-rows, cards_of-rows}
 use Rattle.spice_text.proofs.RolePorts.{HasSomeRoles, has_roles}
 use Rattle.spice_text.proofs.WrittenRows.{header_row, phase_row, opening_row, card_row, card_rows, ending_row, comment_rows, rows_behind, rows_of_cards, text_with-rows, eights-groups}
-
--- facts of each element of lists that are put together
-all_append : {X : Type 0} (P : X → Type 0) (xs ys : List X) → AllByRecursion P xs → AllByRecursion P ys → AllByRecursion P (xs ++ ys)
-all_append P [] ys h k = k
-all_append P (x ∷ xs) ys h k = (h.0, all_append P xs ys h.1 k)
-
-all_left : {X : Type 0} (P : X → Type 0) (xs ys : List X) → AllByRecursion P (xs ++ ys) → AllByRecursion P xs
-all_left P [] ys h = tt
-all_left P (x ∷ xs) ys h = (h.0, all_left P xs ys h.1)
-
-all_right : {X : Type 0} (P : X → Type 0) (xs ys : List X) → AllByRecursion P (xs ++ ys) → AllByRecursion P ys
-all_right P [] ys h = h
-all_right P (x ∷ xs) ys h = all_right P xs ys h.1
-
-all_groups : {X : Type 0} (P : X → Type 0) (groups : List (List X)) → AllByRecursion P (flat_map (λ group. group) groups) → AllByRecursion (AllByRecursion P) groups
-all_groups P [] h = tt
-all_groups P (group ∷ groups) h = (all_left P group (flat_map (λ g. g) groups) h, all_groups P groups (all_right P group (flat_map (λ g. g) groups) h))
-
-all_map : {X Y : Type 0} (P : Y → Type 0) (f : X → Y) → ((x : X) → P (f x)) → (xs : List X) → AllByRecursion P (map f xs)
-all_map P f h [] = tt
-all_map P f h (x ∷ xs) = (h x, all_map P f h xs)
-
-filter_all : {X : Type 0} (test : X → Bool) (xs : List X) → AllByRecursion (λ x. test x ≡ true) xs → filter test xs ≡ xs
-filter_all test [] h = refl
-filter_all test (x ∷ xs) h = rw h.0 (ap (λ l. x ∷ l) (filter_all test xs h.1))
 
 -- a row without control bytes
 plain_visible : (row : List (List ℕ)) → IsPlainRow row → All (All (λ b. is_control b ≡ false)) row
@@ -92,14 +70,14 @@ header_plain =
 
 -- a fact of each row behind the first card
 all_behind : (P : List (List ℕ) → Type 0) (c : CircuitData) → ((n : ℕ) (d : Device) → P (card_row c.nets (n, d))) → P (ending_row c.name) → AllByRecursion P (rows_behind c)
-all_behind P c f e = all_append P (card_rows c.nets c.devices) (ending_row c.name ∷ []) (all_cards P c.nets f 0 c.devices) (e, tt)
+all_behind P c f e = AllByRecursion-append P (card_rows c.nets c.devices) (ending_row c.name ∷ []) (all_cards P c.nets f 0 c.devices) (e, tt)
 
 -- a fact of each row of the cards
 all_of_cards : (P : List (List ℕ) → Type 0) (c : CircuitData) (leading : List (List ℕ)) (groups : List (List (List ℕ)))
     → P (opening_row c.name leading) → ((group : List (List ℕ)) → P (codes "+" ∷ group)) → AllByRecursion P (rows_behind c)
     → AllByRecursion P (rows_of_cards c leading groups)
 all_of_cards P c leading groups o g b =
-    (o, all_append P (plus_rows (flat_map eights groups)) (rows_behind c) (all_map P (λ group. codes "+" ∷ group) g (flat_map eights groups)) b)
+    (o, AllByRecursion-append P (plus_rows (flat_map eights groups)) (rows_behind c) (AllByRecursion-map P (λ group. codes "+" ∷ group) g (flat_map eights groups)) b)
 
 -- what is known of a circuit that is written
 pub record IsWritable (c : CircuitData) : Type 0 where
@@ -107,9 +85,13 @@ pub record IsWritable (c : CircuitData) : Type 0 where
   pub names : HasNetNames c
   pub good : IsGoodCircuit c
 
+-- the circuit of a deck can be written
+pub IsDeckOf-writable : (text : List ℕ) (c : CircuitData) → IsDeckOf text c → IsWritable c
+IsDeckOf-writable text c h = record { is = IsDeckOf-circuit text c h; names = IsDeckOf-names text c h; good = IsDeckOf-good text c h }
+
 behind_plain : (c : CircuitData) → IsWritable c → AllByRecursion IsPlainRow (rows_behind c)
 behind_plain c w =
-    all_append IsPlainRow (card_rows c.nets c.devices) (ending_row c.name ∷ [])
+    AllByRecursion-append IsPlainRow (card_rows c.nets c.devices) (ending_row c.name ∷ [])
     (cards_plain c.nets 0 c.devices w.names.nets_are (omega (arith, w.is.few_devices)) (devices_below (length c.nets) c.ports c.devices (omega (arith, w.is.all_used))))
     ((IsNetName-from_test (codes ".ends") refl, (w.names.name_is, tt)), tt)
 
@@ -126,8 +108,8 @@ written_ports c w leading groups e =
     let are : leading ++ flat_map (λ group. group) (flat_map eights groups) ≡ take c.ports c.nets = ap (λ l. leading ++ l) (eights-groups groups) ∙ e in
     let all : AllByRecursion IsNetName (leading ++ flat_map (λ group. group) (flat_map eights groups)) = subst (AllByRecursion IsNetName) (sym are) plain in
     record {
-      lead_plain = all_left IsNetName leading (flat_map (λ group. group) (flat_map eights groups)) all;
-      groups_plain = all_groups IsNetName (flat_map eights groups) (all_right IsNetName leading (flat_map (λ group. group) (flat_map eights groups)) all);
+      lead_plain = AllByRecursion-left IsNetName leading (flat_map (λ group. group) (flat_map eights groups)) all;
+      groups_plain = AllByRecursion-groups IsNetName (flat_map eights groups) (AllByRecursion-right IsNetName leading (flat_map (λ group. group) (flat_map eights groups)) all);
       are = are;
     }
 
@@ -143,13 +125,13 @@ record AreWrittenRows (c : CircuitData) (leading : List (List ℕ)) (groups : Li
 
 written_rows : (c : CircuitData) → IsWritable c → (leading : List (List ℕ)) (groups : List (List (List ℕ))) → AreWrittenPorts c leading groups → AreWrittenRows c leading groups
 written_rows c w leading groups p = record {
-  plain = all_append IsPlainRow (comment_rows c) (rows_of_cards c leading groups)
+  plain = AllByRecursion-append IsPlainRow (comment_rows c) (rows_of_cards c leading groups)
       (header_plain, phases_plain c.phases (recursion_from_All (λ phase. IsNetName phase.net) c.phases w.names.phases_are))
-      (opening_plain c w leading p.lead_plain, all_append IsPlainRow (plus_rows (flat_map eights groups)) (rows_behind c) (plus_plain (flat_map eights groups) p.groups_plain) (behind_plain c w));
-  no_end = all_append IsNoEnd (comment_rows c) (rows_of_cards c leading groups)
-      (refl, all_map IsNoEnd phase_row (λ _. refl) c.phases)
+      (opening_plain c w leading p.lead_plain, AllByRecursion-append IsPlainRow (plus_rows (flat_map eights groups)) (rows_behind c) (plus_plain (flat_map eights groups) p.groups_plain) (behind_plain c w));
+  no_end = AllByRecursion-append IsNoEnd (comment_rows c) (rows_of_cards c leading groups)
+      (refl, AllByRecursion-map IsNoEnd phase_row (λ _. refl) c.phases)
       (all_of_cards IsNoEnd c leading groups refl (λ _. refl) (all_behind IsNoEnd c (λ _ _. refl) refl));
-  comments = (refl, all_map IsComment phase_row (λ _. refl) c.phases);
+  comments = (refl, AllByRecursion-map IsComment phase_row (λ _. refl) c.phases);
   of_cards = all_of_cards IsOfCard c leading groups refl (λ _. refl) (all_behind IsOfCard c (λ _ _. refl) refl);
 }
 

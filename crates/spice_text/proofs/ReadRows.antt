@@ -1,11 +1,11 @@
 -- What is read of a text of rows, each a line of plain words with one blank between any two.
-use Rattle.std.proofs.Common.{◌≡◌, ◌≢◌, ℕ, Bool, true, false, not, nat_eq, if◌then◌else◌, List, [], ◌∷◌, ◌++◌, map, filter, codes, refl, ap, sym, ◌∙◌, append_assoc, append-nil, All, Option, None}
+use Rattle.std.proofs.Common.{◌≡◌, ℕ, true, false, nat_eq, if◌then◌else◌, List, [], ◌∷◌, ◌++◌, map, filter, codes, refl, ap, ◌∙◌, append-nil}
 use Rattle.std.specs.Cmp.Lexicographic.{pointwise}
 use Rattle.std.specs.List.{AllByRecursion, flat_map, filter_map}
 use Rattle.std.specs.Str.{str_to_ascii_lowercase}
-use Rattle.dom_base.specs.Lines.{is_blank, is_word, lines, words, unindented}
+use Rattle.dom_base.specs.Lines.{is_blank, lines, words, unindented}
 use Rattle.dom_base.specs.Names.{IsNetName}
-use Rattle.dom_base.proofs.LineLemmas.{ended, after_blanks, joined, IsClean, IsSolid, lines-ended, words-joined, words-after_blanks, unindented-none}
+use Rattle.dom_base.proofs.LineLemmas.{ended, joined, IsClean, IsSolid, lines-ended, words-joined, words-after_blanks, unindented-none}
 use Rattle.dom_base.proofs.PlainWords.{IsSolid-name, AllSolid-names, IsClean-joined, lowercase-joined}
 use Rattle.std.proofs.lemmas.List.Elements.{All-head}
 use Rattle.deck.specs.DeckText.{read_line, first_word, is_end, through_end, deck_lines, is_of_card, continues, card_lines, added_words, cards_of, phase_of, deck_phases}

@@ -14,3 +14,7 @@ WrittenReadsBack =
 -- a text is the deck of at most one circuit
 abbrev pub DeckHasOneCircuit : Type 0
 DeckHasOneCircuit = (text : List ℕ) (c d : CircuitData) → IsDeckOf text c → IsDeckOf text d → c ≡ d
+
+-- the circuit of a deck can be written, and the text reads back as that circuit
+abbrev pub RewrittenReadsBack : Type 0
+RewrittenReadsBack = (text again : List ℕ) (c : CircuitData) → IsDeckOf text c → IsWritten c again → IsDeckOf again c
