@@ -4,15 +4,45 @@
 ghost use Rattle.std.specs.Prelude.{IfOk};
 ghost use Rattle.spice_text.specs.Text.{IsWritten};
 
+mod cards;
 mod law;
+mod line;
+mod ports;
+mod roles;
+#[cfg(test)]
+mod tests;
 
+use cards::{put_cards, put_phases};
 use deck::Circuit;
 use dom_base::OutOfMemory;
 pub use law::written_reads_back;
+use line::{put, put_word};
+use ports::put_subckt;
 use std::alloc::Global;
 
+/// The text of a circuit, in bytes. Each line ends with LF and its words are separated by one
+/// blank. The lines are `* domsyn deck 1`, a line `* phase NET SIGN` for each phase, `.subckt NAME`
+/// with its ports, a card `mPLACE DRAIN GATE SOURCE BULK MODEL` for each device, and `.ends NAME`.
+///
+/// Where the ports stand in the order of roles, those before the first pin stand on the line of
+/// `.subckt`, and pins and outputs each on lines of their own that begin with `+`; else all ports
+/// stand on lines that begin with `+`. Such a line has at most eight names. It fails only for want
+/// of memory.
 pub fn write(alloc: Global, circuit: &Circuit) -> Result<Vec<u8>, OutOfMemory>
     ensures { IfOk result (λ v. IsWritten circuit.now v.items) }
 {
-    Err(OutOfMemory)
+    let mut text = Vec::new(alloc);
+    put(&mut text, b"* domsyn deck 1\n")?;
+    put_phases(&mut text, circuit.phases.as_slice())?;
+    let nets = circuit.nets.as_slice();
+    put_subckt(
+        &mut text,
+        circuit.name.as_bytes(),
+        &nets[..circuit.ports as usize],
+    )?;
+    put_cards(&mut text, nets, circuit.devices.as_slice())?;
+    put(&mut text, b".ends")?;
+    put_word(&mut text, circuit.name.as_bytes())?;
+    put(&mut text, b"\n")?;
+    Ok(text)
 }

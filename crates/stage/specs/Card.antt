@@ -1,6 +1,8 @@
-use Rattle.std.specs.Prelude.{ℕ}
+use Rattle.std.specs.Prelude.{ℕ, List, [], ◌∷◌}
 use Rattle.dom_base.specs.declared.kind.Kind.{Kind}
 use Rattle.deck.specs.declared.device.Device.{Device}
+use Rattle.deck.specs.CircuitData.{CircuitData}
+use Rattle.deck.specs.Pushes.{pushed}
 
 -- a device over any type of nets, as names or numbers
 pub record Card (Net : Type 0) : Type 0 where
@@ -16,3 +18,8 @@ map_card f c = record { kind = c.kind; drain = f c.drain; gate = f c.gate; sourc
 -- the device of a card over numbers
 abbrev pub device_of : Card ℕ → Device
 device_of c = record { kind = c.kind; drain = c.drain; gate = c.gate; source = c.source }
+
+-- the circuit with one more device for each card over names, in order
+abbrev pub with_cards : CircuitData → List (Card (List ℕ)) → CircuitData
+with_cards c [] = c
+with_cards c (card ∷ cards) = with_cards (pushed c card.kind card.drain card.gate card.source) cards

@@ -1,0 +1,23 @@
+use Rattle.std.specs.Prelude.{ℕ, ◌≤◌, List}
+
+-- a shelf in memory: names with their bytes, the calls that are to fail, and the counts
+pub record ShelfData : Type 0 where
+  pub files : List (List ℕ × List ℕ)
+  pub fails : List ℕ
+  pub calls : ℕ
+  pub faults : ℕ
+
+-- a sink in memory: the bytes taken, the most of a call and of all, the calls that are to fail, and the counts
+pub record SinkData : Type 0 where
+  pub taken : List ℕ
+  pub most : ℕ
+  pub size : ℕ
+  pub fails : List ℕ
+  pub calls : ℕ
+  pub faults : ℕ
+
+-- a sink in memory takes something of each piece, and its memory is there
+pub record IsSink (most taken size capacity : ℕ) : Type 0 where
+  pub some : 1 ≤ most
+  pub within : taken ≤ size
+  pub room : size ≤ capacity

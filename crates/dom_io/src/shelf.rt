@@ -1,0 +1,47 @@
+//! Shelves: files by their names.
+ghost use Rattle.std.specs.Prelude.{◌≡◌, ◌≤◌, ◌+◌, ◌↔◌, ℕ, List, Option, IfOk, IsErrOf, length};
+ghost use Rattle.dom_io.specs.Faults.{Rose};
+ghost use Rattle.dom_io.specs.Held.{IsHeld, file_limit};
+ghost use Rattle.dom_io.specs.declared.shelf.FetchFault.TheVariants.{Memory};
+
+use std::alloc::{AllocError, Global};
+
+/// Why a fetch gave no bytes: the shelf failed, or memory did not suffice.
+#[derive(Clone, Copy, Debug, PartialEq, Eq)]
+pub enum FetchFault {
+    Failed,
+    Memory,
+}
+
+impl From<AllocError> for FetchFault {
+    ghost from_gives = { λ _ e. e ≡ Memory };
+
+    fn from(_: AllocError) -> Self {
+        FetchFault::Memory
+    }
+}
+
+/// What gives files by their names.
+pub trait Shelf {
+    /// The files as pairs of name and bytes, where the shelf tells them. The first pair of a name
+    /// counts.
+    ghost files: { Self → Option (List (List ℕ × List ℕ)) };
+
+    /// How often the shelf has failed. The count stops at the last `u64`.
+    ghost faults: { Self → ℕ };
+
+    /// The names that may be asked for.
+    ghost may_ask: { Self → List ℕ → Type 0 };
+
+    /// The bytes of the file of this name, or the first `fetch_limit()` of them where there are
+    /// more. The error is `Failed` where the shelf failed, which it counts, and `Memory` where
+    /// memory did not suffice.
+    fn fetch(&mut self, alloc: Global, name: &str) -> Result<Vec<u8>, FetchFault>
+        requires { may_ask self.old name.now }
+        ensures size { IfOk result (λ v. length v.items ≤ file_limit + 1) }
+        ensures bytes { IfOk result (λ v. IsHeld (files self.old) name.now v.items) }
+        ensures same_files { files self.new ≡ files self.old }
+        ensures same_names { (n : List ℕ) → may_ask self.new n ↔ may_ask self.old n }
+        ensures later { faults self.old ≤ faults self.new }
+        ensures failed { IsErrOf result FetchFault.Failed → Rose (faults self.old) (faults self.new) };
+}

@@ -1,0 +1,68 @@
+//! Names of the nets of a deck.
+ghost use Rattle.std.specs.Prelude.{◌≡◌, ◌++◌, IfOk, All, map, codes};
+ghost use Rattle.std.specs.Fmt.{decimal};
+ghost use Rattle.dom_base.specs.Names.{IsNetName};
+ghost use Rattle.domsyn.specs.Deck.{pin_name, output_name, cell_nets};
+ghost use Rattle.domsyn.specs.OneTable.{IsPlainName};
+
+use dom_base::{Name, NetName, OutOfMemory};
+use itoa::Buffer;
+use std::alloc::Global;
+
+/// The nets of the first cell that have one name each.
+#[derive(Drop)]
+pub(crate) struct CellNames {
+    pub vdd: NetName,
+    pub vss: NetName,
+    pub clock: NetName,
+    pub dynamic: NetName,
+    pub output: NetName,
+    pub foot: NetName,
+}
+
+impl CellNames {
+    ghost use Rattle.domsyn.specs.CellNames.{IsNamed};
+
+    pub fn new(alloc: Global) -> Result<CellNames, OutOfMemory>
+        ensures { IfOk result IsNamed }
+    {
+        Ok(CellNames {
+            vdd: net_name(alloc, b"vdd", b"")?,
+            vss: net_name(alloc, b"vss", b"")?,
+            clock: net_name(alloc, b"ck1", b"")?,
+            dynamic: net_name(alloc, b"d0", b"")?,
+            output: net_name(alloc, b"z0", b"")?,
+            foot: net_name(alloc, b"f0", b"")?,
+        })
+    }
+}
+
+/// The name of these two parts.
+pub(crate) fn net_name(alloc: Global, front: &[u8], rest: &[u8]) -> Result<NetName, OutOfMemory>
+    requires { IsNetName (front.now ++ rest.now) }
+    ensures { IfOk result (λ name. name ≡ front.now ++ rest.now) }
+{
+    let mut bytes = Vec::from_slice(alloc, front)?;
+    bytes.extend_from_slice(rest)?;
+    Ok(NetName(bytes))
+}
+
+/// The inner net of the cell's tree with this number, from 0.
+pub(crate) fn inner_name(alloc: Global, inner: u32) -> Result<NetName, OutOfMemory>
+    ensures { IfOk result (λ name. name ≡ codes "t0_" ++ decimal inner) }
+{
+    let mut buffer = Buffer::new();
+    net_name(alloc, b"t0_", buffer.format(inner).as_bytes())
+}
+
+/// The pins of inputs with plain names.
+pub(crate) fn pin_names(alloc: Global, inputs: &[Name]) -> Result<Vec<NetName>, OutOfMemory>
+    requires { All IsPlainName inputs.now }
+    ensures { IfOk result (λ pins. pins.items ≡ map pin_name inputs.now) }
+{
+    let mut pins = Vec::new(alloc);
+    for input in inputs {
+        pins.push(net_name(alloc, b"i_", input.as_bytes())?)?;
+    }
+    Ok(pins)
+}

@@ -1,0 +1,50 @@
+use Rattle.std.proofs.Common.{◌≡◌, ℕ, ◌+◌, ◌<◌, ◌≤◌, min, List, [], ◌∷◌, ◌++◌, length, take, drop, get_or, codes, refl, sym, ap, ◌∙◌, arith}
+use Rattle.std.proofs.lemmas.List.{take_more, take_min, drop_min, length-take-le, append-nil}
+use Rattle.std.proofs.lemmas.List.Concat.{flat_map-append}
+use Rattle.std.specs.List.{flat_map, enumerate_from}
+use Rattle.deck.specs.declared.device.Device.{Device}
+use Rattle.spice_text.specs.Text.{line, port_lines, eights, card, cards}
+
+-- a list that isn't empty, in its first eight and the rest
+pub eights-step : {X : Type 0} (xs : List X) → 0 < length xs → eights xs ≡ take 8 xs ∷ eights (drop 8 xs)
+eights-step [] some = absurd (omega arith)
+eights-step (a ∷ []) some = refl
+eights-step (a ∷ b ∷ []) some = refl
+eights-step (a ∷ b ∷ c ∷ []) some = refl
+eights-step (a ∷ b ∷ c ∷ d ∷ []) some = refl
+eights-step (a ∷ b ∷ c ∷ d ∷ e ∷ []) some = refl
+eights-step (a ∷ b ∷ c ∷ d ∷ e ∷ f ∷ []) some = refl
+eights-step (a ∷ b ∷ c ∷ d ∷ e ∷ f ∷ g ∷ []) some = refl
+eights-step (a ∷ b ∷ c ∷ d ∷ e ∷ f ∷ g ∷ h ∷ more) some = refl
+
+min_comm : (a b : ℕ) → min a b ≡ min b a
+min_comm a b = omega arith
+
+-- the lines of names, with the first line apart
+pub port_lines-step : (names : List (List ℕ)) (n : ℕ) → 0 < length names → n ≡ min (length names) 8
+    → line (codes "+") (take n names) ++ port_lines (drop n names) ≡ port_lines names
+port_lines-step names n some count =
+    let front : take n names ≡ take 8 names = ap (λ m. take m names) (count ∙ min_comm (length names) 8) ∙ take_min 8 names in
+    let rest : drop n names ≡ drop 8 names = ap (λ m. drop m names) (count ∙ min_comm (length names) 8) ∙ drop_min 8 names in
+    ap (λ l. line (codes "+") l ++ port_lines (drop n names)) front
+    ∙ ap (λ l. line (codes "+") (take 8 names) ++ port_lines l) rest
+    ∙ ap (flat_map (line (codes "+"))) (sym (eights-step names some))
+
+pub enumerate_from-append : {X : Type 0} (n : ℕ) (xs ys : List X) → enumerate_from n (xs ++ ys) ≡ enumerate_from n xs ++ enumerate_from (n + length xs) ys
+enumerate_from-append n [] ys = ap (λ m. enumerate_from m ys) (omega arith)
+enumerate_from-append n (x ∷ xs) ys =
+    ap (λ l. (n, x) ∷ l) (enumerate_from-append (n + 1) xs ys ∙ ap (λ m. enumerate_from (n + 1) xs ++ enumerate_from m ys) (omega arith))
+
+-- one more card
+pub cards-more : (nets : List (List ℕ)) (devices : List Device) (i : ℕ) (d : Device) → i < length devices
+    → cards nets (take (i + 1) devices) ≡ cards nets (take i devices) ++ card nets (i, get_or devices i d)
+cards-more nets devices i d lt =
+    let le : i ≤ length devices = omega arith in
+    let place : 0 + length (take i devices) ≡ i = omega (arith, length-take-le i devices le) in
+    ap (cards nets) (take_more devices i d lt)
+    ∙ ap (flat_map (card nets)) (enumerate_from-append 0 (take i devices) (get_or devices i d ∷ []))
+    ∙ flat_map-append (card nets) (enumerate_from 0 (take i devices)) (enumerate_from (0 + length (take i devices)) (get_or devices i d ∷ []))
+    ∙ ap (λ n. cards nets (take i devices) ++ flat_map (card nets) (enumerate_from n (get_or devices i d ∷ []))) place
+    ∙ ap (λ t. cards nets (take i devices) ++ t) (append-nil (card nets (i, get_or devices i d)))
+
+pub ruleset printing = (cards-more)

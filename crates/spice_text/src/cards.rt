@@ -1,0 +1,90 @@
+//! The lines of phases and the cards of devices.
+ghost use Rattle.std.specs.Prelude.{◌≡◌, ◌++◌, ◌<◌, All, OnOk, length};
+ghost use Rattle.std.specs.List.{flat_map};
+ghost use Rattle.spice_text.specs.Text.{phase_line, card, cards, name_of, model_of, bulk_of};
+ghost use Rattle.spice_text.specs.Parts.{IsWithin};
+
+use crate::line::{put, put_word};
+use deck::{Device, Phase};
+use dom_base::{Kind, NetName, OutOfMemory};
+use itoa::Buffer;
+
+/// Appends a line for each phase.
+pub fn put_phases(text: &mut Vec<u8>, phases: &[Phase]) -> Result<(), OutOfMemory>
+    ensures { OnOk result (text.new.items ≡ text.old.items ++ flat_map phase_line phases.now) }
+{
+    for phase in phases {
+        put_phase(text, phase)?;
+    }
+    Ok(())
+}
+
+fn put_phase(text: &mut Vec<u8>, phase: &Phase) -> Result<(), OutOfMemory>
+    ensures { OnOk result (text.new.items ≡ text.old.items ++ phase_line phase.now) }
+{
+    put(text, b"* phase")?;
+    put_word(text, phase.net.as_bytes())?;
+    put(text, if phase.plus { b" +\n" } else { b" -\n" })
+}
+
+/// Appends a card for each device, numbered from 0.
+pub fn put_cards(
+    text: &mut Vec<u8>,
+    nets: &[NetName],
+    devices: &[Device],
+) -> Result<(), OutOfMemory>
+    requires { All (IsWithin (length nets.now)) devices.now }
+    ensures { OnOk result (text.new.items ≡ text.old.items ++ cards nets.now devices.now) }
+{
+    for (place, device) in devices.iter().enumerate() {
+        put_card(text, nets, place, *device)?;
+    }
+    Ok(())
+}
+
+fn put_card(
+    text: &mut Vec<u8>,
+    nets: &[NetName],
+    place: usize,
+    device: Device,
+) -> Result<(), OutOfMemory>
+    requires { IsWithin (length nets.now) device }
+    ensures { OnOk result (text.new.items ≡ text.old.items ++ card nets.now (place, device)) }
+{
+    let mut buffer = Buffer::new();
+    put(text, b"m")?;
+    put(text, buffer.format(place).as_bytes())?;
+    put_word(text, net_name(nets, device.drain))?;
+    put_word(text, net_name(nets, device.gate))?;
+    put_word(text, net_name(nets, device.source))?;
+    put_word(text, bulk(device.kind))?;
+    put_word(text, model(device.kind))?;
+    put(text, b"\n")?;
+    Ok(())
+}
+
+fn net_name(nets: &[NetName], net: u32) -> &[u8]
+    requires { net < length nets.now }
+    ensures { result.now ≡ name_of nets.now net }
+{
+    nets[net as usize].as_bytes()
+}
+
+fn bulk(kind: Kind) -> &'static [u8]
+    ensures { result.now ≡ bulk_of kind }
+{
+    match kind {
+        Kind::N => b"vss",
+        Kind::P | Kind::Keep => b"vdd",
+    }
+}
+
+fn model(kind: Kind) -> &'static [u8]
+    ensures { result.now ≡ model_of kind }
+{
+    match kind {
+        Kind::N => b"nch",
+        Kind::P => b"pch",
+        Kind::Keep => b"pkeep",
+    }
+}
