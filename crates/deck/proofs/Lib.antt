@@ -1,3 +1,7 @@
+pub mod DeckCircuits
+pub mod DeckExamples
+pub mod DeckNames
+pub mod DeckUnique
 pub mod Distinct
 pub mod Growth
 pub mod Order

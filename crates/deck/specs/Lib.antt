@@ -1,4 +1,5 @@
 pub mod CircuitData
+pub mod DeckText
 pub mod Nets
 pub mod Numbers
 pub mod Paths

@@ -1,3 +1,4 @@
 pub mod Conduction
+pub mod Lines
 pub mod Names
 pub mod Tri

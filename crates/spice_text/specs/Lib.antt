@@ -1,2 +1,3 @@
-pub mod Text
 pub mod Parts
+pub mod ReadsBack
+pub mod Text

@@ -5,6 +5,7 @@ ghost use Rattle.std.specs.Prelude.{IfOk};
 ghost use Rattle.spice_text.specs.Text.{IsWritten};
 
 mod cards;
+mod law;
 mod line;
 mod ports;
 mod roles;
@@ -14,6 +15,7 @@ mod tests;
 use cards::{put_cards, put_phases};
 use deck::Circuit;
 use dom_base::OutOfMemory;
+pub use law::written_reads_back;
 use line::{put, put_word};
 use ports::put_subckt;
 use std::alloc::Global;

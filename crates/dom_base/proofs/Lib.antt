@@ -1,0 +1,4 @@
+pub mod Each
+pub mod LineLemmas
+pub mod PlainWords
+pub mod WordBytes

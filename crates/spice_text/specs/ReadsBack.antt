@@ -1,0 +1,20 @@
+use Rattle.std.specs.Prelude.{◌≡◌, ℕ, List}
+use Rattle.deck.specs.CircuitData.{CircuitData}
+use Rattle.deck.specs.DeckText.{IsDeckOf, IsGoodCircuit, HasNetNames}
+use Rattle.deck.specs.Nets.{IsCircuit}
+use Rattle.spice_text.specs.Text.{IsWritten}
+
+-- the text of a circuit whose name and ports have no byte `=` is a deck, and its circuit is that one, with its phases
+abbrev pub WrittenReadsBack : Type 0
+WrittenReadsBack =
+    (c : CircuitData) (text : List ℕ)
+    → IsCircuit c.ports c.nets c.devices → HasNetNames c → IsGoodCircuit c
+    → IsWritten c text → IsDeckOf text c
+
+-- a text is the deck of at most one circuit
+abbrev pub DeckHasOneCircuit : Type 0
+DeckHasOneCircuit = (text : List ℕ) (c d : CircuitData) → IsDeckOf text c → IsDeckOf text d → c ≡ d
+
+-- the circuit of a deck can be written, and the text reads back as that circuit
+abbrev pub RewrittenReadsBack : Type 0
+RewrittenReadsBack = (text again : List ℕ) (c : CircuitData) → IsDeckOf text c → IsWritten c again → IsDeckOf again c
