@@ -2,7 +2,7 @@ use Rattle.std.proofs.Common.{◌≡◌, ◌≤◌, ◌+◌, ◌∙◌, ◌⊎�
 use Rattle.std.specs.Prelude.{IfSome, IsSomeAnd}
 use Rattle.std.proofs.lemmas.List.{take_all}
 use Rattle.dom_io.specs.Held.{file_limit, held, IsHeld}
-use Rattle.domsyn.specs.Top.{Asks, HasRoomForAnswer, IsAnswer, IsDeckOf, IsPlain}
+use Rattle.domsyn.specs.Top.{Asks, HasRoomForAnswer, IsAnswer, IsDeckFor, IsPlain}
 
 pub same_file : (words : List (List ℕ)) (a b : List ℕ) → Asks words a → Asks words b → a ≡ b
 same_file words a b x y = let e = sym x.words_are ∙ y.words_are in cc
@@ -41,7 +41,7 @@ held_bytes (Some told) file bytes is few = by (held told file) is refl
 
 -- the deck of the bytes that were fetched is what the words ask for
 pub answer_of : (files : Option (List (List ℕ × List ℕ))) (words : List (List ℕ)) (file bytes text : List ℕ) → Asks words file → IsHeld files file bytes
-    → IsDeckOf bytes text → IsAnswer files words text
+    → IsDeckFor bytes text → IsAnswer files words text
 answer_of files words file bytes text asks is deck =
     record { file = file; bytes = bytes; asks = asks; held_is = held_bytes files file bytes is deck.within; deck = deck }
 
@@ -50,7 +50,7 @@ pub room_for_answer : (files : Option (List (List ℕ × List ℕ))) (words : Li
 room_for_answer None words room text has answer = has (length text)
 room_for_answer (Some told) words room text has answer = has text answer
 
-pub plain_deck : (bytes text : List ℕ) → IsDeckOf bytes text → IsPlain bytes
+pub plain_deck : (bytes text : List ℕ) → IsDeckFor bytes text → IsPlain bytes
 plain_deck bytes text deck = record { table = deck.table; is_one_table = deck.is_one_table; within = deck.within; text = deck.printed_is }
 
 pub if_some_weaker : {X : Type 0} (o : Option X) (P Q : X → Type 0) → ((x : X) → P x → Q x) → IfSome o P → IfSome o Q

@@ -27,7 +27,7 @@ pub record IsPlain (bytes : List ℕ) : Type 0 where
   pub text : bytes ≡ printed table
 
 -- plain bytes and the text of the deck of their network
-pub record IsDeckOf (bytes text : List ℕ) : Type 0 where
+pub record IsDeckFor (bytes text : List ℕ) : Type 0 where
   pub table : OneTableData
   pub is_one_table : IsOneTable table
   pub within : length bytes ≤ file_limit
@@ -40,7 +40,7 @@ pub record IsAnswer (files : Option (List (List ℕ × List ℕ))) (words : List
   pub bytes : List ℕ
   pub asks : Asks words file
   pub held_is : IfSome files (λ told. held told file ≡ Some bytes)
-  pub deck : IsDeckOf bytes text
+  pub deck : IsDeckFor bytes text
 
 -- room for the text that the words ask for, and for every length where the files are not told
 abbrev pub HasRoomForAnswer : Option (List (List ℕ × List ℕ)) → List (List ℕ) → (ℕ → Type 0) → Type 0

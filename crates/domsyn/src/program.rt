@@ -5,7 +5,7 @@ ghost use Rattle.std.specs.Io.KnownBytes.{Appends};
 ghost use Rattle.dom_io.specs.Faults.{Rose};
 ghost use Rattle.dom_io.specs.Held.{held};
 ghost use Rattle.dom_io.specs.Pieces.{AppendsPrefix};
-ghost use Rattle.domsyn.specs.Top.{Asks, HasRoomForAnswer, IsAnswer, IsDeckOf, IsPlain, Tells, line_of, usage_line};
+ghost use Rattle.domsyn.specs.Top.{Asks, HasRoomForAnswer, IsAnswer, IsDeckFor, IsPlain, Tells, line_of, usage_line};
 
 use crate::synth::synth;
 use crate::tell::{tell, tell_about};
@@ -86,13 +86,13 @@ const USAGE_LINE: &[u8] =
 
 /// Puts out the deck of the bytes of a file.
 fn answer<K: Sink, E: Sink>(alloc: Global, file: &str, bytes: &[u8], out: &mut K, err: &mut E) -> u8
-    requires out_room { (text : List ℕ) → IsDeckOf bytes.now text → K.has_room out.old (length text) }
+    requires out_room { (text : List ℕ) → IsDeckFor bytes.now text → K.has_room out.old (length text) }
     requires err_room { (status : ℕ) → E.has_room err.old (length (line_of status file.now)) }
 
     ensures known { (result ≡ 0) ⊎ (result ≡ 1) ⊎ (result ≡ 4) ⊎ (result ≡ 5) }
     ensures cannot_write { result ≡ 4 → Rose (K.faults out.old) (K.faults out.new) }
-    ensures done { result ≡ 0 → (text : List ℕ) × IsDeckOf bytes.now text × Appends (K.taken out.old) (K.taken out.new) text }
-    ensures part { result ≡ 4 → (text : List ℕ) × IsDeckOf bytes.now text × AppendsPrefix (K.taken out.old) (K.taken out.new) text }
+    ensures done { result ≡ 0 → (text : List ℕ) × IsDeckFor bytes.now text × Appends (K.taken out.old) (K.taken out.new) text }
+    ensures part { result ≡ 4 → (text : List ℕ) × IsDeckFor bytes.now text × AppendsPrefix (K.taken out.old) (K.taken out.new) text }
     ensures refused { result ≡ 1 → IsPlain bytes.now → ⊥ }
     ensures nothing { result ≢ 0 → result ≢ 4 → out.new ≡ out.old }
     ensures told { Tells (E.taken err.old) (E.taken err.new) (E.faults err.old) (E.faults err.new) (line_of result file.now) }

@@ -1,6 +1,6 @@
 use Rattle.std.proofs.Common.{ℕ, List, [], inl, inr, refl, subst, sym, map}
 use Rattle.std.specs.String.{string_bytes}
-use Rattle.domsyn.specs.Top.{IsDeckOf, IsPlain, Tells, line_of}
+use Rattle.domsyn.specs.Top.{IsDeckFor, IsPlain, Tells, line_of}
 use Rattle.domsyn.proofs.Fetched.{fetched_whole, answer_of, room_for_answer, plain_deck, plain_whole, plain_bytes, if_some_weaker, told_about, built_or_memory, refused_or_memory}
 use Rattle.domsyn.proofs.program.top.Goals as goal
 
@@ -15,20 +15,20 @@ tell-requires-in-Err-Memory g c = c.requires.err_room 5 c.in-Some.file.now (inl 
 
 pub answer-requires-clause-out_room : goal.answer-requires-clause-out_room
 answer-requires-clause-out_room g c = λ text deck.
-    let P : List ℕ → Type 0 = λ b. IsDeckOf b text in
+    let P : List ℕ → Type 0 = λ b. IsDeckFor b text in
     room_for_answer (g.S.Shelf.files c.args.shelf.now) _ (g.K.Sink.has_room c.args.out.now) text c.requires.out_room
     (answer_of (g.S.Shelf.files c.args.shelf.now) _ c.in-Some.file.now c.in-Ok.bytes.items text c.in-Some.ensures c.in-Ok.ensures.bytes (subst P c.deref.ensures.value deck))
 
 pub returns-in-Ok-clause-done : goal.returns-in-Ok-clause-done
 returns-in-Ok-clause-done g c = λ zero.
     let deck = c.answer.ensures.done zero in
-    let P : List ℕ → Type 0 = λ b. IsDeckOf b deck.0 in
+    let P : List ℕ → Type 0 = λ b. IsDeckFor b deck.0 in
     (deck.0, answer_of (g.S.Shelf.files c.args.shelf.now) _ c.in-Some.file.now c.in-Ok.bytes.items deck.0 c.in-Some.ensures c.in-Ok.ensures.bytes (subst P c.deref.ensures.value deck.1), deck.2)
 
 pub returns-in-Ok-clause-part : goal.returns-in-Ok-clause-part
 returns-in-Ok-clause-part g c = λ four.
     let deck = c.answer.ensures.part four in
-    let P : List ℕ → Type 0 = λ b. IsDeckOf b deck.0 in
+    let P : List ℕ → Type 0 = λ b. IsDeckFor b deck.0 in
     (deck.0, answer_of (g.S.Shelf.files c.args.shelf.now) _ c.in-Some.file.now c.in-Ok.bytes.items deck.0 c.in-Some.ensures c.in-Ok.ensures.bytes (subst P c.deref.ensures.value deck.1), deck.2)
 
 pub returns-in-Ok-clause-refused : goal.returns-in-Ok-clause-refused
