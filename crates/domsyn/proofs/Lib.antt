@@ -1,8 +1,10 @@
-pub mod Cuts
-pub mod Reading
 pub mod Apart
-pub mod NetNames
-pub mod Spelling
-pub mod Literals
 pub mod Commands
+pub mod Cuts
+pub mod DeckFacts
+pub mod DeckNames
 pub mod Fetched
+pub mod Literals
+pub mod NetNames
+pub mod Reading
+pub mod Spelling

@@ -1,8 +1,10 @@
 pub mod Balanced
+pub mod Bits
 pub mod CellNames
 pub mod Deck
 pub mod OneTable
 pub mod OneTableData
+pub mod PullDown
 pub mod Table
 pub mod Top
 pub mod Words
