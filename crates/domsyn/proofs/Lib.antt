@@ -6,3 +6,6 @@ pub mod Spelling
 pub mod Literals
 pub mod Commands
 pub mod Fetched
+pub mod BalancedTrees
+pub mod RowMatches
+pub mod TableValues

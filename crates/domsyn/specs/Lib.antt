@@ -1,4 +1,5 @@
 pub mod Balanced
+pub mod Bits
 pub mod CellNames
 pub mod Deck
 pub mod OneTable
