@@ -1,4 +1,5 @@
 pub mod Apart
+pub mod BalancedTrees
 pub mod Commands
 pub mod Cuts
 pub mod DeckFacts
@@ -7,4 +8,6 @@ pub mod Fetched
 pub mod Literals
 pub mod NetNames
 pub mod Reading
+pub mod RowMatches
 pub mod Spelling
+pub mod TableValues
