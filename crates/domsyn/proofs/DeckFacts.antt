@@ -72,20 +72,32 @@ leaves-table_tree none rows nets some good =
       omega (arith, f, g, tree, a, b))
     (length rows) rows some (omega arith) good
 
+inner_count-le-leaves : (t : Tree (List ℕ)) → inner_count t + 1 ≤ leaves t
+inner_count-le-leaves (Leaf gate) = omega arith
+inner_count-le-leaves (Series l r) = omega (arith, inner_count-le-leaves l, inner_count-le-leaves r)
+inner_count-le-leaves (Parallel l r) = omega (arith, inner_count-le-leaves l, inner_count-le-leaves r)
+
+leaves-deck : (t : OneTableData) → IsOneTable t → leaves (table_tree [] t.rows (map pin_name t.inputs)) ≤ 16
+leaves-deck t is =
+    let P : ℕ → Type 0 = λ w. All (IsRow w) t.rows in
+    let few = leaves-table_tree [] t.rows (map pin_name t.inputs) is.rows.some_row (subst P (sym (length-map t.inputs pin_name)) is.rows.rows) in
+    omega (arith, few, is.rows.few_rows)
+
+pub inner_count-deck : (t : OneTableData) → IsOneTable t → inner_count (table_tree [] t.rows (map pin_name t.inputs)) ≤ 16
+inner_count-deck t is = omega (arith, inner_count-le-leaves (table_tree [] t.rows (map pin_name t.inputs)), leaves-deck t is)
+
 length-deck_cards : (t : OneTableData) → IsOneTable t → length (deck_cards t) ≤ 23
 length-deck_cards t is =
     let pins : List (List ℕ) = map pin_name t.inputs in
     let tree : Tree (List ℕ) = table_tree [] t.rows pins in
-    let width = length-map t.inputs pin_name in
-    let P : ℕ → Type 0 = λ w. All (IsRow w) t.rows in
-    let few = leaves-table_tree [] t.rows pins is.rows.some_row (subst P (sym width) is.rows.rows) in
+    let few = leaves-deck t is in
     let spelled : List (Card (List ℕ)) = spell nch cell_nets.inner tree (codes "d0") (codes "f0") 0 in
     let count : length spelled ≡ leaves tree = length-spell nch cell_nets.inner tree (codes "d0") (codes "f0") 0 in
     let foot : List (Card (List ℕ)) = record { kind = nch; drain = codes "f0"; gate = codes "ck1"; source = codes "vss" } ∷ [] in
     let stage_count = length-append spelled foot in
     let cell_count = length-append (dynamic_stage cell_nets tree) (inverter (codes "vdd") (codes "vss") (codes "d0") (codes "z0")) in
     let whole = length-append (cell cell_nets tree) (inverter (codes "vdd") (codes "vss") (codes "d0") (output_name t.output)) in
-    omega (arith, few, count, stage_count, cell_count, whole, is.rows.few_rows)
+    omega (arith, few, count, stage_count, cell_count, whole)
 
 pub IsCircuit-circuit_of : (t : OneTableData) → IsOneTable t → let c = circuit_of t in IsCircuit c.ports c.nets c.devices
 IsCircuit-circuit_of t is =

@@ -1,6 +1,9 @@
 use Rattle.std.proofs.Common.{◌≡◌, ◌≢◌, ℕ, zero, suc, ◌<◌, ◌≤◌, ◌+◌, ◌*◌, ◌^◌, Bool, List, [], ◌∷◌, ◌++◌, inl, inr, true, false, length, map, take, drop, get_or, refl, sym, ap, ◌∙◌, subst, arith, nat_eq, length-append, length-take, length-drop}
 use Rattle.std.specs.Prelude.{All, codes, if◌then◌else◌}
-use Rattle.std.specs.List.{list_any, AllByRecursion}
+use Rattle.std.specs.List.{list_any, list_all, AllByRecursion}
+use Rattle.std.proofs.lemmas.List.{length-map}
+use Rattle.std.proofs.lemmas.List.Sums.{AllPass-from_list_all}
+use Rattle.dom_base.proofs.PlainWords.{is_net_name, IsNetName-from_test}
 use Rattle.std.specs.Cmp.Lexicographic.{pointwise}
 use Rattle.dom_base.specs.Names.{IsNetByte, IsNetName}
 use Rattle.dom_base.specs.declared.kind.Kind.{Kind}
@@ -8,16 +11,19 @@ use Rattle.dom_base.specs.declared.kind.Kind.TheVariants.{N as nch}
 use Rattle.dom_base.proofs.Each.{AllByRecursion-append}
 use Rattle.deck.specs.CircuitData.{CircuitData}
 use Rattle.deck.specs.Nets.{with_net, with_nets}
-use Rattle.deck.specs.Pushes.{pushed}
+use Rattle.deck.specs.Pushes.{pushed, new_circuit}
+use Rattle.deck.specs.Ports.{leading_ports}
+use Rattle.stage.specs.Cell.{cell, dynamic_stage, inverter}
+use Rattle.domsyn.specs.OneTableData.{OneTableData}
+use Rattle.domsyn.proofs.DeckFacts.{inner_count-deck}
+use Rattle.domsyn.proofs.NetNames.{inner_is_net}
 use Rattle.stage.specs.Card.{Card, with_cards}
 use Rattle.stage.specs.Tree.{Tree, Leaf, Series, Parallel, EachLeaf, spell, inner_count}
-use Rattle.domsyn.specs.OneTable.{IsRow}
+use Rattle.domsyn.specs.OneTable.{IsOneTable, IsRow, IsPlainByte, IsPlainName}
 use Rattle.domsyn.specs.declared.letter.Letter.{Letter}
-use Rattle.domsyn.specs.declared.letter.Letter.TheVariants.{Zero, One, Any}
-use Rattle.domsyn.specs.Balanced.{first_half}
-use Rattle.domsyn.specs.Deck.{literals, row_tree, table_tree}
+use Rattle.domsyn.specs.Deck.{table_tree, pin_name, output_name, cell_nets, deck_cards, circuit_of}
 use Rattle.domsyn.proofs.TableValues.{EachLeaf-table_tree}
-use Rattle.std.proofs.lemmas.List.Elements.{All-nil, All-cons, All-take, All-drop, All-head, All-tail, All-push}
+use Rattle.std.proofs.lemmas.List.Elements.{All-nil, All-cons, All-take, All-drop, All-head, All-tail, All-push, All-map, All-append, All-weaker}
 
 -- the nets of a card have net names
 abbrev pub NamesNets : Card (List ℕ) → Type 0
@@ -38,15 +44,6 @@ with_cards-named (card ∷ cards) c all good =
       (with_net-named (with_net c.nets card.drain) card.gate (with_net-named c.nets card.drain all good.0.0) good.0.1) good.0.2)
     good.1
 
--- name, phases and ports stay
-pub with_cards-name : (cards : List (Card (List ℕ))) (c : CircuitData) → (with_cards c cards).name ≡ c.name
-with_cards-name [] c = refl
-with_cards-name (card ∷ cards) c = with_cards-name cards (pushed c card.kind card.drain card.gate card.source)
-
-pub with_cards-phases : (cards : List (Card (List ℕ))) (c : CircuitData) → (with_cards c cards).phases ≡ c.phases
-with_cards-phases [] c = refl
-with_cards-phases (card ∷ cards) c = with_cards-phases cards (pushed c card.kind card.drain card.gate card.source)
-
 pub spell-named : (kind : Kind) (inner : ℕ → List ℕ) (bound : ℕ) (t : Tree (List ℕ)) (top bottom : List ℕ) (k : ℕ) → ((j : ℕ) → j < bound → IsNetName (inner j)) → k + inner_count t ≤ bound
     → EachLeaf IsNetName t → IsNetName top → IsNetName bottom → AllByRecursion NamesNets (spell kind inner t top bottom k)
 spell-named kind inner bound (Leaf gate) top bottom k named fit leaf is_top is_bottom = ((is_top, leaf, is_bottom), tt)
@@ -59,3 +56,64 @@ spell-named kind inner bound (Parallel l r) top bottom k named fit each is_top i
     AllByRecursion-append NamesNets (spell kind inner l top bottom k) (spell kind inner r top bottom (k + inner_count l))
     (spell-named kind inner bound l top bottom k named (omega arith) each.0 is_top is_bottom)
     (spell-named kind inner bound r top bottom (k + inner_count l) named (omega arith) each.1 is_top is_bottom)
+
+plain_byte_is_net : (b : ℕ) → IsPlainByte b → IsNetByte b
+plain_byte_is_net b (inl digit) = (omega arith, λ e. omega arith, inl (omega arith))
+plain_byte_is_net b (inr letter) = (omega arith, λ e. omega arith, inr (omega arith))
+
+plain_are_net_bytes : (name : List ℕ) → IsPlainName name → All IsNetByte name
+plain_are_net_bytes name is = All-weaker IsPlainByte IsNetByte plain_byte_is_net name is.plain
+
+pub plain_is_net : (name : List ℕ) → IsPlainName name → IsNetName name
+plain_is_net name is = record { some = is.some; good = plain_are_net_bytes name is }
+
+-- two bytes in front of a plain name
+fronted_is_net : (a b : ℕ) (name : List ℕ) → IsNetByte a → IsNetByte b → IsPlainName name → IsNetName (a ∷ b ∷ name)
+fronted_is_net a b name first second is = record {
+  some = λ e. cc;
+  good = All-cons IsNetByte a (b ∷ name) first (All-cons IsNetByte b name second (plain_are_net_bytes name is));
+}
+
+pub pin_is_net : (input : List ℕ) → IsPlainName input → IsNetName (pin_name input)
+pin_is_net input is = fronted_is_net 105 95 input (omega arith, λ e. omega arith, inr (omega arith)) (omega arith, λ e. omega arith, inr (omega arith)) is
+
+pub output_is_net : (output : List ℕ) → IsPlainName output → IsNetName (output_name output)
+output_is_net output is = fronted_is_net 111 95 output (omega arith, λ e. omega arith, inr (omega arith)) (omega arith, λ e. omega arith, inr (omega arith)) is
+
+pub pins_are_nets : (inputs : List (List ℕ)) → All IsPlainName inputs → All IsNetName (map pin_name inputs)
+pins_are_nets inputs good = All-map IsNetName pin_name inputs (All-weaker IsPlainName (λ input. IsNetName (pin_name input)) pin_is_net inputs good)
+
+all_net_names : (names : List (List ℕ)) → list_all is_net_name names ≡ true → All IsNetName names
+all_net_names names test = λ k d lt. IsNetName-from_test (get_or names k d) (AllPass-from_list_all is_net_name names test k d lt)
+
+deck_cards-named : (t : OneTableData) → IsOneTable t → AllByRecursion NamesNets (deck_cards t)
+deck_cards-named t is =
+    let pins : List (List ℕ) = map pin_name t.inputs in
+    let tree : Tree (List ℕ) = table_tree [] t.rows pins in
+    let vdd = IsNetName-from_test (codes "vdd") refl in
+    let vss = IsNetName-from_test (codes "vss") refl in
+    let clock = IsNetName-from_test (codes "ck1") refl in
+    let dynamic = IsNetName-from_test (codes "d0") refl in
+    let output = IsNetName-from_test (codes "z0") refl in
+    let foot = IsNetName-from_test (codes "f0") refl in
+    let out = output_is_net t.output is.output in
+    let P : ℕ → Type 0 = λ w. All (IsRow w) t.rows in
+    let each = EachLeaf-table_tree IsNetName [] t.rows pins is.rows.some_row (subst P (sym (length-map t.inputs pin_name)) is.rows.rows) (pins_are_nets t.inputs is.inputs) in
+    let spelled = spell-named nch cell_nets.inner (2 ^ 64) tree (codes "d0") (codes "f0") 0 inner_is_net (omega (arith, inner_count-deck t is)) each dynamic foot in
+    AllByRecursion-append NamesNets (cell cell_nets tree) (inverter (codes "vdd") (codes "vss") (codes "d0") (output_name t.output))
+    (AllByRecursion-append NamesNets (dynamic_stage cell_nets tree) (inverter (codes "vdd") (codes "vss") (codes "d0") (codes "z0"))
+      ((dynamic, clock, vdd), ((dynamic, output, vdd),
+        AllByRecursion-append NamesNets (spell nch cell_nets.inner tree (codes "d0") (codes "f0") 0) (record { kind = nch; drain = codes "f0"; gate = codes "ck1"; source = codes "vss" } ∷ [])
+        spelled ((foot, clock, vss), tt)))
+      ((output, dynamic, vdd), ((output, dynamic, vss), tt)))
+    ((out, dynamic, vdd), ((out, dynamic, vss), tt))
+
+deck_ports-named : (t : OneTableData) → IsOneTable t → All IsNetName (leading_ports 1 ++ map pin_name t.inputs ++ output_name t.output ∷ [])
+deck_ports-named t is =
+    All-append IsNetName (leading_ports 1 ++ map pin_name t.inputs) (output_name t.output ∷ [])
+    (All-append IsNetName (leading_ports 1) (map pin_name t.inputs) (all_net_names (leading_ports 1) refl) (pins_are_nets t.inputs is.inputs))
+    (All-cons IsNetName (output_name t.output) [] (output_is_net t.output is.output) (All-nil IsNetName))
+
+-- a circuit with these ports, after the cards
+base : OneTableData → CircuitData
+base t = new_circuit t.model (record { net = output_name t.output; plus = true } ∷ []) 1 (map pin_name t.inputs) (output_name t.output ∷ [])

@@ -2,6 +2,10 @@ use Rattle.std.proofs.Common.{◌≡◌, ◌≤◌, ◌+◌, ◌∙◌, ◌⊎�
 use Rattle.std.specs.Prelude.{IfSome, IsSomeAnd}
 use Rattle.std.proofs.lemmas.List.{take_all}
 use Rattle.dom_io.specs.Held.{file_limit, held, IsHeld}
+use Rattle.spice_text.specs.Text.{IsWritten}
+use Rattle.domsyn.specs.OneTable.{IsOneTable, printed}
+use Rattle.domsyn.specs.OneTableData.{OneTableData}
+use Rattle.domsyn.specs.Deck.{circuit_of}
 use Rattle.domsyn.specs.Top.{Asks, HasRoomForAnswer, IsAnswer, IsDeckFor, IsPlain}
 
 pub same_file : (words : List (List ℕ)) (a b : List ℕ) → Asks words a → Asks words b → a ≡ b
@@ -43,15 +47,24 @@ held_bytes (Some told) file bytes is few = by (held told file) is refl
 pub answer_of : (files : Option (List (List ℕ × List ℕ))) (words : List (List ℕ)) (file bytes text : List ℕ) → Asks words file → IsHeld files file bytes
     → IsDeckFor bytes text → IsAnswer files words text
 answer_of files words file bytes text asks is deck =
-    record { file = file; bytes = bytes; asks = asks; held_is = held_bytes files file bytes is deck.within; deck = deck }
+    record { file = file; bytes = bytes; asks = asks; held_is = held_bytes files file bytes is deck.plain.within; deck = deck }
+
+-- where the bytes that were fetched are not plain, the file's are not
+pub refused_whole : (files : Option (List (List ℕ × List ℕ))) (words : List (List ℕ)) (file bytes : List ℕ) → Asks words file → IsHeld files file bytes → (IsPlain bytes → ⊥)
+    → IfSome files (λ told. (asked : List ℕ) → Asks words asked → IsSomeAnd (held told asked) (λ whole. IsPlain whole → ⊥))
+refused_whole None words file bytes asks is other = tt
+refused_whole (Some told) words file bytes asks is other = λ asked asks'.
+    let P : List ℕ → Type 0 = λ name. IsSomeAnd (held told name) (λ whole. IsPlain whole → ⊥) in
+    subst P (same_file words file asked asks asks') (by (held told file) is)
+  where
+    by : (o : Option (List ℕ)) → IsSomeAnd o (λ whole. bytes ≡ take (file_limit + 1) whole) → IsSomeAnd o (λ whole. IsPlain whole → ⊥)
+    by None is = absurd is
+    by (Some x) is = λ plain. other (subst IsPlain (sym ((are_whole bytes x is).by_whole plain.within)) plain)
 
 pub room_for_answer : (files : Option (List (List ℕ × List ℕ))) (words : List (List ℕ)) (room : ℕ → Type 0) (text : List ℕ) → HasRoomForAnswer files words room
     → IsAnswer files words text → room (length text)
 room_for_answer None words room text has answer = has (length text)
 room_for_answer (Some told) words room text has answer = has text answer
-
-pub plain_deck : (bytes text : List ℕ) → IsDeckFor bytes text → IsPlain bytes
-plain_deck bytes text deck = record { table = deck.table; is_one_table = deck.is_one_table; within = deck.within; text = deck.printed_is }
 
 pub if_some_weaker : {X : Type 0} (o : Option X) (P Q : X → Type 0) → ((x : X) → P x → Q x) → IfSome o P → IfSome o Q
 if_some_weaker None P Q weaken p = tt
@@ -74,3 +87,9 @@ built_or_memory r known no_one no_four = grind arith
 
 pub refused_or_memory : (r : ℕ) → (r ≡ 0) ⊎ (r ≡ 1) ⊎ (r ≡ 4) ⊎ (r ≡ 5) → (r ≡ 0 → ⊥) → (r ≡ 4 → ⊥) → (r ≡ 1) ⊎ (r ≡ 5)
 refused_or_memory r known no_zero no_four = grind arith
+
+-- the deck of plain bytes, part by part
+pub deck_for : (bytes text : List ℕ) (table : OneTableData) → IsOneTable table → length bytes ≤ file_limit → bytes ≡ printed table → IsWritten (circuit_of table) text
+    → IsDeckFor bytes text
+deck_for bytes text table is within same written =
+    record { plain = record { table = table; is_one_table = is; within = within; text = same }; written = written }

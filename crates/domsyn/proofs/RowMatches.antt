@@ -39,14 +39,14 @@ All-literals P (Zero ∷ row) (n ∷ nets) each = All-literals P row nets (All-t
 All-literals P (Any ∷ row) (n ∷ nets) each = All-literals P row nets (All-tail P n nets each)
 
 ones-cons : (l : Letter) (row : List Letter) (b : Bool) (bits : List Bool) → (l ≡ One → b ≡ true) → Matches row bits
-    → (k : ℕ) (c : Bool) → slice_get (l ∷ row) k ≡ Some One → slice_get (b ∷ bits) k ≡ Some c → c ≡ true
-ones-cons l row b bits one rest zero c at bit = sym (same_Some b c bit) ∙ one (same_Some l One at)
-ones-cons l row b bits one rest (suc k) c at bit = rest.ones k c at bit
+    → (k : ℕ) → slice_get (l ∷ row) k ≡ Some One → slice_get (b ∷ bits) k ≡ Some true
+ones-cons l row b bits one rest zero at = ap (λ x. Some x) (one (same_Some l One at))
+ones-cons l row b bits one rest (suc k) at = rest.ones k at
 
 zeros-cons : (l : Letter) (row : List Letter) (b : Bool) (bits : List Bool) → (l ≡ Zero → b ≡ false) → Matches row bits
-    → (k : ℕ) (c : Bool) → slice_get (l ∷ row) k ≡ Some Zero → slice_get (b ∷ bits) k ≡ Some c → c ≡ false
-zeros-cons l row b bits nought rest zero c at bit = sym (same_Some b c bit) ∙ nought (same_Some l Zero at)
-zeros-cons l row b bits nought rest (suc k) c at bit = rest.zeros k c at bit
+    → (k : ℕ) → slice_get (l ∷ row) k ≡ Some Zero → slice_get (b ∷ bits) k ≡ Some false
+zeros-cons l row b bits nought rest zero at = ap (λ x. Some x) (nought (same_Some l Zero at))
+zeros-cons l row b bits nought rest (suc k) at = rest.zeros k at
 
 Matches-cons : (l : Letter) (row : List Letter) (b : Bool) (bits : List Bool) → (l ≡ One → b ≡ true) → (l ≡ Zero → b ≡ false) → Matches row bits → Matches (l ∷ row) (b ∷ bits)
 Matches-cons l row b bits one nought rest = record { ones = ones-cons l row b bits one rest; zeros = zeros-cons l row b bits nought rest }
@@ -54,22 +54,22 @@ Matches-cons l row b bits one nought rest = record { ones = ones-cons l row b bi
 Matches-tail : (l : Letter) (row : List Letter) (b : Bool) (bits : List Bool) → Matches (l ∷ row) (b ∷ bits) → Matches row bits
 Matches-tail l row b bits is = record { ones = λ k. is.ones (suc k); zeros = λ k. is.zeros (suc k) }
 
--- a row without zeros matches where the bits under its ones are all 1
-pub Matches-from_all : (row : List Letter) (bits : List Bool) → All (λ l. l ≢ Zero) row → list_all (λ bit. bit) (literals row bits) ≡ true → Matches row bits
-Matches-from_all [] bits no_zero all = record { ones = λ k b at bit. absurd (cc); zeros = λ k b at bit. absurd (cc) }
-Matches-from_all (l ∷ row) [] no_zero all = record { ones = λ k b at bit. absurd (cc); zeros = λ k b at bit. absurd (cc) }
-Matches-from_all (One ∷ row) (b ∷ bits) no_zero all =
+-- a row without zeros, as long as the bits, matches where the bits under its ones are all 1
+pub Matches-from_all : (row : List Letter) (bits : List Bool) → length row ≡ length bits → All (λ l. l ≢ Zero) row → list_all (λ bit. bit) (literals row bits) ≡ true → Matches row bits
+Matches-from_all [] bits same no_zero all = record { ones = λ k at. absurd (cc); zeros = λ k at. absurd (cc) }
+Matches-from_all (l ∷ row) [] same no_zero all = absurd (omega arith)
+Matches-from_all (One ∷ row) (b ∷ bits) same no_zero all =
     let parts = and_parts b (list_all (λ bit. bit) (literals row bits)) all in
-    Matches-cons One row b bits (λ e. parts.0) (λ e. absurd (cc)) (Matches-from_all row bits (All-tail (λ l. l ≢ Zero) One row no_zero) parts.1)
-Matches-from_all (Zero ∷ row) (b ∷ bits) no_zero all = absurd (All-head (λ l. l ≢ Zero) Zero row no_zero refl)
-Matches-from_all (Any ∷ row) (b ∷ bits) no_zero all =
-    Matches-cons Any row b bits (λ e. absurd (cc)) (λ e. absurd (cc)) (Matches-from_all row bits (All-tail (λ l. l ≢ Zero) Any row no_zero) all)
+    Matches-cons One row b bits (λ e. parts.0) (λ e. absurd (cc)) (Matches-from_all row bits (omega arith) (All-tail (λ l. l ≢ Zero) One row no_zero) parts.1)
+Matches-from_all (Zero ∷ row) (b ∷ bits) same no_zero all = absurd (All-head (λ l. l ≢ Zero) Zero row no_zero refl)
+Matches-from_all (Any ∷ row) (b ∷ bits) same no_zero all =
+    Matches-cons Any row b bits (λ e. absurd (cc)) (λ e. absurd (cc)) (Matches-from_all row bits (omega arith) (All-tail (λ l. l ≢ Zero) Any row no_zero) all)
 
 -- where a row matches, the bits under its ones are all 1
 pub all_from_Matches : (row : List Letter) (bits : List Bool) → Matches row bits → list_all (λ bit. bit) (literals row bits) ≡ true
 all_from_Matches [] bits is = refl
 all_from_Matches (l ∷ row) [] is = refl
 all_from_Matches (One ∷ row) (b ∷ bits) is =
-    and_from b (list_all (λ bit. bit) (literals row bits)) (is.ones 0 b refl refl) (all_from_Matches row bits (Matches-tail One row b bits is))
+    and_from b (list_all (λ bit. bit) (literals row bits)) (same_Some b true (is.ones 0 refl)) (all_from_Matches row bits (Matches-tail One row b bits is))
 all_from_Matches (Zero ∷ row) (b ∷ bits) is = all_from_Matches row bits (Matches-tail Zero row b bits is)
 all_from_Matches (Any ∷ row) (b ∷ bits) is = all_from_Matches row bits (Matches-tail Any row b bits is)

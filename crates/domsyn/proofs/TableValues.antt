@@ -58,12 +58,12 @@ EachLeaf-table_tree P none rows pins some each all =
     rows each)
 
 -- some row matches where the bits under its ones are all 1
-pub IsOneAt-from_any : (width : ℕ) (rows : List (List Letter)) (bits : List Bool) → All (IsRow width) rows
+pub IsOneAt-from_any : (width : ℕ) (rows : List (List Letter)) (bits : List Bool) → length bits ≡ width → All (IsRow width) rows
     → list_any (λ row. list_all (λ bit. bit) (literals row bits)) rows ≡ true → IsOneAt true rows bits
-IsOneAt-from_any width rows bits each any =
+IsOneAt-from_any width rows bits same each any =
     let found = Any-from_list_any (λ row. list_all (λ bit. bit) (literals row bits)) rows any in
     let is : IsRow width found.1 = subst (IsRow width) found.3 (each found.0 found.1 found.2) in
-    (found.0, found.1, found.2, found.3, Matches-from_all found.1 bits is.no_zero found.4)
+    (found.0, found.1, found.2, found.3, Matches-from_all found.1 bits (is.fits ∙ sym same) is.no_zero found.4)
 
 pub any_from_IsOneAt : (rows : List (List Letter)) (bits : List Bool)
     → IsOneAt true rows bits → list_any (λ row. list_all (λ bit. bit) (literals row bits)) rows ≡ true
@@ -81,7 +81,7 @@ table_tree-one width rows good none pins fits value bits same has =
     let each : All (IsRow (length pins)) rows = rw fits good.rows in
     let joined = joins-table_tree value none rows pins bits good.some_row each same has in
     let formula = tree_conduction-one nch value (table_tree none rows pins) in (
-      (λ one. IsOneAt-from_any width rows bits good.rows (sym joined ∙ formula.0 one)),
+      (λ one. IsOneAt-from_any width rows bits (same ∙ fits) good.rows (sym joined ∙ formula.0 one)),
       (λ is. formula.1 (joined ∙ any_from_IsOneAt rows bits is)),
     )
 

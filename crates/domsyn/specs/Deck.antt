@@ -10,7 +10,7 @@ use Rattle.domsyn.specs.declared.letter.Letter.TheVariants.{One}
 use Rattle.domsyn.specs.OneTableData.{OneTableData}
 use Rattle.domsyn.specs.Balanced.{balanced}
 
--- the nets under the ones of a row, in order
+-- the nets under the ones of a row without zeros, in order
 abbrev pub literals : {Net : Type 0} → List Letter → List Net → List Net
 literals [] nets = []
 literals (letter ∷ row) [] = []

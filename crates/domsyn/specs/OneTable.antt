@@ -32,7 +32,7 @@ pub record HasGoodRows (width : ℕ) (all : List (List Letter)) : Type 0 where
   pub rows : All (IsRow width) all
   pub two_ones : 2 ≤ sum_by (count_by is_one) all
 
--- the networks that are built so far: one table of 1 to 4 rows over 1 to 4,096 inputs, with at least two ones in all
+-- the networks that a deck is built for: one table of 1 to 4 rows over 1 to 4,096 inputs, with at least two ones in all
 pub record IsOneTable (t : OneTableData) : Type 0 where
   pub model : IsPlainName t.model
   pub inputs : All IsPlainName t.inputs

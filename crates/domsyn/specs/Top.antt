@@ -28,11 +28,8 @@ pub record IsPlain (bytes : List ℕ) : Type 0 where
 
 -- plain bytes and the text of the deck of their network
 pub record IsDeckFor (bytes text : List ℕ) : Type 0 where
-  pub table : OneTableData
-  pub is_one_table : IsOneTable table
-  pub within : length bytes ≤ file_limit
-  pub printed_is : bytes ≡ printed table
-  pub written : IsWritten (circuit_of table) text
+  pub plain : IsPlain bytes
+  pub written : IsWritten (circuit_of plain.table) text
 
 -- the text that the words ask for: the deck of the file's bytes, which are those of the map where the files are told
 pub record IsAnswer (files : Option (List (List ℕ × List ℕ))) (words : List (List ℕ)) (text : List ℕ) : Type 0 where
@@ -58,6 +55,6 @@ line_of status file =
     else (if status == 4 then codes "domsyn: cannot write\n"
     else (if status == 5 then codes "domsyn: out of memory\n" else []))))
 
--- a sink that had taken some bytes and failed so often took the whole line, or a part of it and its count of faults rose
+-- what a sink tells and its count of faults, before and now: the whole line was taken, or a part of it and the count rose
 abbrev pub Tells : Option (List ℕ) → Option (List ℕ) → ℕ → ℕ → List ℕ → Type 0
 Tells old new before now line = Appends old new line ⊎ (AppendsPrefix old new line × Rose before now)

@@ -1,5 +1,5 @@
 //! What the program does.
-ghost use Rattle.std.specs.Prelude.{◌≡◌, ◌≢◌, ◌≤◌, ◌⊎◌, ℕ, List, Some, IfSome, IfNone, length, map};
+ghost use Rattle.std.specs.Prelude.{◌≡◌, ◌≢◌, ◌≤◌, ◌⊎◌, ℕ, List, Some, IfSome, IsSomeAnd, ◌↔◌, length, map};
 ghost use Rattle.std.specs.String.{string_bytes};
 ghost use Rattle.std.specs.Io.KnownBytes.{Appends};
 ghost use Rattle.dom_io.specs.Faults.{Rose};
@@ -45,6 +45,8 @@ pub fn top<S: Shelf, K: Sink, E: Sink>(
     ensures usage { ((file : List ℕ) → Asks (map string_bytes words.now) file → ⊥) → result ≡ 2 }
     ensures usage_only { result ≡ 2 → (file : List ℕ) → Asks (map string_bytes words.now) file → ⊥ }
     ensures unfetched { result ≡ 2 → shelf.new ≡ shelf.old }
+    ensures same_files { S.files shelf.new ≡ S.files shelf.old }
+    ensures same_names { (name : List ℕ) → S.may_ask shelf.new name ↔ S.may_ask shelf.old name }
 
     // A fault of the outside is told only where its count rose in this call.
     ensures cannot_read { result ≡ 3 → Rose (S.faults shelf.old) (S.faults shelf.new) }
@@ -53,7 +55,7 @@ pub fn top<S: Shelf, K: Sink, E: Sink>(
     // Plain bytes give their deck, and all others are not built.
     ensures done { result ≡ 0 → (text : List ℕ) × IsAnswer (S.files shelf.old) (map string_bytes words.now) text × Appends (K.taken out.old) (K.taken out.new) text }
     ensures part { result ≡ 4 → (text : List ℕ) × IsAnswer (S.files shelf.old) (map string_bytes words.now) text × AppendsPrefix (K.taken out.old) (K.taken out.new) text }
-    ensures refused { result ≡ 1 → IfSome (S.files shelf.old) (λ told. (file whole : List ℕ) → Asks (map string_bytes words.now) file → held told file ≡ Some whole → IsPlain whole → ⊥) }
+    ensures refused { result ≡ 1 → IfSome (S.files shelf.old) (λ told. (file : List ℕ) → Asks (map string_bytes words.now) file → IsSomeAnd (held told file) (λ whole. IsPlain whole → ⊥)) }
     ensures plain { IfSome (S.files shelf.old) (λ told. (file whole : List ℕ) → Asks (map string_bytes words.now) file → held told file ≡ Some whole → IsPlain whole
         → (Rose (S.faults shelf.old) (S.faults shelf.new) → ⊥) → (Rose (K.faults out.old) (K.faults out.new) → ⊥) → (result ≡ 0) ⊎ (result ≡ 5)) }
     ensures other { IfSome (S.files shelf.old) (λ told. (file whole : List ℕ) → Asks (map string_bytes words.now) file → held told file ≡ Some whole → (IsPlain whole → ⊥)

@@ -8,3 +8,4 @@ pub mod Stages
 pub mod Tests
 pub mod Trees
 pub mod Worked
+pub mod Numbering

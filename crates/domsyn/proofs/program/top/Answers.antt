@@ -1,7 +1,7 @@
 use Rattle.std.proofs.Common.{ℕ, List, [], inl, inr, refl, subst, sym, map}
 use Rattle.std.specs.String.{string_bytes}
 use Rattle.domsyn.specs.Top.{IsDeckFor, IsPlain, Tells, line_of}
-use Rattle.domsyn.proofs.Fetched.{fetched_whole, answer_of, room_for_answer, plain_deck, plain_whole, plain_bytes, if_some_weaker, told_about, built_or_memory, refused_or_memory}
+use Rattle.domsyn.proofs.Fetched.{fetched_whole, answer_of, room_for_answer, refused_whole, plain_whole, plain_bytes, if_some_weaker, told_about, built_or_memory, refused_or_memory}
 use Rattle.domsyn.proofs.program.top.Goals as goal
 
 pub tell-requires : goal.tell-requires
@@ -33,9 +33,8 @@ returns-in-Ok-clause-part g c = λ four.
 
 pub returns-in-Ok-clause-refused : goal.returns-in-Ok-clause-refused
 returns-in-Ok-clause-refused g c = λ one.
-    if_some_weaker (g.S.Shelf.files c.args.shelf.now) _ _
-    (λ told are file whole asks found plain. c.answer.ensures.refused one (subst IsPlain (sym c.deref.ensures.value) (plain_whole _ whole (are file whole asks found) plain)))
-    (fetched_whole (g.S.Shelf.files c.args.shelf.now) _ c.in-Some.file.now c.in-Ok.bytes.items c.in-Some.ensures c.in-Ok.ensures.bytes)
+    refused_whole (g.S.Shelf.files c.args.shelf.now) (map string_bytes c.args.words.now) c.in-Some.file.now c.in-Ok.bytes.items c.in-Some.ensures c.in-Ok.ensures.bytes
+    (λ plain. c.answer.ensures.refused one (subst IsPlain (sym c.deref.ensures.value) plain))
 
 pub returns-in-Err-Failed-clause-told : goal.returns-in-Err-Failed-clause-told
 returns-in-Err-Failed-clause-told g c = λ file asks.
@@ -54,6 +53,6 @@ pub returns-in-Ok-clause-other : goal.returns-in-Ok-clause-other
 returns-in-Ok-clause-other g c =
     if_some_weaker (g.S.Shelf.files c.args.shelf.now) _ _
     (λ told are file whole asks found other same_shelf. refused_or_memory c.answer.result c.answer.ensures.known
-    (λ zero. let deck = c.answer.ensures.done zero in other (plain_bytes _ whole (are file whole asks found) (subst IsPlain c.deref.ensures.value (plain_deck _ deck.0 deck.1))))
-    (λ four. let deck = c.answer.ensures.part four in other (plain_bytes _ whole (are file whole asks found) (subst IsPlain c.deref.ensures.value (plain_deck _ deck.0 deck.1)))))
+    (λ zero. let deck = c.answer.ensures.done zero in other (plain_bytes _ whole (are file whole asks found) (subst IsPlain c.deref.ensures.value deck.1.plain)))
+    (λ four. let deck = c.answer.ensures.part four in other (plain_bytes _ whole (are file whole asks found) (subst IsPlain c.deref.ensures.value deck.1.plain))))
     (fetched_whole (g.S.Shelf.files c.args.shelf.now) _ c.in-Some.file.now c.in-Ok.bytes.items c.in-Some.ensures c.in-Ok.ensures.bytes)
