@@ -46,11 +46,11 @@ leaves-row_tree : (none : List ℕ) (nets : List (List ℕ)) → 1 ≤ length ne
 leaves-row_tree none nets some =
     by_halves (λ xs. leaves (row_tree none xs) ≡ length xs) (λ x. refl)
     (λ xs many front back.
-      let h : ℕ = first_half (length xs) in
-      let a = length-take h xs in
-      let b = length-drop h xs in
-      let tree = ap leaves (balanced-map Series (Leaf none) Leaf xs many) in
-      omega (arith, front, back, tree, a, b))
+    let h : ℕ = first_half (length xs) in
+    let a = length-take h xs in
+    let b = length-drop h xs in
+    let tree = ap leaves (balanced-map Series (Leaf none) Leaf xs many) in
+    omega (arith, front, back, tree, a, b))
     (length nets) nets some (omega arith)
 
 -- at most four devices for a row
@@ -59,17 +59,17 @@ leaves-table_tree : (none : List ℕ) (rows : List (List Letter)) (nets : List (
 leaves-table_tree none rows nets some good =
     by_halves (λ rs. All (IsRow (length nets)) rs → leaves (table_tree none rs nets) ≤ 4 * length rs)
     (λ row ok.
-      let bounds = literals-bounds row nets (All-head (IsRow (length nets)) row [] ok) in
-      let count = leaves-row_tree none (literals row nets) bounds.0 in
-      omega (arith, count, bounds.1))
+    let bounds = literals-bounds row nets (All-head (IsRow (length nets)) row [] ok) in
+    let count = leaves-row_tree none (literals row nets) bounds.0 in
+    omega (arith, count, bounds.1))
     (λ rs many front back ok.
-      let h : ℕ = first_half (length rs) in
-      let a = length-take h rs in
-      let b = length-drop h rs in
-      let f = front (All-take (IsRow (length nets)) h rs ok) in
-      let g = back (All-drop (IsRow (length nets)) h rs ok) in
-      let tree = ap leaves (balanced-map Parallel (Leaf none) (λ row. row_tree none (literals row nets)) rs many) in
-      omega (arith, f, g, tree, a, b))
+    let h : ℕ = first_half (length rs) in
+    let a = length-take h rs in
+    let b = length-drop h rs in
+    let f = front (All-take (IsRow (length nets)) h rs ok) in
+    let g = back (All-drop (IsRow (length nets)) h rs ok) in
+    let tree = ap leaves (balanced-map Parallel (Leaf none) (λ row. row_tree none (literals row nets)) rs many) in
+    omega (arith, f, g, tree, a, b))
     (length rows) rows some (omega arith) good
 
 inner_count-le-leaves : (t : Tree (List ℕ)) → inner_count t + 1 ≤ leaves t
@@ -109,10 +109,10 @@ IsCircuit-circuit_of t is =
     let cards = length-deck_cards t is in
     IsCircuit-with_cards (deck_cards t) (new_circuit t.model (record { net = output_name t.output; plus = true } ∷ []) 1 pins outs)
     (record {
-        few_ports = omega (arith, count, width, is.few_inputs);
-        few_devices = omega arith;
-        distinct = ports_differ 1 pins outs (omega arith) (pins_are_pins t.inputs) out (pins_apart t.inputs t.output is.apart);
-        in_order = tt;
-        all_used = refl;
-      })
+      few_ports = omega (arith, count, width, is.few_inputs);
+      few_devices = omega arith;
+      distinct = ports_differ 1 pins outs (omega arith) (pins_are_pins t.inputs) out (pins_apart t.inputs t.output is.apart);
+      in_order = tt;
+      all_used = refl;
+    })
     (omega (arith, cards))

@@ -1,4 +1,4 @@
-use Rattle.std.proofs.Common.{◌≡◌, ◌≢◌, ℕ, zero, suc, ◌<◌, ◌≤◌, ◌+◌, ◌*◌, ◌^◌, Bool, List, [], ◌∷◌, ◌++◌, inl, inr, true, false, length, map, take, drop, get_or, refl, sym, ap, ◌∙◌, subst, arith, nat_eq, length-append, length-take, length-drop}
+use Rattle.std.proofs.Common.{◌≡◌, ◌≢◌, ℕ, zero, suc, ◌<◌, ◌≤◌, ◌+◌, ◌*◌, ◌^◌, Bool, List, [], ◌∷◌, ◌++◌, inl, inr, true, false, not, eqb, eq-eqb, length, map, take, drop, get_or, refl, sym, ap, ◌∙◌, subst, arith, nat_eq, length-append, length-take, length-drop}
 use Rattle.std.specs.Prelude.{All, codes, if◌then◌else◌}
 use Rattle.std.specs.List.{list_any, list_all, AllByRecursion}
 use Rattle.std.proofs.lemmas.List.{length-map}
@@ -12,6 +12,11 @@ use Rattle.dom_base.proofs.Each.{AllByRecursion-append}
 use Rattle.deck.specs.CircuitData.{CircuitData}
 use Rattle.deck.specs.Nets.{with_net, with_nets}
 use Rattle.deck.specs.Pushes.{pushed, new_circuit}
+use Rattle.deck.specs.DeckText.{HasNetNames, HasNoEquals, IsGoodCircuit}
+use Rattle.deck.specs.declared.phase.Phase.{Phase}
+use Rattle.deck.proofs.Growth.{Grew}
+use Rattle.stage.proofs.Numbering.{with_cards-grew}
+use Rattle.std.proofs.Math.Seq.{take-append_seam}
 use Rattle.deck.specs.Ports.{leading_ports}
 use Rattle.stage.specs.Cell.{cell, dynamic_stage, inverter}
 use Rattle.domsyn.specs.OneTableData.{OneTableData}
@@ -41,7 +46,7 @@ with_cards-named [] c all good = all
 with_cards-named (card ∷ cards) c all good =
     with_cards-named cards (pushed c card.kind card.drain card.gate card.source)
     (with_net-named (with_net (with_net c.nets card.drain) card.gate) card.source
-      (with_net-named (with_net c.nets card.drain) card.gate (with_net-named c.nets card.drain all good.0.0) good.0.1) good.0.2)
+    (with_net-named (with_net c.nets card.drain) card.gate (with_net-named c.nets card.drain all good.0.0) good.0.1) good.0.2)
     good.1
 
 pub spell-named : (kind : Kind) (inner : ℕ → List ℕ) (bound : ℕ) (t : Tree (List ℕ)) (top bottom : List ℕ) (k : ℕ) → ((j : ℕ) → j < bound → IsNetName (inner j)) → k + inner_count t ≤ bound
@@ -101,11 +106,15 @@ deck_cards-named t is =
     let each = EachLeaf-table_tree IsNetName [] t.rows pins is.rows.some_row (subst P (sym (length-map t.inputs pin_name)) is.rows.rows) (pins_are_nets t.inputs is.inputs) in
     let spelled = spell-named nch cell_nets.inner (2 ^ 64) tree (codes "d0") (codes "f0") 0 inner_is_net (omega (arith, inner_count-deck t is)) each dynamic foot in
     AllByRecursion-append NamesNets (cell cell_nets tree) (inverter (codes "vdd") (codes "vss") (codes "d0") (output_name t.output))
-    (AllByRecursion-append NamesNets (dynamic_stage cell_nets tree) (inverter (codes "vdd") (codes "vss") (codes "d0") (codes "z0"))
-      ((dynamic, clock, vdd), ((dynamic, output, vdd),
+    (AllByRecursion-append NamesNets (dynamic_stage cell_nets tree) (inverter (codes "vdd") (codes "vss") (codes "d0") (codes "z0")) (
+      (dynamic, clock, vdd),
+      (
+        (dynamic, output, vdd),
         AllByRecursion-append NamesNets (spell nch cell_nets.inner tree (codes "d0") (codes "f0") 0) (record { kind = nch; drain = codes "f0"; gate = codes "ck1"; source = codes "vss" } ∷ [])
-        spelled ((foot, clock, vss), tt)))
-      ((output, dynamic, vdd), ((output, dynamic, vss), tt)))
+            spelled ((foot, clock, vss), tt),
+      ),
+    )
+    ((output, dynamic, vdd), ((output, dynamic, vss), tt)))
     ((out, dynamic, vdd), ((out, dynamic, vss), tt))
 
 deck_ports-named : (t : OneTableData) → IsOneTable t → All IsNetName (leading_ports 1 ++ map pin_name t.inputs ++ output_name t.output ∷ [])
@@ -114,6 +123,55 @@ deck_ports-named t is =
     (All-append IsNetName (leading_ports 1) (map pin_name t.inputs) (all_net_names (leading_ports 1) refl) (pins_are_nets t.inputs is.inputs))
     (All-cons IsNetName (output_name t.output) [] (output_is_net t.output is.output) (All-nil IsNetName))
 
--- a circuit with these ports, after the cards
-base : OneTableData → CircuitData
+-- the circuit without its devices
+abbrev pub base : OneTableData → CircuitData
 base t = new_circuit t.model (record { net = output_name t.output; plus = true } ∷ []) 1 (map pin_name t.inputs) (output_name t.output ∷ [])
+
+base_grew : (t : OneTableData) → Grew (base t) (circuit_of t)
+base_grew t = with_cards-grew (base t) (deck_cards t)
+
+pub HasNetNames-circuit_of : (t : OneTableData) → IsOneTable t → HasNetNames (circuit_of t)
+HasNetNames-circuit_of t is =
+    let grew = base_grew t in
+    let phase : Phase = record { net = output_name t.output; plus = true } in
+    record {
+      name_is = subst IsNetName (sym grew.name) (plain_is_net t.model is.model);
+      nets_are = with_cards-named (deck_cards t) (base t) (deck_ports-named t is) (deck_cards-named t is);
+      phases_are = subst (All (λ p. IsNetName p.net)) (sym grew.phases) (All-cons (λ p. IsNetName p.net) phase [] (output_is_net t.output is.output) (All-nil (λ p. IsNetName p.net)));
+    }
+
+-- the ports of the circuit, in the order of roles
+pub ports-circuit_of : (t : OneTableData) → take (circuit_of t).ports (circuit_of t).nets ≡ leading_ports 1 ++ map pin_name t.inputs ++ output_name t.output ∷ []
+ports-circuit_of t =
+    let grew = base_grew t in
+    let ports : List (List ℕ) = leading_ports 1 ++ map pin_name t.inputs ++ output_name t.output ∷ [] in
+    (λ i. take (grew.ports i) (grew.nets i)) ∙ take-append_seam ports grew.more_nets
+
+plain_no_equals : (name : List ℕ) → IsPlainName name → HasNoEquals name
+plain_no_equals name is = All-weaker IsPlainByte (λ b. b ≢ 61) apart name is.plain
+  where
+    apart : (b : ℕ) → IsPlainByte b → b ≢ 61
+    apart b (inl digit) = λ e. omega arith
+    apart b (inr letter) = λ e. omega arith
+
+fronted_no_equals : (a b : ℕ) (name : List ℕ) → a ≢ 61 → b ≢ 61 → IsPlainName name → HasNoEquals (a ∷ b ∷ name)
+fronted_no_equals a b name first second is = All-cons (λ x. x ≢ 61) a (b ∷ name) first (All-cons (λ x. x ≢ 61) b name second (plain_no_equals name is))
+
+no_equals_test : (names : List (List ℕ)) → list_all (list_all (λ b. not (eqb b 61))) names ≡ true → All HasNoEquals names
+no_equals_test names test = λ k d lt i e at is.
+    let inner = AllPass-from_list_all (λ b. not (eqb b 61)) (get_or names k d) (AllPass-from_list_all (list_all (λ b. not (eqb b 61))) names test k d lt) i e at in
+    let same = eq-eqb (get_or (get_or names k d) i e) 61 is in
+    let wrong = sym (ap not same) ∙ inner in cc
+
+pub IsGoodCircuit-circuit_of : (t : OneTableData) → IsOneTable t → IsGoodCircuit (circuit_of t)
+IsGoodCircuit-circuit_of t is =
+    let grew = base_grew t in
+    let ports : List (List ℕ) = leading_ports 1 ++ map pin_name t.inputs ++ output_name t.output ∷ [] in
+    let pins = All-map HasNoEquals pin_name t.inputs (All-weaker IsPlainName (λ input. HasNoEquals (pin_name input)) (λ input plain. fronted_no_equals 105 95 input (λ e. omega arith) (λ e. omega arith) plain) t.inputs is.inputs) in
+    let out = All-cons HasNoEquals (output_name t.output) [] (fronted_no_equals 111 95 t.output (λ e. omega arith) (λ e. omega arith) is.output) (All-nil HasNoEquals) in
+    record {
+      name_good = subst HasNoEquals (sym grew.name) (plain_no_equals t.model is.model);
+      ports_good = subst (All HasNoEquals) (sym (ports-circuit_of t))
+          (All-append HasNoEquals (leading_ports 1 ++ map pin_name t.inputs) (output_name t.output ∷ [])
+          (All-append HasNoEquals (leading_ports 1) (map pin_name t.inputs) (no_equals_test (leading_ports 1) refl) pins) out);
+    }

@@ -1,5 +1,7 @@
 pub mod Apart
 pub mod BalancedTrees
+pub mod CellNetNames
+pub mod CircuitCell
 pub mod Commands
 pub mod Cuts
 pub mod DeckFacts
@@ -7,6 +9,7 @@ pub mod DeckNames
 pub mod Fetched
 pub mod Literals
 pub mod NetNames
+pub mod PulledDown
 pub mod Reading
 pub mod RowMatches
 pub mod Spelling

@@ -4,10 +4,13 @@ use Rattle.std.specs.Io.KnownBytes.{Appends}
 use Rattle.dom_io.specs.Held.{file_limit, held}
 use Rattle.dom_io.specs.Pieces.{AppendsPrefix}
 use Rattle.dom_io.specs.Faults.{Rose}
+use Rattle.deck.specs.CircuitData.{CircuitData}
+use Rattle.deck.specs.DeckText.{IsDeckOf}
 use Rattle.spice_text.specs.Text.{IsWritten}
 use Rattle.domsyn.specs.OneTable.{IsOneTable, printed}
 use Rattle.domsyn.specs.OneTableData.{OneTableData}
 use Rattle.domsyn.specs.Deck.{circuit_of}
+use Rattle.domsyn.specs.PullDown.{PullsDown}
 
 -- a word that names a file: not empty, and not begun with `-`
 pub record IsFileWord (word : List ℕ) : Type 0 where
@@ -38,6 +41,18 @@ pub record IsAnswer (files : Option (List (List ℕ × List ℕ))) (words : List
   pub asks : Asks words file
   pub held_is : IfSome files (λ told. held told file ≡ Some bytes)
   pub deck : IsDeckFor bytes text
+
+-- the text is a deck whose pull-down is the table of the file that the words ask for; where the files are told, the
+-- file's bytes are the printed form of that table's network
+pub record IsPulledDeck (files : Option (List (List ℕ × List ℕ))) (words : List (List ℕ)) (text : List ℕ) : Type 0 where
+  pub file : List ℕ
+  pub table : OneTableData
+  pub circuit : CircuitData
+  pub asks : Asks words file
+  pub is_one_table : IsOneTable table
+  pub held_is : IfSome files (λ told. held told file ≡ Some (printed table))
+  pub reads : IsDeckOf text circuit
+  pub pulls : PullsDown circuit table
 
 -- room for the text that the words ask for, and for every length where the files are not told
 abbrev pub HasRoomForAnswer : Option (List (List ℕ × List ℕ)) → List (List ℕ) → (ℕ → Type 0) → Type 0

@@ -5,7 +5,7 @@ ghost use Rattle.std.specs.Io.KnownBytes.{Appends};
 ghost use Rattle.dom_io.specs.Faults.{Rose};
 ghost use Rattle.dom_io.specs.Held.{held};
 ghost use Rattle.dom_io.specs.Pieces.{AppendsPrefix};
-ghost use Rattle.domsyn.specs.Top.{Asks, HasRoomForAnswer, IsAnswer, IsDeckFor, IsPlain, Tells, line_of, usage_line};
+ghost use Rattle.domsyn.specs.Top.{Asks, HasRoomForAnswer, IsAnswer, IsDeckFor, IsPlain, IsPulledDeck, Tells, line_of, usage_line};
 
 use crate::synth::synth;
 use crate::tell::{tell, tell_about};
@@ -52,8 +52,10 @@ pub fn top<S: Shelf, K: Sink, E: Sink>(
     ensures cannot_read { result ≡ 3 → Rose (S.faults shelf.old) (S.faults shelf.new) }
     ensures cannot_write { result ≡ 4 → Rose (K.faults out.old) (K.faults out.new) }
 
-    // Plain bytes give their deck, and all others are not built.
+    // Plain bytes give their deck, and all others are not built. What was put out reads back as a
+    // circuit whose pull-down conducts exactly where the table is 1.
     ensures done { result ≡ 0 → (text : List ℕ) × IsAnswer (S.files shelf.old) (map string_bytes words.now) text × Appends (K.taken out.old) (K.taken out.new) text }
+    ensures pulled { result ≡ 0 → (text : List ℕ) × IsPulledDeck (S.files shelf.old) (map string_bytes words.now) text × Appends (K.taken out.old) (K.taken out.new) text }
     ensures part { result ≡ 4 → (text : List ℕ) × IsAnswer (S.files shelf.old) (map string_bytes words.now) text × AppendsPrefix (K.taken out.old) (K.taken out.new) text }
     ensures refused { result ≡ 1 → IfSome (S.files shelf.old) (λ told. (file : List ℕ) → Asks (map string_bytes words.now) file → IsSomeAnd (held told file) (λ whole. IsPlain whole → ⊥)) }
     ensures plain { IfSome (S.files shelf.old) (λ told. (file whole : List ℕ) → Asks (map string_bytes words.now) file → held told file ≡ Some whole → IsPlain whole

@@ -2,10 +2,11 @@ pub mod CellLaws
 pub mod Cells
 pub mod Known
 pub mod Lists
+pub mod NamedCells
+pub mod Numbering
 pub mod Reach
 pub mod Spellings
 pub mod Stages
 pub mod Tests
 pub mod Trees
 pub mod Worked
-pub mod Numbering

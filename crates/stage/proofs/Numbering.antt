@@ -3,13 +3,12 @@ use Rattle.std.proofs.Common.{◌≡◌, ℕ, zero, suc, ◌+◌, ◌<◌, ◌�
 use Rattle.std.specs.Prelude.{◌⊎◌}
 use Rattle.std.specs.List.{list_any, AllByRecursion, IsDistinct}
 use Rattle.std.specs.Cmp.Lexicographic.{pointwise, bytes_decides}
-use Rattle.std.proofs.lemmas.Option.{slice_get_within}
 use Rattle.deck.specs.declared.device.Device.{Device}
 use Rattle.deck.specs.CircuitData.{CircuitData}
 use Rattle.deck.specs.Nets.{place_of, with_net, with_nets}
 use Rattle.deck.specs.Pushes.{pushed}
 use Rattle.deck.proofs.Order.{place_cases}
-use Rattle.deck.proofs.Growth.{Grew, Grew-trans, pushed-grew, pushed-ends, slice_get-append, slice_get-with_net, with_net-grows}
+use Rattle.deck.proofs.Growth.{Grew, Grew-trans, pushed-grew, slice_get-append, slice_get-with_net, with_net-grows}
 use Rattle.deck.proofs.Distinct.{IsDistinct-with_net}
 use Rattle.stage.specs.Card.{Card, device_of, map_card, with_cards}
 use Rattle.stage.proofs.Lists.{AllByRecursion-contains, Contains-slice_get}
@@ -136,8 +135,7 @@ with_cards-distinct c (card ∷ cards) d =
 -- the number that a net gets is its number in the end
 place_of-kept : (old new : List (List ℕ)) (name : List ℕ) → Longer (with_net old name) new → (place_of old name ≡ place_of new name) × HasNumber new name
 place_of-kept old new name (more, is) =
-    let at : HasNumber (with_net old name) name = HasNumber-from (with_net old name) (place_of old name) name (slice_get-with_net old name) in
-    (
+    let at : HasNumber (with_net old name) name = HasNumber-from (with_net old name) (place_of old name) name (slice_get-with_net old name) in (
       sym (ap (λ l. place_of l name) is ∙ place_of-append (with_net old name) more name at ∙ place_of-with_net old name),
       subst (λ l. HasNumber l name) (sym is) (HasNumber-append (with_net old name) more name at),
     )

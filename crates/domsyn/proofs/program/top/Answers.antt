@@ -2,6 +2,7 @@ use Rattle.std.proofs.Common.{ℕ, List, [], inl, inr, refl, subst, sym, map}
 use Rattle.std.specs.String.{string_bytes}
 use Rattle.domsyn.specs.Top.{IsDeckFor, IsPlain, Tells, line_of}
 use Rattle.domsyn.proofs.Fetched.{fetched_whole, answer_of, room_for_answer, refused_whole, plain_whole, plain_bytes, if_some_weaker, told_about, built_or_memory, refused_or_memory}
+use Rattle.domsyn.proofs.PulledDown.{pulled_answer}
 use Rattle.domsyn.proofs.program.top.Goals as goal
 
 pub tell-requires : goal.tell-requires
@@ -24,6 +25,13 @@ returns-in-Ok-clause-done g c = λ zero.
     let deck = c.answer.ensures.done zero in
     let P : List ℕ → Type 0 = λ b. IsDeckFor b deck.0 in
     (deck.0, answer_of (g.S.Shelf.files c.args.shelf.now) _ c.in-Some.file.now c.in-Ok.bytes.items deck.0 c.in-Some.ensures c.in-Ok.ensures.bytes (subst P c.deref.ensures.value deck.1), deck.2)
+
+pub returns-in-Ok-clause-pulled : goal.returns-in-Ok-clause-pulled
+returns-in-Ok-clause-pulled g c = λ zero.
+    let deck = c.answer.ensures.done zero in
+    let P : List ℕ → Type 0 = λ b. IsDeckFor b deck.0 in
+    let answer = answer_of (g.S.Shelf.files c.args.shelf.now) _ c.in-Some.file.now c.in-Ok.bytes.items deck.0 c.in-Some.ensures c.in-Ok.ensures.bytes (subst P c.deref.ensures.value deck.1) in
+    (deck.0, pulled_answer (g.S.Shelf.files c.args.shelf.now) _ deck.0 answer, deck.2)
 
 pub returns-in-Ok-clause-part : goal.returns-in-Ok-clause-part
 returns-in-Ok-clause-part g c = λ four.
