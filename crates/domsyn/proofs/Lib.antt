@@ -6,3 +6,5 @@ pub mod Spelling
 pub mod Literals
 pub mod Commands
 pub mod Fetched
+pub mod CellNetNames
+pub mod CircuitCell

@@ -2,6 +2,8 @@ pub mod CellLaws
 pub mod Cells
 pub mod Known
 pub mod Lists
+pub mod NamedCells
+pub mod Numbering
 pub mod Reach
 pub mod Spellings
 pub mod Stages
