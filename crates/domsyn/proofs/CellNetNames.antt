@@ -1,6 +1,6 @@
 -- The names of the nets of the first cell differ from each other and from the ports.
-use Rattle.std.proofs.Common.{◌≡◌, ℕ, ◌<◌, ◌≤◌, ◌+◌, ◌*◌, ◌^◌, Bool, true, false, ◌||◌, List, [], ◌∷◌, ◌++◌, length, map, take, drop, refl, sym, ap, ◌∙◌, subst, inl, inr, arith, nat_eq, Some, slice_get, length-take, length-drop}
-use Rattle.std.specs.Prelude.{◌≢◌, ◌⊎◌, All, codes}
+use Rattle.std.proofs.Common.{◌≡◌, ℕ, ◌≤◌, ◌*◌, Bool, true, false, List, [], ◌∷◌, ◌++◌, length, refl, sym, ap, ◌∙◌, subst, inl, inr, arith, nat_eq, length-take, length-drop}
+use Rattle.std.specs.Prelude.{◌≢◌, All, codes}
 use Rattle.std.specs.Fmt.{decimal}
 use Rattle.std.specs.List.{list_any, starts_with}
 use Rattle.std.specs.Cmp.Lexicographic.{pointwise, bytes_decides}
@@ -9,13 +9,13 @@ use Rattle.std.proofs.lemmas.List.{append_cancel_left}
 use Rattle.std.proofs.lemmas.List.Elements.{All-nil, All-cons, All-head, All-take, All-drop, All-weaker}
 use Rattle.std.proofs.lemmas.List.Folds.{list_any-append, list_any_none}
 use Rattle.deck.specs.Ports.{IsPin, IsOutput, leading_ports}
-use Rattle.stage.specs.Tree.{Tree, Leaf, inner_count}
+use Rattle.stage.specs.Tree.{Tree, inner_count}
 use Rattle.stage.proofs.NamedCells.{HasCellNames, IsStageName}
 use Rattle.stage.proofs.Numbering.{HasNumber-from}
 use Rattle.domsyn.specs.declared.letter.Letter.{Letter}
 use Rattle.domsyn.specs.OneTable.{IsRow}
 use Rattle.domsyn.specs.Balanced.{first_half}
-use Rattle.domsyn.specs.Deck.{cell_nets, literals, output_name, pin_name, row_tree, table_tree}
+use Rattle.domsyn.specs.Deck.{cell_nets, literals, output_name, table_tree}
 use Rattle.domsyn.proofs.Literals.{literals-bounds}
 use Rattle.domsyn.proofs.Spelling.{by_halves, inner_count-row_tree, inner_count-table_tree}
 

@@ -1,5 +1,5 @@
 -- The circuit of a table holds its cell, and its nets are numbered by name.
-use Rattle.std.proofs.Common.{◌≡◌, ℕ, zero, suc, ◌<◌, ◌≤◌, ◌+◌, ◌*◌, List, [], ◌∷◌, ◌++◌, length, map, take, refl, sym, ap, ◌∙◌, arith, nat_eq, Some, slice_get, true, subst, length-append}
+use Rattle.std.proofs.Common.{◌≡◌, ℕ, zero, suc, ◌<◌, ◌≤◌, ◌+◌, List, [], ◌∷◌, ◌++◌, length, map, take, refl, sym, ap, ◌∙◌, arith, nat_eq, Some, slice_get, true, subst, length-append}
 use Rattle.std.specs.Prelude.{All, codes, option_map}
 use Rattle.std.specs.Fmt.{decimal}
 use Rattle.std.proofs.lemmas.Option.{slice_get-map}
@@ -15,10 +15,10 @@ use Rattle.deck.proofs.Distinct.{length-leading, ports_differ}
 use Rattle.deck.proofs.Growth.{slice_get-append}
 use Rattle.stage.specs.Card.{device_of}
 use Rattle.stage.specs.Cell.{IsCell, cell, inverter, map_nets}
-use Rattle.stage.specs.Tree.{Tree, inner_count, map_tree}
+use Rattle.stage.specs.Tree.{inner_count, map_tree}
 use Rattle.stage.proofs.NamedCells.{HasCellNames, IsBuilt, IsBuilt-with_cards, IsCell-named, IsNumberedCell, IsNumberedCell-from_cards, devices_named}
-use Rattle.stage.proofs.Numbering.{HasNumber, HasNumber-from, HasNumber-append, place_of-append, place_of-distinct, with_cards-distinct}
-use Rattle.domsyn.specs.OneTable.{HasGoodRows, IsOneTable, IsRow}
+use Rattle.stage.proofs.Numbering.{HasNumber-from, place_of-distinct, with_cards-distinct}
+use Rattle.domsyn.specs.OneTable.{IsOneTable, IsRow}
 use Rattle.domsyn.specs.OneTableData.{OneTableData}
 use Rattle.domsyn.specs.Deck.{cell_nets, circuit_of, deck_cards, output_name, pin_name, table_tree}
 use Rattle.domsyn.proofs.CellNetNames.{cell_names, inner_count-table_tree-le, outputs_are_outputs}
@@ -29,13 +29,13 @@ abbrev pub deck_ports : OneTableData → List (List ℕ)
 deck_ports t = leading_ports 1 ++ map pin_name t.inputs ++ output_name t.output ∷ []
 
 -- its circuit before the first card
-abbrev start_of : OneTableData → CircuitData
+abbrev pub start_of : OneTableData → CircuitData
 start_of t = new_circuit t.model (record { net = output_name t.output; plus = true } ∷ []) 1 (map pin_name t.inputs) (output_name t.output ∷ [])
 
 pub is_built : (t : OneTableData) → IsBuilt (deck_ports t) (circuit_of t) (deck_cards t)
 is_built t = IsBuilt-with_cards (start_of t) (deck_cards t) refl refl
 
-few_inner_nets : (t : OneTableData) → IsOneTable t → inner_count (table_tree [] t.rows (map pin_name t.inputs)) ≤ 12
+pub few_inner_nets : (t : OneTableData) → IsOneTable t → inner_count (table_tree [] t.rows (map pin_name t.inputs)) ≤ 12
 few_inner_nets t is =
     let pins = map pin_name t.inputs in
     let rows = subst (λ width. All (IsRow width) t.rows) (sym (length-map t.inputs pin_name)) is.rows.rows in

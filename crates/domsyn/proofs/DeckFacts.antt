@@ -72,19 +72,11 @@ leaves-table_tree none rows nets some good =
     omega (arith, f, g, tree, a, b))
     (length rows) rows some (omega arith) good
 
-inner_count-le-leaves : (t : Tree (List ℕ)) → inner_count t + 1 ≤ leaves t
-inner_count-le-leaves (Leaf gate) = omega arith
-inner_count-le-leaves (Series l r) = omega (arith, inner_count-le-leaves l, inner_count-le-leaves r)
-inner_count-le-leaves (Parallel l r) = omega (arith, inner_count-le-leaves l, inner_count-le-leaves r)
-
 leaves-deck : (t : OneTableData) → IsOneTable t → leaves (table_tree [] t.rows (map pin_name t.inputs)) ≤ 16
 leaves-deck t is =
     let P : ℕ → Type 0 = λ w. All (IsRow w) t.rows in
     let few = leaves-table_tree [] t.rows (map pin_name t.inputs) is.rows.some_row (subst P (sym (length-map t.inputs pin_name)) is.rows.rows) in
     omega (arith, few, is.rows.few_rows)
-
-pub inner_count-deck : (t : OneTableData) → IsOneTable t → inner_count (table_tree [] t.rows (map pin_name t.inputs)) ≤ 16
-inner_count-deck t is = omega (arith, inner_count-le-leaves (table_tree [] t.rows (map pin_name t.inputs)), leaves-deck t is)
 
 length-deck_cards : (t : OneTableData) → IsOneTable t → length (deck_cards t) ≤ 23
 length-deck_cards t is =

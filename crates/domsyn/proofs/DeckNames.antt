@@ -20,7 +20,7 @@ use Rattle.std.proofs.Math.Seq.{take-append_seam}
 use Rattle.deck.specs.Ports.{leading_ports}
 use Rattle.stage.specs.Cell.{cell, dynamic_stage, inverter}
 use Rattle.domsyn.specs.OneTableData.{OneTableData}
-use Rattle.domsyn.proofs.DeckFacts.{inner_count-deck}
+use Rattle.domsyn.proofs.CircuitCell.{few_inner_nets, ports_first, start_of}
 use Rattle.domsyn.proofs.NetNames.{inner_is_net}
 use Rattle.stage.specs.Card.{Card, with_cards}
 use Rattle.stage.specs.Tree.{Tree, Leaf, Series, Parallel, EachLeaf, spell, inner_count}
@@ -104,7 +104,7 @@ deck_cards-named t is =
     let out = output_is_net t.output is.output in
     let P : ℕ → Type 0 = λ w. All (IsRow w) t.rows in
     let each = EachLeaf-table_tree IsNetName [] t.rows pins is.rows.some_row (subst P (sym (length-map t.inputs pin_name)) is.rows.rows) (pins_are_nets t.inputs is.inputs) in
-    let spelled = spell-named nch cell_nets.inner (2 ^ 64) tree (codes "d0") (codes "f0") 0 inner_is_net (omega (arith, inner_count-deck t is)) each dynamic foot in
+    let spelled = spell-named nch cell_nets.inner (2 ^ 64) tree (codes "d0") (codes "f0") 0 inner_is_net (omega (arith, few_inner_nets t is)) each dynamic foot in
     AllByRecursion-append NamesNets (cell cell_nets tree) (inverter (codes "vdd") (codes "vss") (codes "d0") (output_name t.output))
     (AllByRecursion-append NamesNets (dynamic_stage cell_nets tree) (inverter (codes "vdd") (codes "vss") (codes "d0") (codes "z0")) (
       (dynamic, clock, vdd),
@@ -123,29 +123,18 @@ deck_ports-named t is =
     (All-append IsNetName (leading_ports 1) (map pin_name t.inputs) (all_net_names (leading_ports 1) refl) (pins_are_nets t.inputs is.inputs))
     (All-cons IsNetName (output_name t.output) [] (output_is_net t.output is.output) (All-nil IsNetName))
 
--- the circuit without its devices
-abbrev pub base : OneTableData → CircuitData
-base t = new_circuit t.model (record { net = output_name t.output; plus = true } ∷ []) 1 (map pin_name t.inputs) (output_name t.output ∷ [])
-
-base_grew : (t : OneTableData) → Grew (base t) (circuit_of t)
-base_grew t = with_cards-grew (base t) (deck_cards t)
+start_grew : (t : OneTableData) → Grew (start_of t) (circuit_of t)
+start_grew t = with_cards-grew (start_of t) (deck_cards t)
 
 pub HasNetNames-circuit_of : (t : OneTableData) → IsOneTable t → HasNetNames (circuit_of t)
 HasNetNames-circuit_of t is =
-    let grew = base_grew t in
+    let grew = start_grew t in
     let phase : Phase = record { net = output_name t.output; plus = true } in
     record {
       name_is = subst IsNetName (sym grew.name) (plain_is_net t.model is.model);
-      nets_are = with_cards-named (deck_cards t) (base t) (deck_ports-named t is) (deck_cards-named t is);
+      nets_are = with_cards-named (deck_cards t) (start_of t) (deck_ports-named t is) (deck_cards-named t is);
       phases_are = subst (All (λ p. IsNetName p.net)) (sym grew.phases) (All-cons (λ p. IsNetName p.net) phase [] (output_is_net t.output is.output) (All-nil (λ p. IsNetName p.net)));
     }
-
--- the ports of the circuit, in the order of roles
-pub ports-circuit_of : (t : OneTableData) → take (circuit_of t).ports (circuit_of t).nets ≡ leading_ports 1 ++ map pin_name t.inputs ++ output_name t.output ∷ []
-ports-circuit_of t =
-    let grew = base_grew t in
-    let ports : List (List ℕ) = leading_ports 1 ++ map pin_name t.inputs ++ output_name t.output ∷ [] in
-    (λ i. take (grew.ports i) (grew.nets i)) ∙ take-append_seam ports grew.more_nets
 
 plain_no_equals : (name : List ℕ) → IsPlainName name → HasNoEquals name
 plain_no_equals name is = All-weaker IsPlainByte (λ b. b ≢ 61) apart name is.plain
@@ -165,13 +154,13 @@ no_equals_test names test = λ k d lt i e at is.
 
 pub IsGoodCircuit-circuit_of : (t : OneTableData) → IsOneTable t → IsGoodCircuit (circuit_of t)
 IsGoodCircuit-circuit_of t is =
-    let grew = base_grew t in
+    let grew = start_grew t in
     let ports : List (List ℕ) = leading_ports 1 ++ map pin_name t.inputs ++ output_name t.output ∷ [] in
     let pins = All-map HasNoEquals pin_name t.inputs (All-weaker IsPlainName (λ input. HasNoEquals (pin_name input)) (λ input plain. fronted_no_equals 105 95 input (λ e. omega arith) (λ e. omega arith) plain) t.inputs is.inputs) in
     let out = All-cons HasNoEquals (output_name t.output) [] (fronted_no_equals 111 95 t.output (λ e. omega arith) (λ e. omega arith) is.output) (All-nil HasNoEquals) in
     record {
       name_good = subst HasNoEquals (sym grew.name) (plain_no_equals t.model is.model);
-      ports_good = subst (All HasNoEquals) (sym (ports-circuit_of t))
+      ports_good = subst (All HasNoEquals) (sym (ports_first t))
           (All-append HasNoEquals (leading_ports 1 ++ map pin_name t.inputs) (output_name t.output ∷ [])
           (All-append HasNoEquals (leading_ports 1) (map pin_name t.inputs) (no_equals_test (leading_ports 1) refl) pins) out);
     }
