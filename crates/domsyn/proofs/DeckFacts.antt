@@ -1,20 +1,17 @@
-use Rattle.std.proofs.Common.{◌≡◌, ◌≢◌, ℕ, zero, suc, ◌<◌, ◌≤◌, ◌+◌, ◌*◌, ◌^◌, List, [], ◌∷◌, ◌++◌, inl, inr, true, length, map, take, drop, refl, sym, ap, ◌∙◌, subst, arith, nat_eq, length-append, length-take, length-drop}
-use Rattle.std.specs.Prelude.{All, codes, count_by}
-use Rattle.std.specs.List.{IsDistinct}
-use Rattle.std.specs.Cmp.Lexicographic.{pointwise}
-use Rattle.dom_base.specs.Names.{IsNetByte, IsNetName}
+use Rattle.std.proofs.Common.{◌≡◌, ℕ, ◌≤◌, ◌+◌, ◌*◌, ◌^◌, List, [], ◌∷◌, true, length, map, refl, sym, ap, ◌∙◌, subst, arith, length-append, length-take, length-drop}
+use Rattle.std.specs.Prelude.{All, codes}
 use Rattle.dom_base.specs.declared.kind.Kind.{Kind}
 use Rattle.dom_base.specs.declared.kind.Kind.TheVariants.{N as nch}
 use Rattle.deck.specs.CircuitData.{CircuitData}
-use Rattle.deck.specs.Nets.{IsCircuit, with_net, with_nets}
+use Rattle.deck.specs.Nets.{IsCircuit}
 use Rattle.deck.specs.Pushes.{pushed, new_circuit}
-use Rattle.deck.specs.Ports.{leading_ports, IsPin, IsOutput}
+use Rattle.deck.specs.Ports.{IsOutput}
 use Rattle.deck.proofs.Order.{IsCircuit-push}
 use Rattle.deck.proofs.Distinct.{ports_differ, length-ports}
 use Rattle.stage.specs.Card.{Card, with_cards}
 use Rattle.stage.specs.Cell.{cell, dynamic_stage, inverter}
 use Rattle.stage.specs.Tree.{Tree, Leaf, Series, Parallel, spell, leaves, inner_count}
-use Rattle.domsyn.specs.OneTable.{IsOneTable, IsRow, HasGoodRows}
+use Rattle.domsyn.specs.OneTable.{IsOneTable, IsRow}
 use Rattle.domsyn.specs.OneTableData.{OneTableData}
 use Rattle.domsyn.specs.declared.letter.Letter.{Letter}
 use Rattle.domsyn.specs.Balanced.{first_half}

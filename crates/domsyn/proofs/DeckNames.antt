@@ -1,4 +1,4 @@
-use Rattle.std.proofs.Common.{◌≡◌, ◌≢◌, ℕ, zero, suc, ◌<◌, ◌≤◌, ◌+◌, ◌*◌, ◌^◌, Bool, List, [], ◌∷◌, ◌++◌, inl, inr, true, false, not, eqb, eq-eqb, length, map, take, drop, get_or, refl, sym, ap, ◌∙◌, subst, arith, nat_eq, length-append, length-take, length-drop}
+use Rattle.std.proofs.Common.{◌≡◌, ◌≢◌, ℕ, ◌<◌, ◌≤◌, ◌+◌, ◌^◌, Bool, List, [], ◌∷◌, ◌++◌, inl, inr, true, false, not, eqb, eq-eqb, map, get_or, refl, sym, ap, ◌∙◌, subst, arith, nat_eq}
 use Rattle.std.specs.Prelude.{All, codes, if◌then◌else◌}
 use Rattle.std.specs.List.{list_any, list_all, AllByRecursion}
 use Rattle.std.proofs.lemmas.List.{length-map}
@@ -10,13 +10,12 @@ use Rattle.dom_base.specs.declared.kind.Kind.{Kind}
 use Rattle.dom_base.specs.declared.kind.Kind.TheVariants.{N as nch}
 use Rattle.dom_base.proofs.Each.{AllByRecursion-append}
 use Rattle.deck.specs.CircuitData.{CircuitData}
-use Rattle.deck.specs.Nets.{with_net, with_nets}
-use Rattle.deck.specs.Pushes.{pushed, new_circuit}
+use Rattle.deck.specs.Nets.{with_net}
+use Rattle.deck.specs.Pushes.{pushed}
 use Rattle.deck.specs.DeckText.{HasNetNames, HasNoEquals, IsGoodCircuit}
 use Rattle.deck.specs.declared.phase.Phase.{Phase}
 use Rattle.deck.proofs.Growth.{Grew}
 use Rattle.stage.proofs.Numbering.{with_cards-grew}
-use Rattle.std.proofs.Math.Seq.{take-append_seam}
 use Rattle.deck.specs.Ports.{leading_ports}
 use Rattle.stage.specs.Cell.{cell, dynamic_stage, inverter}
 use Rattle.domsyn.specs.OneTableData.{OneTableData}
@@ -25,10 +24,9 @@ use Rattle.domsyn.proofs.NetNames.{inner_is_net}
 use Rattle.stage.specs.Card.{Card, with_cards}
 use Rattle.stage.specs.Tree.{Tree, Leaf, Series, Parallel, EachLeaf, spell, inner_count}
 use Rattle.domsyn.specs.OneTable.{IsOneTable, IsRow, IsPlainByte, IsPlainName}
-use Rattle.domsyn.specs.declared.letter.Letter.{Letter}
 use Rattle.domsyn.specs.Deck.{table_tree, pin_name, output_name, cell_nets, deck_cards, circuit_of}
 use Rattle.domsyn.proofs.TableValues.{EachLeaf-table_tree}
-use Rattle.std.proofs.lemmas.List.Elements.{All-nil, All-cons, All-take, All-drop, All-head, All-tail, All-push, All-map, All-append, All-weaker}
+use Rattle.std.proofs.lemmas.List.Elements.{All-nil, All-cons, All-push, All-map, All-append, All-weaker}
 
 -- the nets of a card have net names
 abbrev pub NamesNets : Card (List ℕ) → Type 0

@@ -1,20 +1,18 @@
-use Rattle.std.proofs.Common.{◌≡◌, ◌≢◌, ℕ, ◌+◌, ◌∙◌, Bool, true, List, [], ◌∷◌, ◌++◌, Option, Some, None, length, map, refl, sym, ap, subst, arith, slice_get}
-use Rattle.std.specs.Prelude.{◌↔◌, codes, IfSome}
+use Rattle.std.proofs.Common.{◌≡◌, ℕ, ◌∙◌, Bool, List, [], Option, Some, None, length, map, refl, sym, ap, subst, slice_get}
+use Rattle.std.specs.Prelude.{codes, IfSome}
 use Rattle.std.specs.Option.{option_map}
 use Rattle.std.proofs.lemmas.List.{length-map}
 use Rattle.std.proofs.lemmas.Option.{slice_get-map, same_Some}
 use Rattle.dom_base.specs.declared.kind.Kind.TheVariants.{N as nch}
 use Rattle.dom_base.specs.declared.tri.Tri.{Tri}
-use Rattle.dom_base.specs.declared.tri.Tri.TheVariants.{Zero, One}
 use Rattle.dom_io.specs.Held.{held}
 use Rattle.deck.specs.CircuitData.{CircuitData}
 use Rattle.deck.specs.DeckText.{IsDeckOf}
 use Rattle.deck.specs.Nets.{place_of}
-use Rattle.deck.specs.Paths.{DefiniteStrong, PossibleStrong}
 use Rattle.deck.specs.Sources.{is_source}
 use Rattle.deck.specs.Switches.{value_of}
-use Rattle.stage.specs.Cell.{CellNets, IsCell, map_nets}
-use Rattle.stage.specs.Tree.{Tree, map_tree, tree_conduction}
+use Rattle.stage.specs.Cell.{CellNets, map_nets}
+use Rattle.stage.specs.Tree.{Tree, map_tree}
 use Rattle.stage.proofs.CellLaws.{pulls_down_where_one, may_pull_down_where_not_zero}
 use Rattle.stage.proofs.Spellings.{tree_conduction-map_tree}
 use Rattle.spice_text.specs.Text.{IsWritten}
@@ -23,8 +21,7 @@ use Rattle.domsyn.specs.Bits.{tri_of}
 use Rattle.domsyn.specs.Deck.{cell_nets, circuit_of, pin_name, table_tree}
 use Rattle.domsyn.specs.OneTable.{IsOneTable}
 use Rattle.domsyn.specs.OneTableData.{OneTableData}
-use Rattle.domsyn.specs.PullDown.{IsNumber, HasBits, PullsDown}
-use Rattle.domsyn.specs.Table.{IsOneAt}
+use Rattle.domsyn.specs.PullDown.{HasBits, PullsDown}
 use Rattle.domsyn.specs.Top.{IsAnswer, IsPulledDeck}
 use Rattle.domsyn.proofs.CircuitCell.{holds_cell, clock_numbered, dynamic_numbered, pin_numbered, ports_first, vss_numbered}
 use Rattle.domsyn.proofs.DeckFacts.{IsCircuit-circuit_of}

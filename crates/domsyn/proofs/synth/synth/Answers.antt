@@ -1,4 +1,4 @@
-use Rattle.std.proofs.Common.{◌≡◌, ◌<◌, ◌≤◌, Option, List, ℕ, length, subst, arith}
+use Rattle.std.proofs.Common.{◌≡◌, ◌<◌, Option, length, subst, arith}
 use Rattle.std.specs.Prelude.{IfSome}
 use Rattle.dom_io.specs.Held.{file_limit}
 use Rattle.deck.specs.CircuitData.{CircuitData}
