@@ -48,7 +48,7 @@ pub(crate) fn status_of(
 }
 
 /// What a call answered: its status, and what it put on both sinks.
-#[derive(Debug, Drop)]
+#[derive(Drop)]
 pub(crate) struct Answer {
     pub status: u8,
     pub out: Vec<u8>,

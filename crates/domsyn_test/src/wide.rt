@@ -46,17 +46,13 @@ fn most_inputs(rt: HostRuntime) -> Result<(), Fail> {
         "526 lines, and nothing behind the last LF"
     );
     // The pins stand on the lines 3 to 514, and the output on the next one.
-    for (place, line) in [
-        (
-            514,
-            b"+ i_n4088 i_n4089 i_n4090 i_n4091 i_n4092 i_n4093 i_n4094 i_n4095".as_slice(),
-        ),
-        (516, b"m0 d0 ck1 vdd vdd pch"),
-        (518, b"m2 d0 i_n0 t0_0 vss nch"),
-        (519, b"m3 t0_0 i_n4095 f0 vss nch"),
-    ] {
-        assert_eq!(rt; lines.get(place), Some(&line), "at line {place}");
-    }
+    assert!(rt;
+        lines[514]
+            == b"+ i_n4088 i_n4089 i_n4090 i_n4091 i_n4092 i_n4093 i_n4094 i_n4095".as_slice()
+    );
+    assert!(rt; lines[516] == b"m0 d0 ck1 vdd vdd pch".as_slice());
+    assert!(rt; lines[518] == b"m2 d0 i_n0 t0_0 vss nch".as_slice());
+    assert!(rt; lines[519] == b"m3 t0_0 i_n4095 f0 vss nch".as_slice());
     Ok(())
 }
 
