@@ -1,0 +1,69 @@
+//! One call of the program's function.
+ghost use Rattle.std.specs.Prelude.{◌≤◌};
+
+use dom_base::OutOfMemory;
+use dom_io::{MemoryShelf, MemorySink};
+use domsyn::top;
+use std::alloc::{AllocError, Global};
+
+const PLENTY: usize = 1_048_576;
+
+/// A shelf of one file.
+pub(crate) fn shelf_of(alloc: Global, name: &str, text: &[u8]) -> Result<MemoryShelf, AllocError> {
+    let mut files = Vec::new(alloc);
+    files.push((String::from_str(alloc, name)?, text.to_vec(alloc)?))?;
+    Ok(MemoryShelf {
+        files,
+        fails: Vec::new(alloc),
+        calls: 0,
+        faults: 0,
+    })
+}
+
+/// A sink that takes all that it is given.
+pub(crate) fn ample(alloc: Global) -> Result<MemorySink, OutOfMemory> {
+    MemorySink::new(alloc, PLENTY, PLENTY, Vec::new(alloc))
+}
+
+/// A sink that takes at most so many bytes a call, and whose call of this number fails.
+pub(crate) fn failing(alloc: Global, most: usize, call: u64) -> Result<MemorySink, OutOfMemory>
+    requires { 1 ≤ most }
+{
+    MemorySink::new(alloc, most, PLENTY, vec![in alloc; call]?)
+}
+
+/// The status of a call with these words.
+pub(crate) fn status_of(
+    alloc: Global,
+    words: &[&str],
+    shelf: &mut MemoryShelf,
+    out: &mut MemorySink,
+    err: &mut MemorySink,
+) -> Result<u8, AllocError> {
+    let mut owned = Vec::new(alloc);
+    for word in words {
+        owned.push(String::from_str(alloc, word)?)?;
+    }
+    Ok(top(alloc, owned.as_slice(), shelf, out, err))
+}
+
+/// What a call answered: its status, and what it put on both sinks.
+#[derive(Drop)]
+pub(crate) struct Answer {
+    pub status: u8,
+    pub out: Vec<u8>,
+    pub err: Vec<u8>,
+}
+
+/// The answer to `synth t.blif`, where that file has these bytes.
+pub(crate) fn synth(alloc: Global, text: &[u8]) -> Result<Answer, OutOfMemory> {
+    let mut shelf = shelf_of(alloc, "t.blif", text)?;
+    let mut out = ample(alloc)?;
+    let mut err = ample(alloc)?;
+    let status = status_of(alloc, &["synth", "t.blif"], &mut shelf, &mut out, &mut err)?;
+    Ok(Answer {
+        status,
+        out: out.taken,
+        err: err.taken,
+    })
+}

@@ -1,0 +1,13 @@
+//! Tests of the program's one function over files and sinks in memory.
+#![tactic(auto)]
+
+#[cfg(test)]
+mod answer;
+#[cfg(test)]
+mod decks;
+#[cfg(test)]
+mod not_built;
+#[cfg(test)]
+mod statuses;
+#[cfg(test)]
+mod wide;
