@@ -13,7 +13,7 @@ use Rattle.deck.specs.Sources.{is_source}
 use Rattle.deck.specs.Switches.{value_of}
 use Rattle.stage.specs.Cell.{CellNets, map_nets}
 use Rattle.stage.specs.Tree.{Tree, map_tree}
-use Rattle.stage.proofs.CellLaws.{pulls_down_where_one, may_pull_down_where_not_zero}
+use Rattle.stage.proofs.CellLaws.{joins_ground_through_tree_alone, pulls_down_where_one}
 use Rattle.stage.proofs.Spellings.{tree_conduction-map_tree}
 use Rattle.spice_text.specs.Text.{IsWritten}
 use Rattle.spice_text.proofs.ReadBack.{read_back}
@@ -70,13 +70,12 @@ pulls_down t is =
             (λ one. law.1 (clock_one, mapped ∙ table.1 one)),
           );
       possible = λ values bits same has clock_one not_one path.
-          let law = may_pull_down_where_not_zero c.devices (is_source c) values nets (map_tree (number t) tree) cell in
+          let law = joins_ground_through_tree_alone c.devices (is_source c) values nets (map_tree (number t) tree) cell path in
           let mapped = tree_conduction-map_tree nch (value_of values) (number t) tree in
           let table = table_tree-zero (length t.inputs) t.rows is.rows [] names width (λ name. value_of values (number t name)) bits (same ∙ sym width) (pins_have_bits t values bits has) not_one in
-          (law.0 path).1 (mapped ∙ table);
+          law.1 (mapped ∙ table);
       foot = λ values clock_zero path.
-          let law = may_pull_down_where_not_zero c.devices (is_source c) values nets (map_tree (number t) tree) cell in
-          (law.0 path).0 clock_zero;
+          (joins_ground_through_tree_alone c.devices (is_source c) values nets (map_tree (number t) tree) cell path).0 clock_zero;
     }
 
 -- the text of the deck of a network is a deck, of that circuit
@@ -96,6 +95,7 @@ pulled_answer files words text answer =
       asks = answer.asks;
       is_one_table = plain.is_one_table;
       held_is = subst P plain.text answer.held_is;
+      written = answer.deck.written;
       reads = reads_back plain.table text plain.is_one_table answer.deck.written;
       pulls = pulls_down plain.table plain.is_one_table;
     }

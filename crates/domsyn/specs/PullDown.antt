@@ -2,7 +2,7 @@ use Rattle.std.specs.Prelude.{ℕ, ◌≡◌, ◌↔◌, Bool, true, List, [], �
 use Rattle.dom_base.specs.declared.tri.Tri.{Tri}
 use Rattle.dom_base.specs.declared.tri.Tri.TheVariants.{Zero, One}
 use Rattle.deck.specs.CircuitData.{CircuitData}
-use Rattle.deck.specs.Paths.{DefiniteStrong, PossibleStrong}
+use Rattle.deck.specs.Paths.{DefiniteStrong, Possible}
 use Rattle.deck.specs.Ports.{leading_ports}
 use Rattle.deck.specs.Sources.{is_source}
 use Rattle.deck.specs.Switches.{value_of}
@@ -22,8 +22,8 @@ HasBits c inputs bits values =
     → value_of values pin ≡ tri_of bit
 
 -- the pull-down of the circuit is the table: with the clock at 1 and each pin at its bit there is a definite strong
--- path from `d0` to `vss` exactly where the table is 1, and where it is not 1 there is no possible one;
--- with the clock at 0 there is no possible one at all
+-- path from `d0` to `vss` exactly where the table is 1, and where it is not 1 there is no possible path, strong or weak;
+-- with the clock at 0 there is none either, at any values of the other nets
 pub record PullsDown (c : CircuitData) (t : OneTableData) : Type 0 where
   pub ports : take c.ports c.nets ≡ leading_ports 1 ++ map pin_name t.inputs ++ output_name t.output ∷ []
   pub dynamic : ℕ
@@ -35,5 +35,5 @@ pub record PullsDown (c : CircuitData) (t : OneTableData) : Type 0 where
   pub definite : (values : List Tri) (bits : List Bool) → length bits ≡ length t.inputs → HasBits c t.inputs bits values → value_of values clock ≡ One
       → DefiniteStrong c.devices (is_source c) values dynamic ground ↔ IsOneAt true t.rows bits
   pub possible : (values : List Tri) (bits : List Bool) → length bits ≡ length t.inputs → HasBits c t.inputs bits values → value_of values clock ≡ One
-      → (IsOneAt true t.rows bits → ⊥) → PossibleStrong c.devices (is_source c) values dynamic ground → ⊥
-  pub foot : (values : List Tri) → value_of values clock ≡ Zero → PossibleStrong c.devices (is_source c) values dynamic ground → ⊥
+      → (IsOneAt true t.rows bits → ⊥) → Possible c.devices (is_source c) values dynamic ground → ⊥
+  pub foot : (values : List Tri) → value_of values clock ≡ Zero → Possible c.devices (is_source c) values dynamic ground → ⊥

@@ -42,8 +42,8 @@ pub record IsAnswer (files : Option (List (List ℕ × List ℕ))) (words : List
   pub held_is : IfSome files (λ told. held told file ≡ Some bytes)
   pub deck : IsDeckFor bytes text
 
--- the text is a deck whose pull-down is the table of the file that the words ask for; where the files are told, the
--- file's bytes are the printed form of that table's network
+-- the text is a deck whose pull-down is the table of the file that the words ask for, and is its circuit as it is
+-- written; where the files are told, the file's bytes are the printed form of that table's network
 pub record IsPulledDeck (files : Option (List (List ℕ × List ℕ))) (words : List (List ℕ)) (text : List ℕ) : Type 0 where
   pub file : List ℕ
   pub table : OneTableData
@@ -51,6 +51,7 @@ pub record IsPulledDeck (files : Option (List (List ℕ × List ℕ))) (words : 
   pub asks : Asks words file
   pub is_one_table : IsOneTable table
   pub held_is : IfSome files (λ told. held told file ≡ Some (printed table))
+  pub written : IsWritten circuit text
   pub reads : IsDeckOf text circuit
   pub pulls : PullsDown circuit table
 

@@ -3,9 +3,9 @@ use Rattle.std.proofs.Common.{◌≡◌, true, refl}
 use Rattle.dom_base.specs.declared.tri.Tri.{Tri}
 use Rattle.dom_base.specs.declared.tri.Tri.TheVariants.{One}
 use Rattle.stage.specs.Known.{is_one}
-use Rattle.stage.specs.Laws.{JoinsFootWhereOne, MayJoinFootWhereNotZero, MayPullDownWhereNotZero, PullsDownWhereOne}
-use Rattle.stage.proofs.Cells.{joins_foot, pulls_down}
-use Rattle.stage.proofs.Tests.{IsTest-is_not_zero, IsTest-is_one, Reach-from_definite, Reach-from_possible, definite_from_Reach, is_not_zero, is_not_zero-from, is_not_zero-true, is_one-true, possible_from_Reach}
+use Rattle.stage.specs.Laws.{JoinsFootWhereOne, JoinsGroundThroughTreeAlone, MayJoinFootWhereNotZero, MayPullDownWhereNotZero, PullsDownWhereOne}
+use Rattle.stage.proofs.Cells.{joins_foot, pulls_down, reaches_ground}
+use Rattle.stage.proofs.Tests.{IsTest-is_not_zero, IsTest-is_one, Reach-from_any, Reach-from_definite, Reach-from_possible, definite_from_Reach, is_not_zero, is_not_zero-from, is_not_zero-true, is_one-true, possible_from_Reach}
 
 is_one-from : (v : Tri) → v ≡ One → is_one v ≡ true
 is_one-from v e = rw e refl
@@ -23,6 +23,11 @@ may_pull_down_where_not_zero devices is_source values nets tree is =
       (λ p. let k = h.0 (Reach-from_possible devices is_source values nets.dynamic nets.vss p) in (is_not_zero-true _ k.0, is_not_zero-true _ k.1)),
       (λ k. possible_from_Reach devices is_source values nets.dynamic nets.vss (h.1 (is_not_zero-from _ k.0, is_not_zero-from _ k.1))),
     )
+
+pub joins_ground_through_tree_alone : JoinsGroundThroughTreeAlone
+joins_ground_through_tree_alone devices is_source values nets tree is p =
+    let k = reaches_ground devices is_source nets tree is values is_not_zero IsTest-is_not_zero (Reach-from_any devices is_source values nets.dynamic nets.vss p) in
+    (is_not_zero-true _ k.0, is_not_zero-true _ k.1)
 
 pub joins_foot_where_one : JoinsFootWhereOne
 joins_foot_where_one devices is_source values nets tree is =

@@ -19,7 +19,7 @@ use Rattle.stage.proofs.Lists.{AllByRecursion-append, AllByRecursion-both, AllBy
 use Rattle.stage.proofs.Reach.{Reach, Reach-kept}
 use Rattle.stage.proofs.Spellings.{spell-same}
 use Rattle.stage.proofs.Stages.{goes, through}
-use Rattle.stage.proofs.Tests.{IsStrongStep, IsTest, joins-conduction}
+use Rattle.stage.proofs.Tests.{IsStep, IsStrongStep, IsTest, joins-conduction}
 use Rattle.stage.proofs.Trees.{IsIn, IsOutside, Paints, Paints-painting, Reach-spell, painting, spell-ends, spell-kind}
 
 -- the nets of the dynamic stage of a cell as spots: the foot net is the first inner net
@@ -95,6 +95,32 @@ module _ (devices : List Device) (is_source : ℕ → Bool) (nets : CellNets ℕ
       }
 
   module _ (values : List Tri) (test : Tri → Bool) (t : IsTest test) where
+    -- a path from the dynamic net to ground, by devices that all pass the test, goes through the clock and the tree
+    ground_through : (Q : Device → Type 0) → ((d : Device) → Q d → Contains devices d)
+        → ((d : Device) → Q d → test (conduction d.kind (value_of values d.gate)) ≡ true) → Reach Q is_source nets.dynamic nets.vss
+        → (test (value_of values nets.clock) ≡ true) × (test (tree_conduction nch (value_of values) tree) ≡ true)
+    ground_through Q of pass r =
+        let w = through devices is_source (cell_spots nets) (cell_branches nets tree) IsStage-cell Q (λ kind gate. test (conduction kind (value_of values gate))) of pass nets.vss r is.vss_is in
+        AllByRecursion-contains
+        (λ b. nets.vss ≡ b.supply → joins (λ gate. test (conduction b.kind (value_of values gate))) b.tree ≡ true
+        → (test (value_of values nets.clock) ≡ true) × (test (tree_conduction nch (value_of values) tree) ≡ true))
+        (cell_branches nets tree) w.branch (
+          (λ e h. absurd (is.supplies (sym e))),
+          (
+            (λ e h. absurd (is.supplies (sym e))),
+            (
+              (λ e h. let k = and_true (joins (λ gate. test (value_of values gate)) tree) (test (value_of values nets.clock)) h in
+                  (k.1, joins-conduction test t nch (value_of values) tree ∙ k.0)),
+              tt,
+            ),
+          ),
+        )
+        w.among w.ends w.conducts
+
+    pub reaches_ground : Reach (IsStep devices test values) is_source nets.dynamic nets.vss
+        → (test (value_of values nets.clock) ≡ true) × (test (tree_conduction nch (value_of values) tree) ≡ true)
+    reaches_ground = ground_through (IsStep devices test values) (λ d q. q.of) (λ d q. q.pass)
+
     -- by devices that pass the test, a path goes from the dynamic net to ground exactly where the clock and the tree pass it
     pub pulls_down : Reach (IsStrongStep devices test values) is_source nets.dynamic nets.vss
         ↔ ((test (value_of values nets.clock) ≡ true) × (test (tree_conduction nch (value_of values) tree) ≡ true))
@@ -108,18 +134,7 @@ module _ (devices : List Device) (is_source : ℕ → Bool) (nets : CellNets ℕ
 
         from : Reach (IsStrongStep devices test values) is_source nets.dynamic nets.vss
             → (test (value_of values nets.clock) ≡ true) × (test (tree_conduction nch (value_of values) tree) ≡ true)
-        from r =
-            let w = through devices is_source (cell_spots nets) (cell_branches nets tree) IsStage-cell (IsStrongStep devices test values) g (λ d q. q.of) (λ d q. q.pass) nets.vss r is.vss_is in
-            AllByRecursion-contains
-            (λ b. nets.vss ≡ b.supply → joins (g b.kind) b.tree ≡ true → (test (value_of values nets.clock) ≡ true) × (test (tree_conduction nch (value_of values) tree) ≡ true))
-            (cell_branches nets tree) w.branch (
-              (λ e h. absurd (is.supplies (sym e))),
-              (
-                (λ e h. absurd (is.supplies (sym e))),
-                ((λ e h. let k = and_true (joins (λ gate. test (value_of values gate)) tree) (test (value_of values nets.clock)) h in (k.1, same ∙ k.0)), tt),
-              ),
-            )
-            w.among w.ends w.conducts
+        from = ground_through (IsStrongStep devices test values) (λ d q. q.of) (λ d q. q.pass)
 
         to : (test (value_of values nets.clock) ≡ true) × (test (tree_conduction nch (value_of values) tree) ≡ true)
             → Reach (IsStrongStep devices test values) is_source nets.dynamic nets.vss

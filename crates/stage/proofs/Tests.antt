@@ -8,7 +8,7 @@ use Rattle.dom_base.specs.declared.kind.Kind.TheVariants.{Keep}
 use Rattle.dom_base.specs.declared.tri.Tri.{Tri}
 use Rattle.dom_base.specs.declared.tri.Tri.TheVariants.{Zero, One, Unknown}
 use Rattle.deck.specs.declared.device.Device.{Device}
-use Rattle.deck.specs.Paths.{IsStrong, DefiniteStrong, PossibleStrong}
+use Rattle.deck.specs.Paths.{IsStrong, DefiniteStrong, Possible, PossibleStrong}
 use Rattle.deck.specs.Switches.{IsOn, IsNotOff, value_of}
 use Rattle.stage.specs.Known.{is_one}
 use Rattle.stage.specs.Tree.{Tree, Leaf, Series, Parallel, both, either, joins, tree_conduction}
@@ -41,6 +41,11 @@ pub record IsStrongStep (devices : List Device) (test : Tri → Bool) (values : 
   pub of : Contains devices d
   pub pass : test (conduction d.kind (value_of values d.gate)) ≡ true
   pub strong : d.kind ≢ Keep
+
+-- one of the circuit's devices whose conduction passes the test
+pub record IsStep (devices : List Device) (test : Tri → Bool) (values : List Tri) (d : Device) : Type 0 where
+  pub of : Contains devices d
+  pub pass : test (conduction d.kind (value_of values d.gate)) ≡ true
 
 each_strong : (ds : List Device) → IsStrong ds → AllByRecursion (λ d. d.kind ≢ Keep) ds
 each_strong [] h = tt
@@ -86,6 +91,13 @@ possible_from_Reach devices is_source values a b r =
       AllByRecursion-weaker _ (IsNotOff values) (λ d k. is_not_zero-true _ k.pass) h.0 h.2,
       strong_from_each h.0 (AllByRecursion-weaker _ (λ d. d.kind ≢ Keep) (λ d k. k.strong) h.0 h.2),
     )
+
+pub Reach-from_any : (devices : List Device) (is_source : ℕ → Bool) (values : List Tri) (a b : ℕ)
+    → Possible devices is_source values a b → Reach (IsStep devices is_not_zero values) is_source a b
+Reach-from_any devices is_source values a b h =
+    Reach-from_path _ is_source h.1
+    (AllByRecursion-weaker _ (IsStep devices is_not_zero values) (λ d k. record { of = k.0; pass = is_not_zero-from _ k.1 }) h.0
+    (AllByRecursion-both _ _ h.0 h.2 h.3))
 
 -- a test that takes two parts in series to `and`, and two in parallel to `or`
 pub record IsTest (test : Tri → Bool) : Type 0 where

@@ -3,7 +3,7 @@ use Rattle.dom_base.specs.declared.kind.Kind.TheVariants.{N as nch}
 use Rattle.dom_base.specs.declared.tri.Tri.{Tri}
 use Rattle.dom_base.specs.declared.tri.Tri.TheVariants.{Zero, One}
 use Rattle.deck.specs.declared.device.Device.{Device}
-use Rattle.deck.specs.Paths.{DefiniteStrong, PossibleStrong}
+use Rattle.deck.specs.Paths.{DefiniteStrong, Possible, PossibleStrong}
 use Rattle.deck.specs.Switches.{value_of}
 use Rattle.stage.specs.Cell.{CellNets, IsCell}
 use Rattle.stage.specs.Known.{IsKnown, is_one}
@@ -24,6 +24,14 @@ MayPullDownWhereNotZero =
     → IsCell devices is_source nets tree
     → PossibleStrong devices is_source values nets.dynamic nets.vss
     ↔ ((value_of values nets.clock ≢ Zero) × (tree_conduction nch (value_of values) tree ≢ Zero))
+
+-- no path at all, not even through a keeper, may join it to ground but where neither the clock nor the tree is Zero
+abbrev pub JoinsGroundThroughTreeAlone : Type 0
+JoinsGroundThroughTreeAlone =
+    (devices : List Device) (is_source : ℕ → Bool) (values : List Tri) (nets : CellNets ℕ) (tree : Tree ℕ)
+    → IsCell devices is_source nets tree
+    → Possible devices is_source values nets.dynamic nets.vss
+    → (value_of values nets.clock ≢ Zero) × (tree_conduction nch (value_of values) tree ≢ Zero)
 
 -- the dynamic net of a cell is surely joined to its foot net exactly where the tree is One
 abbrev pub JoinsFootWhereOne : Type 0

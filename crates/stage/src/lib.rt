@@ -3,6 +3,7 @@
 
 ghost use Rattle.stage.specs.Laws.{
   JoinsFootWhereOne,
+  JoinsGroundThroughTreeAlone,
   KnownTreeIsKnown,
   MayJoinFootWhereNotZero,
   MayPullDownWhereNotZero,
@@ -13,10 +14,12 @@ ghost use Rattle.stage.specs.Worked.{AndHoldsCell, AndIsSpelled, ThreeInSeries};
 
 /// In a circuit that holds a domino cell, at all values of its nets: a definite strong path from
 /// the dynamic net to ground is there exactly where the clock and the tree are `One`, a possible
-/// one exactly where neither is `Zero`.
+/// one exactly where neither is `Zero`. Where one of them is `Zero` no path at all joins the two,
+/// not even a weak one.
 pub fn cell_pulls_down()
     ensures definite { PullsDownWhereOne }
     ensures possible { MayPullDownWhereNotZero }
+    ensures alone { JoinsGroundThroughTreeAlone }
 {}
 
 /// A definite strong path between the dynamic net and the foot net is there exactly where the
