@@ -1,5 +1,6 @@
 pub mod CircuitData
 pub mod DeckText
+pub mod Escapes
 pub mod Nets
 pub mod Numbers
 pub mod Paths

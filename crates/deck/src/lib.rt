@@ -3,6 +3,7 @@
 
 mod circuit;
 mod device;
+mod escape;
 mod number;
 mod phase;
 mod ports;
@@ -11,4 +12,5 @@ mod tests;
 
 pub use circuit::Circuit;
 pub use device::Device;
+pub use escape::{esc, escapes_differ};
 pub use phase::Phase;

@@ -2,7 +2,7 @@
 ghost use Rattle.std.specs.Prelude.{◌≡◌, IfOk};
 ghost use Rattle.dom_base.specs.Names.{IsNetName};
 
-use crate::{Circuit, Device, Phase};
+use crate::{Circuit, Device, Phase, esc};
 use dom_base::{Kind, NetName, OutOfMemory};
 use std::alloc::Global;
 use std::test::Fail;
@@ -129,5 +129,21 @@ fn numbers_nets_in_order_of_appearance(rt: HostRuntime) -> Result<(), Fail> {
         );
     }
     assert!(rt; circuit.devices.as_slice() == DEVICES.as_slice());
+    Ok(())
+}
+
+#[test]
+fn escapes_of_names(rt: HostRuntime) -> Result<(), Fail> {
+    let names = [
+        (b"a7z".as_slice(), b"a7z".as_slice()),
+        (b"A".as_slice(), b"_41".as_slice()),
+        (b"\xc3\xa9".as_slice(), b"_c3_a9".as_slice()),
+        (b"_\x00/:\xff".as_slice(), b"_5f_00_2f_3a_ff".as_slice()),
+        (b"".as_slice(), b"".as_slice()),
+    ];
+    for (name, escape) in names {
+        let text = esc(rt.alloc(), name)?;
+        assert!(rt; text.as_slice() == escape);
+    }
     Ok(())
 }
