@@ -1,0 +1,4 @@
+pub mod BlifFileData
+pub mod BlifModelData
+pub mod InstanceData
+pub mod TableData
