@@ -1,7 +1,6 @@
 use Rattle.std.specs.Prelude.{ℕ, ◌≤◌, ◌<◌, ◌≡◌, ◌≢◌, true, List, [], ◌++◌, nat_eq, length, map, codes, All, IfSome}
 use Rattle.std.specs.List.{IsDistinct}
 use Rattle.blif_ast.specs.declared.instance.Binding.{Binding}
-use Rattle.blif_ast.specs.declared.latch.Control.{Control}
 use Rattle.blif_ast.specs.declared.latch.Latch.{Latch}
 use Rattle.blif_ast.specs.BlifFileData.{BlifFileData}
 use Rattle.blif_ast.specs.BlifModelData.{BlifModelData}
