@@ -1,4 +1,4 @@
-//! The syntax of BLIF, and its printed text.
+//! The syntax of BLIF, the Berkeley Logic Interchange Format, and its printed text.
 #![tactic(auto)]
 
 ghost use Rattle.std.specs.Prelude.{◌≡◌, IfOk};
@@ -32,6 +32,11 @@ pub use table::Table;
 /// there are any, and `1` or `0`. A latch is `.latch INPUT OUTPUT`, then its edge `re` or `fe` and
 /// its control where it has them, then its start value. An instance is `.subckt UNIT` with a word
 /// `FORMAL=ACTUAL` for each binding. It fails only for want of memory.
+///
+/// The file is good: it has a model; no name is empty or has a blank, a control byte or a `#`; no
+/// formal has a `=`, and no control is called `NIL`; start values are at most 3; a table has at most
+/// 4,096 inputs, one letter per input in each row, and a true `on` where it has no rows; and no two
+/// tables, latches or instances of a model have the same line.
 pub fn print(alloc: Global, file: &BlifFile) -> Result<Vec<u8>, OutOfMemory>
     requires { IsGoodFile file.now }
     ensures { IfOk result (λ text. text.items ≡ printed file.now) }
