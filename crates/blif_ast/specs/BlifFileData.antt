@@ -1,0 +1,6 @@
+use Rattle.std.specs.Prelude.{List}
+use Rattle.blif_ast.specs.BlifModelData.{BlifModelData}
+
+-- a file as plain data: its models in order, the main model first
+pub record BlifFileData : Type 0 where
+  pub models : List BlifModelData
