@@ -1,0 +1,6 @@
+//! The reader of BLIF text.
+#![tactic(auto)]
+
+mod fault;
+
+pub use fault::{BlifFault, BlifKind};
