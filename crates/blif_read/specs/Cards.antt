@@ -17,6 +17,10 @@ first_word words = slice_index_or words 0 []
 abbrev pub last_word : List (List ℕ) → List ℕ
 last_word words = slice_index_or words (length words - 1) []
 
+-- the last letter of a row: the last byte of its last word
+abbrev pub last_letter : List (List ℕ) → ℕ
+last_letter words = slice_index (last_word words) (length (last_word words) - 1)
+
 -- a line that begins with this word
 abbrev pub begins : List ℕ → LogicalLine → Bool
 begins word line = same (first_word line.words) word

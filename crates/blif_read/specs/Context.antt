@@ -1,7 +1,7 @@
-use Rattle.std.specs.Prelude.{ℕ, Bool, false, ◌||◌, not, List, [], ◌∷◌, length, reverse, Option, Some, None}
+use Rattle.std.specs.Prelude.{ℕ, Bool, false, ◌==◌, ◌||◌, not, List, [], ◌∷◌, length, reverse, Option, Some, None}
 use Rattle.std.specs.List.{find, take_while}
 use Rattle.blif_read.specs.LogicalLines.{LogicalLine}
-use Rattle.blif_read.specs.Cards.{same, begins, first_word, last_word, is_card, is_row, table_inputs, model_card, end_card, names_card}
+use Rattle.blif_read.specs.Cards.{same, begins, first_word, last_letter, is_card, is_row, table_inputs, model_card, end_card, names_card}
 
 -- the words of a line, if there is one
 abbrev pub words_of : Option LogicalLine → List (List ℕ)
@@ -26,7 +26,7 @@ open_width before = length (table_inputs (words_of (find is_card before)))
 abbrev pub open_rows : List LogicalLine → List LogicalLine
 open_rows before = reverse (take_while is_row before)
 
--- a value that isn't that of the first of these rows
-abbrev pub differs_from_first : List ℕ → List LogicalLine → Bool
-differs_from_first value [] = false
-differs_from_first value (row ∷ rows) = not (same value (last_word row.words))
+-- a letter that isn't the last letter of the first of these rows
+abbrev pub differs_from_first : ℕ → List LogicalLine → Bool
+differs_from_first letter [] = false
+differs_from_first letter (row ∷ rows) = not (letter == last_letter row.words)

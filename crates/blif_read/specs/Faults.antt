@@ -4,7 +4,7 @@ use Rattle.dom_base.specs.Lines.{is_control}
 use Rattle.blif_read.specs.declared.fault.BlifKind.{BlifKind}
 use Rattle.blif_read.specs.declared.fault.BlifKind.TheVariants.{ControlByte, UnknownCard, BadCard, RowOutsideTable, BadRow, MixedCover, TooWide, NoModel, LatchKind}
 use Rattle.blif_read.specs.LogicalLines.{LogicalLine}
-use Rattle.blif_read.specs.Cards.{begins, is_card, is_row, is_known, is_form, is_latch_form, is_level, is_row_form, last_word, table_inputs, model_card, names_card, latch_card}
+use Rattle.blif_read.specs.Cards.{begins, is_card, is_row, is_known, is_form, is_latch_form, is_level, is_row_form, last_letter, table_inputs, model_card, names_card, latch_card}
 use Rattle.blif_read.specs.Context.{is_model_open, is_table_open, open_width, open_rows, differs_from_first}
 
 -- the number of a kind: of two faults of a line the smaller one is told
@@ -33,7 +33,7 @@ has_fault RowOutsideTable before line = is_row line && not (is_table_open before
 has_fault BadRow before line = is_row_inside before line && not (is_row_form (open_width before) line.words)
 has_fault MixedCover before line =
     is_row_inside before line && is_row_form (open_width before) line.words
-    && differs_from_first (last_word line.words) (open_rows before)
+    && differs_from_first (last_letter line.words) (open_rows before)
 has_fault TooWide before line = begins names_card line && nat_lt 4096 (length (table_inputs line.words))
 has_fault NoModel before line = is_card line && not (begins model_card line) && not (is_model_open before)
 has_fault LatchKind before line =

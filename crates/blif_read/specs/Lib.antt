@@ -1,5 +1,6 @@
 pub mod Cards
 pub mod Context
+pub mod Cuts
 pub mod Faults
 pub mod LogicalLines
 pub mod Models

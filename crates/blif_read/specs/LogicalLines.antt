@@ -20,9 +20,13 @@ without_comment line = before_first (λ b. b == 35) line
 abbrev pub is_joined : List ℕ → Bool
 is_joined line = slice_index line (length line - 1) == 92
 
+-- a line without its last byte
+abbrev pub but_last : List ℕ → List ℕ
+but_last line = take (length line - 1) line
+
 -- a line with a blank in place of its last byte
 abbrev pub with_blank : List ℕ → List ℕ
-with_blank line = take (length line - 1) line ++ 32 ∷ []
+with_blank line = but_last line ++ 32 ∷ []
 
 -- a line in front of the logical line that comes next, as one; at the end of the text it stands alone
 abbrev pub with_next : ℕ → List ℕ → List NumberedBytes → List NumberedBytes

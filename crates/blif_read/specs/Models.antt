@@ -10,7 +10,7 @@ use Rattle.blif_ast.specs.TableData.{TableData}
 use Rattle.blif_ast.specs.InstanceData.{InstanceData}
 use Rattle.blif_ast.specs.BlifModelData.{BlifModelData}
 use Rattle.blif_read.specs.LogicalLines.{LogicalLine}
-use Rattle.blif_read.specs.Cards.{same, begins, is_row, last_word, formal_of, actual_of, table_inputs, model_card, end_card, inputs_card, outputs_card, names_card, latch_card, subckt_card}
+use Rattle.blif_read.specs.Cards.{same, begins, is_row, last_word, last_letter, formal_of, actual_of, table_inputs, model_card, end_card, inputs_card, outputs_card, names_card, latch_card, subckt_card}
 
 -- What the lines of an accepted text say: each card and row is in its form.
 
@@ -23,10 +23,10 @@ abbrev pub row_letters : List (List ℕ) → List Letter
 row_letters (letters ∷ value ∷ more) = map letter_of letters
 row_letters _ = []
 
--- the value that the rows end in is 1; it is so without rows
+-- whether the rows end in 1; it is so without rows
 abbrev pub rows_are_on : List LogicalLine → Bool
 rows_are_on [] = true
-rows_are_on (row ∷ rows) = same (last_word row.words) (codes "1")
+rows_are_on (row ∷ rows) = last_letter row.words == 49
 
 -- the table of a card `.names`, with the rows that follow it
 abbrev pub table_of : LogicalLine → List LogicalLine → TableData
