@@ -3,5 +3,6 @@
 
 mod cut;
 mod fault;
+mod line;
 
 pub use fault::{BlifFault, BlifKind};
