@@ -3,6 +3,8 @@
 
 mod cut;
 mod fault;
+mod laws;
 mod line;
 
 pub use fault::{BlifFault, BlifKind};
+pub use laws::text_has_one_answer;
