@@ -1,6 +1,6 @@
 -- Numbers of logical lines grow.
-use Rattle.std.proofs.Common.{◌≡◌, ℕ, ◌≤◌, ◌<◌, ◌+◌, Bool, true, false, ◌++◌, List, [], ◌∷◌, map, filter, refl, arith}
-use Rattle.blif_read.specs.LogicalLines.{LogicalLine, NumberedBytes, in_words, has_words, is_joined, with_blank, joined_lines, with_line, with_next, logical_lines, logical_lines_from, without_comment}
+use Rattle.std.proofs.Common.{◌≡◌, ℕ, zero, suc, ◌≤◌, ◌+◌, Bool, true, false, List, [], ◌∷◌, map, filter, take, refl, arith}
+use Rattle.blif_read.specs.LogicalLines.{LogicalLine, NumberedBytes, in_words, has_words, is_joined, with_blank, joined_lines, with_line, with_next, logical_lines, without_comment}
 use Rattle.dom_base.specs.Lines.{lines}
 
 -- logical lines whose numbers grow, from this number on
@@ -46,6 +46,11 @@ Rises-filter n test (line ∷ more) h = by (test line) refl (Rises-filter (line.
     by : (b : Bool) → test line ≡ b → Rises (line.number + 1) (filter test more) → Rises n (filter test (line ∷ more))
     by true e rest = rw e (h.0, rest)
     by false e rest = rw e (Rises-lower (line.number + 1) n (filter test more) (omega (arith, h.0)) rest)
+
+pub Rises-take : (n k : ℕ) (all : List LogicalLine) → Rises n all → Rises n (take k all)
+Rises-take n zero all h = tt
+Rises-take n (suc k) [] h = tt
+Rises-take n (suc k) (line ∷ more) h = (h.0, Rises-take (line.number + 1) k more h.1)
 
 pub logical_lines-rise : (text : List ℕ) → Rises 1 (logical_lines text)
 logical_lines-rise text =

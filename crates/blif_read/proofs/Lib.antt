@@ -1,5 +1,12 @@
 pub mod Cutting
+pub mod GoodApart
+pub mod GoodLines
+pub mod GoodModels
 pub mod GoodNumbers
+pub mod GoodParts
+pub mod GoodPrefix
+pub mod GoodRows
+pub mod GoodWords
 pub mod Joining
 pub mod OneAnswer
 pub mod OneFault

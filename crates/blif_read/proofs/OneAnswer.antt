@@ -1,13 +1,12 @@
 -- A text is accepted with one file or refused for one fault.
-use Rattle.std.proofs.Common.{◌≡◌, ℕ, ◌≤◌, ◌+◌, ◌⊎◌, inl, inr, true, false, List, [], ◌∷◌, length, refl, ap, sym, ◌∙◌, subst, arith}
+use Rattle.std.proofs.Common.{◌≡◌, ℕ, ◌≤◌, ◌+◌, ◌⊎◌, inl, inr, List, [], ◌∷◌, length, refl, sym, ◌∙◌, subst, arith}
 use Rattle.dom_base.specs.Lines.{lines}
-use Rattle.blif_ast.specs.BlifFileData.{BlifFileData}
 use Rattle.blif_read.specs.declared.fault.BlifKind.{BlifKind}
 use Rattle.blif_read.specs.declared.fault.BlifKind.TheVariants.{NoModel}
 use Rattle.blif_read.specs.LogicalLines.{LogicalLine, logical_lines}
 use Rattle.blif_read.specs.Faults.{kind_number}
 use Rattle.blif_read.specs.Models.{models_of}
-use Rattle.blif_read.specs.Reading.{IsFault, IsFaultOfLine, IsFaultOfEmpty, IsFaultAt, IsFileOf}
+use Rattle.blif_read.specs.Reading.{IsFault, IsFaultOfLine, IsFaultAt}
 use Rattle.blif_read.specs.Laws.{IsAcceptedOnce, IsRefusedOnce, TextHasOneAnswer}
 use Rattle.blif_read.proofs.GoodNumbers.{logical_lines-rise}
 use Rattle.blif_read.proofs.OneFault.{FaultIn, FaultIn-from, IsFaultOfLine-from, IsFirstIn, first_in, kind_number-injective}

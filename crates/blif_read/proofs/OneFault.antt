@@ -1,14 +1,13 @@
 -- The first fault of a text and its smallest kind.
-use Rattle.std.proofs.Common.{◌≡◌, ℕ, zero, suc, ◌≤◌, ◌<◌, ◌+◌, ◌-◌, ◌⊎◌, inl, inr, Bool, true, false, ◌++◌, List, [], ◌∷◌, length, reverse, refl, ap, sym, ◌∙◌, subst, arith}
+use Rattle.std.proofs.Common.{◌≡◌, ℕ, zero, suc, ◌≤◌, ◌<◌, ◌+◌, ◌-◌, ◌⊎◌, inl, inr, Bool, true, false, ◌++◌, List, [], ◌∷◌, reverse, refl, ap, sym, ◌∙◌, subst, arith}
 use Rattle.std.proofs.lemmas.Bool.{cases_lt}
 use Rattle.std.proofs.lemmas.List.{reverse-reverse, append-nil, append_assoc}
 use Rattle.std.proofs.lemmas.Grind.{reverse_onto}
-use Rattle.dom_base.specs.Lines.{lines}
 use Rattle.blif_read.specs.declared.fault.BlifKind.{BlifKind}
 use Rattle.blif_read.specs.declared.fault.BlifKind.TheVariants.{ControlByte, UnknownCard, BadCard, RowOutsideTable, BadRow, MixedCover, TooWide, NoModel, LatchKind}
-use Rattle.blif_read.specs.LogicalLines.{LogicalLine, logical_lines}
+use Rattle.blif_read.specs.LogicalLines.{LogicalLine}
 use Rattle.blif_read.specs.Faults.{has_fault, kind_number}
-use Rattle.blif_read.specs.Reading.{IsFault, IsFaultOfLine, IsFaultOfEmpty}
+use Rattle.blif_read.specs.Reading.{IsFaultOfLine}
 use Rattle.blif_read.proofs.GoodNumbers.{Rises}
 
 -- the kind of each number, less one

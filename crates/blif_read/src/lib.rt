@@ -7,4 +7,4 @@ mod laws;
 mod line;
 
 pub use fault::{BlifFault, BlifKind};
-pub use laws::text_has_one_answer;
+pub use laws::{accepted_file_is_good, text_has_one_answer};
