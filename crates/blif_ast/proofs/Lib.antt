@@ -1,0 +1,3 @@
+pub mod CardLines
+pub mod FileLines
+pub mod LineWords

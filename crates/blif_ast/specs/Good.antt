@@ -1,7 +1,6 @@
 use Rattle.std.specs.Prelude.{ℕ, ◌≤◌, ◌<◌, ◌≡◌, ◌≢◌, true, List, [], ◌++◌, nat_eq, length, map, codes, All, IfSome}
 use Rattle.std.specs.List.{IsDistinct}
 use Rattle.blif_ast.specs.declared.instance.Binding.{Binding}
-use Rattle.blif_ast.specs.declared.latch.Control.{Control}
 use Rattle.blif_ast.specs.declared.latch.Latch.{Latch}
 use Rattle.blif_ast.specs.BlifFileData.{BlifFileData}
 use Rattle.blif_ast.specs.BlifModelData.{BlifModelData}
@@ -30,18 +29,20 @@ pub record IsGoodSignal (signal : List ℕ) : Type 0 where
   pub name : IsGoodName signal
   pub some : signal ≢ codes "NIL"
 
+-- a latch with names that are good, and one of the four start values
 pub record IsGoodLatch (l : Latch) : Type 0 where
   pub input : IsGoodName l.input
   pub output : IsGoodName l.output
   pub control : IfSome l.control (λ c. IfSome c.signal IsGoodSignal)
   pub init : l.init ≤ 3
 
--- a binding, which is split at its first `=`
+-- a binding with names that are good; it is written with `=` behind the formal, and read by its first `=`
 pub record IsGoodBinding (b : Binding) : Type 0 where
   pub formal : IsGoodName b.formal
   pub no_equals : All (λ byte. byte ≢ 61) b.formal
   pub actual : IsGoodName b.actual
 
+-- an instance with names that are good
 pub record IsGoodInstance (i : InstanceData) : Type 0 where
   pub unit : IsGoodName i.unit
   pub bindings : All IsGoodBinding i.bindings
@@ -50,6 +51,7 @@ pub record IsGoodInstance (i : InstanceData) : Type 0 where
 abbrev pub card_lines : BlifModelData → List ℕ
 card_lines m = map (λ t. t.line) m.tables ++ map (λ l. l.line) m.latches ++ map (λ i. i.line) m.instances
 
+-- a model with names and parts that are good
 pub record IsGoodModel (m : BlifModelData) : Type 0 where
   pub name : IsGoodName m.name
   pub inputs : All IsGoodName m.inputs
@@ -60,7 +62,7 @@ pub record IsGoodModel (m : BlifModelData) : Type 0 where
   -- no two cards stand on one line
   pub apart : IsDistinct nat_eq (card_lines m)
 
--- a file that a text can hold: it has a model, and each part of it can be written and read
+-- a file that has a model, and whose models are good: one that a text can hold
 pub record IsGoodFile (f : BlifFileData) : Type 0 where
   pub some : f.models ≢ []
   pub models : All IsGoodModel f.models

@@ -8,16 +8,16 @@ pub enum Edge2 {
     Falling,
 }
 
-/// What a latch is clocked by: an edge of a signal, where `None` is the word `NIL`, a clock of the
-/// outside.
+/// What a latch is clocked by: an edge of a signal. A `signal` of `None` is the word `NIL`, by which
+/// BLIF names no signal of the model.
 #[derive(Clone, Debug, Drop)]
 pub struct Control {
     pub edge: Edge2,
     pub signal: Option<Name>,
 }
 
-/// A latch of BLIF, the card `.latch`. `init` is its start value: 0, 1, 2 for any of the two, or 3
-/// where it isn't known. `line` is the line of the card, from 1.
+/// A latch of BLIF, the card `.latch`. `init` is its start value: 0 or 1, 2 where it may be either,
+/// or 3 where it is unknown. `line` is the line of the card, from 1.
 #[derive(Clone, Debug, Drop)]
 pub struct Latch {
     pub input: Name,

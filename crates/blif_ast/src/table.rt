@@ -5,7 +5,8 @@ use std::marker::Model;
 
 /// A table of BLIF, the card `.names`. Where `on` is true its rows end in 1, and the output is 1
 /// exactly where some row matches the inputs; where it is false they end in 0, and the output is
-/// 0 exactly there. It is true for a table without rows. `line` is the line of the card, from 1.
+/// 0 exactly there. A table without rows has a true `on`, and its output is 0. `line` is the line of
+/// the card, from 1.
 #[derive(Clone, Debug, Drop)]
 pub struct Table {
     pub inputs: Vec<Name>,
