@@ -5,3 +5,4 @@ pub mod Faults
 pub mod LogicalLines
 pub mod Models
 pub mod Reading
+pub mod Steps

@@ -1,8 +1,10 @@
 //! The reader of BLIF text.
 #![tactic(auto)]
 
+mod context;
 mod cut;
 mod fault;
+mod form;
 mod line;
 
 pub use fault::{BlifFault, BlifKind};
