@@ -2,3 +2,4 @@ pub mod Cutting
 pub mod Joining
 pub mod Forms
 pub mod Contexts
+pub mod Smallest

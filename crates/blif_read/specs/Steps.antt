@@ -1,4 +1,4 @@
-use Rattle.std.specs.Prelude.{ℕ, ◌≡◌, ◌==◌, Bool, true, false, not, nat_lt, if◌then◌else◌, ◌&&◌, List, [], ◌∷◌, length, Option, Some, None, slice_index_or}
+use Rattle.std.specs.Prelude.{ℕ, ◌≡◌, ◌==◌, Bool, true, false, not, if◌then◌else◌, ◌&&◌, List, [], ◌∷◌, Option, Some, None}
 use Rattle.std.specs.List.{find, list_any}
 use Rattle.dom_base.specs.Lines.{is_control}
 use Rattle.blif_read.specs.declared.fault.BlifKind.{BlifKind}
@@ -6,7 +6,7 @@ use Rattle.blif_read.specs.declared.fault.BlifKind.TheVariants.{ControlByte, Unk
 use Rattle.blif_read.specs.declared.context.Context.{Context}
 use Rattle.blif_read.specs.declared.context.OpenTable.{OpenTable}
 use Rattle.blif_read.specs.LogicalLines.{LogicalLine}
-use Rattle.blif_read.specs.Cards.{begins, is_card, is_known, is_form, is_level, is_row_form, is_binding, formal_of, actual_of, last_letter, table_inputs, model_card, names_card, latch_card}
+use Rattle.blif_read.specs.Cards.{begins, is_card, is_known, is_form, is_row_form, is_binding, is_too_wide, is_level_latch, formal_of, actual_of, last_letter, model_card}
 use Rattle.blif_read.specs.Context.{is_model_open, is_table_open, open_width, open_rows}
 use Rattle.blif_read.specs.Faults.{has_fault}
 
@@ -52,9 +52,9 @@ row_fault (Some table) line =
 -- the fault of a card that is known and in its form
 abbrev pub formed_card_fault : Bool → LogicalLine → Option BlifKind
 formed_card_fault open_model line =
-    if begins names_card line && nat_lt 4096 (length (table_inputs line.words)) then Some TooWide
+    if is_too_wide line then Some TooWide
     else (if not (begins model_card line) && not open_model then Some NoModel
-    else (if begins latch_card line && nat_lt 4 (length line.words) && is_level (slice_index_or line.words 3 []) then Some LatchKind
+    else (if is_level_latch line then Some LatchKind
     else None))
 
 -- the fault of a line by its context

@@ -1,6 +1,7 @@
 //! The forms of cards and rows, by their words.
 ghost use Rattle.std.specs.Prelude.{◌≡◌, ◌&&◌, map, length, nat_lt, MatchOption, false};
-ghost use Rattle.std.specs.List.{list_all};
+ghost use Rattle.std.specs.List.{list_all, list_any};
+ghost use Rattle.dom_base.specs.Lines.{is_control};
 ghost use Rattle.blif_read.specs.Steps.{IsBindingOf};
 ghost use Rattle.blif_read.specs.Cards.{same, is_init, is_edge, is_type, is_latch_form, is_level, is_binding, is_subckt_form, is_value, is_letter, is_row_form};
 
@@ -120,4 +121,23 @@ pub(crate) fn is_row_form(width: usize, words: &[&[u8]]) -> bool
         }
         _ => false,
     }
+}
+
+fn is_control(b: u8) -> bool
+    ensures { result ≡ is_control b }
+{
+    b < b' ' && b != b'\t' || b == 0x7f
+}
+
+fn has_control(word: &[u8]) -> bool
+    ensures { result ≡ list_any is_control word.now }
+{
+    word.iter().any(|b| is_control(*b))
+}
+
+/// Whether a word has a control byte.
+pub(crate) fn have_control(words: &[&[u8]]) -> bool
+    ensures { result ≡ list_any (list_any is_control) (map (λ w. w.now) words.now) }
+{
+    words.iter().any(|word| has_control(word))
 }

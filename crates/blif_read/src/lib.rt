@@ -1,6 +1,7 @@
 //! The reader of BLIF text.
 #![tactic(auto)]
 
+mod check;
 mod context;
 mod cut;
 mod fault;
