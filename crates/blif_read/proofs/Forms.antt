@@ -1,9 +1,9 @@
 use Rattle.std.proofs.Common.{◌≡◌, ℕ, ◌+◌, ◌-◌, Bool, true, false, nat_lt, List, map, [], ◌∷◌, length, take, drop, refl, sym, ap, ◌∙◌, arith, Some, None}
 use Rattle.std.specs.Prelude.{◌&&◌, ◌||◌}
 use Rattle.std.specs.List.{list_all, list_any}
-use Rattle.std.proofs.lemmas.List.{drop_all, take_rest}
+use Rattle.std.proofs.lemmas.List.{drop_all, take_all, take_rest, length-map, take-map, drop-map}
 use Rattle.memchr.specs.Find.{IsFirstByte, is_byte}
-use Rattle.blif_read.specs.Cards.{is_binding, formal_of, actual_of}
+use Rattle.blif_read.specs.Cards.{is_binding, formal_of, actual_of, table_inputs}
 use Rattle.blif_read.proofs.Cutting.{place_of_first, place_of_none}
 
 -- what stands before and behind the first `=`
@@ -34,3 +34,15 @@ list_all-map p f (x ∷ xs) = ap (λ b. p (f x) && b) (list_all-map p f xs)
 pub list_any-map : {X Y : Type 0} (p : Y → Bool) (f : X → Y) (xs : List X) → list_any p (map f xs) ≡ list_any (λ x. p (f x)) xs
 list_any-map p f [] = refl
 list_any-map p f (x ∷ xs) = ap (λ b. p (f x) || b) (list_any-map p f xs)
+
+pub formal_none : (word : List ℕ) → IsFirstByte (is_byte 61) word None → word ≡ formal_of word
+formal_none word none = sym (ap (λ n. take n word) (place_of_none 61 word none) ∙ take_all (length word) word (omega arith))
+
+pub actual_none : (word : List ℕ) → IsFirstByte (is_byte 61) word None → [] ≡ actual_of word
+actual_none word none = sym (ap (λ n. drop (n + 1) word) (place_of_none 61 word none) ∙ drop_all (length word + 1) word (omega arith))
+
+-- the inputs are what stands between the first and the last word
+pub inputs_between : {X : Type 0} (f : X → List ℕ) (words : List X) → map f (take (length words - 1 - 1) (drop 1 words)) ≡ table_inputs (map f words)
+inputs_between f words =
+    let count : length words - 1 - 1 ≡ length (map f words) - 2 = omega (arith, length-map words f) in
+    ap (λ n. map f (take n (drop 1 words))) count ∙ sym (take-map f (length (map f words) - 2) (drop 1 words)) ∙ ap (take (length (map f words) - 2)) (sym (drop-map f 1 words))

@@ -1,3 +1,4 @@
+pub mod Build
 pub mod Cards
 pub mod Context
 pub mod Cuts

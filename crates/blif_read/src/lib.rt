@@ -1,11 +1,13 @@
 //! The reader of BLIF text.
 #![tactic(auto)]
 
+mod builder;
 mod check;
 mod context;
 mod cut;
 mod fault;
 mod form;
 mod line;
+mod parts;
 
 pub use fault::{BlifFault, BlifKind};
