@@ -1,4 +1,6 @@
+pub mod Contexts
 pub mod Cutting
+pub mod Forms
 pub mod GoodApart
 pub mod GoodLines
 pub mod GoodModels
@@ -10,3 +12,4 @@ pub mod GoodWords
 pub mod Joining
 pub mod OneAnswer
 pub mod OneFault
+pub mod Smallest

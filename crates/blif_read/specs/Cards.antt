@@ -83,6 +83,10 @@ is_latch_form (card ∷ input ∷ output ∷ type ∷ control ∷ []) = is_type 
 is_latch_form (card ∷ input ∷ output ∷ type ∷ control ∷ init ∷ []) = is_type type && is_init init
 is_latch_form _ = false
 
+-- a card `.latch` in its form whose type is one of a level
+abbrev pub is_level_latch : LogicalLine → Bool
+is_level_latch line = begins latch_card line && is_latch_form line.words && nat_lt 4 (length line.words) && is_level (slice_index_or line.words 3 [])
+
 -- what stands before the first `=` of a binding, and what stands behind it
 abbrev pub formal_of : List ℕ → List ℕ
 formal_of word = before_first (λ b. b == 61) word
@@ -112,6 +116,10 @@ is_form words =
 -- the inputs of a table by its card: all names but the last, which is the output
 abbrev pub table_inputs : List (List ℕ) → List (List ℕ)
 table_inputs words = take (length words - 2) (drop 1 words)
+
+-- a card `.names` with more than 4,096 inputs
+abbrev pub is_too_wide : LogicalLine → Bool
+is_too_wide line = begins names_card line && nat_lt 4096 (length (table_inputs line.words))
 
 -- the value that a row or its table ends in
 abbrev pub is_value : List ℕ → Bool

@@ -1,10 +1,10 @@
-use Rattle.std.specs.Prelude.{ℕ, Bool, ◌&&◌, not, nat_lt, List, length, slice_index_or, []}
+use Rattle.std.specs.Prelude.{ℕ, Bool, ◌&&◌, not, List}
 use Rattle.std.specs.List.{list_any}
 use Rattle.dom_base.specs.Lines.{is_control}
 use Rattle.blif_read.specs.declared.fault.BlifKind.{BlifKind}
 use Rattle.blif_read.specs.declared.fault.BlifKind.TheVariants.{ControlByte, UnknownCard, BadCard, RowOutsideTable, BadRow, MixedCover, TooWide, NoModel, LatchKind}
 use Rattle.blif_read.specs.LogicalLines.{LogicalLine}
-use Rattle.blif_read.specs.Cards.{begins, is_card, is_row, is_known, is_form, is_latch_form, is_level, is_row_form, last_letter, table_inputs, model_card, names_card, latch_card}
+use Rattle.blif_read.specs.Cards.{begins, is_card, is_row, is_known, is_form, is_row_form, is_too_wide, is_level_latch, last_letter, model_card}
 use Rattle.blif_read.specs.Context.{is_model_open, is_table_open, open_width, open_rows, differs_from_first}
 
 -- the number of a kind: of two faults of a line the smaller one is told
@@ -34,7 +34,6 @@ has_fault BadRow before line = is_row_inside before line && not (is_row_form (op
 has_fault MixedCover before line =
     is_row_inside before line && is_row_form (open_width before) line.words
     && differs_from_first (last_letter line.words) (open_rows before)
-has_fault TooWide before line = begins names_card line && nat_lt 4096 (length (table_inputs line.words))
+has_fault TooWide before line = is_too_wide line
 has_fault NoModel before line = is_card line && not (begins model_card line) && not (is_model_open before)
-has_fault LatchKind before line =
-    begins latch_card line && is_latch_form line.words && nat_lt 4 (length line.words) && is_level (slice_index_or line.words 3 [])
+has_fault LatchKind before line = is_level_latch line

@@ -1,3 +1,4 @@
+pub mod Build
 pub mod Cards
 pub mod Context
 pub mod Cuts
@@ -6,3 +7,4 @@ pub mod Laws
 pub mod LogicalLines
 pub mod Models
 pub mod Reading
+pub mod Steps

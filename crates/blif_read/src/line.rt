@@ -1,10 +1,12 @@
 //! Logical lines.
-ghost use Rattle.std.specs.Prelude.{◌≡◌, ◌≤◌, ◌<◌, ◌+◌, ◌^◌, ◌++◌, ◌∷◌, ℕ, List, [], IfOk, IsOk, MatchOption, map, length};
+ghost use Rattle.std.specs.Prelude.{◌≡◌, ◌≤◌, ◌<◌, ◌+◌, ◌-◌, ◌^◌, ◌++◌, ◌∷◌, ℕ, List, [], IfOk, IsOk, MatchOption, map, length, slice_index};
 ghost use Rattle.dom_base.specs.Lines.{lines};
 ghost use Rattle.blif_read.specs.LogicalLines.{logical_lines_from};
+ghost use Rattle.blif_read.specs.Cards.{begins, first_word, is_card, last_letter};
 ghost use Rattle.blif_read.specs.Cuts.{worded_lines, IsPiece, NumbersFit};
 
 use crate::cut::{cut_line, cut_words, strip_comment, strip_join};
+use crate::form::same;
 use dom_base::OutOfMemory;
 use std::alloc::Global;
 use std::marker::Model;
@@ -23,6 +25,57 @@ impl<'a> Model for Line<'a> {
     ghost Value = { LogicalLine };
 
     ghost view = { λ l. record { number = l.number; words = map (λ w. w.now) l.words.items } };
+}
+
+impl<'a> Line<'a> {
+    /// The first word, or no bytes where there is none.
+    pub fn first_word(&self) -> &[u8]
+        ensures { result.now ≡ first_word self.now.words }
+    {
+        match self.words.first() {
+            Some(word) => word,
+            None => &[],
+        }
+    }
+
+    pub fn begins(&self, word: &[u8]) -> bool
+        ensures { result ≡ begins word.now self.now }
+    {
+        same(self.first_word(), word)
+    }
+
+    /// Whether the line is a card; any other is a row.
+    pub fn is_card(&self) -> bool
+        ensures { result ≡ is_card self.now }
+    {
+        first_byte(self.first_word()) == b'.'
+    }
+
+    /// The last byte of the last word, or 0 where there is none.
+    pub fn last_letter(&self) -> u8
+        ensures { result ≡ last_letter self.now.words }
+    {
+        match self.words.last() {
+            Some(word) => last_byte(word),
+            None => 0,
+        }
+    }
+}
+
+fn first_byte(word: &[u8]) -> u8
+    ensures { result ≡ slice_index word.now 0 }
+{
+    if word.is_empty() { 0 } else { word[0] }
+}
+
+fn last_byte(word: &[u8]) -> u8
+    ensures { result ≡ slice_index word.now (length word.now - 1) }
+{
+    if word.is_empty() {
+        0
+    } else {
+        word[word.len() - 1]
+    }
 }
 
 /// The lines of a text that aren't read yet, and the number of the first of them.
