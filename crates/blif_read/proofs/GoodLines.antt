@@ -1,0 +1,103 @@
+-- Lines without faults: their words are good names, and their cards are in their forms.
+use Rattle.std.proofs.Common.{◌≡◌, ℕ, zero, suc, ◌<◌, Bool, true, false, ◌==◌, ◌&&◌, ◌||◌, not, nat_lt, if◌then◌else◌, List, [], ◌∷◌, length, filter, take, slice_index_or, refl, ap, sym, ◌∙◌, arith, inl, inr}
+use Rattle.std.specs.List.{AllByRecursion, list_any}
+use Rattle.std.specs.Cmp.Lexicographic.{same_text}
+use Rattle.std.proofs.lemmas.Bool.Decides.{nat_tests}
+use Rattle.std.proofs.lemmas.List.Elements.{All-from_recursion}
+use Rattle.dom_base.specs.Lines.{is_blank, is_control, is_word}
+use Rattle.dom_base.proofs.Each.{AllByRecursion-filter, AllByRecursion-weaker}
+use Rattle.blif_ast.specs.Good.{IsNameByte, IsGoodName}
+use Rattle.blif_read.specs.declared.fault.BlifKind.{BlifKind}
+use Rattle.blif_read.specs.declared.fault.BlifKind.TheVariants.{ControlByte, BadCard}
+use Rattle.blif_read.specs.LogicalLines.{LogicalLine}
+use Rattle.blif_read.specs.Cards.{same, begins, is_one_of, first_word, is_known, is_form, is_latch_form, is_subckt_form, model_card, inputs_card, outputs_card, names_card, latch_card, subckt_card, clock_card, end_card}
+use Rattle.blif_read.specs.Faults.{has_fault}
+use Rattle.blif_read.proofs.Cutting.{bool_false}
+use Rattle.blif_read.proofs.GoodWords.{IsNoMark, IsPlainWord, IsPlainLine}
+use Rattle.blif_read.proofs.OneFault.{FaultIn}
+
+-- lines without faults, where these lines stand before them, the nearest first
+abbrev pub Free : List LogicalLine → List LogicalLine → Type 0
+Free before [] = Unit {0}
+Free before (line ∷ more) = ((kind : BlifKind) → has_fault kind before line ≡ false) × Free (line ∷ before) more
+
+pub Free-from : (before all : List LogicalLine) → ((number : ℕ) (kind : BlifKind) → FaultIn before all number kind → ⊥) → Free before all
+Free-from before [] none = tt
+Free-from before (line ∷ more) none =
+    (λ kind. bool_false (has_fault kind before line) (λ e. none line.number kind (inl (refl, e))), Free-from (line ∷ before) more (λ number kind h. none number kind (inr h)))
+
+pub Free-take : (n : ℕ) (before all : List LogicalLine) → Free before all → Free before (take n all)
+Free-take zero before all h = tt
+Free-take (suc n) before [] h = tt
+Free-take (suc n) before (line ∷ more) h = (h.0, Free-take n (line ∷ before) more h.1)
+
+-- a line that has words, each a good name
+abbrev pub IsGoodLine : LogicalLine → Type 0
+IsGoodLine line = (0 < length line.words) × AllByRecursion IsGoodName line.words
+
+any_none : {X : Type 0} (test : X → Bool) (xs : List X) → list_any test xs ≡ false → AllByRecursion (λ x. test x ≡ false) xs
+any_none test [] h = tt
+any_none test (x ∷ xs) h = by (test x) refl (any_none test xs)
+  where
+    by : (b : Bool) → test x ≡ b → (list_any test xs ≡ false → AllByRecursion (λ y. test y ≡ false) xs) → AllByRecursion (λ y. test y ≡ false) (x ∷ xs)
+    by true e rest = let never : true ≡ false = sym (ap (λ b. b || list_any test xs) e) ∙ h in absurd cc
+    by false e rest = (e, rest (sym (ap (λ b. b || list_any test xs) e) ∙ h))
+
+name_byte : (b : ℕ) → IsNoMark b → is_blank b ≡ false → is_control b ≡ false → IsNameByte b
+name_byte b mark blank control = (grind (arith, nat_tests), grind (arith, nat_tests), grind (arith, nat_tests))
+
+name_bytes : (word : List ℕ) → AllByRecursion (λ b. IsNoMark b × (is_blank b ≡ false)) word → AllByRecursion (λ b. is_control b ≡ false) word → AllByRecursion IsNameByte word
+name_bytes [] h k = tt
+name_bytes (b ∷ bs) h k = (name_byte b h.0.0 h.0.1 k.0, name_bytes bs h.1 k.1)
+
+good_word : (word : List ℕ) → IsPlainWord word → list_any is_control word ≡ false → IsGoodName word
+good_word word h k = record {
+  some = λ e. let never : true ≡ false = sym h.0 ∙ ap is_word e in cc;
+  bytes = All-from_recursion IsNameByte word (name_bytes word h.1 (any_none is_control word k));
+}
+
+good_words : (all : List (List ℕ)) → AllByRecursion IsPlainWord all → AllByRecursion (λ word. list_any is_control word ≡ false) all → AllByRecursion IsGoodName all
+good_words [] h k = tt
+good_words (word ∷ all) h k = (good_word word h.0 k.0, good_words all h.1 k.1)
+
+pub good_lines : (before all : List LogicalLine) → Free before all → AllByRecursion IsPlainLine all → AllByRecursion IsGoodLine all
+good_lines before [] free h = tt
+good_lines before (line ∷ more) free h =
+    ((h.0.0, good_words line.words h.0.1 (any_none (list_any is_control) line.words (free.0 ControlByte))), good_lines (line ∷ before) more free.1 h.1)
+
+pub good_lines-filter : (test : LogicalLine → Bool) (all : List LogicalLine) → AllByRecursion IsGoodLine all → AllByRecursion IsGoodLine (filter test all)
+good_lines-filter test all h =
+    AllByRecursion-weaker (λ line. (test line ≡ true) × IsGoodLine line) IsGoodLine (λ line k. k.1) (filter test all) (AllByRecursion-filter IsGoodLine test all h)
+
+-- a word of a line
+pub good_word-at : (words : List (List ℕ)) (k : ℕ) → AllByRecursion IsGoodName words → k < length words → IsGoodName (slice_index_or words k [])
+good_word-at words k h lt = All-from_recursion IsGoodName words h k [] lt
+
+pub same-true : (a b : List ℕ) → same a b ≡ true → a ≡ b
+same-true a b e = same_text a b (sym e)
+
+-- the form of a card by its first word
+abbrev pub form_of : List ℕ → List (List ℕ) → Bool
+form_of first words =
+    if same first model_card then length words == 2
+    else (if same first names_card then nat_lt 1 (length words)
+    else (if same first latch_card then is_latch_form words
+    else (if same first subckt_card then is_subckt_form words
+    else (if same first end_card then length words == 1
+    else true))))
+
+abbrev pub known_of : List ℕ → Bool
+known_of first = is_one_of (model_card ∷ inputs_card ∷ outputs_card ∷ names_card ∷ latch_card ∷ subckt_card ∷ clock_card ∷ end_card ∷ []) first
+
+in_form : (known form : Bool) → known ≡ true → (known && not form) ≡ false → form ≡ true
+in_form true true k h = refl
+in_form true false k h = sym h
+in_form false form k h = absurd (cc)
+
+-- a card without faults is in its form
+pub card_form : (card : List ℕ) (before : List LogicalLine) (line : LogicalLine) → begins card line ≡ true → known_of card ≡ true
+    → ((kind : BlifKind) → has_fault kind before line ≡ false) → form_of card line.words ≡ true
+card_form card before line is known free =
+    let first : first_word line.words ≡ card = same-true (first_word line.words) card is in
+    ap (λ f. form_of f line.words) (sym first)
+    ∙ in_form (is_known line) (is_form line.words) (ap known_of first ∙ known) (free BadCard)

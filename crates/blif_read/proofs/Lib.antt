@@ -1,0 +1,15 @@
+pub mod Contexts
+pub mod Cutting
+pub mod Forms
+pub mod GoodApart
+pub mod GoodLines
+pub mod GoodModels
+pub mod GoodNumbers
+pub mod GoodParts
+pub mod GoodPrefix
+pub mod GoodRows
+pub mod GoodWords
+pub mod Joining
+pub mod OneAnswer
+pub mod OneFault
+pub mod Smallest

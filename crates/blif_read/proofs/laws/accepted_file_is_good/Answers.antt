@@ -1,0 +1,5 @@
+use Rattle.blif_read.proofs.GoodModels.{accepted_file}
+use Rattle.blif_read.proofs.laws.accepted_file_is_good.Goals as goal
+
+pub returns : goal.returns
+returns c = λ text file is. accepted_file text file is

@@ -1,0 +1,10 @@
+pub mod Build
+pub mod Cards
+pub mod Context
+pub mod Cuts
+pub mod Faults
+pub mod Laws
+pub mod LogicalLines
+pub mod Models
+pub mod Reading
+pub mod Steps

@@ -1,0 +1,39 @@
+use Rattle.std.specs.Prelude.{ℕ, ◌≡◌, ◌≤◌, ◌+◌, ◌⊎◌, true, List, [], ◌∷◌, ◌++◌, length, reverse}
+use Rattle.dom_base.specs.Lines.{lines}
+use Rattle.blif_ast.specs.BlifFileData.{BlifFileData}
+use Rattle.blif_read.specs.declared.fault.BlifKind.{BlifKind}
+use Rattle.blif_read.specs.declared.fault.BlifKind.TheVariants.{NoModel}
+use Rattle.blif_read.specs.LogicalLines.{LogicalLine, logical_lines}
+use Rattle.blif_read.specs.Faults.{has_fault, kind_number}
+use Rattle.blif_read.specs.Models.{models_of}
+
+-- one of these lines has this number and a fault of this kind; its context is what the lines before it say
+pub record IsFaultOfLine (all : List LogicalLine) (number : ℕ) (kind : BlifKind) : Type 0 where
+  -- the lines before it, the nearest first
+  pub before : List LogicalLine
+  pub line : LogicalLine
+  pub after : List LogicalLine
+  pub lines_are : all ≡ reverse before ++ line ∷ after
+  pub number_is : line.number ≡ number
+  pub fault : has_fault kind before line ≡ true
+
+-- the text has no line with words: its fault stands behind its last line
+pub record IsFaultOfEmpty (text : List ℕ) (number : ℕ) (kind : BlifKind) : Type 0 where
+  pub empty : logical_lines text ≡ []
+  pub number_is : number ≡ length (lines text) + 1
+  pub kind_is : kind ≡ NoModel
+
+-- the text has a fault of this kind at the line of this number
+abbrev pub IsFault : List ℕ → ℕ → BlifKind → Type 0
+IsFault text number kind = IsFaultOfLine (logical_lines text) number kind ⊎ IsFaultOfEmpty text number kind
+
+-- the text is refused at this line for this kind: the first line with a fault, and the smallest kind of it there
+pub record IsFaultAt (text : List ℕ) (number : ℕ) (kind : BlifKind) : Type 0 where
+  pub fault : IsFault text number kind
+  pub first : (other : ℕ) (any : BlifKind) → IsFault text other any → number ≤ other
+  pub smallest : (other : BlifKind) → IsFault text number other → kind_number kind ≤ kind_number other
+
+-- the text is accepted, and this is its file
+pub record IsFileOf (text : List ℕ) (file : BlifFileData) : Type 0 where
+  pub no_fault : (number : ℕ) (kind : BlifKind) → IsFault text number kind → ⊥
+  pub file_is : file ≡ record { models = models_of (logical_lines text) }

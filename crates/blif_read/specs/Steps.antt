@@ -1,0 +1,76 @@
+use Rattle.std.specs.Prelude.{ℕ, ◌≡◌, ◌==◌, Bool, true, false, not, if◌then◌else◌, ◌&&◌, List, [], ◌∷◌, Option, Some, None}
+use Rattle.std.specs.List.{find, list_any}
+use Rattle.dom_base.specs.Lines.{is_control}
+use Rattle.blif_read.specs.declared.fault.BlifKind.{BlifKind}
+use Rattle.blif_read.specs.declared.fault.BlifKind.TheVariants.{ControlByte, UnknownCard, BadCard, RowOutsideTable, BadRow, MixedCover, TooWide, NoModel, LatchKind}
+use Rattle.blif_read.specs.declared.context.Context.{Context}
+use Rattle.blif_read.specs.declared.context.OpenTable.{OpenTable}
+use Rattle.blif_read.specs.LogicalLines.{LogicalLine}
+use Rattle.blif_read.specs.Cards.{begins, is_card, is_known, is_form, is_row_form, is_binding, is_too_wide, is_level_latch, formal_of, actual_of, last_letter, model_card}
+use Rattle.blif_read.specs.Context.{is_model_open, is_table_open, open_width, open_rows}
+use Rattle.blif_read.specs.Faults.{has_fault}
+
+-- a binding in its form, with its formal and its actual
+pub record IsBindingOf (word formal actual : List ℕ) : Type 0 where
+  pub form : is_binding word ≡ true
+  pub formal_is : formal ≡ formal_of word
+  pub actual_is : actual ≡ actual_of word
+
+-- the kinds by rising number
+abbrev pub kinds : List BlifKind
+kinds = ControlByte ∷ UnknownCard ∷ BadCard ∷ RowOutsideTable ∷ BadRow ∷ MixedCover ∷ TooWide ∷ NoModel ∷ LatchKind ∷ []
+
+-- the fault of a line with the smallest number, where the lines before it, the nearest first, are these
+abbrev pub smallest_fault : List LogicalLine → LogicalLine → Option BlifKind
+smallest_fault before line = find (λ kind. has_fault kind before line) kinds
+
+-- the last letter of the first of some rows
+abbrev pub first_letter : List LogicalLine → Option ℕ
+first_letter [] = None
+first_letter (row ∷ rows) = Some (last_letter row.words)
+
+-- the open table of the lines before, the nearest first
+abbrev pub open_table : List LogicalLine → Option OpenTable
+open_table before = if is_table_open before then Some (record { width = open_width before; letter = first_letter (open_rows before) }) else None
+
+-- what the lines before say, as the reader keeps it
+abbrev pub context_of : List LogicalLine → Context
+context_of before = record { model = is_model_open before; table = open_table before }
+
+-- whether a row ends in another letter than the first
+abbrev pub differs : Option ℕ → ℕ → Bool
+differs None letter = false
+differs (Some first) letter = not (letter == first)
+
+-- the fault of a row by the open table
+abbrev pub row_fault : Option OpenTable → LogicalLine → Option BlifKind
+row_fault None line = Some RowOutsideTable
+row_fault (Some table) line =
+    if not (is_row_form table.width line.words) then Some BadRow
+    else (if differs table.letter (last_letter line.words) then Some MixedCover else None)
+
+-- the fault of a card that is known and in its form
+abbrev pub formed_card_fault : Bool → LogicalLine → Option BlifKind
+formed_card_fault open_model line =
+    if is_too_wide line then Some TooWide
+    else (if not (begins model_card line) && not open_model then Some NoModel
+    else (if is_level_latch line then Some LatchKind
+    else None))
+
+-- the fault of a line by its context
+abbrev pub fault_in : Context → LogicalLine → Option BlifKind
+fault_in context line =
+    if list_any (list_any is_control) line.words then Some ControlByte
+    else (if is_card line then (if not (is_known line) then Some UnknownCard
+    else (if not (is_form line.words) then Some BadCard else formed_card_fault context.model line))
+    else row_fault context.table line)
+
+-- the last letter of the first row after a row with this last letter
+abbrev pub letter_after : Option ℕ → ℕ → Option ℕ
+letter_after None letter = Some letter
+letter_after (Some first) letter = Some first
+
+-- the open table after a row with this last letter
+abbrev pub with_letter : Option OpenTable → ℕ → Option OpenTable
+with_letter None letter = None
+with_letter (Some table) letter = Some (record { width = table.width; letter = letter_after table.letter letter })

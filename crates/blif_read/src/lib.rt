@@ -1,0 +1,15 @@
+//! The reader of BLIF text.
+#![tactic(auto)]
+
+mod builder;
+mod check;
+mod context;
+mod cut;
+mod fault;
+mod form;
+mod laws;
+mod line;
+mod parts;
+
+pub use fault::{BlifFault, BlifKind};
+pub use laws::{accepted_file_is_good, text_has_one_answer};

@@ -1,0 +1,219 @@
+//! The parts of a file out of the words of cards and rows.
+ghost use Rattle.std.specs.Prelude.{◌≡◌, ◌++◌, ◌∷◌, [], IfOk, OnOk, map, drop, slice_index_or};
+ghost use Rattle.blif_read.specs.Models.{letter_of, row_letters, control_of, init_of, latch_of, binding_of, instance_of};
+ghost use Rattle.blif_read.specs.Cards.{formal_of, actual_of, table_inputs};
+ghost use Rattle.blif_read.specs.Build.{new_model, new_table};
+
+use crate::form::same;
+use crate::line::Line;
+use blif_ast::{Binding, BlifModel, Control, Edge2, Instance, Latch, Letter, Row, Table};
+use dom_base::{Name, OutOfMemory};
+use memchr::memchr;
+use std::alloc::{AllocError, Global};
+
+fn name_of(alloc: Global, word: &[u8]) -> Result<Name, AllocError>
+    ensures { IfOk result (λ name. name ≡ word.now) }
+{
+    Ok(Name(word.to_vec(alloc)?))
+}
+
+/// Appends these words as names.
+pub(crate) fn push_names(
+    alloc: Global,
+    names: &mut Vec<Name>,
+    words: &[&[u8]],
+) -> Result<(), OutOfMemory>
+    ensures { OnOk result (names.new.items ≡ names.old.items ++ map (λ w. w.now) words.now) }
+{
+    for word in words {
+        names.push(name_of(alloc, word)?)?;
+    }
+    Ok(())
+}
+
+/// The word at this place, or an empty one.
+fn name_at(alloc: Global, words: &[&[u8]], place: usize) -> Result<Name, AllocError>
+    ensures { IfOk result (λ name. name ≡ slice_index_or (map (λ w. w.now) words.now) place []) }
+{
+    match words.get(place) {
+        Some(word) => name_of(alloc, word),
+        None => Ok(Name(Vec::new(alloc))),
+    }
+}
+
+/// The model of a card `.model`, without lines.
+pub(crate) fn new_model(alloc: Global, line: &Line<'_>) -> Result<BlifModel, OutOfMemory>
+    ensures { IfOk result (λ model. model ≡ new_model line.now) }
+{
+    Ok(BlifModel {
+        name: name_at(alloc, &line.words, 1)?,
+        inputs: Vec::new(alloc),
+        outputs: Vec::new(alloc),
+        tables: Vec::new(alloc),
+        latches: Vec::new(alloc),
+        instances: Vec::new(alloc),
+        line: line.number,
+    })
+}
+
+fn names_of(alloc: Global, words: &[&[u8]]) -> Result<Vec<Name>, OutOfMemory>
+    ensures { IfOk result (λ names. names.items ≡ map (λ w. w.now) words.now) }
+{
+    let mut names = Vec::new(alloc);
+    push_names(alloc, &mut names, words)?;
+    Ok(names)
+}
+
+/// The inputs of a table by the words of its card.
+fn inputs_of(alloc: Global, words: &[&[u8]]) -> Result<Vec<Name>, OutOfMemory>
+    ensures { IfOk result (λ names. names.items ≡ table_inputs (map (λ w. w.now) words.now)) }
+{
+    if words.len() <= 2 {
+        return Ok(Vec::new(alloc));
+    }
+    names_of(alloc, &words[1..words.len() - 1])
+}
+
+/// The table of a card `.names`, without rows.
+pub(crate) fn new_table(alloc: Global, line: &Line<'_>) -> Result<Table, OutOfMemory>
+    ensures { IfOk result (λ table. table ≡ new_table line.now) }
+{
+    let words = line.words.as_slice();
+    Ok(Table {
+        inputs: inputs_of(alloc, words)?,
+        output: name_at(alloc, words, words.len().saturating_sub(1))?,
+        on: true,
+        rows: Vec::new(alloc),
+        line: line.number,
+    })
+}
+
+fn letter_of(byte: u8) -> Letter
+    ensures { result ≡ letter_of byte }
+{
+    match byte {
+        b'0' => Letter::Zero,
+        b'1' => Letter::One,
+        _ => Letter::Any,
+    }
+}
+
+fn letters_of(alloc: Global, word: &[u8]) -> Result<Vec<Letter>, AllocError>
+    ensures { IfOk result (λ v. v.items ≡ map letter_of word.now) }
+{
+    word.iter().map(|b| letter_of(*b)).collect(alloc)
+}
+
+/// The row of these words.
+pub(crate) fn row_of(alloc: Global, words: &[&[u8]]) -> Result<Row, OutOfMemory>
+    ensures { IfOk result (λ row. row ≡ row_letters (map (λ w. w.now) words.now)) }
+{
+    let letters = match words {
+        [letters, _, ..] => letters_of(alloc, letters)?,
+        _ => Vec::new(alloc),
+    };
+    Ok(Row { letters })
+}
+
+fn control_of(alloc: Global, kind: &[u8], word: &[u8]) -> Result<Control, OutOfMemory>
+    ensures { IfOk result (λ control. control ≡ control_of kind.now word.now) }
+{
+    let edge = if same(kind, b"re") {
+        Edge2::Rising
+    } else {
+        Edge2::Falling
+    };
+    let signal = if same(word, b"NIL") {
+        None
+    } else {
+        Some(name_of(alloc, word)?)
+    };
+    Ok(Control { edge, signal })
+}
+
+fn init_of(word: &[u8]) -> u8
+    ensures { result ≡ init_of word.now }
+{
+    if word.is_empty() {
+        0
+    } else {
+        word[0].saturating_sub(b'0')
+    }
+}
+
+/// The latch of a card `.latch` on this line.
+pub(crate) fn latch_of(
+    alloc: Global,
+    line: u64,
+    words: &[&[u8]],
+) -> Result<Option<Latch>, OutOfMemory>
+    ensures { IfOk result (λ latch. latch ≡ latch_of line (map (λ w. w.now) words.now)) }
+{
+    let (control, init) = match words {
+        [_, _, _] => (None, 3),
+        [_, _, _, init] => (None, init_of(init)),
+        [_, _, _, kind, control] => (Some(control_of(alloc, kind, control)?), 3),
+        [_, _, _, kind, control, init] => (Some(control_of(alloc, kind, control)?), init_of(init)),
+        _ => return Ok(None),
+    };
+    Ok(Some(Latch {
+        input: name_of(alloc, words[1])?,
+        output: name_of(alloc, words[2])?,
+        control,
+        init,
+        line,
+    }))
+}
+
+/// The sides of a word at its first `=`; without one the second is empty.
+fn sides(word: &[u8]) -> (&[u8], &[u8])
+    ensures formal { result.0.now ≡ formal_of word.now }
+    ensures actual { result.1.now ≡ actual_of word.now }
+{
+    match memchr(b'=', word) {
+        Some(place) => (&word[..place], &word[place + 1..]),
+        None => (word, &[]),
+    }
+}
+
+fn binding_of(alloc: Global, word: &[u8]) -> Result<Binding, OutOfMemory>
+    ensures { IfOk result (λ binding. binding ≡ binding_of word.now) }
+{
+    let (formal, actual) = sides(word);
+    Ok(Binding {
+        formal: name_of(alloc, formal)?,
+        actual: name_of(alloc, actual)?,
+    })
+}
+
+fn bindings_of(alloc: Global, words: &[&[u8]]) -> Result<Vec<Binding>, OutOfMemory>
+    ensures { IfOk result (λ v. v.items ≡ map binding_of (map (λ w. w.now) words.now)) }
+{
+    let mut bindings = Vec::new(alloc);
+    for word in words {
+        bindings.push(binding_of(alloc, word)?)?;
+    }
+    Ok(bindings)
+}
+
+/// The bindings behind the first two words.
+fn bindings_behind(alloc: Global, words: &[&[u8]]) -> Result<Vec<Binding>, OutOfMemory>
+    ensures { IfOk result (λ v. v.items ≡ map binding_of (drop 2 (map (λ w. w.now) words.now))) }
+{
+    match words {
+        [_, _, bindings @ ..] => bindings_of(alloc, bindings),
+        _ => Ok(Vec::new(alloc)),
+    }
+}
+
+/// The instance of a card `.subckt`.
+pub(crate) fn instance_of(alloc: Global, line: &Line<'_>) -> Result<Instance, OutOfMemory>
+    ensures { IfOk result (λ instance. instance ≡ instance_of line.now) }
+{
+    let words = line.words.as_slice();
+    Ok(Instance {
+        unit: name_at(alloc, words, 1)?,
+        bindings: bindings_behind(alloc, words)?,
+        line: line.number,
+    })
+}
