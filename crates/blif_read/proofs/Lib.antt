@@ -3,3 +3,4 @@ pub mod Joining
 pub mod Forms
 pub mod Contexts
 pub mod Smallest
+pub mod Building
