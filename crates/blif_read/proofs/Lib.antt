@@ -13,3 +13,4 @@ pub mod Joining
 pub mod OneAnswer
 pub mod OneFault
 pub mod Smallest
+pub mod Building
