@@ -4,3 +4,5 @@ pub mod Forms
 pub mod Contexts
 pub mod Smallest
 pub mod Building
+pub mod Positions
+pub mod Progress

@@ -9,5 +9,7 @@ mod fault;
 mod form;
 mod line;
 mod parts;
+mod reader;
 
 pub use fault::{BlifFault, BlifKind};
+pub use reader::read;
