@@ -14,3 +14,5 @@ pub mod OneAnswer
 pub mod OneFault
 pub mod Smallest
 pub mod Building
+pub mod Positions
+pub mod Progress

@@ -10,6 +10,10 @@ mod form;
 mod laws;
 mod line;
 mod parts;
+mod reader;
+#[cfg(test)]
+mod tests;
 
 pub use fault::{BlifFault, BlifKind};
 pub use laws::{accepted_file_is_good, text_has_one_answer};
+pub use reader::read;

@@ -79,6 +79,7 @@ fn last_byte(word: &[u8]) -> u8
 }
 
 /// The lines of a text that aren't read yet, and the number of the first of them.
+#[derive(Drop)]
 pub(crate) struct Lines<'a> {
     pub rest: &'a [u8],
     pub number: u64,

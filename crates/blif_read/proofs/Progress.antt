@@ -1,0 +1,197 @@
+use Rattle.std.proofs.Common.{◌≡◌, ◌≢◌, ℕ, ◌≤◌, ◌+◌, Bool, true, false, cond, List, [], ◌∷◌, ◌++◌, reverse, length, refl, sym, ap, ◌∙◌, subst, arith, Some, None, inl, inr}
+use Rattle.std.specs.Prelude.{Option, ◌⊎◌, MatchOption}
+use Rattle.std.proofs.Common.{Result, Err, eqb-true, ◌==◌}
+use Rattle.blif_read.specs.declared.fault.BlifFault.{BlifFault}
+use Rattle.blif_read.specs.declared.fault.BlifFault.TheVariants.{At}
+use Rattle.std.specs.List.{find}
+use Rattle.std.proofs.lemmas.Bool.{true≢false}
+use Rattle.std.proofs.lemmas.List.{append_assoc, reverse-append}
+use Rattle.dom_base.specs.Lines.{lines}
+use Rattle.blif_ast.specs.BlifFileData.{BlifFileData}
+use Rattle.blif_read.specs.declared.fault.BlifKind.{BlifKind}
+use Rattle.blif_read.specs.declared.fault.BlifKind.TheVariants.{ControlByte, UnknownCard, BadCard, RowOutsideTable, BadRow, MixedCover, TooWide, NoModel, LatchKind}
+use Rattle.blif_read.specs.declared.context.Context.{Context}
+use Rattle.blif_read.specs.LogicalLines.{LogicalLine, logical_lines, logical_lines_from}
+use Rattle.blif_read.specs.Cuts.{NumbersFit}
+use Rattle.blif_read.specs.Faults.{has_fault, kind_number}
+use Rattle.blif_read.specs.Models.{models_of}
+use Rattle.blif_read.specs.Build.{Built, built_after, finished, closed_models}
+use Rattle.blif_read.specs.Reading.{IsFaultAt, IsFaultOfLine, IsFileOf}
+use Rattle.blif_read.specs.Steps.{context_of, kinds, fault_in as fault_by}
+use Rattle.blif_read.proofs.Building.{finished-line, finished-none}
+use Rattle.blif_read.proofs.Positions.{FaultIn, fault_in, rising-fault, rising-lines, passed, IsRising}
+use Rattle.blif_read.proofs.Smallest.{fault_in-smallest}
+
+-- what is so after some lines: the reader stands at these bytes
+pub record Reads (text : List ℕ) (context : Context) (built : Built) (some : Bool) (number : ℕ) (rest : List ℕ) : Type 0 where
+  pub before : List LogicalLine
+  pub context_is : context ≡ context_of before
+  pub fit : NumbersFit number rest
+  pub count : number + length (lines rest) ≡ 1 + length (lines text)
+  pub split : logical_lines text ≡ reverse before ++ logical_lines_from number (lines rest)
+  pub faults : (n : ℕ) (kind : BlifKind) → FaultIn [] (logical_lines text) n kind → FaultIn before (logical_lines_from number (lines rest)) n kind
+  pub built_is : models_of (logical_lines text) ≡ finished built (logical_lines_from number (lines rest))
+  pub some_line : some ≡ true → logical_lines text ≢ []
+  pub no_line : some ≡ false → logical_lines text ≡ logical_lines_from number (lines rest)
+
+abbrev Member : BlifKind → List BlifKind → Type 0
+Member kind [] = ⊥
+Member kind (k ∷ ks) = (kind ≡ k) ⊎ Member kind ks
+
+abbrev From : ℕ → List BlifKind → Type 0
+From n [] = Unit {0}
+From n (k ∷ ks) = (n ≤ kind_number k) × From (kind_number k) ks
+
+from-weaker : (m n : ℕ) (ks : List BlifKind) → m ≤ n → From n ks → From m ks
+from-weaker m n [] le from = tt
+from-weaker m n (k ∷ ks) le from = (omega (arith, le, from.0), from.1)
+
+from-member : (n : ℕ) (ks : List BlifKind) (kind : BlifKind) → From n ks → Member kind ks → n ≤ kind_number kind
+from-member n [] kind from member = absurd member
+from-member n (k ∷ ks) kind from (inl is) = omega (arith, from.0, ap kind_number is)
+from-member n (k ∷ ks) kind from (inr later) = omega (arith, from.0, from-member (kind_number k) ks kind from.1 later)
+
+is_kind : (kind : BlifKind) → Member kind kinds
+is_kind ControlByte = inl refl
+is_kind UnknownCard = inr (inl refl)
+is_kind BadCard = inr (inr (inl refl))
+is_kind RowOutsideTable = inr (inr (inr (inl refl)))
+is_kind BadRow = inr (inr (inr (inr (inl refl))))
+is_kind MixedCover = inr (inr (inr (inr (inr (inl refl)))))
+is_kind TooWide = inr (inr (inr (inr (inr (inr (inl refl))))))
+is_kind NoModel = inr (inr (inr (inr (inr (inr (inr (inl refl)))))))
+is_kind LatchKind = inr (inr (inr (inr (inr (inr (inr (inr (inl refl))))))))
+
+kinds_rise : From 1 kinds
+kinds_rise = (omega arith, (omega arith, (omega arith, (omega arith, (omega arith, (omega arith, (omega arith, (omega arith, (omega arith, tt)))))))))
+
+abbrev Finds : (BlifKind → Bool) → List BlifKind → Option BlifKind → Type 0
+Finds test ks None = (kind : BlifKind) → Member kind ks → test kind ≡ false
+Finds test ks (Some k) = (test k ≡ true) × ((kind : BlifKind) → Member kind ks → test kind ≡ true → kind_number k ≤ kind_number kind)
+
+finds-behind : (test : BlifKind → Bool) (k : BlifKind) (ks : List BlifKind) (found : Option BlifKind) → test k ≡ false → Finds test ks found → Finds test (k ∷ ks) found
+finds-behind test k ks None fails finds = λ kind member. elim member as (λ _. test kind ≡ false) [ inl is ↦ ap test is ∙ fails | inr later ↦ finds kind later ]
+finds-behind test k ks (Some f) fails finds = (finds.0, λ kind member holds. elim member as (λ _. kind_number f ≤ kind_number kind) [ inl is ↦ absurd (true≢false (sym holds ∙ ap test is ∙ fails)) | inr later ↦ finds.1 kind later holds ])
+
+finds-cond : (n : ℕ) (test : BlifKind → Bool) (k : BlifKind) (ks : List BlifKind) (b : Bool) → test k ≡ b → From n (k ∷ ks) → Finds test ks (find test ks) → Finds test (k ∷ ks) (cond b (Some k) (find test ks))
+finds-cond n test k ks true is from finds = (is, λ kind member holds. from-member (kind_number k) (k ∷ ks) kind (omega arith, from.1) member)
+finds-cond n test k ks false is from finds = finds-behind test k ks (find test ks) is finds
+
+finds : (n : ℕ) (test : BlifKind → Bool) (ks : List BlifKind) → From n ks → Finds test ks (find test ks)
+finds n test [] from = λ kind member. absurd member
+finds n test (k ∷ ks) from = finds-cond n test k ks (test k) refl from (finds (kind_number k) test ks from.1)
+
+-- the fault that the context gives, and no fault where it gives none
+smallest_is : (before : List LogicalLine) (line : LogicalLine) (context : Context) (found : Option BlifKind) → context ≡ context_of before → found ≡ fault_by context line
+    → Finds (λ kind. has_fault kind before line) kinds found
+smallest_is before line context found is by =
+    subst (Finds (λ kind. has_fault kind before line) kinds) (sym (by ∙ ap (λ c. fault_by c line) is ∙ fault_in-smallest before line)) (finds 1 (λ kind. has_fault kind before line) kinds kinds_rise)
+
+pub starts : (text : List ℕ) (context : Context) (built : Built) → context ≡ context_of [] → built ≡ record { models = []; model = None; table = None } → NumbersFit 1 text
+    → Reads text context built false 1 text
+starts text context built is new fit = record {
+  before = [];
+  context_is = is;
+  fit = fit;
+  count = refl;
+  split = refl;
+  faults = λ n kind fault. fault;
+  built_is = sym (ap (λ b. finished b (logical_lines text)) new);
+  some_line = λ open_now. absurd (true≢false (sym open_now));
+  no_line = λ _. refl;
+}
+
+not_empty : (xs : List LogicalLine) (line : LogicalLine) (more : List LogicalLine) → xs ++ line ∷ more ≢ []
+not_empty [] line more is = absurd (omega (arith, ap length is))
+not_empty (x ∷ xs) line more is = absurd (omega (arith, ap length is))
+
+snoc : (before : List LogicalLine) (line : LogicalLine) (more : List LogicalLine) → reverse before ++ line ∷ more ≡ reverse (line ∷ before) ++ more
+snoc before line more = sym (ap (λ l. l ++ more) (reverse-append (line ∷ []) before) ∙ append_assoc (reverse before) (line ∷ []) more)
+
+-- a line without a fault
+pub step : (text : List ℕ) (context after : Context) (built next_built : Built) (some : Bool) (number next : ℕ) (rest more : List ℕ) (line : LogicalLine)
+    → Reads text context built some number rest → logical_lines_from number (lines rest) ≡ line ∷ logical_lines_from next (lines more)
+    → NumbersFit next more → next + length (lines more) ≡ number + length (lines rest)
+    → None ≡ fault_by context line → ((before : List LogicalLine) → context ≡ context_of before → after ≡ context_of (line ∷ before)) → next_built ≡ built_after built line
+    → Reads text after next_built true next more
+step text context after built next_built some number next rest more line r is fit count clean follows push = record {
+  before = line ∷ r.before;
+  context_is = follows r.before r.context_is;
+  fit = fit;
+  count = count ∙ r.count;
+  split = r.split ∙ ap (λ l. reverse r.before ++ l) is ∙ snoc r.before line (logical_lines_from next (lines more));
+  faults = λ n kind fault. passed r.before line (logical_lines_from next (lines more)) (λ k. smallest_is r.before line context None r.context_is clean k (is_kind k)) n kind
+      (subst (λ l. FaultIn r.before l n kind) is (r.faults n kind fault));
+  built_is = r.built_is ∙ ap (finished built) is ∙ sym (finished-line built line (logical_lines_from next (lines more))) ∙ ap (λ b. finished b (logical_lines_from next (lines more))) (sym push);
+  some_line = λ _ none. not_empty (reverse r.before) line (logical_lines_from next (lines more)) (sym (r.split ∙ ap (λ l. reverse r.before ++ l) is) ∙ none);
+  no_line = λ open_now. absurd (true≢false open_now);
+}
+
+-- a line with a fault
+pub fault : (text : List ℕ) (context : Context) (built : Built) (some : Bool) (number next : ℕ) (rest more : List ℕ) (line : LogicalLine) (kind : BlifKind)
+    → Reads text context built some number rest → logical_lines_from number (lines rest) ≡ line ∷ logical_lines_from next (lines more)
+    → Some kind ≡ fault_by context line → IsFaultAt text line.number kind
+fault text context built some number next rest more line kind r is by =
+    let least = smallest_is r.before line context (Some kind) r.context_is by in
+    let whole : logical_lines text ≡ reverse r.before ++ line ∷ logical_lines_from next (lines more) = r.split ∙ ap (λ l. reverse r.before ++ l) is in
+    let rising : IsRising number (line ∷ logical_lines_from next (lines more)) = subst (IsRising number) is (rising-lines number (lines rest)) in
+    let all : (n : ℕ) (k : BlifKind) → FaultIn [] (logical_lines text) n k → FaultIn r.before (line ∷ logical_lines_from next (lines more)) n k = λ n k f. subst (λ l. FaultIn r.before l n k) is (r.faults n k f) in
+    let no_end : logical_lines text ≢ [] = λ none. not_empty (reverse r.before) line (logical_lines_from next (lines more)) (sym whole ∙ none) in
+    record {
+      fault = inl (record { before = r.before; line = line; after = logical_lines_from next (lines more); lines_are = whole; number_is = refl; fault = least.0 });
+      first = λ other any f. elim f as (λ _. line.number ≤ other) [ inl g ↦ rising-fault line.number r.before (line ∷ logical_lines_from next (lines more)) other any (omega arith, rising.1) (all other any (fault_in (logical_lines text) other any g)) | inr e ↦ absurd (no_end e.empty) ];
+      smallest = λ other f. elim f as (λ _. kind_number kind ≤ kind_number other) [
+        | inl g ↦ elim (all line.number other (fault_in (logical_lines text) line.number other g)) as (λ _. kind_number kind ≤ kind_number other)
+            [ inl here ↦ least.1 other (is_kind other) here.1 | inr later ↦ absurd (omega (arith, rising-fault (line.number + 1) (line ∷ r.before) (logical_lines_from next (lines more)) line.number other rising.1 later)) ]
+        | inr e ↦ absurd (no_end e.empty)
+      ];
+    }
+
+-- the end of a text that has lines
+pub accepted : (text : List ℕ) (context : Context) (built : Built) (some : Bool) (number : ℕ) (rest : List ℕ) (file : BlifFileData)
+    → Reads text context built some number rest → logical_lines_from number (lines rest) ≡ [] → some ≡ true → file ≡ record { models = closed_models built.models built.model built.table }
+    → IsFileOf text file
+accepted text context built some number rest file r none some_is is = record {
+  no_fault = λ n kind f. elim f as (λ _. ⊥) [ inl g ↦ subst (λ l. FaultIn r.before l n kind) none (r.faults n kind (fault_in (logical_lines text) n kind g)) | inr e ↦ r.some_line some_is e.empty ];
+  file_is = is ∙ ap (λ ms. record { models = ms }) (sym (r.built_is ∙ ap (finished built) none ∙ finished-none built));
+}
+
+-- the end of a text without lines
+pub ended : (text : List ℕ) (context : Context) (built : Built) (some : Bool) (number next : ℕ) (rest more : List ℕ)
+    → Reads text context built some number rest → logical_lines_from number (lines rest) ≡ [] → next + length (lines more) ≡ number + length (lines rest) → more ≡ [] → some ≡ false
+    → IsFaultAt text next NoModel
+ended text context built some number next rest more r none count no_more some_is =
+    let whole : logical_lines text ≡ [] = r.no_line some_is ∙ none in
+    let place : next ≡ length (lines text) + 1 = omega (arith, count, r.count, ap (λ m. length (lines m)) no_more) in
+    let no_fault : (n : ℕ) (k : BlifKind) → IsFaultOfLine (logical_lines text) n k → ⊥ = λ n k g. subst (λ l. FaultIn [] l n k) whole (fault_in (logical_lines text) n k g) in
+    record {
+      fault = inr (record { empty = whole; number_is = place; kind_is = refl });
+      first = λ other any f. elim f as (λ _. next ≤ other) [ inl g ↦ absurd (no_fault other any g) | inr e ↦ omega (arith, place, e.number_is) ];
+      smallest = λ other f. elim f as (λ _. 8 ≤ kind_number other) [ inl g ↦ absurd (no_fault next other g) | inr e ↦ omega (arith, ap kind_number e.kind_is) ];
+    }
+
+pub no_lines : (number : ℕ) (rest : List ℕ) → rest ≡ [] → logical_lines_from number (lines rest) ≡ []
+no_lines number rest is = ap (λ r. logical_lines_from number (lines r)) is
+
+-- a fault by another name of its line and its kind
+pub told : (text : List ℕ) (n m : ℕ) (kind other : BlifKind) → n ≡ m → kind ≡ other → IsFaultAt text m other → IsFaultAt text n kind
+told text n m kind other place is fault = subst (λ l. IsFaultAt text l kind) (sym place) (subst (λ k. IsFaultAt text m k) (sym is) fault)
+
+pub none_case : {X : Type 0} (P : Type 0) (Q : X → Type 0) (o : Option X) → o ≡ None → MatchOption o P Q → P
+none_case P Q o is m = subst (λ v. MatchOption v P Q) is m
+
+pub some_case : {X : Type 0} (P : Type 0) (Q : X → Type 0) (o : Option X) (x : X) → o ≡ Some x → MatchOption o P Q → Q x
+some_case P Q o x is m = subst (λ v. MatchOption v P Q) is m
+
+-- the line and the kind of a fault
+abbrev pub line_told : {T : Type 0} → Result T BlifFault → ℕ
+line_told (Err (At n k)) = n
+line_told _ = 0
+
+abbrev pub kind_told : {T : Type 0} → Result T BlifFault → BlifKind
+kind_told (Err (At n k)) = k
+kind_told _ = NoModel
+
+pub nothing_left : (rest : List ℕ) (b : Bool) → b ≡ (length rest == 0) → b ≡ true → rest ≡ []
+nothing_left [] b is test = refl
+nothing_left (x ∷ xs) b is test = absurd (omega (arith, eqb-true (length (x ∷ xs)) 0 (sym is ∙ test)))
