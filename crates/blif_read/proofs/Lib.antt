@@ -12,4 +12,6 @@ pub mod GoodWords
 pub mod Joining
 pub mod OneAnswer
 pub mod OneFault
+pub mod PrintedLines
+pub mod PrintedWords
 pub mod Smallest
