@@ -12,6 +12,9 @@ pub mod GoodWords
 pub mod Joining
 pub mod OneAnswer
 pub mod OneFault
+pub mod PrintedCards
+pub mod PrintedData
 pub mod PrintedLines
+pub mod PrintedParts
 pub mod PrintedWords
 pub mod Smallest
