@@ -15,6 +15,7 @@ pub mod OneFault
 pub mod PrintedCards
 pub mod PrintedData
 pub mod PrintedLines
+pub mod PrintedModels
 pub mod PrintedParts
 pub mod PrintedWords
 pub mod Smallest
