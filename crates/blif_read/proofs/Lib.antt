@@ -16,6 +16,8 @@ pub mod PrintedCards
 pub mod PrintedData
 pub mod PrintedLines
 pub mod PrintedModels
+pub mod PrintedNames
 pub mod PrintedParts
+pub mod PrintedUnlined
 pub mod PrintedWords
 pub mod Smallest
