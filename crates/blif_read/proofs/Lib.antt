@@ -14,6 +14,7 @@ pub mod OneAnswer
 pub mod OneFault
 pub mod PrintedCards
 pub mod PrintedData
+pub mod PrintedFree
 pub mod PrintedLines
 pub mod PrintedModels
 pub mod PrintedNames

@@ -61,7 +61,7 @@ at_end : {X : Type 0} (front : List X) (x d : X) → slice_index_or (front ++ x 
 at_end [] x d = refl
 at_end (y ∷ front) x d = at_end front x d
 
-names_inputs : (card : List ℕ) (inputs : List (List ℕ)) (output : List ℕ) → table_inputs (card ∷ inputs ++ output ∷ []) ≡ inputs
+pub names_inputs : (card : List ℕ) (inputs : List (List ℕ)) (output : List ℕ) → table_inputs (card ∷ inputs ++ output ∷ []) ≡ inputs
 names_inputs card inputs output =
     let count : length (card ∷ inputs ++ output ∷ []) - 2 ≡ length inputs = omega (arith, length-append inputs (output ∷ [])) in
     ap (λ n. take n (inputs ++ output ∷ [])) count ∙ take-front inputs (output ∷ [])
@@ -98,7 +98,7 @@ drop-front : {X : Type 0} (front : List X) (x : X) (rest : List X) → drop (suc
 drop-front [] x rest = refl
 drop-front (y ∷ front) x rest = drop-front front x rest
 
-binding_back : (b : Binding) → IsGoodBinding b → binding_of (binding_word b) ≡ b
+pub binding_back : (b : Binding) → IsGoodBinding b → binding_of (binding_word b) ≡ b
 binding_back b h =
     let place = before_mark b.formal b.actual (recursion_from_All (λ byte. byte ≢ 61) b.formal h.no_equals) in
     let behind : length b.formal + 1 ≡ suc (length b.formal) = omega arith in
