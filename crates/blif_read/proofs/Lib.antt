@@ -14,11 +14,13 @@ pub mod OneAnswer
 pub mod OneFault
 pub mod PrintedCards
 pub mod PrintedData
+pub mod PrintedFiles
 pub mod PrintedFree
 pub mod PrintedLines
 pub mod PrintedModels
 pub mod PrintedNames
 pub mod PrintedParts
+pub mod PrintedRows
 pub mod PrintedUnlined
 pub mod PrintedWords
 pub mod Smallest

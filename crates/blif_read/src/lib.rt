@@ -12,4 +12,4 @@ mod line;
 mod parts;
 
 pub use fault::{BlifFault, BlifKind};
-pub use laws::{accepted_file_is_good, text_has_one_answer};
+pub use laws::{accepted_file_is_good, printed_reads_back, text_has_one_answer};
