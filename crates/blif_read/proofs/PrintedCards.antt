@@ -1,6 +1,6 @@
 -- What a printed card or row says: its table, its latch or its instance, in all but the line.
-use Rattle.std.proofs.Common.{◌≡◌, ◌≢◌, ℕ, zero, suc, ◌<◌, ◌≤◌, ◌-◌, ◌+◌, Bool, true, false, ◌==◌, not, if◌then◌else◌, List, [], ◌∷◌, ◌++◌, length, length-append, drop, take, slice_index, slice_index_or, map, filter, refl, ap, sym, subst, ◌∙◌, append_assoc, append-nil, arith, codes, Some, None, Option, IfSome, All}
-use Rattle.std.specs.List.{AllByRecursion, flat_map, filter_map, take_while, before_first, after_first, position_or_len}
+use Rattle.std.proofs.Common.{◌≡◌, ◌≢◌, ℕ, suc, ◌-◌, ◌+◌, Bool, true, false, ◌==◌, not, if◌then◌else◌, List, [], ◌∷◌, ◌++◌, length, length-append, drop, take, slice_index_or, map, refl, ap, sym, ◌∙◌, arith, codes, Some, None, Option, IfSome}
+use Rattle.std.specs.List.{AllByRecursion, position_or_len}
 use Rattle.std.proofs.lemmas.Bool.Decides.{nat_tests}
 use Rattle.std.proofs.lemmas.List.Elements.{recursion_from_All}
 use Rattle.blif_ast.specs.declared.letter.Letter.{Letter}
@@ -13,7 +13,7 @@ use Rattle.blif_ast.specs.declared.instance.Binding.{Binding}
 use Rattle.blif_ast.specs.TableData.{TableData}
 use Rattle.blif_ast.specs.InstanceData.{InstanceData}
 use Rattle.blif_ast.specs.Good.{IsGoodTable, IsGoodSignal, IsGoodLatch, IsGoodBinding, IsGoodInstance}
-use Rattle.blif_ast.specs.Printed.{names_words, row_words, letter_byte, letters_words, value_word, edge_word, signal_word, control_words, latch_words, instance_words, binding_word}
+use Rattle.blif_ast.specs.Printed.{names_words, row_words, letter_byte, edge_word, signal_word, control_words, latch_words, instance_words, binding_word}
 use Rattle.blif_read.specs.LogicalLines.{LogicalLine}
 use Rattle.blif_read.specs.Cards.{same, last_word, last_letter, table_inputs, formal_of, actual_of}
 use Rattle.blif_read.specs.Models.{letter_of, row_letters, rows_are_on, table_of, binding_of, instance_of, latch_of, control_of, init_of}

@@ -1,25 +1,14 @@
 -- What the printed lines of a model say: the models, in all but lines.
-use Rattle.std.proofs.Common.{◌≡◌, ◌≢◌, ℕ, zero, suc, ◌<◌, ◌≤◌, ◌-◌, ◌+◌, Bool, true, false, ◌==◌, not, if◌then◌else◌, List, [], ◌∷◌, ◌++◌, length, drop, take, slice_index_or, map, filter, refl, ap, sym, subst, ◌∙◌, append_assoc, append-nil, arith, codes, Some, None, All}
-use Rattle.std.specs.List.{AllByRecursion, flat_map, filter_map, take_while, before_first, after_first}
-use Rattle.std.proofs.lemmas.Grind.{flat_map-append}
-use Rattle.std.proofs.lemmas.List.Elements.{filter-append}
-use Rattle.dom_base.proofs.Each.{filter_all}
-use Rattle.blif_ast.specs.declared.letter.Letter.{Letter}
-use Rattle.blif_ast.specs.declared.letter.Letter.TheVariants.{Zero, One, Any}
-use Rattle.blif_ast.specs.declared.latch.Latch.{Latch}
-use Rattle.blif_ast.specs.declared.latch.Control.{Control}
-use Rattle.blif_ast.specs.TableData.{TableData}
-use Rattle.blif_ast.specs.InstanceData.{InstanceData}
+use Rattle.std.proofs.Common.{◌≡◌, ℕ, Bool, true, false, if◌then◌else◌, List, [], ◌∷◌, ◌++◌, map, refl, ap, ◌∙◌}
+use Rattle.std.specs.List.{AllByRecursion, flat_map, take_while}
 use Rattle.blif_ast.specs.BlifModelData.{BlifModelData}
-use Rattle.blif_ast.specs.Good.{IsGoodTable, IsGoodModel}
-use Rattle.blif_ast.specs.Printed.{port_lines, table_lines, names_words, row_words, letter_byte, latch_words, instance_words, model_lines, file_lines}
+use Rattle.blif_ast.specs.Printed.{model_lines}
 use Rattle.blif_read.specs.LogicalLines.{LogicalLine}
-use Rattle.blif_read.specs.Cards.{begins, is_row, last_word, last_letter, table_inputs, model_card, inputs_card, outputs_card, names_card, latch_card, subckt_card, end_card}
-use Rattle.blif_read.specs.Models.{letter_of, row_letters, rows_are_on, table_of, tables_of, names_on, latches_of, instances_of, model_of, is_inside, models_of}
-use Rattle.blif_read.specs.ReadsBack.{table_unlined, latch_unlined, instance_unlined, model_unlined}
+use Rattle.blif_read.specs.Cards.{begins, model_card, end_card}
+use Rattle.blif_read.specs.Models.{model_of, is_inside, models_of}
 use Rattle.blif_read.proofs.GoodPrefix.{take_while-keep, take_while-stop}
 use Rattle.blif_read.proofs.PrintedLines.{line_at}
-use Rattle.blif_read.proofs.PrintedParts.{inner_lines, inner_all, model_lines-inner, tables_lines, by_rows}
+use Rattle.blif_read.proofs.PrintedParts.{inner_lines, inner_all, model_lines-inner, by_rows}
 
 -- lines with the number 0
 abbrev pub zeros : List (List (List ℕ)) → List LogicalLine

@@ -1,15 +1,14 @@
 -- The text of a good file is accepted, and its file is that one in all but lines.
-use Rattle.std.proofs.Common.{◌≡◌, ◌≢◌, ℕ, ◌⊎◌, inl, inr, true, false, suc, List, [], ◌∷◌, length, map, refl, ap, sym, subst, ◌∙◌}
-use Rattle.std.specs.List.{AllByRecursion, flat_map}
+use Rattle.std.proofs.Common.{◌≡◌, ◌≢◌, ℕ, inl, inr, true, false, suc, List, [], ◌∷◌, length, map, refl, ap, sym, subst, ◌∙◌}
+use Rattle.std.specs.List.{flat_map}
 use Rattle.std.proofs.lemmas.List.Elements.{recursion_from_All}
 use Rattle.blif_ast.specs.BlifModelData.{BlifModelData}
-use Rattle.blif_ast.specs.BlifFileData.{BlifFileData}
-use Rattle.blif_ast.specs.Good.{IsGoodModel, IsGoodFile}
+use Rattle.blif_ast.specs.Good.{IsGoodModel}
 use Rattle.blif_ast.specs.Printed.{model_lines, printed}
 use Rattle.blif_read.specs.declared.fault.BlifKind.{BlifKind}
 use Rattle.blif_read.specs.LogicalLines.{LogicalLine, logical_lines}
 use Rattle.blif_read.specs.Models.{models_of}
-use Rattle.blif_read.specs.Reading.{IsFault, IsFileOf}
+use Rattle.blif_read.specs.Reading.{IsFault}
 use Rattle.blif_read.specs.ReadsBack.{model_unlined, PrintedReadsBack}
 use Rattle.blif_read.proofs.GoodLines.{Free}
 use Rattle.blif_read.proofs.OneFault.{FaultIn, FaultIn-from}

@@ -1,5 +1,5 @@
 -- No card of a printed file has a fault.
-use Rattle.std.proofs.Common.{◌≡◌, ◌≢◌, ℕ, zero, suc, ◌<◌, ◌≤◌, ◌+◌, Bool, true, false, ◌==◌, ◌&&◌, not, nat_lt, List, [], ◌∷◌, ◌++◌, length, length-append, map, slice_index_or, refl, ap, sym, subst, ◌∙◌, arith, codes, Some, None, Option, IfSome}
+use Rattle.std.proofs.Common.{◌≡◌, ◌≢◌, ℕ, zero, suc, ◌≤◌, ◌+◌, Bool, true, false, ◌&&◌, not, nat_lt, List, [], ◌∷◌, ◌++◌, length, length-append, map, slice_index_or, refl, ap, ◌∙◌, arith, codes, Some, None, Option}
 use Rattle.std.specs.List.{AllByRecursion, list_any, list_all}
 use Rattle.std.proofs.lemmas.Bool.Decides.{nat_tests}
 use Rattle.std.proofs.lemmas.List.Elements.{recursion_from_All}
@@ -14,14 +14,13 @@ use Rattle.blif_ast.specs.declared.instance.Binding.{Binding}
 use Rattle.blif_ast.specs.TableData.{TableData}
 use Rattle.blif_ast.specs.InstanceData.{InstanceData}
 use Rattle.blif_ast.specs.Good.{IsNameByte, IsGoodName, IsGoodTable, IsGoodLatch, IsGoodBinding, IsGoodInstance}
-use Rattle.blif_ast.specs.Printed.{names_words, edge_word, signal_word, control_words, latch_words, instance_words, binding_word}
+use Rattle.blif_ast.specs.Printed.{names_words, edge_word, control_words, latch_words, instance_words, binding_word}
 use Rattle.blif_read.specs.declared.fault.BlifKind.{BlifKind}
 use Rattle.blif_read.specs.declared.fault.BlifKind.TheVariants.{ControlByte, UnknownCard, BadCard, RowOutsideTable, BadRow, MixedCover, TooWide, NoModel, LatchKind}
 use Rattle.blif_read.specs.LogicalLines.{LogicalLine}
-use Rattle.blif_read.specs.Cards.{is_init, is_type, is_level, is_latch_form, is_binding, table_inputs, model_card, inputs_card, outputs_card, end_card}
+use Rattle.blif_read.specs.Cards.{is_init, is_type, is_level, is_latch_form, is_binding, model_card, inputs_card, outputs_card, end_card}
 use Rattle.blif_read.specs.Context.{is_model_open}
 use Rattle.blif_read.specs.Faults.{has_fault}
-use Rattle.blif_read.specs.Models.{binding_of}
 use Rattle.blif_read.proofs.PrintedWords.{IsNamesLine}
 use Rattle.blif_read.proofs.PrintedLines.{line_at}
 use Rattle.blif_read.proofs.PrintedCards.{names_inputs, binding_back}

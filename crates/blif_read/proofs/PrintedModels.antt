@@ -1,5 +1,5 @@
 -- The model of printed lines is the model that was printed, in all but lines.
-use Rattle.std.proofs.Common.{◌≡◌, ℕ, Bool, true, false, if◌then◌else◌, List, [], ◌∷◌, ◌++◌, drop, map, filter, refl, ap, sym, ◌∙◌, append_assoc, append-nil, Some}
+use Rattle.std.proofs.Common.{◌≡◌, ℕ, Bool, true, false, if◌then◌else◌, List, [], ◌∷◌, ◌++◌, drop, map, filter, refl, ap, sym, ◌∙◌, append_assoc, append-nil}
 use Rattle.std.specs.List.{AllByRecursion, flat_map, filter_map, cons_option, take_while}
 use Rattle.std.proofs.lemmas.List.Elements.{filter-append, recursion_from_All}
 use Rattle.dom_base.proofs.Each.{AllByRecursion-append, filter_all}
@@ -9,7 +9,7 @@ use Rattle.blif_ast.specs.TableData.{TableData}
 use Rattle.blif_ast.specs.InstanceData.{InstanceData}
 use Rattle.blif_ast.specs.BlifModelData.{BlifModelData}
 use Rattle.blif_ast.specs.Good.{IsGoodTable, IsGoodLatch, IsGoodInstance, IsGoodModel}
-use Rattle.blif_ast.specs.Printed.{port_lines, names_words, row_words, latch_words, instance_words, model_lines}
+use Rattle.blif_ast.specs.Printed.{port_lines, names_words, row_words, model_lines}
 use Rattle.blif_read.specs.LogicalLines.{LogicalLine}
 use Rattle.blif_read.specs.Cards.{same, begins, is_row, model_card, inputs_card, outputs_card, names_card, latch_card, subckt_card}
 use Rattle.blif_read.specs.Models.{table_of, tables_of, names_on, latch_of, latches_of, instance_of, instances_of, model_of, models_of}

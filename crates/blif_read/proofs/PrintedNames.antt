@@ -1,5 +1,5 @@
 -- Each word of a printed line is a good name.
-use Rattle.std.proofs.Common.{◌≡◌, ◌≢◌, ℕ, zero, suc, ◌<◌, ◌≤◌, ◌+◌, Bool, true, false, ◌==◌, ◌&&◌, not, nat_lt, List, [], ◌∷◌, ◌++◌, map, refl, ap, sym, subst, ◌∙◌, arith, codes, Some, None, Option, IfSome}
+use Rattle.std.proofs.Common.{◌≡◌, ℕ, ◌≤◌, ◌+◌, Bool, true, false, ◌==◌, ◌&&◌, not, nat_lt, List, [], ◌∷◌, ◌++◌, map, refl, ap, sym, subst, arith, codes, Some, None, Option, IfSome}
 use Rattle.std.specs.List.{AllByRecursion, flat_map, list_all}
 use Rattle.std.proofs.lemmas.Bool.Decides.{nat_tests}
 use Rattle.std.proofs.lemmas.List.Elements.{All-from_recursion, recursion_from_All}
@@ -16,8 +16,8 @@ use Rattle.blif_ast.specs.TableData.{TableData}
 use Rattle.blif_ast.specs.InstanceData.{InstanceData}
 use Rattle.blif_ast.specs.BlifModelData.{BlifModelData}
 use Rattle.blif_ast.specs.Good.{IsNameByte, IsGoodName, IsGoodSignal, IsGoodTable, IsGoodLatch, IsGoodBinding, IsGoodInstance, IsGoodModel}
-use Rattle.blif_ast.specs.Printed.{names_words, row_words, letter_byte, letters_words, value_word, edge_word, signal_word, control_words, latch_words, instance_words, binding_word, port_lines, model_lines}
-use Rattle.blif_read.specs.Cards.{model_card, inputs_card, outputs_card, names_card, latch_card, subckt_card, end_card}
+use Rattle.blif_ast.specs.Printed.{names_words, row_words, letter_byte, value_word, edge_word, signal_word, control_words, latch_words, instance_words, binding_word, port_lines, model_lines}
+use Rattle.blif_read.specs.Cards.{model_card, inputs_card, outputs_card, end_card}
 use Rattle.blif_read.proofs.PrintedWords.{IsNamesLine}
 use Rattle.blif_read.proofs.PrintedParts.{tables_lines, latches_lines, instances_lines, inner_lines, model_lines-inner}
 

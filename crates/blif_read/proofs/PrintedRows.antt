@@ -1,5 +1,5 @@
 -- No row of a printed table has a fault, and so no line of a printed file.
-use Rattle.std.proofs.Common.{◌≡◌, ◌≢◌, ℕ, suc, ◌+◌, ◌<◌, ◌⊎◌, inl, inr, Bool, true, false, cond, ◌==◌, ◌&&◌, not, nat_lt, if◌then◌else◌, List, [], ◌∷◌, ◌++◌, length, reverse, map, refl, ap, sym, subst, ◌∙◌, append_assoc, arith, codes, Some}
+use Rattle.std.proofs.Common.{◌≡◌, ℕ, suc, ◌+◌, Bool, true, false, cond, ◌==◌, ◌&&◌, not, nat_lt, if◌then◌else◌, List, [], ◌∷◌, ◌++◌, length, reverse, map, refl, ap, sym, subst, ◌∙◌, append_assoc, arith, codes, Some}
 use Rattle.std.specs.List.{AllByRecursion, flat_map, list_all, find, take_while}
 use Rattle.std.proofs.lemmas.Bool.Decides.{nat_tests}
 use Rattle.std.proofs.lemmas.Grind.{reverse_onto}
@@ -10,12 +10,10 @@ use Rattle.blif_ast.specs.declared.latch.Latch.{Latch}
 use Rattle.blif_ast.specs.TableData.{TableData}
 use Rattle.blif_ast.specs.InstanceData.{InstanceData}
 use Rattle.blif_ast.specs.BlifModelData.{BlifModelData}
-use Rattle.blif_ast.specs.BlifFileData.{BlifFileData}
-use Rattle.blif_ast.specs.Good.{IsGoodName, IsGoodTable, IsGoodLatch, IsGoodInstance, IsGoodModel, IsGoodFile}
-use Rattle.blif_ast.specs.Printed.{port_lines, letter_byte, row_words, value_word, names_words, model_lines, printed}
-use Rattle.blif_read.specs.declared.fault.BlifKind.{BlifKind}
+use Rattle.blif_ast.specs.Good.{IsGoodName, IsGoodTable, IsGoodLatch, IsGoodInstance, IsGoodModel}
+use Rattle.blif_ast.specs.Printed.{port_lines, letter_byte, row_words, value_word, names_words, model_lines}
 use Rattle.blif_read.specs.declared.fault.BlifKind.TheVariants.{ControlByte, UnknownCard, BadCard, RowOutsideTable, BadRow, MixedCover, TooWide, NoModel, LatchKind}
-use Rattle.blif_read.specs.LogicalLines.{LogicalLine, logical_lines}
+use Rattle.blif_read.specs.LogicalLines.{LogicalLine}
 use Rattle.blif_read.specs.Cards.{is_card, is_row, is_letter, is_value, is_row_form, last_letter, model_card, inputs_card, outputs_card, end_card}
 use Rattle.blif_read.specs.Context.{is_model_open, is_table_open, open_width, open_rows, differs_from_first}
 use Rattle.blif_read.specs.Faults.{has_fault, is_row_inside}

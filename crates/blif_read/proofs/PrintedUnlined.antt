@@ -1,10 +1,7 @@
 -- The models of lines don't depend on the numbers of the lines, but for their own lines.
-use Rattle.std.proofs.Common.{◌≡◌, ℕ, ◌+◌, Bool, true, false, if◌then◌else◌, List, [], ◌∷◌, drop, map, filter, refl, ap, sym, ◌∙◌}
-use Rattle.std.specs.List.{AllByRecursion, flat_map, filter_map, cons_option, take_while}
-use Rattle.blif_ast.specs.declared.letter.Letter.{Letter}
+use Rattle.std.proofs.Common.{◌≡◌, ℕ, ◌+◌, Bool, true, false, List, [], ◌∷◌, drop, map, filter, refl, ap, sym, ◌∙◌}
+use Rattle.std.specs.List.{flat_map, filter_map, cons_option, take_while}
 use Rattle.blif_ast.specs.declared.latch.Latch.{Latch}
-use Rattle.blif_ast.specs.TableData.{TableData}
-use Rattle.blif_ast.specs.BlifModelData.{BlifModelData}
 use Rattle.blif_read.specs.LogicalLines.{LogicalLine}
 use Rattle.blif_read.specs.Cards.{begins, is_row, model_card, inputs_card, outputs_card, names_card, latch_card, subckt_card}
 use Rattle.blif_read.specs.Models.{row_letters, rows_are_on, table_of, tables_of, names_on, latch_of, latches_of, instance_of, instances_of, model_of, is_inside, models_of}
