@@ -12,6 +12,17 @@ pub mod GoodWords
 pub mod Joining
 pub mod OneAnswer
 pub mod OneFault
+pub mod PrintedCards
+pub mod PrintedData
+pub mod PrintedFiles
+pub mod PrintedFree
+pub mod PrintedLines
+pub mod PrintedModels
+pub mod PrintedNames
+pub mod PrintedParts
+pub mod PrintedRows
+pub mod PrintedUnlined
+pub mod PrintedWords
 pub mod Smallest
 pub mod Building
 pub mod Positions

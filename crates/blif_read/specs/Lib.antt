@@ -7,4 +7,5 @@ pub mod Laws
 pub mod LogicalLines
 pub mod Models
 pub mod Reading
+pub mod ReadsBack
 pub mod Steps

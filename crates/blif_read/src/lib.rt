@@ -15,5 +15,5 @@ mod reader;
 mod tests;
 
 pub use fault::{BlifFault, BlifKind};
-pub use laws::{accepted_file_is_good, text_has_one_answer};
+pub use laws::{accepted_file_is_good, printed_reads_back, text_has_one_answer};
 pub use reader::read;

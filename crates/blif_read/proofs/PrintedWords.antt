@@ -1,0 +1,174 @@
+-- A printed line: its bytes, and what it is cut back into.
+use Rattle.std.proofs.Common.{◌≡◌, ◌≢◌, ℕ, suc, ◌<◌, ◌-◌, Bool, true, false, ◌==◌, not, if◌then◌else◌, List, [], ◌∷◌, ◌++◌, drop, nat_eq, length, filter, slice_index, refl, ap, sym, ◌∙◌, append_assoc, append-nil, arith}
+use Rattle.std.specs.List.{AllByRecursion, ends_with, join_with_byte, slice_split, before_first}
+use Rattle.std.specs.Cmp.Lexicographic.{pointwise}
+use Rattle.std.proofs.lemmas.Bool.Decides.{nat_tests}
+use Rattle.std.proofs.lemmas.List.Elements.{All-weaker, All-from_recursion, recursion_from_All, filter-append}
+use Rattle.std.proofs.lemmas.List.Splits.{slice_split_at}
+use Rattle.dom_base.specs.Lines.{is_line_feed, is_blank, is_word, words}
+use Rattle.dom_base.proofs.Each.{AllByRecursion-append, AllByRecursion-weaker, filter_all}
+use Rattle.dom_base.proofs.LineLemmas.{after_blanks, joined, IsClean, IsSolid, words-joined}
+use Rattle.blif_ast.specs.Good.{IsNameByte, IsGoodName}
+use Rattle.blif_ast.specs.Printed.{last_word, guard}
+use Rattle.blif_ast.proofs.LineWords.{joined_words}
+use Rattle.blif_read.specs.LogicalLines.{is_joined, without_comment}
+use Rattle.blif_read.proofs.GoodPrefix.{take_while-keep}
+
+-- a printed line without its LF
+abbrev pub body : List (List ℕ) → List ℕ
+body all = join_with_byte 32 all ++ guard (last_word all)
+
+-- a line that has words, each a good name
+abbrev pub IsNamesLine : List (List ℕ) → Type 0
+IsNamesLine [] = ⊥
+IsNamesLine (first ∷ others) = IsGoodName first × AllByRecursion IsGoodName others
+
+-- the last byte, or 0 where there is none
+abbrev last_byte : List ℕ → ℕ
+last_byte [] = 0
+last_byte (b ∷ []) = b
+last_byte (b ∷ next ∷ bs) = last_byte (next ∷ bs)
+
+index-last : (bs : List ℕ) → slice_index bs (length bs - 1) ≡ last_byte bs
+index-last [] = refl
+index-last (b ∷ []) = refl
+index-last (b ∷ next ∷ bs) =
+    let long : length (b ∷ next ∷ bs) - 1 ≡ suc (length bs) = omega arith in
+    let short : length (next ∷ bs) - 1 ≡ length bs = omega arith in
+    ap (slice_index (b ∷ next ∷ bs)) long ∙ ap (slice_index (next ∷ bs)) (sym short) ∙ index-last (next ∷ bs)
+
+not_last : (bs : List ℕ) → ends_with nat_eq bs (92 ∷ []) ≡ false → (last_byte bs == 92) ≡ false
+not_last [] h = refl
+not_last (b ∷ []) h = grind (arith, nat_tests)
+not_last (b ∷ next ∷ bs) h =
+    let long : length (b ∷ next ∷ bs) - 1 ≡ suc (length bs) = omega arith in
+    let short : length (next ∷ bs) - 1 ≡ length bs = omega arith in
+    not_last (next ∷ bs) (
+    ap (λ n. pointwise nat_eq (92 ∷ []) (drop n (next ∷ bs))) short
+    ∙ ap (λ n. pointwise nat_eq (92 ∷ []) (drop n (b ∷ next ∷ bs))) (sym long)
+    ∙ h
+    )
+
+last-append : (front : List ℕ) (b : ℕ) (rest : List ℕ) → last_byte (front ++ b ∷ rest) ≡ last_byte (b ∷ rest)
+last-append [] b rest = refl
+last-append (x ∷ []) b rest = refl
+last-append (x ∷ y ∷ front) b rest = last-append (y ∷ front) b rest
+
+last-behind : (word rest : List ℕ) → is_word word ≡ true → last_byte (32 ∷ word ++ rest) ≡ last_byte (word ++ rest)
+last-behind [] rest h = absurd cc
+last-behind (b ∷ bs) rest h = refl
+
+last-join : (all : List (List ℕ)) → AllByRecursion IsSolid all → last_byte (join_with_byte 32 all) ≡ last_byte (last_word all)
+last-join [] h = refl
+last-join (word ∷ []) h = refl
+last-join (word ∷ next ∷ all) h =
+    last-append word 32 (join_with_byte 32 (next ∷ all))
+    ∙ ap (λ l. last_byte (32 ∷ l)) (joined_words next all)
+    ∙ last-behind next (after_blanks all) h.1.0.some
+    ∙ ap last_byte (sym (joined_words next all))
+    ∙ last-join (next ∷ all) h.1
+
+name_no_blank : (b : ℕ) → IsNameByte b → is_blank b ≡ false
+name_no_blank b h = grind (arith, nat_tests, h.0)
+
+some_byte : (word : List ℕ) → word ≢ [] → is_word word ≡ true
+some_byte [] n = absurd (n refl)
+some_byte (b ∷ bs) n = refl
+
+solid_name : (word : List ℕ) → IsGoodName word → IsSolid word
+solid_name word h = record { some = some_byte word h.some; no_blank = All-weaker IsNameByte (λ b. is_blank b ≡ false) name_no_blank word h.bytes }
+
+solid_names : (all : List (List ℕ)) → AllByRecursion IsGoodName all → AllByRecursion IsSolid all
+solid_names all h = AllByRecursion-weaker IsGoodName IsSolid solid_name all h
+
+-- a printed line isn't joined with the next one
+pub body_not_joined : (all : List (List ℕ)) → AllByRecursion IsGoodName all → is_joined (body all) ≡ false
+body_not_joined all h = ap (λ b. b == 92) (index-last (body all)) ∙ by (ends_with nat_eq (last_word all) (92 ∷ [])) refl
+  where
+    by : (t : Bool) → ends_with nat_eq (last_word all) (92 ∷ []) ≡ t → (last_byte (body all) == 92) ≡ false
+    by true e =
+        ap (λ t. last_byte (join_with_byte 32 all ++ (if t then 32 ∷ [] else [])) == 92) e
+        ∙ ap (λ b. b == 92) (last-append (join_with_byte 32 all) 32 [])
+    by false e =
+        ap (λ t. last_byte (join_with_byte 32 all ++ (if t then 32 ∷ [] else [])) == 92) e
+        ∙ ap (λ l. last_byte l == 92) (append-nil (join_with_byte 32 all))
+        ∙ ap (λ b. b == 92) (last-join all (solid_names all h))
+        ∙ not_last (last_word all) e
+
+split-trailing : (first : List ℕ) (others : List (List ℕ)) → IsSolid first → AllByRecursion IsSolid others
+    → slice_split is_blank (joined first others ++ 32 ∷ []) ≡ (first ∷ others) ++ [] ∷ []
+split-trailing first [] f h = ap (λ l. slice_split is_blank (l ++ 32 ∷ [])) (append-nil first) ∙ slice_split_at is_blank first 32 [] f.no_blank refl
+split-trailing first (word ∷ others) f h =
+    ap (slice_split is_blank) (append_assoc first (32 ∷ joined word others) (32 ∷ []))
+    ∙ slice_split_at is_blank first 32 (joined word others ++ 32 ∷ []) f.no_blank refl
+    ∙ ap (λ l. first ∷ l) (split-trailing word others h.0 h.1)
+
+words-trailing : (first : List ℕ) (others : List (List ℕ)) → IsSolid first → AllByRecursion IsSolid others
+    → words (joined first others ++ 32 ∷ []) ≡ first ∷ others
+words-trailing first others f h =
+    ap (filter is_word) (split-trailing first others f h)
+    ∙ filter-append is_word (first ∷ others) ([] ∷ [])
+    ∙ append-nil (filter is_word (first ∷ others))
+    ∙ filter_all is_word (first ∷ others) (f.some, AllByRecursion-weaker IsSolid (λ word. is_word word ≡ true) (λ word k. k.some) others h)
+
+-- the words of a printed line
+pub body_words : (first : List ℕ) (others : List (List ℕ)) → IsGoodName first → AllByRecursion IsGoodName others → words (body (first ∷ others)) ≡ first ∷ others
+body_words first others f h = ap (λ l. words (l ++ guard (last_word (first ∷ others)))) (joined_words first others) ∙ by (ends_with nat_eq (last_word (first ∷ others)) (92 ∷ [])) refl
+  where
+    by : (t : Bool) → ends_with nat_eq (last_word (first ∷ others)) (92 ∷ []) ≡ t → words (joined first others ++ guard (last_word (first ∷ others))) ≡ first ∷ others
+    by true e = ap (λ t. words (joined first others ++ (if t then 32 ∷ [] else []))) e ∙ words-trailing first others (solid_name first f) (solid_names others h)
+    by false e =
+        ap (λ t. words (joined first others ++ (if t then 32 ∷ [] else []))) e
+        ∙ ap words (append-nil (joined first others))
+        ∙ words-joined first others (solid_name first f) (solid_names others h)
+
+-- a byte of a printed line: no control byte and no byte that begins a comment
+abbrev IsLineByte : ℕ → Type 0
+IsLineByte b = (31 < b) × (b ≢ 35)
+
+name_line_byte : (b : ℕ) → IsNameByte b → IsLineByte b
+name_line_byte b h = (omega (arith, h.0), h.2)
+
+blank_line_byte : IsLineByte 32
+blank_line_byte = (omega arith, λ e. absurd (omega (arith, e)))
+
+name_line_bytes : (word : List ℕ) → IsGoodName word → AllByRecursion IsLineByte word
+name_line_bytes word h = AllByRecursion-weaker IsNameByte IsLineByte name_line_byte word (recursion_from_All IsNameByte word h.bytes)
+
+join_line_bytes : (all : List (List ℕ)) → AllByRecursion IsGoodName all → AllByRecursion IsLineByte (join_with_byte 32 all)
+join_line_bytes [] h = tt
+join_line_bytes (word ∷ []) h = name_line_bytes word h.0
+join_line_bytes (word ∷ next ∷ all) h =
+    AllByRecursion-append IsLineByte word (32 ∷ join_with_byte 32 (next ∷ all)) (name_line_bytes word h.0) (blank_line_byte, join_line_bytes (next ∷ all) h.1)
+
+guard_line_bytes : (t : Bool) → AllByRecursion IsLineByte (if t then 32 ∷ [] else [])
+guard_line_bytes true = (blank_line_byte, tt)
+guard_line_bytes false = tt
+
+body_line_bytes : (all : List (List ℕ)) → AllByRecursion IsGoodName all → AllByRecursion IsLineByte (body all)
+body_line_bytes all h =
+    AllByRecursion-append IsLineByte (join_with_byte 32 all) (guard (last_word all)) (join_line_bytes all h) (guard_line_bytes (ends_with nat_eq (last_word all) (92 ∷ [])))
+
+no_feed : (b : ℕ) → IsLineByte b → is_line_feed b ≡ false
+no_feed b h = grind (arith, nat_tests, h.0)
+
+no_return : (b : ℕ) → IsLineByte b → (b == 13) ≡ false
+no_return b h = grind (arith, nat_tests, h.0)
+
+no_mark : (b : ℕ) → IsLineByte b → (b == 35) ≡ false
+no_mark b h = grind (arith, nat_tests, h.1)
+
+-- a printed line has no LF and no CR
+pub body_clean : (all : List (List ℕ)) → AllByRecursion IsGoodName all → IsClean (body all)
+body_clean all h = record {
+  no_feed = All-from_recursion (λ b. is_line_feed b ≡ false) (body all) (AllByRecursion-weaker IsLineByte (λ b. is_line_feed b ≡ false) no_feed (body all) (body_line_bytes all h));
+  no_return = All-from_recursion (λ b. (b == 13) ≡ false) (body all) (AllByRecursion-weaker IsLineByte (λ b. (b == 13) ≡ false) no_return (body all) (body_line_bytes all h));
+}
+
+before_first-none : (test : ℕ → Bool) (bs : List ℕ) → AllByRecursion (λ b. test b ≡ false) bs → before_first test bs ≡ bs
+before_first-none test [] h = refl
+before_first-none test (b ∷ bs) h = take_while-keep (λ c. not (test c)) b bs (ap not h.0) ∙ ap (λ l. b ∷ l) (before_first-none test bs h.1)
+
+-- a printed line has no comment
+pub body_uncommented : (all : List (List ℕ)) → AllByRecursion IsGoodName all → without_comment (body all) ≡ body all
+body_uncommented all h = before_first-none (λ b. b == 35) (body all) (AllByRecursion-weaker IsLineByte (λ b. (b == 35) ≡ false) no_mark (body all) (body_line_bytes all h))
