@@ -1,10 +1,11 @@
-use Rattle.std.proofs.Common.{◌≡◌, ℕ, ◌+◌, ◌≤◌, ◌∙◌, List, [], ◌∷◌, ◌++◌, map, ap, sym, subst, append_assoc, append-nil, codes}
+use Rattle.std.proofs.Common.{◌≡◌, ℕ, Bool, true, false, if◌then◌else◌, ◌+◌, ◌≤◌, ◌∙◌, List, [], ◌∷◌, ◌++◌, map, ap, sym, subst, append_assoc, append-nil, codes}
 use Rattle.std.proofs.lemmas.List.Folds.{flat_map-map}
 use Rattle.std.proofs.lemmas.List.{map-append}
 use Rattle.std.specs.List.{flat_map}
 use Rattle.blif_ast.specs.declared.instance.Binding.{Binding}
 use Rattle.blif_ast.specs.declared.latch.Latch.{Latch}
-use Rattle.blif_ast.specs.Printed.{guard, line, port_lines, control_words, latch_words, binding_word}
+use Rattle.blif_ast.specs.declared.letter.Letter.{Letter}
+use Rattle.blif_ast.specs.Printed.{guard, line, letter_byte, port_lines, row_words, control_words, latch_words, binding_word}
 use Rattle.blif_ast.proofs.LineWords.{spaced, line_end, port_lines-end, guard_digit, guard_binding}
 
 -- the line of a card for ports, by what is appended to a text in turn
@@ -40,3 +41,16 @@ instance_end text unit bindings others last bound =
     ≡ text ++ line (codes ".subckt" ∷ unit ∷ before ++ binding_word last ∷ [])) (flat_map-map (λ word. 32 ∷ word) binding_word others) guarded in
     rw (bound, map-append binding_word others (last ∷ []))
     (ap (λ start. ((start ++ 32 ∷ binding_word last) ++ guard last.actual) ++ 10 ∷ []) (append_assoc (text ++ codes ".subckt") (32 ∷ unit) (flat_map (λ binding. 32 ∷ binding_word binding) others)) ∙ listed)
+
+-- what stands between the letters of a row and its value
+abbrev pub gap : List Letter → List ℕ
+gap [] = []
+gap (letter ∷ row) = 32 ∷ []
+
+-- the line of a row, by what is appended to a text in turn
+pub row_end : (text : List ℕ) (on : Bool) (row : List Letter)
+    → text ++ line (row_words on row) ≡ ((text ++ map letter_byte row) ++ gap row) ++ (if on then 49 ∷ 10 ∷ [] else 48 ∷ 10 ∷ [])
+row_end text true [] = simp (append_assoc, append-nil)
+row_end text false [] = simp (append_assoc, append-nil)
+row_end text true (letter ∷ row) = simp (append_assoc)
+row_end text false (letter ∷ row) = simp (append_assoc)

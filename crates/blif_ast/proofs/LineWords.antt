@@ -1,8 +1,12 @@
-use Rattle.std.proofs.Common.{◌≡◌, ℕ, zero, suc, ◌+◌, ◌-◌, ◌≤◌, List, [], ◌∷◌, ◌++◌, length, drop, refl, ap, append_assoc, append-nil, length-append, arith, rules}
-use Rattle.std.proofs.Math.Seq.{drop-append-add}
+use Rattle.std.proofs.Common.{◌≡◌, ℕ, zero, suc, ◌+◌, ◌-◌, ◌≤◌, Bool, ◌==◌, if◌then◌else◌, List, [], ◌∷◌, ◌++◌, nat_eq, length, drop, slice_index, refl, ap, sym, ◌∙◌, append_assoc, append-nil, length-append, arith, rules}
+use Rattle.std.specs.Prelude.{slice_index_or}
+use Rattle.std.specs.Cmp.Lexicographic.{pointwise}
+use Rattle.std.proofs.lemmas.Bool.Decides.{nat_tests}
 use Rattle.std.proofs.lemmas.Grind.{flat_map-append}
 use Rattle.std.specs.List.{flat_map, join_with_byte}
-use Rattle.blif_ast.specs.Printed.{last_word, guard, line, port_lines}
+use Rattle.blif_ast.specs.Cards.{last_word}
+use Rattle.blif_ast.specs.LogicalLines.{is_joined}
+use Rattle.blif_ast.specs.Printed.{guard, line, port_lines}
 
 -- a blank before each word, and the word
 abbrev pub spaced : List (List ℕ) → List ℕ
@@ -14,10 +18,14 @@ joined_words first [] = search (rules, append-nil)
 joined_words first (word ∷ words) = ap (λ rest. first ++ 32 ∷ rest) (joined_words word words)
 
 -- the last of some words
+at_end : {X : Type 0} (front : List X) (x d : X) → slice_index_or (front ++ x ∷ []) (length front) d ≡ x
+at_end [] x d = refl
+at_end (y ∷ front) x d = at_end front x d
+
 pub last_word-end : (words : List (List ℕ)) (word : List ℕ) → last_word (words ++ word ∷ []) ≡ word
-last_word-end [] word = refl
-last_word-end (first ∷ []) word = refl
-last_word-end (first ∷ next ∷ words) word = last_word-end (next ∷ words) word
+last_word-end words word =
+    let count : length (words ++ word ∷ []) - 1 ≡ length words = omega (arith, length-append words (word ∷ [])) in
+    ap (λ n. slice_index_or (words ++ word ∷ []) n []) count ∙ at_end words word []
 
 -- a line, by what is appended to a text in turn
 pub line_end : (text first : List ℕ) (words : List (List ℕ)) (last : List ℕ)
@@ -38,13 +46,50 @@ guard_digit (suc (suc zero)) few = refl
 guard_digit (suc (suc (suc zero))) few = refl
 guard_digit (suc (suc (suc (suc digit)))) few = absurd (omega (arith, few))
 
--- the last byte of a word
-last_byte : (before : List ℕ) (byte : ℕ) (after : List ℕ) → drop (length (before ++ byte ∷ after) - 1) (before ++ byte ∷ after) ≡ drop (length after) (byte ∷ after)
-last_byte before byte after =
-    let e : length (before ++ byte ∷ after) - 1 ≡ length before + length after = omega (arith, length-append before (byte ∷ after)) in
-    rw e (drop-append-add before (byte ∷ after) (length after))
+-- the last byte, or 0 where there is none
+abbrev pub last_byte : List ℕ → ℕ
+last_byte [] = 0
+last_byte (b ∷ []) = b
+last_byte (b ∷ next ∷ bs) = last_byte (next ∷ bs)
+
+pub index-last : (bs : List ℕ) → slice_index bs (length bs - 1) ≡ last_byte bs
+index-last [] = refl
+index-last (b ∷ []) = refl
+index-last (b ∷ next ∷ bs) =
+    let long : length (b ∷ next ∷ bs) - 1 ≡ suc (length bs) = omega arith in
+    let short : length (next ∷ bs) - 1 ≡ length bs = omega arith in
+    ap (slice_index (b ∷ next ∷ bs)) long ∙ ap (slice_index (next ∷ bs)) (sym short) ∙ index-last (next ∷ bs)
+
+pub last-append : (front : List ℕ) (b : ℕ) (rest : List ℕ) → last_byte (front ++ b ∷ rest) ≡ last_byte (b ∷ rest)
+last-append [] b rest = refl
+last-append (x ∷ []) b rest = refl
+last-append (x ∷ y ∷ front) b rest = last-append (y ∷ front) b rest
+
+-- a line is joined by its last byte
+pub joined-last : (line : List ℕ) → is_joined line ≡ (last_byte line == 92)
+joined-last [] = refl
+joined-last (b ∷ []) = one b
+  where
+    one : (b : ℕ) → is_joined (b ∷ []) ≡ (b == 92)
+    one b = grind (arith, nat_tests)
+joined-last (b ∷ next ∷ bs) =
+    let long : length (b ∷ next ∷ bs) - 1 ≡ suc (length bs) = omega arith in
+    let short : length (next ∷ bs) - 1 ≡ length bs = omega arith in
+    ap (λ n. pointwise nat_eq (92 ∷ []) (drop n (b ∷ next ∷ bs))) long
+    ∙ ap (λ n. pointwise nat_eq (92 ∷ []) (drop n (next ∷ bs))) (sym short)
+    ∙ joined-last (next ∷ bs)
+
+abbrev blank_if : Bool → List ℕ
+blank_if b = if b then 32 ∷ [] else []
 
 -- a binding ends with `\` where its actual does
 pub guard_binding : (formal actual : List ℕ) → guard (formal ++ 61 ∷ actual) ≡ guard actual
-guard_binding formal [] = rw (last_byte formal 61 []) refl
-guard_binding formal (byte ∷ bytes) = rw (last_byte formal 61 (byte ∷ bytes), last_byte [] byte bytes) refl
+guard_binding formal actual =
+    ap blank_if (joined-last (formal ++ 61 ∷ actual))
+    ∙ ap (λ b. blank_if (b == 92)) (last-append formal 61 actual)
+    ∙ by actual
+    ∙ ap blank_if (sym (joined-last actual))
+  where
+    by : (bs : List ℕ) → blank_if (last_byte (61 ∷ bs) == 92) ≡ blank_if (last_byte bs == 92)
+    by [] = refl
+    by (b ∷ bs) = refl

@@ -1,6 +1,13 @@
 pub mod BlifFileData
 pub mod BlifModelData
+pub mod Cards
+pub mod Context
+pub mod Faults
 pub mod Good
 pub mod InstanceData
+pub mod LogicalLines
+pub mod Models
 pub mod Printed
+pub mod Reading
 pub mod TableData
+pub mod TableValue

@@ -1,5 +1,6 @@
-use Rattle.std.specs.Prelude.{ℕ, ◌+◌, Bool, true, false, if◌then◌else◌, List, [], ◌∷◌, ◌++◌, map, codes, nat_eq, Option, Some, None}
-use Rattle.std.specs.List.{ends_with, flat_map, join_with_byte}
+-- The text of a file of BLIF, the Berkeley Logic Interchange Format.
+use Rattle.std.specs.Prelude.{ℕ, ◌+◌, Bool, true, false, if◌then◌else◌, List, [], ◌∷◌, ◌++◌, map, codes, Option, Some, None}
+use Rattle.std.specs.List.{flat_map, join_with_byte}
 use Rattle.blif_ast.specs.declared.instance.Binding.{Binding}
 use Rattle.blif_ast.specs.declared.latch.Control.{Control}
 use Rattle.blif_ast.specs.declared.latch.Edge2.{Edge2}
@@ -9,18 +10,14 @@ use Rattle.blif_ast.specs.declared.letter.Letter.{Letter}
 use Rattle.blif_ast.specs.declared.letter.Letter.TheVariants.{Zero, One, Any}
 use Rattle.blif_ast.specs.BlifFileData.{BlifFileData}
 use Rattle.blif_ast.specs.BlifModelData.{BlifModelData}
+use Rattle.blif_ast.specs.Cards.{last_word}
 use Rattle.blif_ast.specs.InstanceData.{InstanceData}
+use Rattle.blif_ast.specs.LogicalLines.{is_joined}
 use Rattle.blif_ast.specs.TableData.{TableData}
-
--- the last of some words, or no bytes where there is none
-abbrev pub last_word : List (List ℕ) → List ℕ
-last_word [] = []
-last_word (word ∷ []) = word
-last_word (word ∷ next ∷ words) = last_word (next ∷ words)
 
 -- what stands behind the last word of a line: one blank if it ends with `\`, since a line that ends with `\` is joined with the next
 abbrev pub guard : List ℕ → List ℕ
-guard word = if ends_with nat_eq word (92 ∷ []) then 32 ∷ [] else []
+guard word = if is_joined word then 32 ∷ [] else []
 
 -- a line of words: one blank between any two of them, and LF
 abbrev pub line : List (List ℕ) → List ℕ

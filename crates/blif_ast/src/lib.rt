@@ -8,6 +8,7 @@ ghost use Rattle.blif_ast.specs.Printed.{printed};
 mod cards;
 mod file;
 mod instance;
+mod kind;
 mod latch;
 mod letter;
 mod line;
@@ -17,6 +18,7 @@ mod table;
 use dom_base::OutOfMemory;
 pub use file::{BlifFile, BlifModel};
 pub use instance::{Binding, Instance};
+pub use kind::BlifKind;
 pub use latch::{Control, Edge2, Latch};
 pub use letter::{Letter, Row};
 use models::put_models;
@@ -29,9 +31,9 @@ pub use table::Table;
 /// latches, its instances and `.end`.
 ///
 /// A table is `.names` with its inputs and its output, and a line for each row: its letters, if
-/// there are any, and `1` or `0`. A latch is `.latch INPUT OUTPUT`, then its edge `re` or `fe` and
-/// its control where it has them, then its start value. An instance is `.subckt UNIT` with a word
-/// `FORMAL=ACTUAL` for each binding. It fails only for want of memory.
+/// there are any, and `1` or `0`. A latch is `.latch INPUT OUTPUT`, then its type `re` or `fe` and
+/// its control, or `NIL` for none, where it has them, then its start value. An instance is
+/// `.subckt UNIT` with a word `FORMAL=ACTUAL` for each binding. It fails only for want of memory.
 ///
 /// The file is good: it has a model; no name is empty or has a blank, a control byte or a `#`; no
 /// formal has a `=`, and no control is called `NIL`; start values are at most 3; a table has at most

@@ -1,4 +1,5 @@
 use Rattle.std.proofs.Common.{◌≡◌, ◌≢◌, ℕ, zero, suc, ◌<◌, ◌+◌, ◌-◌, Bool, true, false, ◌==◌, List, [], ◌∷◌, ◌++◌, length, get_or, take, drop, map, refl, sym, ap, ◌∙◌, arith, Some, None, ne_eqb, eq-eqb, eqb-true, length-drop}
+use Rattle.std.specs.Prelude.{Option, MatchOption}
 use Rattle.std.proofs.Math.Seq.{drop-length}
 use Rattle.std.specs.List.{slice_split, before_first, position_or_len, after_first}
 use Rattle.std.proofs.lemmas.List.{take_all, take_rest, take_at, get_or_at, length_push}
@@ -6,7 +7,8 @@ use Rattle.std.proofs.lemmas.List.Sums.{position_or_len_is}
 use Rattle.std.proofs.lemmas.List.Splits.{slice_split_first, slice_split_none, length-slice_split}
 use Rattle.memchr.specs.Find.{IsFirstByte, is_byte}
 use Rattle.dom_base.specs.Lines.{lines, is_line_feed, without_empty_last, without_return}
-use Rattle.blif_read.specs.LogicalLines.{but_last, is_joined, without_comment}
+use Rattle.blif_ast.specs.LogicalLines.{but_last, is_joined, without_comment}
+use Rattle.blif_ast.proofs.LineWords.{index-last, joined-last}
 use Rattle.blif_read.specs.Cuts.{IsCut}
 
 pub bool_false : (b : Bool) → (b ≡ true → ⊥) → b ≡ false
@@ -83,9 +85,12 @@ without_return-none (b ∷ next ∷ bs) h = ap (λ l. b ∷ l) (without_return-n
 last-at : (front : List ℕ) (b : ℕ) → get_or (front ++ b ∷ []) (length (front ++ b ∷ []) - 1) 0 ≡ b
 last-at front b = get_or_at front b [] 0 _ (omega (arith, length_push front b))
 
+joined_by : (line : List ℕ) → is_joined line ≡ (get_or line (length line - 1) 0 == 92)
+joined_by line = joined-last line ∙ ap (λ b. b == 92) (sym (index-last line))
+
 pub joined-at : (line front : List ℕ) → line ≡ front ++ 92 ∷ [] → (is_joined line ≡ true) × (front ≡ but_last line)
 joined-at line front is = (
-  ap is_joined is ∙ eq-eqb _ 92 (last-at front 92),
+  ap is_joined is ∙ joined_by (front ++ 92 ∷ []) ∙ eq-eqb _ 92 (last-at front 92),
   sym (ap but_last is ∙ take_at front (92 ∷ []) _ (omega (arith, length_push front 92))),
 )
 
@@ -98,4 +103,9 @@ last_splits (b ∷ next ∷ bs) is =
     (b ∷ s.0, ap (λ l. b ∷ l) s.1)
 
 pub not_joined : (line : List ℕ) → ((front : List ℕ) → line ≡ front ++ 92 ∷ [] → ⊥) → is_joined line ≡ false
-not_joined line h = bool_false _ (λ e. let s = last_splits line (eqb-true _ _ e) in h s.0 s.1)
+not_joined line h = bool_false _ (λ e. let s = last_splits line (eqb-true _ _ (sym (joined_by line) ∙ e)) in h s.0 s.1)
+
+-- what holds of the part before a last byte, or where there is none
+pub match_weaker : {X : Type 0} (P R : Type 0) (Q S : X → Type 0) (o : Option X) → (P → R) → ((x : X) → Q x → S x) → MatchOption o P Q → MatchOption o R S
+match_weaker P R Q S None none some m = none m
+match_weaker P R Q S (Some x) none some m = some x m

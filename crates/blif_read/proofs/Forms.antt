@@ -1,9 +1,9 @@
-use Rattle.std.proofs.Common.{◌≡◌, ℕ, ◌+◌, ◌-◌, Bool, true, false, nat_lt, List, map, [], ◌∷◌, length, take, drop, refl, sym, ap, ◌∙◌, arith, Some, None}
+use Rattle.std.proofs.Common.{◌≡◌, ℕ, ◌+◌, ◌-◌, Bool, List, map, [], ◌∷◌, length, take, drop, refl, sym, ap, ◌∙◌, arith, Some, None}
 use Rattle.std.specs.Prelude.{◌&&◌, ◌||◌}
 use Rattle.std.specs.List.{list_all, list_any}
 use Rattle.std.proofs.lemmas.List.{drop_all, take_all, take_rest, length-map, take-map, drop-map}
 use Rattle.memchr.specs.Find.{IsFirstByte, is_byte}
-use Rattle.blif_read.specs.Cards.{is_binding, formal_of, actual_of, table_inputs}
+use Rattle.blif_ast.specs.Cards.{formal_of, actual_of, table_inputs}
 use Rattle.blif_read.proofs.Cutting.{place_of_first, place_of_none}
 
 -- what stands before and behind the first `=`
@@ -12,20 +12,6 @@ formal_at word place first = ap (λ n. take n word) (sym (place_of_first 61 word
 
 pub actual_at : (word : List ℕ) (place : ℕ) → IsFirstByte (is_byte 61) word (Some place) → take (length word - (place + 1)) (drop (place + 1) word) ≡ actual_of word
 actual_at word place first = take_rest word (place + 1) ∙ ap (λ n. drop (n + 1) word) (sym (place_of_first 61 word place first))
-
--- whether a word is a binding, by its sides
-pub binding_by_sides : (word formal actual : List ℕ) (b : Bool) → formal ≡ formal_of word → actual ≡ actual_of word → b ≡ (nat_lt 0 (length formal) && nat_lt 0 (length actual)) → is_binding word ≡ b
-binding_by_sides word formal actual b front back is =
-    sym (is ∙ ap (λ l. nat_lt 0 (length l) && nat_lt 0 (length actual)) front ∙ ap (λ l. nat_lt 0 (length (formal_of word)) && nat_lt 0 (length l)) back)
-
-and_false : (b : Bool) → (b && false) ≡ false
-and_false true = refl
-and_false false = refl
-
-pub no_binding : (word : List ℕ) → IsFirstByte (is_byte 61) word None → is_binding word ≡ false
-no_binding word none =
-    let rest : actual_of word ≡ [] = ap (λ n. drop (n + 1) word) (place_of_none 61 word none) ∙ drop_all (length word + 1) word (omega arith) in
-    ap (λ l. nat_lt 0 (length (formal_of word)) && nat_lt 0 (length l)) rest ∙ and_false (nat_lt 0 (length (formal_of word)))
 
 pub list_all-map : {X Y : Type 0} (p : Y → Bool) (f : X → Y) (xs : List X) → list_all p (map f xs) ≡ list_all (λ x. p (f x)) xs
 list_all-map p f [] = refl

@@ -7,14 +7,14 @@ use Rattle.std.proofs.lemmas.List.Elements.{All-from_recursion}
 use Rattle.dom_base.specs.Lines.{is_blank, is_control, is_word}
 use Rattle.dom_base.proofs.Each.{AllByRecursion-filter, AllByRecursion-weaker}
 use Rattle.blif_ast.specs.Good.{IsNameByte, IsGoodName}
-use Rattle.blif_read.specs.declared.fault.BlifKind.{BlifKind}
-use Rattle.blif_read.specs.declared.fault.BlifKind.TheVariants.{ControlByte, BadCard}
-use Rattle.blif_read.specs.LogicalLines.{LogicalLine}
-use Rattle.blif_read.specs.Cards.{same, begins, is_one_of, first_word, is_known, is_form, is_latch_form, is_subckt_form, model_card, inputs_card, outputs_card, names_card, latch_card, subckt_card, clock_card, end_card}
-use Rattle.blif_read.specs.Faults.{has_fault}
+use Rattle.blif_ast.specs.declared.kind.BlifKind.{BlifKind}
+use Rattle.blif_ast.specs.declared.kind.BlifKind.TheVariants.{ControlByte, BadCard}
+use Rattle.blif_ast.specs.LogicalLines.{LogicalLine}
+use Rattle.blif_ast.specs.Cards.{same, begins, is_one_of, first_word, is_known, is_form, is_latch_form, is_subckt_form, model_card, inputs_card, outputs_card, names_card, latch_card, subckt_card, clock_card, end_card}
+use Rattle.blif_ast.specs.Faults.{has_fault}
 use Rattle.blif_read.proofs.Cutting.{bool_false}
 use Rattle.blif_read.proofs.GoodWords.{IsNoMark, IsPlainWord, IsPlainLine}
-use Rattle.blif_read.proofs.OneFault.{FaultIn}
+use Rattle.blif_read.proofs.Positions.{FaultIn}
 
 -- lines without faults, where these lines stand before them, the nearest first
 abbrev pub Free : List LogicalLine → List LogicalLine → Type 0

@@ -5,12 +5,12 @@ use Rattle.std.proofs.lemmas.List.Elements.{All-from_recursion}
 use Rattle.dom_base.specs.Lines.{lines}
 use Rattle.dom_base.proofs.Each.{AllByRecursion-append, AllByRecursion-take}
 use Rattle.blif_ast.specs.Good.{IsGoodName, IsGoodTable, IsGoodLatch, IsGoodInstance, IsGoodModel, IsGoodFile, card_lines}
-use Rattle.blif_read.specs.declared.fault.BlifKind.{BlifKind}
-use Rattle.blif_read.specs.declared.fault.BlifKind.TheVariants.{RowOutsideTable, NoModel}
-use Rattle.blif_read.specs.LogicalLines.{LogicalLine, logical_lines}
-use Rattle.blif_read.specs.Cards.{begins, first_word, is_card, model_card, inputs_card, outputs_card, names_card, latch_card, subckt_card, same}
-use Rattle.blif_read.specs.Faults.{has_fault}
-use Rattle.blif_read.specs.Models.{names_on, tables_of, latches_of, instance_of, instances_of, model_of, is_inside, models_of}
+use Rattle.blif_ast.specs.declared.kind.BlifKind.{BlifKind}
+use Rattle.blif_ast.specs.declared.kind.BlifKind.TheVariants.{RowOutsideTable, NoModel}
+use Rattle.blif_ast.specs.LogicalLines.{LogicalLine, logical_lines}
+use Rattle.blif_ast.specs.Cards.{begins, first_word, is_card, model_card, inputs_card, outputs_card, names_card, latch_card, subckt_card, same}
+use Rattle.blif_ast.specs.Faults.{has_fault}
+use Rattle.blif_ast.specs.Models.{names_on, tables_of, latches_of, instance_of, instances_of, model_of, is_inside, models_of}
 use Rattle.blif_read.specs.Laws.{AcceptedFileIsGood}
 use Rattle.blif_read.proofs.GoodPrefix.{AllByRecursion-drop}
 use Rattle.blif_read.proofs.GoodNumbers.{Rises, Rises-take, logical_lines-rise}

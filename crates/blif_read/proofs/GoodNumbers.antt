@@ -1,6 +1,6 @@
 -- Numbers of logical lines grow.
 use Rattle.std.proofs.Common.{◌≡◌, ℕ, zero, suc, ◌≤◌, ◌+◌, Bool, true, false, List, [], ◌∷◌, map, filter, take, refl, arith}
-use Rattle.blif_read.specs.LogicalLines.{LogicalLine, NumberedBytes, in_words, has_words, is_joined, with_blank, joined_lines, with_line, with_next, logical_lines, without_comment}
+use Rattle.blif_ast.specs.LogicalLines.{LogicalLine, NumberedBytes, in_words, has_words, is_joined, with_blank, joined_lines, with_line, with_next, logical_lines, logical_lines_from, without_comment}
 use Rattle.dom_base.specs.Lines.{lines}
 
 -- logical lines whose numbers grow, from this number on
@@ -52,7 +52,10 @@ Rises-take n zero all h = tt
 Rises-take n (suc k) [] h = tt
 Rises-take n (suc k) (line ∷ more) h = (h.0, Rises-take (line.number + 1) k more h.1)
 
+pub logical_lines_from-rise : (n : ℕ) (all : List (List ℕ)) → Rises n (logical_lines_from n all)
+logical_lines_from-rise n all =
+    Rises-filter n has_words (map in_words (joined_lines n (map without_comment all)))
+    (words_rise n (joined_lines n (map without_comment all)) (joined_rises n (map without_comment all)))
+
 pub logical_lines-rise : (text : List ℕ) → Rises 1 (logical_lines text)
-logical_lines-rise text =
-    Rises-filter 1 has_words (map in_words (joined_lines 1 (map without_comment (lines text))))
-    (words_rise 1 (joined_lines 1 (map without_comment (lines text))) (joined_rises 1 (map without_comment (lines text))))
+logical_lines-rise text = logical_lines_from-rise 1 (lines text)

@@ -7,9 +7,9 @@ use Rattle.std.proofs.lemmas.List.Elements.{All-from_recursion, recursion_from_A
 use Rattle.dom_base.proofs.Each.{AllByRecursion-take, AllByRecursion-weaker}
 use Rattle.blif_ast.specs.declared.latch.Latch.{Latch}
 use Rattle.blif_ast.specs.Good.{IsNameByte, IsGoodName, IsGoodSignal, IsGoodLatch, IsGoodBinding, IsGoodInstance}
-use Rattle.blif_read.specs.LogicalLines.{LogicalLine}
-use Rattle.blif_read.specs.Cards.{same, begins, is_one_of, is_init, is_type, is_latch_form, is_subckt_form, formal_of, actual_of, is_binding, latch_card, subckt_card}
-use Rattle.blif_read.specs.Models.{control_of, init_of, latch_of, latches_of, binding_of, instance_of, instances_of}
+use Rattle.blif_ast.specs.LogicalLines.{LogicalLine}
+use Rattle.blif_ast.specs.Cards.{same, begins, is_one_of, is_init, is_type, is_latch_form, is_subckt_form, formal_of, actual_of, is_binding, latch_card, subckt_card}
+use Rattle.blif_ast.specs.Models.{control_of, init_of, latch_of, latches_of, binding_of, instance_of, instances_of}
 use Rattle.blif_read.proofs.GoodPrefix.{before_first-all, AllByRecursion-drop}
 use Rattle.blif_read.proofs.GoodRows.{and_first, and_second}
 use Rattle.blif_read.proofs.GoodLines.{Free, IsGoodLine, card_form, same-true}

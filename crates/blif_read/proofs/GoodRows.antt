@@ -6,13 +6,13 @@ use Rattle.std.proofs.lemmas.List.{length-map}
 use Rattle.std.proofs.lemmas.List.Elements.{All-from_recursion}
 use Rattle.dom_base.proofs.Each.{AllByRecursion-take}
 use Rattle.blif_ast.specs.Good.{IsGoodName, IsGoodTable}
-use Rattle.blif_read.specs.declared.fault.BlifKind.{BlifKind}
-use Rattle.blif_read.specs.declared.fault.BlifKind.TheVariants.{BadRow, TooWide}
-use Rattle.blif_read.specs.LogicalLines.{LogicalLine}
-use Rattle.blif_read.specs.Cards.{same, begins, first_word, is_card, is_row, is_letter, is_value, is_row_form, table_inputs, names_card}
-use Rattle.blif_read.specs.Context.{words_of}
-use Rattle.blif_read.specs.Faults.{has_fault}
-use Rattle.blif_read.specs.Models.{letter_of, row_letters, rows_are_on, table_of, tables_of}
+use Rattle.blif_ast.specs.declared.kind.BlifKind.{BlifKind}
+use Rattle.blif_ast.specs.declared.kind.BlifKind.TheVariants.{BadRow, TooWide}
+use Rattle.blif_ast.specs.LogicalLines.{LogicalLine}
+use Rattle.blif_ast.specs.Cards.{same, begins, first_word, is_card, is_row, is_letter, is_value, is_row_form, table_inputs, names_card}
+use Rattle.blif_ast.specs.Context.{words_of}
+use Rattle.blif_ast.specs.Faults.{has_fault}
+use Rattle.blif_ast.specs.Models.{letter_of, row_letters, rows_are_on, table_of, tables_of}
 use Rattle.blif_read.proofs.GoodPrefix.{take_while-keep, take_while-stop, not_true, AllByRecursion-drop}
 use Rattle.blif_read.proofs.GoodLines.{Free, IsGoodLine, good_word-at, same-true}
 

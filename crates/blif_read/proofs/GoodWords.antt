@@ -1,10 +1,11 @@
 -- Words of logical lines: each has a byte, and none has a blank or a byte that begins a comment.
 use Rattle.std.proofs.Common.{◌≡◌, ℕ, ◌<◌, ◌+◌, ◌-◌, Bool, true, false, ◌==◌, List, [], ◌∷◌, length, nat_lt, map, refl, arith}
-use Rattle.std.specs.List.{AllByRecursion, slice_split, onto_first}
+use Rattle.std.specs.List.{AllByRecursion, slice_split}
 use Rattle.dom_base.specs.Lines.{is_blank, is_word, words, lines}
 use Rattle.dom_base.proofs.Each.{AllByRecursion-filter, AllByRecursion-append, AllByRecursion-take}
+use Rattle.dom_base.proofs.WordBytes.{pieces_all}
 use Rattle.blif_read.proofs.GoodPrefix.{before_first-all}
-use Rattle.blif_read.specs.LogicalLines.{LogicalLine, NumberedBytes, in_words, has_words, is_joined, but_last, with_blank, joined_lines, with_line, with_next, logical_lines, without_comment}
+use Rattle.blif_ast.specs.LogicalLines.{LogicalLine, NumberedBytes, in_words, has_words, is_joined, but_last, with_blank, joined_lines, with_line, with_next, logical_lines, without_comment}
 
 -- a byte that begins no comment
 abbrev pub IsNoMark : ℕ → Type 0
@@ -17,21 +18,8 @@ IsPlainWord word = (is_word word ≡ true) × AllByRecursion (λ b. IsNoMark b �
 abbrev pub IsPlainLine : LogicalLine → Type 0
 IsPlainLine line = (0 < length line.words) × AllByRecursion IsPlainWord line.words
 
-onto_first-plain : (P : ℕ → Type 0) (b : ℕ) (pieces : List (List ℕ)) → P b → AllByRecursion (AllByRecursion P) pieces → AllByRecursion (AllByRecursion P) (onto_first b pieces)
-onto_first-plain P b [] p h = ((p, tt), tt)
-onto_first-plain P b (piece ∷ pieces) p h = ((p, h.0), h.1)
-
-pieces_plain : (bs : List ℕ) → AllByRecursion IsNoMark bs → AllByRecursion (AllByRecursion (λ b. IsNoMark b × (is_blank b ≡ false))) (slice_split is_blank bs)
-pieces_plain [] h = (tt, tt)
-pieces_plain (b ∷ bs) h = by (is_blank b) refl (pieces_plain bs h.1)
-  where
-    by : (t : Bool) → is_blank b ≡ t → AllByRecursion (AllByRecursion (λ c. IsNoMark c × (is_blank c ≡ false))) (slice_split is_blank bs)
-        → AllByRecursion (AllByRecursion (λ c. IsNoMark c × (is_blank c ≡ false))) (slice_split is_blank (b ∷ bs))
-    by true e rest = rw e (tt, rest)
-    by false e rest = rw e (onto_first-plain (λ c. IsNoMark c × (is_blank c ≡ false)) b (slice_split is_blank bs) (h.0, e) rest)
-
 words_plain : (line : List ℕ) → AllByRecursion IsNoMark line → AllByRecursion IsPlainWord (words line)
-words_plain line h = AllByRecursion-filter (AllByRecursion (λ b. IsNoMark b × (is_blank b ≡ false))) is_word (slice_split is_blank line) (pieces_plain line h)
+words_plain line h = AllByRecursion-filter (AllByRecursion (λ b. IsNoMark b × (is_blank b ≡ false))) is_word (slice_split is_blank line) (pieces_all IsNoMark is_blank line h)
 
 uncommented_plain : (all : List (List ℕ)) → AllByRecursion (AllByRecursion IsNoMark) (map without_comment all)
 uncommented_plain [] = tt

@@ -10,6 +10,7 @@ pub mod GoodPrefix
 pub mod GoodRows
 pub mod GoodWords
 pub mod Joining
+pub mod KindNumbers
 pub mod OneAnswer
 pub mod OneFault
 pub mod PrintedCards

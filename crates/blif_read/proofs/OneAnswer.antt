@@ -1,15 +1,17 @@
 -- A text is accepted with one file or refused for one fault.
 use Rattle.std.proofs.Common.{◌≡◌, ℕ, ◌≤◌, ◌+◌, ◌⊎◌, inl, inr, List, [], ◌∷◌, length, refl, sym, ◌∙◌, subst, arith}
 use Rattle.dom_base.specs.Lines.{lines}
-use Rattle.blif_read.specs.declared.fault.BlifKind.{BlifKind}
-use Rattle.blif_read.specs.declared.fault.BlifKind.TheVariants.{NoModel}
-use Rattle.blif_read.specs.LogicalLines.{LogicalLine, logical_lines}
-use Rattle.blif_read.specs.Faults.{kind_number}
-use Rattle.blif_read.specs.Models.{models_of}
-use Rattle.blif_read.specs.Reading.{IsFault, IsFaultOfLine, IsFaultAt}
+use Rattle.blif_ast.specs.declared.kind.BlifKind.{BlifKind}
+use Rattle.blif_ast.specs.declared.kind.BlifKind.TheVariants.{NoModel}
+use Rattle.blif_ast.specs.LogicalLines.{LogicalLine, logical_lines}
+use Rattle.blif_ast.specs.Faults.{kind_number}
+use Rattle.blif_ast.specs.Models.{models_of}
+use Rattle.blif_ast.specs.Reading.{IsFault, IsFaultOfLine, IsFaultAt}
 use Rattle.blif_read.specs.Laws.{IsAcceptedOnce, IsRefusedOnce, TextHasOneAnswer}
 use Rattle.blif_read.proofs.GoodNumbers.{logical_lines-rise}
-use Rattle.blif_read.proofs.OneFault.{FaultIn, FaultIn-from, IsFaultOfLine-from, IsFirstIn, first_in, kind_number-injective}
+use Rattle.blif_read.proofs.KindNumbers.{kind_number-injective}
+use Rattle.blif_read.proofs.OneFault.{IsFaultOfLine-from, IsFirstIn, first_in}
+use Rattle.blif_read.proofs.Positions.{FaultIn, fault_in}
 
 -- a fault that is told makes the text a refused one
 refused_once : (text : List ℕ) (number : ℕ) (kind : BlifKind) → IsFaultAt text number kind → IsRefusedOnce text
@@ -52,7 +54,7 @@ empty_refused text empty = refused_once text (length (lines text) + 1) NoModel (
 })
   where
     no_line : (number : ℕ) (kind : BlifKind) → IsFaultOfLine (logical_lines text) number kind → ⊥
-    no_line number kind f = subst (λ l. FaultIn [] l number kind) empty (FaultIn-from (logical_lines text) number kind f)
+    no_line number kind f = subst (λ l. FaultIn [] l number kind) empty (fault_in (logical_lines text) number kind f)
 
     first : (other : ℕ) (any : BlifKind) → IsFault text other any → length (lines text) + 1 ≤ other
     first other any (inl f) = absurd (no_line other any f)
@@ -68,7 +70,7 @@ filled_answer : (text : List ℕ) → (logical_lines text ≡ [] → ⊥)
 filled_answer text filled (inl none) = inl (accepted_once text by)
   where
     by : (number : ℕ) (kind : BlifKind) → IsFault text number kind → ⊥
-    by number kind (inl f) = none number kind (FaultIn-from (logical_lines text) number kind f)
+    by number kind (inl f) = none number kind (fault_in (logical_lines text) number kind f)
     by number kind (inr f) = filled f.empty
 filled_answer text filled (inr found) = inr (refused_once text found.number found.kind (record {
   fault = inl (IsFaultOfLine-from (logical_lines text) found.number found.kind found.fault);
@@ -77,11 +79,11 @@ filled_answer text filled (inr found) = inr (refused_once text found.number foun
 }))
   where
     first : (other : ℕ) (any : BlifKind) → IsFault text other any → found.number ≤ other
-    first other any (inl f) = found.first other any (FaultIn-from (logical_lines text) other any f)
+    first other any (inl f) = found.first other any (fault_in (logical_lines text) other any f)
     first other any (inr f) = absurd (filled f.empty)
 
     smallest : (other : BlifKind) → IsFault text found.number other → kind_number found.kind ≤ kind_number other
-    smallest other (inl f) = found.smallest other (FaultIn-from (logical_lines text) found.number other f)
+    smallest other (inl f) = found.smallest other (fault_in (logical_lines text) found.number other f)
     smallest other (inr f) = absurd (filled f.empty)
 
 pub one_answer : TextHasOneAnswer

@@ -1,5 +1,5 @@
 -- What a printed card or row says: its table, its latch or its instance, in all but the line.
-use Rattle.std.proofs.Common.{◌≡◌, ◌≢◌, ℕ, suc, ◌-◌, ◌+◌, Bool, true, false, ◌==◌, not, if◌then◌else◌, List, [], ◌∷◌, ◌++◌, length, length-append, drop, take, slice_index_or, map, refl, ap, sym, ◌∙◌, arith, codes, Some, None, Option, IfSome}
+use Rattle.std.proofs.Common.{◌≡◌, ◌≢◌, ℕ, suc, ◌-◌, ◌+◌, Bool, true, false, ◌==◌, not, if◌then◌else◌, List, [], ◌∷◌, ◌++◌, length, length-append, drop, take, map, refl, ap, sym, ◌∙◌, arith, codes, Some, None, Option, IfSome}
 use Rattle.std.specs.List.{AllByRecursion, position_or_len}
 use Rattle.std.proofs.lemmas.Bool.Decides.{nat_tests}
 use Rattle.std.proofs.lemmas.List.Elements.{recursion_from_All}
@@ -14,9 +14,10 @@ use Rattle.blif_ast.specs.TableData.{TableData}
 use Rattle.blif_ast.specs.InstanceData.{InstanceData}
 use Rattle.blif_ast.specs.Good.{IsGoodTable, IsGoodSignal, IsGoodLatch, IsGoodBinding, IsGoodInstance}
 use Rattle.blif_ast.specs.Printed.{names_words, row_words, letter_byte, edge_word, signal_word, control_words, latch_words, instance_words, binding_word}
-use Rattle.blif_read.specs.LogicalLines.{LogicalLine}
-use Rattle.blif_read.specs.Cards.{same, last_word, last_letter, table_inputs, formal_of, actual_of}
-use Rattle.blif_read.specs.Models.{letter_of, row_letters, rows_are_on, table_of, binding_of, instance_of, latch_of, control_of, init_of}
+use Rattle.blif_ast.specs.LogicalLines.{LogicalLine}
+use Rattle.blif_ast.specs.Cards.{same, last_letter, table_inputs, formal_of, actual_of}
+use Rattle.blif_ast.specs.Models.{letter_of, row_letters, rows_are_on, table_of, binding_of, instance_of, latch_of, control_of, init_of}
+use Rattle.blif_ast.proofs.LineWords.{last_word-end}
 use Rattle.blif_read.specs.ReadsBack.{table_unlined, latch_unlined, instance_unlined}
 use Rattle.blif_read.proofs.GoodLines.{same-true}
 use Rattle.blif_read.proofs.PrintedLines.{line_at}
@@ -57,25 +58,16 @@ take-front : {X : Type 0} (front rest : List X) → take (length front) (front +
 take-front [] rest = refl
 take-front (x ∷ front) rest = ap (λ l. x ∷ l) (take-front front rest)
 
-at_end : {X : Type 0} (front : List X) (x d : X) → slice_index_or (front ++ x ∷ []) (length front) d ≡ x
-at_end [] x d = refl
-at_end (y ∷ front) x d = at_end front x d
-
 pub names_inputs : (card : List ℕ) (inputs : List (List ℕ)) (output : List ℕ) → table_inputs (card ∷ inputs ++ output ∷ []) ≡ inputs
 names_inputs card inputs output =
     let count : length (card ∷ inputs ++ output ∷ []) - 2 ≡ length inputs = omega (arith, length-append inputs (output ∷ [])) in
     ap (λ n. take n (inputs ++ output ∷ [])) count ∙ take-front inputs (output ∷ [])
 
-names_output : (card : List ℕ) (inputs : List (List ℕ)) (output : List ℕ) → last_word (card ∷ inputs ++ output ∷ []) ≡ output
-names_output card inputs output =
-    let count : length (card ∷ inputs ++ output ∷ []) - 1 ≡ suc (length inputs) = omega (arith, length-append inputs (output ∷ [])) in
-    ap (λ n. slice_index_or (card ∷ inputs ++ output ∷ []) n []) count ∙ at_end inputs output []
-
 -- the table of printed lines
 pub table_back : (t : TableData) → IsGoodTable t → table_of (line_at 0 (names_words t)) (zeros (map (row_words t.on) t.rows)) ≡ table_unlined t
 table_back t h =
     let inputs = names_inputs (codes ".names") t.inputs t.output in
-    let output = names_output (codes ".names") t.inputs t.output in
+    let output = last_word-end (codes ".names" ∷ t.inputs) t.output in
     let on = on_back t.on t.rows h.on in
     let rows = rows_back t.on t.rows in
     λ i. record { inputs = inputs i; output = output i; on = on i; rows = rows i; line = 0 }

@@ -3,9 +3,9 @@ use Rattle.std.proofs.Common.{◌≡◌, ℕ, Bool, true, false, if◌then◌els
 use Rattle.std.specs.List.{AllByRecursion, flat_map, take_while}
 use Rattle.blif_ast.specs.BlifModelData.{BlifModelData}
 use Rattle.blif_ast.specs.Printed.{model_lines}
-use Rattle.blif_read.specs.LogicalLines.{LogicalLine}
-use Rattle.blif_read.specs.Cards.{begins, model_card, end_card}
-use Rattle.blif_read.specs.Models.{model_of, is_inside, models_of}
+use Rattle.blif_ast.specs.LogicalLines.{LogicalLine}
+use Rattle.blif_ast.specs.Cards.{begins, model_card, end_card}
+use Rattle.blif_ast.specs.Models.{model_of, is_inside, models_of}
 use Rattle.blif_read.proofs.GoodPrefix.{take_while-keep, take_while-stop}
 use Rattle.blif_read.proofs.PrintedLines.{line_at}
 use Rattle.blif_read.proofs.PrintedParts.{inner_lines, inner_all, model_lines-inner, by_rows}

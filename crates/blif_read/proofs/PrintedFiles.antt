@@ -5,13 +5,13 @@ use Rattle.std.proofs.lemmas.List.Elements.{recursion_from_All}
 use Rattle.blif_ast.specs.BlifModelData.{BlifModelData}
 use Rattle.blif_ast.specs.Good.{IsGoodModel}
 use Rattle.blif_ast.specs.Printed.{model_lines, printed}
-use Rattle.blif_read.specs.declared.fault.BlifKind.{BlifKind}
-use Rattle.blif_read.specs.LogicalLines.{LogicalLine, logical_lines}
-use Rattle.blif_read.specs.Models.{models_of}
-use Rattle.blif_read.specs.Reading.{IsFault}
+use Rattle.blif_ast.specs.declared.kind.BlifKind.{BlifKind}
+use Rattle.blif_ast.specs.LogicalLines.{LogicalLine, logical_lines}
+use Rattle.blif_ast.specs.Models.{models_of}
+use Rattle.blif_ast.specs.Reading.{IsFault}
 use Rattle.blif_read.specs.ReadsBack.{model_unlined, PrintedReadsBack}
 use Rattle.blif_read.proofs.GoodLines.{Free}
-use Rattle.blif_read.proofs.OneFault.{FaultIn, FaultIn-from}
+use Rattle.blif_read.proofs.Positions.{FaultIn, fault_in}
 use Rattle.blif_read.proofs.PrintedLines.{numbered, printed_lines}
 use Rattle.blif_read.proofs.PrintedNames.{models_names}
 use Rattle.blif_read.proofs.PrintedModels.{models_back}
@@ -43,5 +43,5 @@ reads_back file good =
   where
     no_fault : Free [] (logical_lines (printed file)) → logical_lines (printed file) ≡ numbered 1 (flat_map model_lines file.models)
         → (number : ℕ) (kind : BlifKind) → IsFault (printed file) number kind → ⊥
-    no_fault free is number kind (inl f) = Free-none [] (logical_lines (printed file)) number kind free (FaultIn-from (logical_lines (printed file)) number kind f)
+    no_fault free is number kind (inl f) = Free-none [] (logical_lines (printed file)) number kind free (fault_in (logical_lines (printed file)) number kind f)
     no_fault free is number kind (inr e) = some_lines file.models good.some (sym is ∙ e.empty)

@@ -15,12 +15,12 @@ use Rattle.blif_ast.specs.TableData.{TableData}
 use Rattle.blif_ast.specs.InstanceData.{InstanceData}
 use Rattle.blif_ast.specs.Good.{IsNameByte, IsGoodName, IsGoodTable, IsGoodLatch, IsGoodBinding, IsGoodInstance}
 use Rattle.blif_ast.specs.Printed.{names_words, edge_word, control_words, latch_words, instance_words, binding_word}
-use Rattle.blif_read.specs.declared.fault.BlifKind.{BlifKind}
-use Rattle.blif_read.specs.declared.fault.BlifKind.TheVariants.{ControlByte, UnknownCard, BadCard, RowOutsideTable, BadRow, MixedCover, TooWide, NoModel, LatchKind}
-use Rattle.blif_read.specs.LogicalLines.{LogicalLine}
-use Rattle.blif_read.specs.Cards.{is_init, is_type, is_level, is_latch_form, is_binding, model_card, inputs_card, outputs_card, end_card}
-use Rattle.blif_read.specs.Context.{is_model_open}
-use Rattle.blif_read.specs.Faults.{has_fault}
+use Rattle.blif_ast.specs.declared.kind.BlifKind.{BlifKind}
+use Rattle.blif_ast.specs.declared.kind.BlifKind.TheVariants.{ControlByte, UnknownCard, BadCard, RowOutsideTable, BadRow, MixedCover, TooWide, NoModel, LatchKind}
+use Rattle.blif_ast.specs.LogicalLines.{LogicalLine}
+use Rattle.blif_ast.specs.Cards.{is_init, is_type, is_level, is_latch_form, is_binding, model_card, inputs_card, outputs_card, end_card}
+use Rattle.blif_ast.specs.Context.{is_model_open}
+use Rattle.blif_ast.specs.Faults.{has_fault}
 use Rattle.blif_read.proofs.PrintedWords.{IsNamesLine}
 use Rattle.blif_read.proofs.PrintedLines.{line_at}
 use Rattle.blif_read.proofs.PrintedCards.{names_inputs, binding_back}

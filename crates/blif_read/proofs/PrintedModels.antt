@@ -10,9 +10,9 @@ use Rattle.blif_ast.specs.InstanceData.{InstanceData}
 use Rattle.blif_ast.specs.BlifModelData.{BlifModelData}
 use Rattle.blif_ast.specs.Good.{IsGoodTable, IsGoodLatch, IsGoodInstance, IsGoodModel}
 use Rattle.blif_ast.specs.Printed.{port_lines, names_words, row_words, model_lines}
-use Rattle.blif_read.specs.LogicalLines.{LogicalLine}
-use Rattle.blif_read.specs.Cards.{same, begins, is_row, model_card, inputs_card, outputs_card, names_card, latch_card, subckt_card}
-use Rattle.blif_read.specs.Models.{table_of, tables_of, names_on, latch_of, latches_of, instance_of, instances_of, model_of, models_of}
+use Rattle.blif_ast.specs.LogicalLines.{LogicalLine}
+use Rattle.blif_ast.specs.Cards.{same, begins, is_row, model_card, inputs_card, outputs_card, names_card, latch_card, subckt_card}
+use Rattle.blif_ast.specs.Models.{table_of, tables_of, names_on, latch_of, latches_of, instance_of, instances_of, model_of, models_of}
 use Rattle.blif_read.specs.ReadsBack.{table_unlined, latch_unlined, instance_unlined, model_unlined}
 use Rattle.blif_read.proofs.GoodPrefix.{take_while-keep, take_while-stop}
 use Rattle.blif_read.proofs.PrintedLines.{line_at}

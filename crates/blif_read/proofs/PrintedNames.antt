@@ -17,7 +17,7 @@ use Rattle.blif_ast.specs.InstanceData.{InstanceData}
 use Rattle.blif_ast.specs.BlifModelData.{BlifModelData}
 use Rattle.blif_ast.specs.Good.{IsNameByte, IsGoodName, IsGoodSignal, IsGoodTable, IsGoodLatch, IsGoodBinding, IsGoodInstance, IsGoodModel}
 use Rattle.blif_ast.specs.Printed.{names_words, row_words, letter_byte, value_word, edge_word, signal_word, control_words, latch_words, instance_words, binding_word, port_lines, model_lines}
-use Rattle.blif_read.specs.Cards.{model_card, inputs_card, outputs_card, end_card}
+use Rattle.blif_ast.specs.Cards.{model_card, inputs_card, outputs_card, end_card}
 use Rattle.blif_read.proofs.PrintedWords.{IsNamesLine}
 use Rattle.blif_read.proofs.PrintedParts.{tables_lines, latches_lines, instances_lines, inner_lines, model_lines-inner}
 

@@ -9,7 +9,7 @@ use Rattle.blif_ast.specs.TableData.{TableData}
 use Rattle.blif_ast.specs.InstanceData.{InstanceData}
 use Rattle.blif_ast.specs.BlifModelData.{BlifModelData}
 use Rattle.blif_ast.specs.Printed.{port_lines, table_lines, row_words, latch_words, instance_words, model_lines}
-use Rattle.blif_read.specs.Cards.{model_card, inputs_card, outputs_card, names_card, latch_card, subckt_card, end_card}
+use Rattle.blif_ast.specs.Cards.{model_card, inputs_card, outputs_card, names_card, latch_card, subckt_card, end_card}
 
 -- the lines of a model between its first and its last
 abbrev pub tables_lines : List TableData → List (List (List ℕ))

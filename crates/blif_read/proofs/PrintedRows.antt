@@ -12,11 +12,11 @@ use Rattle.blif_ast.specs.InstanceData.{InstanceData}
 use Rattle.blif_ast.specs.BlifModelData.{BlifModelData}
 use Rattle.blif_ast.specs.Good.{IsGoodName, IsGoodTable, IsGoodLatch, IsGoodInstance, IsGoodModel}
 use Rattle.blif_ast.specs.Printed.{port_lines, letter_byte, row_words, value_word, names_words, model_lines}
-use Rattle.blif_read.specs.declared.fault.BlifKind.TheVariants.{ControlByte, UnknownCard, BadCard, RowOutsideTable, BadRow, MixedCover, TooWide, NoModel, LatchKind}
-use Rattle.blif_read.specs.LogicalLines.{LogicalLine}
-use Rattle.blif_read.specs.Cards.{is_card, is_row, is_letter, is_value, is_row_form, last_letter, model_card, inputs_card, outputs_card, end_card}
-use Rattle.blif_read.specs.Context.{is_model_open, is_table_open, open_width, open_rows, differs_from_first}
-use Rattle.blif_read.specs.Faults.{has_fault, is_row_inside}
+use Rattle.blif_ast.specs.declared.kind.BlifKind.TheVariants.{ControlByte, UnknownCard, BadCard, RowOutsideTable, BadRow, MixedCover, TooWide, NoModel, LatchKind}
+use Rattle.blif_ast.specs.LogicalLines.{LogicalLine}
+use Rattle.blif_ast.specs.Cards.{is_card, is_row, is_letter, is_value, is_row_form, last_letter, model_card, inputs_card, outputs_card, end_card}
+use Rattle.blif_ast.specs.Context.{is_model_open, is_table_open, open_width, open_rows, differs_from_first}
+use Rattle.blif_ast.specs.Faults.{has_fault, is_row_inside}
 use Rattle.blif_read.proofs.GoodPrefix.{take_while-keep}
 use Rattle.blif_read.proofs.GoodLines.{Free}
 use Rattle.blif_read.proofs.PrintedLines.{line_at, numbered}

@@ -2,9 +2,9 @@
 use Rattle.std.proofs.Common.{◌≡◌, ℕ, ◌+◌, Bool, true, false, List, [], ◌∷◌, drop, map, filter, refl, ap, sym, ◌∙◌}
 use Rattle.std.specs.List.{flat_map, filter_map, cons_option, take_while}
 use Rattle.blif_ast.specs.declared.latch.Latch.{Latch}
-use Rattle.blif_read.specs.LogicalLines.{LogicalLine}
-use Rattle.blif_read.specs.Cards.{begins, is_row, model_card, inputs_card, outputs_card, names_card, latch_card, subckt_card}
-use Rattle.blif_read.specs.Models.{row_letters, rows_are_on, table_of, tables_of, names_on, latch_of, latches_of, instance_of, instances_of, model_of, is_inside, models_of}
+use Rattle.blif_ast.specs.LogicalLines.{LogicalLine}
+use Rattle.blif_ast.specs.Cards.{begins, is_row, model_card, inputs_card, outputs_card, names_card, latch_card, subckt_card}
+use Rattle.blif_ast.specs.Models.{row_letters, rows_are_on, table_of, tables_of, names_on, latch_of, latches_of, instance_of, instances_of, model_of, is_inside, models_of}
 use Rattle.blif_read.specs.ReadsBack.{table_unlined, latch_unlined, instance_unlined, model_unlined}
 use Rattle.blif_read.proofs.GoodPrefix.{take_while-keep, take_while-stop}
 use Rattle.blif_read.proofs.PrintedLines.{line_at, numbered}

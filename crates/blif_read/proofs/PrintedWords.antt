@@ -1,7 +1,7 @@
 -- A printed line: its bytes, and what it is cut back into.
-use Rattle.std.proofs.Common.{◌≡◌, ◌≢◌, ℕ, suc, ◌<◌, ◌-◌, Bool, true, false, ◌==◌, not, if◌then◌else◌, List, [], ◌∷◌, ◌++◌, drop, nat_eq, length, filter, slice_index, refl, ap, sym, ◌∙◌, append_assoc, append-nil, arith}
-use Rattle.std.specs.List.{AllByRecursion, ends_with, join_with_byte, slice_split, before_first}
-use Rattle.std.specs.Cmp.Lexicographic.{pointwise}
+use Rattle.std.proofs.Common.{◌≡◌, ◌≢◌, ℕ, suc, ◌<◌, ◌-◌, Bool, true, false, ◌==◌, not, if◌then◌else◌, List, [], ◌∷◌, ◌++◌, length, filter, refl, ap, sym, ◌∙◌, append_assoc, append-nil, arith}
+use Rattle.std.specs.List.{AllByRecursion, join_with_byte, slice_split, before_first}
+use Rattle.std.specs.Prelude.{slice_index_or}
 use Rattle.std.proofs.lemmas.Bool.Decides.{nat_tests}
 use Rattle.std.proofs.lemmas.List.Elements.{All-weaker, All-from_recursion, recursion_from_All, filter-append}
 use Rattle.std.proofs.lemmas.List.Splits.{slice_split_at}
@@ -9,9 +9,10 @@ use Rattle.dom_base.specs.Lines.{is_line_feed, is_blank, is_word, words}
 use Rattle.dom_base.proofs.Each.{AllByRecursion-append, AllByRecursion-weaker, filter_all}
 use Rattle.dom_base.proofs.LineLemmas.{after_blanks, joined, IsClean, IsSolid, words-joined}
 use Rattle.blif_ast.specs.Good.{IsNameByte, IsGoodName}
-use Rattle.blif_ast.specs.Printed.{last_word, guard}
-use Rattle.blif_ast.proofs.LineWords.{joined_words}
-use Rattle.blif_read.specs.LogicalLines.{is_joined, without_comment}
+use Rattle.blif_ast.specs.Cards.{last_word}
+use Rattle.blif_ast.specs.Printed.{guard}
+use Rattle.blif_ast.proofs.LineWords.{joined_words, last_byte, last-append, joined-last}
+use Rattle.blif_ast.specs.LogicalLines.{is_joined, without_comment}
 use Rattle.blif_read.proofs.GoodPrefix.{take_while-keep}
 
 -- a printed line without its LF
@@ -23,40 +24,15 @@ abbrev pub IsNamesLine : List (List ℕ) → Type 0
 IsNamesLine [] = ⊥
 IsNamesLine (first ∷ others) = IsGoodName first × AllByRecursion IsGoodName others
 
--- the last byte, or 0 where there is none
-abbrev last_byte : List ℕ → ℕ
-last_byte [] = 0
-last_byte (b ∷ []) = b
-last_byte (b ∷ next ∷ bs) = last_byte (next ∷ bs)
-
-index-last : (bs : List ℕ) → slice_index bs (length bs - 1) ≡ last_byte bs
-index-last [] = refl
-index-last (b ∷ []) = refl
-index-last (b ∷ next ∷ bs) =
-    let long : length (b ∷ next ∷ bs) - 1 ≡ suc (length bs) = omega arith in
-    let short : length (next ∷ bs) - 1 ≡ length bs = omega arith in
-    ap (slice_index (b ∷ next ∷ bs)) long ∙ ap (slice_index (next ∷ bs)) (sym short) ∙ index-last (next ∷ bs)
-
-not_last : (bs : List ℕ) → ends_with nat_eq bs (92 ∷ []) ≡ false → (last_byte bs == 92) ≡ false
-not_last [] h = refl
-not_last (b ∷ []) h = grind (arith, nat_tests)
-not_last (b ∷ next ∷ bs) h =
-    let long : length (b ∷ next ∷ bs) - 1 ≡ suc (length bs) = omega arith in
-    let short : length (next ∷ bs) - 1 ≡ length bs = omega arith in
-    not_last (next ∷ bs) (
-    ap (λ n. pointwise nat_eq (92 ∷ []) (drop n (next ∷ bs))) short
-    ∙ ap (λ n. pointwise nat_eq (92 ∷ []) (drop n (b ∷ next ∷ bs))) (sym long)
-    ∙ h
-    )
-
-last-append : (front : List ℕ) (b : ℕ) (rest : List ℕ) → last_byte (front ++ b ∷ rest) ≡ last_byte (b ∷ rest)
-last-append [] b rest = refl
-last-append (x ∷ []) b rest = refl
-last-append (x ∷ y ∷ front) b rest = last-append (y ∷ front) b rest
-
 last-behind : (word rest : List ℕ) → is_word word ≡ true → last_byte (32 ∷ word ++ rest) ≡ last_byte (word ++ rest)
 last-behind [] rest h = absurd cc
 last-behind (b ∷ bs) rest h = refl
+
+last_word-next : (word next : List ℕ) (all : List (List ℕ)) → last_word (word ∷ next ∷ all) ≡ last_word (next ∷ all)
+last_word-next word next all =
+    let long : length (word ∷ next ∷ all) - 1 ≡ suc (length all) = omega arith in
+    let short : length (next ∷ all) - 1 ≡ length all = omega arith in
+    ap (λ n. slice_index_or (word ∷ next ∷ all) n []) long ∙ ap (λ n. slice_index_or (next ∷ all) n []) (sym short)
 
 last-join : (all : List (List ℕ)) → AllByRecursion IsSolid all → last_byte (join_with_byte 32 all) ≡ last_byte (last_word all)
 last-join [] h = refl
@@ -67,6 +43,7 @@ last-join (word ∷ next ∷ all) h =
     ∙ last-behind next (after_blanks all) h.1.0.some
     ∙ ap last_byte (sym (joined_words next all))
     ∙ last-join (next ∷ all) h.1
+    ∙ ap last_byte (sym (last_word-next word next all))
 
 name_no_blank : (b : ℕ) → IsNameByte b → is_blank b ≡ false
 name_no_blank b h = grind (arith, nat_tests, h.0)
@@ -83,9 +60,9 @@ solid_names all h = AllByRecursion-weaker IsGoodName IsSolid solid_name all h
 
 -- a printed line isn't joined with the next one
 pub body_not_joined : (all : List (List ℕ)) → AllByRecursion IsGoodName all → is_joined (body all) ≡ false
-body_not_joined all h = ap (λ b. b == 92) (index-last (body all)) ∙ by (ends_with nat_eq (last_word all) (92 ∷ [])) refl
+body_not_joined all h = joined-last (body all) ∙ by (is_joined (last_word all)) refl
   where
-    by : (t : Bool) → ends_with nat_eq (last_word all) (92 ∷ []) ≡ t → (last_byte (body all) == 92) ≡ false
+    by : (t : Bool) → is_joined (last_word all) ≡ t → (last_byte (body all) == 92) ≡ false
     by true e =
         ap (λ t. last_byte (join_with_byte 32 all ++ (if t then 32 ∷ [] else [])) == 92) e
         ∙ ap (λ b. b == 92) (last-append (join_with_byte 32 all) 32 [])
@@ -93,7 +70,8 @@ body_not_joined all h = ap (λ b. b == 92) (index-last (body all)) ∙ by (ends_
         ap (λ t. last_byte (join_with_byte 32 all ++ (if t then 32 ∷ [] else [])) == 92) e
         ∙ ap (λ l. last_byte l == 92) (append-nil (join_with_byte 32 all))
         ∙ ap (λ b. b == 92) (last-join all (solid_names all h))
-        ∙ not_last (last_word all) e
+        ∙ sym (joined-last (last_word all))
+        ∙ e
 
 split-trailing : (first : List ℕ) (others : List (List ℕ)) → IsSolid first → AllByRecursion IsSolid others
     → slice_split is_blank (joined first others ++ 32 ∷ []) ≡ (first ∷ others) ++ [] ∷ []
@@ -113,9 +91,9 @@ words-trailing first others f h =
 
 -- the words of a printed line
 pub body_words : (first : List ℕ) (others : List (List ℕ)) → IsGoodName first → AllByRecursion IsGoodName others → words (body (first ∷ others)) ≡ first ∷ others
-body_words first others f h = ap (λ l. words (l ++ guard (last_word (first ∷ others)))) (joined_words first others) ∙ by (ends_with nat_eq (last_word (first ∷ others)) (92 ∷ [])) refl
+body_words first others f h = ap (λ l. words (l ++ guard (last_word (first ∷ others)))) (joined_words first others) ∙ by (is_joined (last_word (first ∷ others))) refl
   where
-    by : (t : Bool) → ends_with nat_eq (last_word (first ∷ others)) (92 ∷ []) ≡ t → words (joined first others ++ guard (last_word (first ∷ others))) ≡ first ∷ others
+    by : (t : Bool) → is_joined (last_word (first ∷ others)) ≡ t → words (joined first others ++ guard (last_word (first ∷ others))) ≡ first ∷ others
     by true e = ap (λ t. words (joined first others ++ (if t then 32 ∷ [] else []))) e ∙ words-trailing first others (solid_name first f) (solid_names others h)
     by false e =
         ap (λ t. words (joined first others ++ (if t then 32 ∷ [] else []))) e
@@ -147,7 +125,7 @@ guard_line_bytes false = tt
 
 body_line_bytes : (all : List (List ℕ)) → AllByRecursion IsGoodName all → AllByRecursion IsLineByte (body all)
 body_line_bytes all h =
-    AllByRecursion-append IsLineByte (join_with_byte 32 all) (guard (last_word all)) (join_line_bytes all h) (guard_line_bytes (ends_with nat_eq (last_word all) (92 ∷ [])))
+    AllByRecursion-append IsLineByte (join_with_byte 32 all) (guard (last_word all)) (join_line_bytes all h) (guard_line_bytes (is_joined (last_word all)))
 
 no_feed : (b : ℕ) → IsLineByte b → is_line_feed b ≡ false
 no_feed b h = grind (arith, nat_tests, h.0)

@@ -1,25 +1,26 @@
-use Rattle.std.proofs.Common.{◌≡◌, ◌≢◌, ℕ, ◌≤◌, ◌+◌, Bool, true, false, cond, List, [], ◌∷◌, ◌++◌, reverse, length, refl, sym, ap, ◌∙◌, subst, arith, Some, None, inl, inr}
-use Rattle.std.specs.Prelude.{Option, ◌⊎◌, MatchOption}
+use Rattle.std.proofs.Common.{◌≡◌, ◌≢◌, ℕ, ◌≤◌, ◌+◌, Bool, true, false, List, [], ◌∷◌, ◌++◌, reverse, length, refl, sym, ap, ◌∙◌, subst, arith, Some, None, inl, inr}
+use Rattle.std.specs.Prelude.{Option, MatchOption}
 use Rattle.std.proofs.Common.{Result, Err, eqb-true, ◌==◌}
 use Rattle.blif_read.specs.declared.fault.BlifFault.{BlifFault}
 use Rattle.blif_read.specs.declared.fault.BlifFault.TheVariants.{At}
-use Rattle.std.specs.List.{find}
 use Rattle.std.proofs.lemmas.Bool.{true≢false}
 use Rattle.std.proofs.lemmas.List.{append_assoc, reverse-append}
 use Rattle.dom_base.specs.Lines.{lines}
 use Rattle.blif_ast.specs.BlifFileData.{BlifFileData}
-use Rattle.blif_read.specs.declared.fault.BlifKind.{BlifKind}
-use Rattle.blif_read.specs.declared.fault.BlifKind.TheVariants.{ControlByte, UnknownCard, BadCard, RowOutsideTable, BadRow, MixedCover, TooWide, NoModel, LatchKind}
+use Rattle.blif_ast.specs.declared.kind.BlifKind.{BlifKind}
+use Rattle.blif_ast.specs.declared.kind.BlifKind.TheVariants.{NoModel}
 use Rattle.blif_read.specs.declared.context.Context.{Context}
-use Rattle.blif_read.specs.LogicalLines.{LogicalLine, logical_lines, logical_lines_from}
+use Rattle.blif_ast.specs.LogicalLines.{LogicalLine, logical_lines, logical_lines_from}
 use Rattle.blif_read.specs.Cuts.{NumbersFit}
-use Rattle.blif_read.specs.Faults.{has_fault, kind_number}
-use Rattle.blif_read.specs.Models.{models_of}
+use Rattle.blif_ast.specs.Faults.{has_fault, kind_number}
+use Rattle.blif_ast.specs.Models.{models_of}
 use Rattle.blif_read.specs.Build.{Built, built_after, finished, closed_models}
-use Rattle.blif_read.specs.Reading.{IsFaultAt, IsFaultOfLine, IsFileOf}
+use Rattle.blif_ast.specs.Reading.{IsFaultAt, IsFaultOfLine, IsFileOf}
 use Rattle.blif_read.specs.Steps.{context_of, kinds, fault_in as fault_by}
 use Rattle.blif_read.proofs.Building.{finished-line, finished-none}
-use Rattle.blif_read.proofs.Positions.{FaultIn, fault_in, rising-fault, rising-lines, passed, IsRising}
+use Rattle.blif_read.proofs.GoodNumbers.{Rises, logical_lines_from-rise}
+use Rattle.blif_read.proofs.KindNumbers.{Finds, is_kind, finds_smallest}
+use Rattle.blif_read.proofs.Positions.{FaultIn, fault_in, rising-fault, passed}
 use Rattle.blif_read.proofs.Smallest.{fault_in-smallest}
 
 -- what is so after some lines: the reader stands at these bytes
@@ -34,58 +35,11 @@ pub record Reads (text : List ℕ) (context : Context) (built : Built) (some : B
   pub some_line : some ≡ true → logical_lines text ≢ []
   pub no_line : some ≡ false → logical_lines text ≡ logical_lines_from number (lines rest)
 
-abbrev Member : BlifKind → List BlifKind → Type 0
-Member kind [] = ⊥
-Member kind (k ∷ ks) = (kind ≡ k) ⊎ Member kind ks
-
-abbrev From : ℕ → List BlifKind → Type 0
-From n [] = Unit {0}
-From n (k ∷ ks) = (n ≤ kind_number k) × From (kind_number k) ks
-
-from-weaker : (m n : ℕ) (ks : List BlifKind) → m ≤ n → From n ks → From m ks
-from-weaker m n [] le from = tt
-from-weaker m n (k ∷ ks) le from = (omega (arith, le, from.0), from.1)
-
-from-member : (n : ℕ) (ks : List BlifKind) (kind : BlifKind) → From n ks → Member kind ks → n ≤ kind_number kind
-from-member n [] kind from member = absurd member
-from-member n (k ∷ ks) kind from (inl is) = omega (arith, from.0, ap kind_number is)
-from-member n (k ∷ ks) kind from (inr later) = omega (arith, from.0, from-member (kind_number k) ks kind from.1 later)
-
-is_kind : (kind : BlifKind) → Member kind kinds
-is_kind ControlByte = inl refl
-is_kind UnknownCard = inr (inl refl)
-is_kind BadCard = inr (inr (inl refl))
-is_kind RowOutsideTable = inr (inr (inr (inl refl)))
-is_kind BadRow = inr (inr (inr (inr (inl refl))))
-is_kind MixedCover = inr (inr (inr (inr (inr (inl refl)))))
-is_kind TooWide = inr (inr (inr (inr (inr (inr (inl refl))))))
-is_kind NoModel = inr (inr (inr (inr (inr (inr (inr (inl refl)))))))
-is_kind LatchKind = inr (inr (inr (inr (inr (inr (inr (inr (inl refl))))))))
-
-kinds_rise : From 1 kinds
-kinds_rise = (omega arith, (omega arith, (omega arith, (omega arith, (omega arith, (omega arith, (omega arith, (omega arith, (omega arith, tt)))))))))
-
-abbrev Finds : (BlifKind → Bool) → List BlifKind → Option BlifKind → Type 0
-Finds test ks None = (kind : BlifKind) → Member kind ks → test kind ≡ false
-Finds test ks (Some k) = (test k ≡ true) × ((kind : BlifKind) → Member kind ks → test kind ≡ true → kind_number k ≤ kind_number kind)
-
-finds-behind : (test : BlifKind → Bool) (k : BlifKind) (ks : List BlifKind) (found : Option BlifKind) → test k ≡ false → Finds test ks found → Finds test (k ∷ ks) found
-finds-behind test k ks None fails finds = λ kind member. elim member as (λ _. test kind ≡ false) [ inl is ↦ ap test is ∙ fails | inr later ↦ finds kind later ]
-finds-behind test k ks (Some f) fails finds = (finds.0, λ kind member holds. elim member as (λ _. kind_number f ≤ kind_number kind) [ inl is ↦ absurd (true≢false (sym holds ∙ ap test is ∙ fails)) | inr later ↦ finds.1 kind later holds ])
-
-finds-cond : (n : ℕ) (test : BlifKind → Bool) (k : BlifKind) (ks : List BlifKind) (b : Bool) → test k ≡ b → From n (k ∷ ks) → Finds test ks (find test ks) → Finds test (k ∷ ks) (cond b (Some k) (find test ks))
-finds-cond n test k ks true is from finds = (is, λ kind member holds. from-member (kind_number k) (k ∷ ks) kind (omega arith, from.1) member)
-finds-cond n test k ks false is from finds = finds-behind test k ks (find test ks) is finds
-
-finds : (n : ℕ) (test : BlifKind → Bool) (ks : List BlifKind) → From n ks → Finds test ks (find test ks)
-finds n test [] from = λ kind member. absurd member
-finds n test (k ∷ ks) from = finds-cond n test k ks (test k) refl from (finds (kind_number k) test ks from.1)
-
 -- the fault that the context gives, and no fault where it gives none
 smallest_is : (before : List LogicalLine) (line : LogicalLine) (context : Context) (found : Option BlifKind) → context ≡ context_of before → found ≡ fault_by context line
     → Finds (λ kind. has_fault kind before line) kinds found
 smallest_is before line context found is by =
-    subst (Finds (λ kind. has_fault kind before line) kinds) (sym (by ∙ ap (λ c. fault_by c line) is ∙ fault_in-smallest before line)) (finds 1 (λ kind. has_fault kind before line) kinds kinds_rise)
+    subst (Finds (λ kind. has_fault kind before line) kinds) (sym (by ∙ ap (λ c. fault_by c line) is ∙ fault_in-smallest before line)) (finds_smallest (λ kind. has_fault kind before line))
 
 pub starts : (text : List ℕ) (context : Context) (built : Built) → context ≡ context_of [] → built ≡ record { models = []; model = None; table = None } → NumbersFit 1 text
     → Reads text context built false 1 text
@@ -134,7 +88,7 @@ pub fault : (text : List ℕ) (context : Context) (built : Built) (some : Bool) 
 fault text context built some number next rest more line kind r is by =
     let least = smallest_is r.before line context (Some kind) r.context_is by in
     let whole : logical_lines text ≡ reverse r.before ++ line ∷ logical_lines_from next (lines more) = r.split ∙ ap (λ l. reverse r.before ++ l) is in
-    let rising : IsRising number (line ∷ logical_lines_from next (lines more)) = subst (IsRising number) is (rising-lines number (lines rest)) in
+    let rising : Rises number (line ∷ logical_lines_from next (lines more)) = subst (Rises number) is (logical_lines_from-rise number (lines rest)) in
     let all : (n : ℕ) (k : BlifKind) → FaultIn [] (logical_lines text) n k → FaultIn r.before (line ∷ logical_lines_from next (lines more)) n k = λ n k f. subst (λ l. FaultIn r.before l n k) is (r.faults n k f) in
     let no_end : logical_lines text ≢ [] = λ none. not_empty (reverse r.before) line (logical_lines_from next (lines more)) (sym whole ∙ none) in
     record {

@@ -4,9 +4,9 @@ use Rattle.std.specs.Option.{option_to_list}
 use Rattle.blif_ast.specs.declared.letter.Letter.{Letter}
 use Rattle.blif_ast.specs.TableData.{TableData}
 use Rattle.blif_ast.specs.BlifModelData.{BlifModelData}
-use Rattle.blif_read.specs.LogicalLines.{LogicalLine}
-use Rattle.blif_read.specs.Cards.{begins, is_row, last_letter, last_word, table_inputs, model_card, end_card, inputs_card, outputs_card, names_card, latch_card, subckt_card}
-use Rattle.blif_read.specs.Models.{row_letters, latch_of, instance_of, names_on, tables_of, latches_of, instances_of, models_of, is_inside}
+use Rattle.blif_ast.specs.LogicalLines.{LogicalLine}
+use Rattle.blif_ast.specs.Cards.{begins, is_row, last_letter, last_word, table_inputs, model_card, end_card, inputs_card, outputs_card, names_card, latch_card, subckt_card}
+use Rattle.blif_ast.specs.Models.{row_letters, latch_of, instance_of, names_on, tables_of, latches_of, instances_of, models_of, is_inside}
 
 -- what was made of the lines so far: the closed models, the open model and its open table
 pub record Built : Type 0 where

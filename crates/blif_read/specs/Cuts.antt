@@ -1,6 +1,6 @@
 use Rattle.std.specs.Prelude.{ℕ, ◌≡◌, ◌<◌, ◌+◌, ◌^◌, Bool, true, false, if◌then◌else◌, List, [], ◌∷◌, ◌++◌, length, map}
 use Rattle.dom_base.specs.Lines.{lines, words}
-use Rattle.blif_read.specs.LogicalLines.{LogicalLine, but_last, in_words, is_joined, joined_lines, without_comment}
+use Rattle.blif_ast.specs.LogicalLines.{LogicalLine, but_last, in_words, is_joined, joined_lines, without_comment}
 
 -- a text is cut into its first line and the text behind it
 pub record IsCut (text line rest : List ℕ) : Type 0 where

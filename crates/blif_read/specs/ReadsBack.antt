@@ -6,7 +6,7 @@ use Rattle.blif_ast.specs.BlifModelData.{BlifModelData}
 use Rattle.blif_ast.specs.BlifFileData.{BlifFileData}
 use Rattle.blif_ast.specs.Good.{IsGoodFile}
 use Rattle.blif_ast.specs.Printed.{printed}
-use Rattle.blif_read.specs.Reading.{IsFileOf}
+use Rattle.blif_ast.specs.Reading.{IsFileOf}
 
 -- the same file with every line 0
 abbrev pub table_unlined : TableData → TableData

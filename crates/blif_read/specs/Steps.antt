@@ -1,20 +1,14 @@
-use Rattle.std.specs.Prelude.{ℕ, ◌≡◌, ◌==◌, Bool, true, false, not, if◌then◌else◌, ◌&&◌, List, [], ◌∷◌, Option, Some, None}
+use Rattle.std.specs.Prelude.{ℕ, ◌==◌, Bool, false, not, if◌then◌else◌, ◌&&◌, List, [], ◌∷◌, Option, Some, None}
 use Rattle.std.specs.List.{find, list_any}
 use Rattle.dom_base.specs.Lines.{is_control}
-use Rattle.blif_read.specs.declared.fault.BlifKind.{BlifKind}
-use Rattle.blif_read.specs.declared.fault.BlifKind.TheVariants.{ControlByte, UnknownCard, BadCard, RowOutsideTable, BadRow, MixedCover, TooWide, NoModel, LatchKind}
+use Rattle.blif_ast.specs.declared.kind.BlifKind.{BlifKind}
+use Rattle.blif_ast.specs.declared.kind.BlifKind.TheVariants.{ControlByte, UnknownCard, BadCard, RowOutsideTable, BadRow, MixedCover, TooWide, NoModel, LatchKind}
 use Rattle.blif_read.specs.declared.context.Context.{Context}
 use Rattle.blif_read.specs.declared.context.OpenTable.{OpenTable}
-use Rattle.blif_read.specs.LogicalLines.{LogicalLine}
-use Rattle.blif_read.specs.Cards.{begins, is_card, is_known, is_form, is_row_form, is_binding, is_too_wide, is_level_latch, formal_of, actual_of, last_letter, model_card}
-use Rattle.blif_read.specs.Context.{is_model_open, is_table_open, open_width, open_rows}
-use Rattle.blif_read.specs.Faults.{has_fault}
-
--- a binding in its form, with its formal and its actual
-pub record IsBindingOf (word formal actual : List ℕ) : Type 0 where
-  pub form : is_binding word ≡ true
-  pub formal_is : formal ≡ formal_of word
-  pub actual_is : actual ≡ actual_of word
+use Rattle.blif_ast.specs.LogicalLines.{LogicalLine}
+use Rattle.blif_ast.specs.Cards.{begins, is_card, is_known, is_form, is_row_form, is_too_wide, is_level_latch, last_letter, model_card}
+use Rattle.blif_ast.specs.Context.{is_model_open, is_table_open, open_width, open_rows}
+use Rattle.blif_ast.specs.Faults.{has_fault}
 
 -- the kinds by rising number
 abbrev pub kinds : List BlifKind

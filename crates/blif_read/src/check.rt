@@ -1,6 +1,6 @@
 //! The fault of a line.
 ghost use Rattle.std.specs.Prelude.{◌≡◌};
-ghost use Rattle.blif_read.specs.Cards.{is_known, is_form, is_too_wide, is_level_latch};
+ghost use Rattle.blif_ast.specs.Cards.{is_known, is_form, is_too_wide, is_level_latch};
 ghost use Rattle.blif_read.specs.Steps.{fault_in, formed_card_fault, row_fault, differs};
 
 use crate::BlifKind;

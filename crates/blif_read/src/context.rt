@@ -1,6 +1,6 @@
 //! What the lines before a line say.
 ghost use Rattle.std.specs.Prelude.{◌≡◌, ◌∷◌, [], List};
-ghost use Rattle.blif_read.specs.LogicalLines.{LogicalLine};
+ghost use Rattle.blif_ast.specs.LogicalLines.{LogicalLine};
 ghost use Rattle.blif_read.specs.Steps.{context_of, with_letter};
 
 use crate::line::Line;

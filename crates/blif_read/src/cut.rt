@@ -1,7 +1,7 @@
 //! Cutting text into lines and lines into words.
 ghost use Rattle.std.specs.Prelude.{◌≡◌, ◌+◌, ◌++◌, ◌∷◌, ℕ, List, [], IfOk, MatchOption, map, true, false};
 ghost use Rattle.dom_base.specs.Lines.{words, without_return};
-ghost use Rattle.blif_read.specs.LogicalLines.{but_last, is_joined, without_comment};
+ghost use Rattle.blif_ast.specs.LogicalLines.{but_last, is_joined, without_comment};
 ghost use Rattle.blif_read.specs.Cuts.{IsCut};
 
 use memchr::memchr;

@@ -1,9 +1,8 @@
 //! The forms of cards and rows, by their words.
-ghost use Rattle.std.specs.Prelude.{◌≡◌, ◌&&◌, map, length, nat_lt, MatchOption, false};
+ghost use Rattle.std.specs.Prelude.{◌≡◌, map};
 ghost use Rattle.std.specs.List.{list_all, list_any};
 ghost use Rattle.dom_base.specs.Lines.{is_control};
-ghost use Rattle.blif_read.specs.Steps.{IsBindingOf};
-ghost use Rattle.blif_read.specs.Cards.{same, is_init, is_edge, is_type, is_latch_form, is_level, is_binding, is_subckt_form, is_value, is_letter, is_row_form};
+ghost use Rattle.blif_ast.specs.Cards.{same, is_init, is_edge, is_type, is_latch_form, is_level, is_binding, is_subckt_form, formal_of, actual_of, is_value, is_letter, is_row_form};
 
 use memchr::memchr;
 
@@ -52,34 +51,22 @@ pub(crate) fn is_latch_form(words: &[&[u8]]) -> bool
     }
 }
 
-/// Whether neither is empty.
-fn are_some(formal: &[u8], actual: &[u8]) -> bool
-    ensures { result ≡ (nat_lt 0 (length formal.now) && nat_lt 0 (length actual.now)) }
-{
-    !formal.is_empty() && !actual.is_empty()
-}
-
-/// The formal and the actual of a binding in its form.
-pub(crate) fn cut_binding(word: &[u8]) -> Option<(&[u8], &[u8])>
-    ensures { MatchOption result (is_binding word.now ≡ false) (λ p. IsBindingOf word.now p.0.now p.1.now) }
+/// The sides of a word at its first `=`; without one the second is empty.
+pub(crate) fn sides(word: &[u8]) -> (&[u8], &[u8])
+    ensures formal { result.0.now ≡ formal_of word.now }
+    ensures actual { result.1.now ≡ actual_of word.now }
 {
     match memchr(b'=', word) {
-        Some(place) => {
-            let (formal, actual) = (&word[..place], &word[place + 1..]);
-            if are_some(formal, actual) {
-                Some((formal, actual))
-            } else {
-                None
-            }
-        }
-        None => None,
+        Some(place) => (&word[..place], &word[place + 1..]),
+        None => (word, &[]),
     }
 }
 
 fn is_binding(word: &[u8]) -> bool
     ensures { result ≡ is_binding word.now }
 {
-    cut_binding(word).is_some()
+    let (formal, actual) = sides(word);
+    !formal.is_empty() && !actual.is_empty()
 }
 
 fn are_bindings(words: &[&[u8]]) -> bool

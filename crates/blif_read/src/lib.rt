@@ -14,6 +14,7 @@ mod reader;
 #[cfg(test)]
 mod tests;
 
-pub use fault::{BlifFault, BlifKind};
+pub use blif_ast::BlifKind;
+pub use fault::BlifFault;
 pub use laws::{accepted_file_is_good, printed_reads_back, text_has_one_answer};
 pub use reader::read;

@@ -1,8 +1,8 @@
 //! Logical lines.
 ghost use Rattle.std.specs.Prelude.{◌≡◌, ◌≤◌, ◌<◌, ◌+◌, ◌-◌, ◌^◌, ◌++◌, ◌∷◌, ℕ, List, [], IfOk, IsOk, MatchOption, map, length, slice_index};
 ghost use Rattle.dom_base.specs.Lines.{lines};
-ghost use Rattle.blif_read.specs.LogicalLines.{logical_lines_from};
-ghost use Rattle.blif_read.specs.Cards.{begins, first_word, is_card, last_letter};
+ghost use Rattle.blif_ast.specs.LogicalLines.{logical_lines_from};
+ghost use Rattle.blif_ast.specs.Cards.{begins, first_word, is_card, last_letter};
 ghost use Rattle.blif_read.specs.Cuts.{worded_lines, IsPiece, NumbersFit};
 
 use crate::cut::{cut_line, cut_words, strip_comment, strip_join};
@@ -20,7 +20,7 @@ pub(crate) struct Line<'a> {
 
 impl<'a> Model for Line<'a> {
     ghost use Rattle.std.specs.Prelude.{map};
-    ghost use Rattle.blif_read.specs.LogicalLines.{LogicalLine};
+    ghost use Rattle.blif_ast.specs.LogicalLines.{LogicalLine};
 
     ghost Value = { LogicalLine };
 

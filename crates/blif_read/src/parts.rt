@@ -1,14 +1,13 @@
 //! The parts of a file out of the words of cards and rows.
 ghost use Rattle.std.specs.Prelude.{◌≡◌, ◌++◌, ◌∷◌, [], IfOk, OnOk, map, drop, slice_index_or};
-ghost use Rattle.blif_read.specs.Models.{letter_of, row_letters, control_of, init_of, latch_of, binding_of, instance_of};
-ghost use Rattle.blif_read.specs.Cards.{formal_of, actual_of, table_inputs};
+ghost use Rattle.blif_ast.specs.Models.{letter_of, row_letters, control_of, init_of, latch_of, binding_of, instance_of};
+ghost use Rattle.blif_ast.specs.Cards.{table_inputs};
 ghost use Rattle.blif_read.specs.Build.{new_model, new_table};
 
-use crate::form::same;
+use crate::form::{same, sides};
 use crate::line::Line;
 use blif_ast::{Binding, BlifModel, Control, Edge2, Instance, Latch, Letter, Row, Table};
 use dom_base::{Name, OutOfMemory};
-use memchr::memchr;
 use std::alloc::{AllocError, Global};
 
 fn name_of(alloc: Global, word: &[u8]) -> Result<Name, AllocError>
@@ -59,7 +58,7 @@ pub(crate) fn new_model(alloc: Global, line: &Line<'_>) -> Result<BlifModel, Out
 fn names_of(alloc: Global, words: &[&[u8]]) -> Result<Vec<Name>, OutOfMemory>
     ensures { IfOk result (λ names. names.items ≡ map (λ w. w.now) words.now) }
 {
-    let mut names = Vec::new(alloc);
+    let mut names = Vec::with_capacity(alloc, words.len())?;
     push_names(alloc, &mut names, words)?;
     Ok(names)
 }
@@ -165,17 +164,6 @@ pub(crate) fn latch_of(
     }))
 }
 
-/// The sides of a word at its first `=`; without one the second is empty.
-fn sides(word: &[u8]) -> (&[u8], &[u8])
-    ensures formal { result.0.now ≡ formal_of word.now }
-    ensures actual { result.1.now ≡ actual_of word.now }
-{
-    match memchr(b'=', word) {
-        Some(place) => (&word[..place], &word[place + 1..]),
-        None => (word, &[]),
-    }
-}
-
 fn binding_of(alloc: Global, word: &[u8]) -> Result<Binding, OutOfMemory>
     ensures { IfOk result (λ binding. binding ≡ binding_of word.now) }
 {
@@ -189,7 +177,7 @@ fn binding_of(alloc: Global, word: &[u8]) -> Result<Binding, OutOfMemory>
 fn bindings_of(alloc: Global, words: &[&[u8]]) -> Result<Vec<Binding>, OutOfMemory>
     ensures { IfOk result (λ v. v.items ≡ map binding_of (map (λ w. w.now) words.now)) }
 {
-    let mut bindings = Vec::new(alloc);
+    let mut bindings = Vec::with_capacity(alloc, words.len())?;
     for word in words {
         bindings.push(binding_of(alloc, word)?)?;
     }

@@ -1,8 +1,8 @@
 //! The reader.
 ghost use Rattle.std.specs.Prelude.{ℕ, ◌≡◌, IfOk, IsErrOf, true, false};
-ghost use Rattle.blif_read.specs.Reading.{IsFaultAt, IsFileOf};
+ghost use Rattle.blif_ast.specs.Reading.{IsFaultAt, IsFileOf};
 ghost use Rattle.blif_read.specs.Build.{closed_models};
-ghost use Rattle.blif_read.specs.declared.fault.BlifKind.TheVariants.{NoModel};
+ghost use Rattle.blif_ast.specs.declared.kind.BlifKind.TheVariants.{NoModel};
 
 use crate::builder::Builder;
 use crate::check::fault_of;

@@ -14,7 +14,7 @@ onto_first-all P b [] p h = ((p, tt), tt)
 onto_first-all P b (piece ∷ pieces) p h = ((p, h.0), h.1)
 
 -- the bytes of the pieces of a line
-pieces_all : (P : ℕ → Type 0) (test : ℕ → Bool) (bs : List ℕ) → AllByRecursion P bs
+pub pieces_all : (P : ℕ → Type 0) (test : ℕ → Bool) (bs : List ℕ) → AllByRecursion P bs
     → AllByRecursion (AllByRecursion (λ b. P b × (test b ≡ false))) (slice_split test bs)
 pieces_all P test [] h = (tt, tt)
 pieces_all P test (b ∷ bs) h = by (test b) refl (pieces_all P test bs h.1)

@@ -1,5 +1,5 @@
 use Rattle.std.proofs.Common.{◌≡◌, map, take}
-use Rattle.blif_read.specs.Models.{binding_of}
+use Rattle.blif_ast.specs.Models.{binding_of}
 use Rattle.blif_read.proofs.parts.bindings_of.Given as goal
 
 abbrev pub invariant-loop-word : goal.invariant-loop-word

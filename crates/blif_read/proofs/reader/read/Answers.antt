@@ -1,7 +1,7 @@
 use Rattle.std.proofs.Common.{rules, ◌∙◌, sym, ap, refl}
 use Rattle.std.proofs.lemmas.Result.{IfOk-weaker}
-use Rattle.blif_read.specs.LogicalLines.{LogicalLine}
-use Rattle.blif_read.specs.declared.fault.BlifKind.TheVariants.{NoModel}
+use Rattle.blif_ast.specs.LogicalLines.{LogicalLine}
+use Rattle.blif_ast.specs.declared.kind.BlifKind.TheVariants.{NoModel}
 use Rattle.blif_read.proofs.Progress.{accepted, ended, fault, no_lines, step, told, none_case, some_case, line_told, kind_told, nothing_left}
 use Rattle.blif_read.proofs.reader.read.Goals as goal
 

@@ -1,7 +1,8 @@
+-- The cards of BLIF, the Berkeley Logic Interchange Format, and the forms of cards and rows by their words.
 use Rattle.std.specs.Prelude.{ℕ, ◌-◌, Bool, true, false, ◌==◌, ◌||◌, ◌&&◌, not, nat_eq, nat_lt, if◌then◌else◌, List, [], ◌∷◌, length, take, drop, slice_index, slice_index_or, codes}
 use Rattle.std.specs.List.{list_any, list_all, before_first, after_first}
 use Rattle.std.specs.Cmp.Lexicographic.{pointwise}
-use Rattle.blif_read.specs.LogicalLines.{LogicalLine}
+use Rattle.blif_ast.specs.LogicalLines.{LogicalLine}
 
 abbrev pub same : List ℕ → List ℕ → Bool
 same word other = pointwise nat_eq word other

@@ -1,11 +1,12 @@
+-- The faults of a line of BLIF, the Berkeley Logic Interchange Format.
 use Rattle.std.specs.Prelude.{ℕ, Bool, ◌&&◌, not, List}
 use Rattle.std.specs.List.{list_any}
 use Rattle.dom_base.specs.Lines.{is_control}
-use Rattle.blif_read.specs.declared.fault.BlifKind.{BlifKind}
-use Rattle.blif_read.specs.declared.fault.BlifKind.TheVariants.{ControlByte, UnknownCard, BadCard, RowOutsideTable, BadRow, MixedCover, TooWide, NoModel, LatchKind}
-use Rattle.blif_read.specs.LogicalLines.{LogicalLine}
-use Rattle.blif_read.specs.Cards.{begins, is_card, is_row, is_known, is_form, is_row_form, is_too_wide, is_level_latch, last_letter, model_card}
-use Rattle.blif_read.specs.Context.{is_model_open, is_table_open, open_width, open_rows, differs_from_first}
+use Rattle.blif_ast.specs.declared.kind.BlifKind.{BlifKind}
+use Rattle.blif_ast.specs.declared.kind.BlifKind.TheVariants.{ControlByte, UnknownCard, BadCard, RowOutsideTable, BadRow, MixedCover, TooWide, NoModel, LatchKind}
+use Rattle.blif_ast.specs.LogicalLines.{LogicalLine}
+use Rattle.blif_ast.specs.Cards.{begins, is_card, is_row, is_known, is_form, is_row_form, is_too_wide, is_level_latch, last_letter, model_card}
+use Rattle.blif_ast.specs.Context.{is_model_open, is_table_open, open_width, open_rows, differs_from_first}
 
 -- the number of a kind: of two faults of a line the smaller one is told
 abbrev pub kind_number : BlifKind → ℕ

@@ -1,5 +1,6 @@
-use Rattle.std.specs.Prelude.{ℕ, nat_lt, ◌+◌, ◌-◌, Bool, ◌==◌, if◌then◌else◌, List, [], ◌∷◌, ◌++◌, length, map, filter, take, slice_index}
-use Rattle.std.specs.List.{before_first}
+-- Comments, joined lines and logical lines of BLIF, the Berkeley Logic Interchange Format.
+use Rattle.std.specs.Prelude.{ℕ, nat_eq, nat_lt, ◌+◌, ◌-◌, Bool, ◌==◌, if◌then◌else◌, List, [], ◌∷◌, ◌++◌, length, map, filter, take}
+use Rattle.std.specs.List.{before_first, ends_with}
 use Rattle.dom_base.specs.Lines.{lines, words}
 
 -- a logical line: the number of its first line, from 1, and its words
@@ -18,7 +19,7 @@ without_comment line = before_first (λ b. b == 35) line
 
 -- a line that is joined with the next one: its last byte is `\`
 abbrev pub is_joined : List ℕ → Bool
-is_joined line = slice_index line (length line - 1) == 92
+is_joined line = ends_with nat_eq line (92 ∷ [])
 
 -- a line without its last byte
 abbrev pub but_last : List ℕ → List ℕ

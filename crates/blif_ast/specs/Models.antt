@@ -1,3 +1,4 @@
+-- The models that the lines of a BLIF text say (Berkeley Logic Interchange Format).
 use Rattle.std.specs.Prelude.{ℕ, ◌-◌, Bool, true, ◌==◌, ◌||◌, not, if◌then◌else◌, List, [], ◌∷◌, map, filter, drop, slice_index, slice_index_or, Option, Some, None, codes}
 use Rattle.std.specs.List.{flat_map, filter_map, take_while}
 use Rattle.blif_ast.specs.declared.letter.Letter.{Letter}
@@ -9,8 +10,8 @@ use Rattle.blif_ast.specs.declared.instance.Binding.{Binding}
 use Rattle.blif_ast.specs.TableData.{TableData}
 use Rattle.blif_ast.specs.InstanceData.{InstanceData}
 use Rattle.blif_ast.specs.BlifModelData.{BlifModelData}
-use Rattle.blif_read.specs.LogicalLines.{LogicalLine}
-use Rattle.blif_read.specs.Cards.{same, begins, is_row, last_word, last_letter, formal_of, actual_of, table_inputs, model_card, end_card, inputs_card, outputs_card, names_card, latch_card, subckt_card}
+use Rattle.blif_ast.specs.LogicalLines.{LogicalLine}
+use Rattle.blif_ast.specs.Cards.{same, begins, is_row, last_word, last_letter, formal_of, actual_of, table_inputs, model_card, end_card, inputs_card, outputs_card, names_card, latch_card, subckt_card}
 
 -- What the lines of an accepted text say: each card and row is in its form.
 

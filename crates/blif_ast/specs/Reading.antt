@@ -1,11 +1,12 @@
+-- The file of a BLIF text (Berkeley Logic Interchange Format), or its fault.
 use Rattle.std.specs.Prelude.{ℕ, ◌≡◌, ◌≤◌, ◌+◌, ◌⊎◌, true, List, [], ◌∷◌, ◌++◌, length, reverse}
 use Rattle.dom_base.specs.Lines.{lines}
 use Rattle.blif_ast.specs.BlifFileData.{BlifFileData}
-use Rattle.blif_read.specs.declared.fault.BlifKind.{BlifKind}
-use Rattle.blif_read.specs.declared.fault.BlifKind.TheVariants.{NoModel}
-use Rattle.blif_read.specs.LogicalLines.{LogicalLine, logical_lines}
-use Rattle.blif_read.specs.Faults.{has_fault, kind_number}
-use Rattle.blif_read.specs.Models.{models_of}
+use Rattle.blif_ast.specs.declared.kind.BlifKind.{BlifKind}
+use Rattle.blif_ast.specs.declared.kind.BlifKind.TheVariants.{NoModel}
+use Rattle.blif_ast.specs.LogicalLines.{LogicalLine, logical_lines}
+use Rattle.blif_ast.specs.Faults.{has_fault, kind_number}
+use Rattle.blif_ast.specs.Models.{models_of}
 
 -- one of these lines has this number and a fault of this kind; its context is what the lines before it say
 pub record IsFaultOfLine (all : List LogicalLine) (number : ℕ) (kind : BlifKind) : Type 0 where
