@@ -1,0 +1,4 @@
+pub mod Cutting
+pub mod OneAnswer
+pub mod PinLetters
+pub mod Progress

@@ -1,0 +1,9 @@
+use Rattle.std.proofs.Common.{length}
+use Rattle.stim_text.proofs.Progress.{Reads}
+use Rattle.stim_text.proofs.reader.read_stim.Given as goal
+
+abbrev pub invariant-lines : goal.invariant-lines
+invariant-lines l = Reads l.width l.fn.text l.number l.rest l.cycles.items
+
+abbrev pub decreases-lines : goal.decreases-lines
+decreases-lines l = length l.rest

@@ -1,0 +1,88 @@
+//! The letters of a line.
+ghost use Rattle.std.specs.Prelude.{◌≡◌, ◌==◌, ◌++◌, IfOk, OnOk, MatchOption, true, map};
+ghost use Rattle.stim_text.specs.Stimuli.{letters_of, is_letter, are_letters, has_width, has_fault, is_dash};
+ghost use Rattle.stim_text.specs.Cuts.{IsPinsOf, is_good};
+
+use crate::cut::strip_comment;
+use crate::{Pins, StimKind};
+use std::alloc::{AllocError, Global};
+
+/// The bytes of a line outside its comment, without blanks and tabs.
+pub(crate) fn letters_of(alloc: Global, line: &[u8]) -> Result<Vec<u8>, AllocError>
+    ensures { IfOk result (λ v. v.items ≡ letters_of line.now) }
+{
+    strip_comment(line)
+        .iter()
+        .copied()
+        .filter(|b| *b != b' ' && *b != b'\t')
+        .collect(alloc)
+}
+
+/// The fault of letters for this number of pins, if they have one.
+pub(crate) fn fault_of(letters: &[u8], width: u32) -> Option<StimKind>
+    ensures { MatchOption result (is_good width letters.now ≡ true) (λ kind. has_fault width kind letters.now ≡ true) }
+{
+    if !are_letters(letters, width) {
+        Some(StimKind::BadLetter)
+    } else if !has_width(letters, width) {
+        Some(StimKind::BadLength)
+    } else {
+        None
+    }
+}
+
+fn are_letters(letters: &[u8], width: u32) -> bool
+    ensures { result ≡ are_letters width letters.now }
+{
+    for letter in letters {
+        if !is_letter(*letter, width) {
+            return false;
+        }
+    }
+    true
+}
+
+fn is_letter(letter: u8, width: u32) -> bool
+    ensures { result ≡ is_letter width letter }
+{
+    letter == b'0' || letter == b'1' || (width == 0 && letter == b'-')
+}
+
+fn has_width(letters: &[u8], width: u32) -> bool
+    ensures { result ≡ has_width width letters.now }
+{
+    if width == 0 {
+        is_dash(letters)
+    } else {
+        letters.len() as u64 == width as u64
+    }
+}
+
+fn is_dash(letters: &[u8]) -> bool
+    ensures { result ≡ is_dash letters.now }
+{
+    letters.len() == 1 && letters[0] == b'-'
+}
+
+/// The bits of letters that have no fault.
+pub(crate) fn pins_of(alloc: Global, letters: &[u8], width: u32) -> Result<Pins, AllocError>
+    requires { is_good width letters.now ≡ true }
+    ensures { IfOk result (λ pins. IsPinsOf width letters.now pins) }
+{
+    let mut bits = Vec::new(alloc);
+    if width == 0 {
+        return Ok(Pins(bits));
+    }
+    push_bits(&mut bits, letters)?;
+    Ok(Pins(bits))
+}
+
+/// Appends a bit for each letter.
+fn push_bits(bits: &mut Vec<bool>, letters: &[u8]) -> Result<(), AllocError>
+    ensures { OnOk result (bits.new.items ≡ bits.old.items ++ map (λ b. b == 49) letters.now) }
+{
+    for letter in letters {
+        bits.push(*letter == b'1')?;
+    }
+    Ok(())
+}

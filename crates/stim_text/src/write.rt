@@ -1,0 +1,96 @@
+//! The line of a cycle.
+ghost use Rattle.std.specs.Prelude.{◌≡◌, ◌++◌, OnOk, OnErr, map};
+ghost use Rattle.std.specs.Fmt.{decimal};
+ghost use Rattle.stim_text.specs.CycleLines.{cycle_line, pin_letters, out_letters, events_part, bit_letter};
+ghost use Rattle.dom_base.specs.Tri.{letter_of};
+ghost use Rattle.stim_text.specs.Cuts.{KeepsFront};
+
+use crate::CycleRow;
+use dom_base::{OutOfMemory, Tri};
+use itoa::Buffer;
+
+/// Appends the line `cycle C in PINS out OUTS`, and before its LF ` events E` where the row has
+/// events. PINS and OUTS have a letter `0`, `1` or `X` for each value; of none they are `-`. It fails
+/// only for want of memory, and then the text is as it was.
+pub fn write_cycle(text: &mut Vec<u8>, row: &CycleRow) -> Result<(), OutOfMemory>
+    ensures line { OnOk result (text.new.items ≡ text.old.items ++ cycle_line row.now) }
+    ensures unchanged { OnErr result (text.new.items ≡ text.old.items) }
+{
+    let before = text.len();
+    match put_row(text, row) {
+        Ok(()) => Ok(()),
+        Err(fault) => {
+            text.truncate(before);
+            Err(fault)
+        }
+    }
+}
+
+fn put_row(text: &mut Vec<u8>, row: &CycleRow) -> Result<(), OutOfMemory>
+    ensures line { OnOk result (text.new.items ≡ text.old.items ++ cycle_line row.now) }
+    ensures front { KeepsFront text.old.items text.new.items }
+{
+    put(text, b"cycle ")?;
+    put_number(text, row.cycle)?;
+    put(text, b" in ")?;
+    put_pins(text, &row.pins)?;
+    put(text, b" out ")?;
+    put_outs(text, &row.outs)?;
+    put_events(text, row.events)?;
+    put(text, b"\n")
+}
+
+fn put(text: &mut Vec<u8>, bytes: &[u8]) -> Result<(), OutOfMemory>
+    ensures bytes { OnOk result (text.new.items ≡ text.old.items ++ bytes.now) }
+    ensures front { KeepsFront text.old.items text.new.items }
+{
+    text.extend_from_slice(bytes)?;
+    Ok(())
+}
+
+fn put_number(text: &mut Vec<u8>, number: u64) -> Result<(), OutOfMemory>
+    ensures digits { OnOk result (text.new.items ≡ text.old.items ++ decimal number) }
+    ensures front { KeepsFront text.old.items text.new.items }
+{
+    let mut buffer = Buffer::new();
+    put(text, buffer.format(number).as_bytes())
+}
+
+fn put_pins(text: &mut Vec<u8>, pins: &[bool]) -> Result<(), OutOfMemory>
+    ensures letters { OnOk result (text.new.items ≡ text.old.items ++ pin_letters pins.now) }
+    ensures front { KeepsFront text.old.items text.new.items }
+{
+    if pins.is_empty() {
+        return put(text, b"-");
+    }
+    for pin in pins {
+        text.push(if *pin { b'1' } else { b'0' })?;
+    }
+    Ok(())
+}
+
+fn put_outs(text: &mut Vec<u8>, outs: &[Tri]) -> Result<(), OutOfMemory>
+    ensures letters { OnOk result (text.new.items ≡ text.old.items ++ out_letters outs.now) }
+    ensures front { KeepsFront text.old.items text.new.items }
+{
+    if outs.is_empty() {
+        return put(text, b"-");
+    }
+    for out in outs {
+        text.push(out.letter())?;
+    }
+    Ok(())
+}
+
+fn put_events(text: &mut Vec<u8>, events: Option<u64>) -> Result<(), OutOfMemory>
+    ensures events { OnOk result (text.new.items ≡ text.old.items ++ events_part events) }
+    ensures front { KeepsFront text.old.items text.new.items }
+{
+    match events {
+        None => Ok(()),
+        Some(events) => {
+            put(text, b" events ")?;
+            put_number(text, events)
+        }
+    }
+}
