@@ -8,11 +8,12 @@ use Rattle.std.proofs.lemmas.Fmt.{decimal_injective}
 use Rattle.std.proofs.lemmas.List.{append_cancel_left}
 use Rattle.std.proofs.lemmas.List.Elements.{All-nil, All-cons, All-head, All-take, All-drop, All-weaker}
 use Rattle.std.proofs.lemmas.List.Folds.{list_any-append, list_any_none}
+use Rattle.deck.specs.Escapes.{escaped}
 use Rattle.deck.specs.Ports.{IsPin, IsOutput, leading_ports}
 use Rattle.stage.specs.Tree.{Tree, inner_count}
 use Rattle.stage.proofs.NamedCells.{HasCellNames, IsStageName}
 use Rattle.stage.proofs.Numbering.{HasNumber-from}
-use Rattle.domsyn.specs.declared.letter.Letter.{Letter}
+use Rattle.blif_ast.specs.declared.letter.Letter.{Letter}
 use Rattle.domsyn.specs.OneTable.{IsRow}
 use Rattle.domsyn.specs.Balanced.{first_half}
 use Rattle.domsyn.specs.Deck.{cell_nets, literals, output_name, table_tree}
@@ -101,7 +102,7 @@ cell_names pins output tree pins_are few = record {
   inners_apart = λ i j lt lt' e. decimal_injective i j (omega arith) (omega arith) (append_cancel_left (codes "t0_") (decimal i) (decimal j) e);
   driven_apart = λ name is. (
     stage_apart 122 (48 ∷ []) tree (λ e. omega arith) (λ e. omega arith) (λ e. omega arith) name is,
-    stage_apart 111 (95 ∷ output) tree (λ e. omega arith) (λ e. omega arith) (λ e. omega arith) name is,
+    stage_apart 111 (95 ∷ escaped output) tree (λ e. omega arith) (λ e. omega arith) (λ e. omega arith) name is,
   );
 }
 

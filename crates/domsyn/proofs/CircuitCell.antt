@@ -9,6 +9,7 @@ use Rattle.std.proofs.lemmas.List.{length-map, take_at}
 use Rattle.deck.specs.CircuitData.{CircuitData}
 use Rattle.deck.specs.Nets.{place_of}
 use Rattle.deck.specs.Ports.{leading_ports}
+use Rattle.deck.specs.Escapes.{escaped}
 use Rattle.deck.specs.Pushes.{new_circuit}
 use Rattle.deck.specs.Sources.{is_source}
 use Rattle.deck.proofs.Distinct.{length-leading, ports_differ}
@@ -18,7 +19,7 @@ use Rattle.stage.specs.Cell.{IsCell, cell, inverter, map_nets}
 use Rattle.stage.specs.Tree.{inner_count, map_tree}
 use Rattle.stage.proofs.NamedCells.{HasCellNames, IsBuilt, IsBuilt-with_cards, IsCell-named, IsNumberedCell, IsNumberedCell-from_cards, devices_named}
 use Rattle.stage.proofs.Numbering.{HasNumber-from, place_of-distinct, with_cards-distinct}
-use Rattle.domsyn.specs.OneTable.{IsOneTable, IsRow}
+use Rattle.domsyn.specs.OneTable.{IsOneTable, IsRow, HasByteNames}
 use Rattle.domsyn.specs.OneTableData.{OneTableData}
 use Rattle.domsyn.specs.Deck.{cell_nets, circuit_of, deck_cards, output_name, pin_name, table_tree}
 use Rattle.domsyn.proofs.CellNetNames.{cell_names, inner_count-table_tree-le, outputs_are_outputs}
@@ -30,7 +31,7 @@ deck_ports t = leading_ports 1 ++ map pin_name t.inputs ++ output_name t.output 
 
 -- its circuit before the first card
 abbrev pub start_of : OneTableData → CircuitData
-start_of t = new_circuit t.model (record { net = output_name t.output; plus = true } ∷ []) 1 (map pin_name t.inputs) (output_name t.output ∷ [])
+start_of t = new_circuit (escaped t.model) (record { net = output_name t.output; plus = true } ∷ []) 1 (map pin_name t.inputs) (output_name t.output ∷ [])
 
 pub is_built : (t : OneTableData) → IsBuilt (deck_ports t) (circuit_of t) (deck_cards t)
 is_built t = IsBuilt-with_cards (start_of t) (deck_cards t) refl refl
@@ -60,14 +61,14 @@ ports_first t =
     ap (take (circuit_of t).ports) built.nets ∙ take_at (deck_ports t) built.more (circuit_of t).ports (sym built.port_count)
 
 -- no name stands twice among its nets
-pub nets_distinct : (t : OneTableData) → IsOneTable t → IsDistinct (pointwise nat_eq) (circuit_of t).nets
-nets_distinct t is =
+pub nets_distinct : (t : OneTableData) → IsOneTable t → HasByteNames t → IsDistinct (pointwise nat_eq) (circuit_of t).nets
+nets_distinct t is names =
     with_cards-distinct (start_of t) (deck_cards t)
-    (ports_differ 1 (map pin_name t.inputs) (output_name t.output ∷ []) (omega arith) (pins_are_pins t.inputs) (outputs_are_outputs t.output) (pins_apart t.inputs t.output is.apart))
+    (ports_differ 1 (map pin_name t.inputs) (output_name t.output ∷ []) (omega arith) (pins_are_pins t.inputs) (outputs_are_outputs t.output) (pins_apart t.inputs t.output names.inputs is.apart))
 
 -- a net that has a name has its number
-pub named_is_number : (t : OneTableData) (n : ℕ) (name : List ℕ) → IsOneTable t → slice_get (circuit_of t).nets n ≡ Some name → n ≡ place_of (circuit_of t).nets name
-named_is_number t n name is at = place_of-distinct (circuit_of t).nets n name (nets_distinct t is) at
+pub named_is_number : (t : OneTableData) (n : ℕ) (name : List ℕ) → IsOneTable t → HasByteNames t → slice_get (circuit_of t).nets n ≡ Some name → n ≡ place_of (circuit_of t).nets name
+named_is_number t n name is names at = place_of-distinct (circuit_of t).nets n name (nets_distinct t is names) at
 
 -- what stands at a place among the ports stands at this place among the nets
 pub port_stands : (t : OneTableData) (k : ℕ) (name : List ℕ) → slice_get (deck_ports t) k ≡ Some name → slice_get (circuit_of t).nets k ≡ Some name
@@ -76,8 +77,8 @@ port_stands t k name at =
     ap (λ nets. slice_get nets k) built.nets ∙ slice_get-append (deck_ports t) built.more k name at
 
 -- so the place is its number
-pub number_of_port : (t : OneTableData) (k : ℕ) (name : List ℕ) → IsOneTable t → slice_get (deck_ports t) k ≡ Some name → place_of (circuit_of t).nets name ≡ k
-number_of_port t k name is at = sym (named_is_number t k name is (port_stands t k name at))
+pub number_of_port : (t : OneTableData) (k : ℕ) (name : List ℕ) → IsOneTable t → HasByteNames t → slice_get (deck_ports t) k ≡ Some name → place_of (circuit_of t).nets name ≡ k
+number_of_port t k name is names at = sym (named_is_number t k name is names (port_stands t k name at))
 
 -- each name of the cell, and the output, stands at its number
 pub cell_numbered : (t : OneTableData) → IsNumberedCell (circuit_of t).nets cell_nets (table_tree [] t.rows (map pin_name t.inputs)) (output_name t.output)
@@ -110,14 +111,14 @@ slice_get-behind [] ys k n at = let same : k ≡ n = omega arith in ap (slice_ge
 slice_get-behind (x ∷ xs) ys zero n at = absurd (omega arith)
 slice_get-behind (x ∷ xs) ys (suc k) n at = slice_get-behind xs ys k n (omega arith)
 
-pub vdd_place : (t : OneTableData) → IsOneTable t → place_of (circuit_of t).nets (codes "vdd") ≡ 0
-vdd_place t is = number_of_port t 0 (codes "vdd") is refl
+pub vdd_place : (t : OneTableData) → IsOneTable t → HasByteNames t → place_of (circuit_of t).nets (codes "vdd") ≡ 0
+vdd_place t is names = number_of_port t 0 (codes "vdd") is names refl
 
-pub vss_place : (t : OneTableData) → IsOneTable t → place_of (circuit_of t).nets (codes "vss") ≡ 1
-vss_place t is = number_of_port t 1 (codes "vss") is refl
+pub vss_place : (t : OneTableData) → IsOneTable t → HasByteNames t → place_of (circuit_of t).nets (codes "vss") ≡ 1
+vss_place t is names = number_of_port t 1 (codes "vss") is names refl
 
-pub clock_place : (t : OneTableData) → IsOneTable t → place_of (circuit_of t).nets (codes "ck1") ≡ 2
-clock_place t is = number_of_port t 2 (codes "ck1") is refl
+pub clock_place : (t : OneTableData) → IsOneTable t → HasByteNames t → place_of (circuit_of t).nets (codes "ck1") ≡ 2
+clock_place t is names = number_of_port t 2 (codes "ck1") is names refl
 
 pin_at : (t : OneTableData) (k : ℕ) (input : List ℕ) → slice_get t.inputs k ≡ Some input → slice_get (deck_ports t) (9 + k) ≡ Some (pin_name input)
 pin_at t k input at =
@@ -132,17 +133,17 @@ pub pin_numbered : (t : OneTableData) (k : ℕ) (input : List ℕ) → slice_get
 pin_numbered t k input at = HasNumber-from (circuit_of t).nets (9 + k) (pin_name input) (port_stands t (9 + k) (pin_name input) (pin_at t k input at))
 
 -- and the pins stand behind nine leading ports, in order
-pub pin_place : (t : OneTableData) (k : ℕ) (input : List ℕ) → IsOneTable t → slice_get t.inputs k ≡ Some input
+pub pin_place : (t : OneTableData) (k : ℕ) (input : List ℕ) → IsOneTable t → HasByteNames t → slice_get t.inputs k ≡ Some input
     → place_of (circuit_of t).nets (pin_name input) ≡ 9 + k
-pin_place t k input is at = number_of_port t (9 + k) (pin_name input) is (pin_at t k input at)
+pin_place t k input is names at = number_of_port t (9 + k) (pin_name input) is names (pin_at t k input at)
 
 -- the output stands behind the pins
-pub output_place : (t : OneTableData) → IsOneTable t → place_of (circuit_of t).nets (output_name t.output) ≡ 9 + length t.inputs
-output_place t is =
+pub output_place : (t : OneTableData) → IsOneTable t → HasByteNames t → place_of (circuit_of t).nets (output_name t.output) ≡ 9 + length t.inputs
+output_place t is names =
     let pins = map pin_name t.inputs in
     let behind = slice_get-behind (leading_ports 1 ++ pins) (output_name t.output ∷ []) (9 + length t.inputs) 0
     (omega (arith, length-append (leading_ports 1) pins, length-leading 1, length-map t.inputs pin_name)) in
-    number_of_port t (9 + length t.inputs) (output_name t.output) is behind
+    number_of_port t (9 + length t.inputs) (output_name t.output) is names behind
 
 -- an inner net of the tree stands at its number
 pub inner_numbered : (t : OneTableData) (j : ℕ) → j < inner_count (table_tree [] t.rows (map pin_name t.inputs))

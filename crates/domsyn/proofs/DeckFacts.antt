@@ -4,6 +4,7 @@ use Rattle.dom_base.specs.declared.kind.Kind.{Kind}
 use Rattle.dom_base.specs.declared.kind.Kind.TheVariants.{N as nch}
 use Rattle.deck.specs.CircuitData.{CircuitData}
 use Rattle.deck.specs.Nets.{IsCircuit}
+use Rattle.deck.specs.Escapes.{escaped}
 use Rattle.deck.specs.Pushes.{pushed, new_circuit}
 use Rattle.deck.specs.Ports.{IsOutput}
 use Rattle.deck.proofs.Order.{IsCircuit-push}
@@ -11,9 +12,9 @@ use Rattle.deck.proofs.Distinct.{ports_differ, length-ports}
 use Rattle.stage.specs.Card.{Card, with_cards}
 use Rattle.stage.specs.Cell.{cell, dynamic_stage, inverter}
 use Rattle.stage.specs.Tree.{Tree, Leaf, Series, Parallel, spell, leaves, inner_count}
-use Rattle.domsyn.specs.OneTable.{IsOneTable, IsRow}
+use Rattle.domsyn.specs.OneTable.{IsOneTable, IsRow, HasByteNames}
 use Rattle.domsyn.specs.OneTableData.{OneTableData}
-use Rattle.domsyn.specs.declared.letter.Letter.{Letter}
+use Rattle.blif_ast.specs.declared.letter.Letter.{Letter}
 use Rattle.domsyn.specs.Balanced.{first_half}
 use Rattle.domsyn.specs.Deck.{literals, row_tree, table_tree, pin_name, output_name, cell_nets, deck_cards, circuit_of}
 use Rattle.domsyn.proofs.Literals.{literals-bounds}
@@ -88,19 +89,19 @@ length-deck_cards t is =
     let whole = length-append (cell cell_nets tree) (inverter (codes "vdd") (codes "vss") (codes "d0") (output_name t.output)) in
     omega (arith, few, count, stage_count, cell_count, whole)
 
-pub IsCircuit-circuit_of : (t : OneTableData) → IsOneTable t → let c = circuit_of t in IsCircuit c.ports c.nets c.devices
-IsCircuit-circuit_of t is =
+pub IsCircuit-circuit_of : (t : OneTableData) → IsOneTable t → HasByteNames t → let c = circuit_of t in IsCircuit c.ports c.nets c.devices
+IsCircuit-circuit_of t is names =
     let pins : List (List ℕ) = map pin_name t.inputs in
     let outs : List (List ℕ) = output_name t.output ∷ [] in
     let count = length-ports 1 pins outs (omega arith) in
     let width = length-map t.inputs pin_name in
     let out : All IsOutput outs = All-cons IsOutput (output_name t.output) [] refl (All-nil IsOutput) in
     let cards = length-deck_cards t is in
-    IsCircuit-with_cards (deck_cards t) (new_circuit t.model (record { net = output_name t.output; plus = true } ∷ []) 1 pins outs)
+    IsCircuit-with_cards (deck_cards t) (new_circuit (escaped t.model) (record { net = output_name t.output; plus = true } ∷ []) 1 pins outs)
     (record {
       few_ports = omega (arith, count, width, is.few_inputs);
       few_devices = omega arith;
-      distinct = ports_differ 1 pins outs (omega arith) (pins_are_pins t.inputs) out (pins_apart t.inputs t.output is.apart);
+      distinct = ports_differ 1 pins outs (omega arith) (pins_are_pins t.inputs) out (pins_apart t.inputs t.output names.inputs is.apart);
       in_order = tt;
       all_used = refl;
     })

@@ -1,8 +1,8 @@
 use Rattle.std.proofs.Common.{◌≡◌, ℕ, zero, suc, ◌<◌, ◌≤◌, ◌+◌, true, false, cond, List, [], ◌∷◌, ◌++◌, length, take, get_or, refl, ap, arith, add-one}
 use Rattle.std.specs.Prelude.{count_by}
 use Rattle.std.proofs.lemmas.List.Sums.{sum_by-cons}
-use Rattle.domsyn.specs.declared.letter.Letter.{Letter}
-use Rattle.domsyn.specs.declared.letter.Letter.TheVariants.{Zero, One, Any}
+use Rattle.blif_ast.specs.declared.letter.Letter.{Letter}
+use Rattle.blif_ast.specs.declared.letter.Letter.TheVariants.{Zero, One, Any}
 use Rattle.domsyn.specs.OneTable.{is_one, IsRow}
 use Rattle.domsyn.specs.Deck.{literals}
 

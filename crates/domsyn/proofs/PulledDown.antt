@@ -1,11 +1,10 @@
-use Rattle.std.proofs.Common.{◌≡◌, ℕ, ◌∙◌, Bool, List, [], Option, Some, None, length, map, refl, sym, ap, subst, slice_get}
-use Rattle.std.specs.Prelude.{codes, IfSome}
+use Rattle.std.proofs.Common.{◌≡◌, ℕ, ◌∙◌, Bool, List, [], Option, Some, None, length, map, refl, sym, ap, slice_get}
+use Rattle.std.specs.Prelude.{codes}
 use Rattle.std.specs.Option.{option_map}
 use Rattle.std.proofs.lemmas.List.{length-map}
 use Rattle.std.proofs.lemmas.Option.{slice_get-map, same_Some}
 use Rattle.dom_base.specs.declared.kind.Kind.TheVariants.{N as nch}
 use Rattle.dom_base.specs.declared.tri.Tri.{Tri}
-use Rattle.dom_io.specs.Held.{held}
 use Rattle.deck.specs.CircuitData.{CircuitData}
 use Rattle.deck.specs.DeckText.{IsDeckOf}
 use Rattle.deck.specs.Nets.{place_of}
@@ -19,7 +18,7 @@ use Rattle.spice_text.specs.Text.{IsWritten}
 use Rattle.spice_text.proofs.ReadBack.{read_back}
 use Rattle.domsyn.specs.Bits.{tri_of}
 use Rattle.domsyn.specs.Deck.{cell_nets, circuit_of, pin_name, table_tree}
-use Rattle.domsyn.specs.OneTable.{IsOneTable}
+use Rattle.domsyn.specs.OneTable.{IsOneTable, HasByteNames}
 use Rattle.domsyn.specs.OneTableData.{OneTableData}
 use Rattle.domsyn.specs.PullDown.{HasBits, PullsDown}
 use Rattle.domsyn.specs.Top.{IsAnswer, IsPulledDeck}
@@ -79,23 +78,26 @@ pulls_down t is =
     }
 
 -- the text of the deck of a network is a deck, of that circuit
-pub reads_back : (t : OneTableData) (text : List ℕ) → IsOneTable t → IsWritten (circuit_of t) text → IsDeckOf text (circuit_of t)
-reads_back t text is written =
-    read_back (circuit_of t) text (record { is = IsCircuit-circuit_of t is; names = HasNetNames-circuit_of t is; good = IsGoodCircuit-circuit_of t is }) written
+pub reads_back : (t : OneTableData) (text : List ℕ) → IsOneTable t → HasByteNames t → IsWritten (circuit_of t) text → IsDeckOf text (circuit_of t)
+reads_back t text is names written =
+    read_back (circuit_of t) text (record { is = IsCircuit-circuit_of t is names; names = HasNetNames-circuit_of t is names; good = IsGoodCircuit-circuit_of t names }) written
 
 -- the answer to the words is a deck whose pull-down is the table of the file
 pub pulled_answer : (files : Option (List (List ℕ × List ℕ))) (words : List (List ℕ)) (text : List ℕ) → IsAnswer files words text → IsPulledDeck files words text
 pulled_answer files words text answer =
-    let plain = answer.deck.plain in
-    let P : List ℕ → Type 0 = λ bytes. IfSome files (λ told. held told answer.file ≡ Some bytes) in
+    let built = answer.deck.buildable in
     record {
       file = answer.file;
-      table = plain.table;
-      circuit = circuit_of plain.table;
+      bytes = answer.bytes;
+      read = built.file;
+      table = built.table;
+      circuit = circuit_of built.table;
       asks = answer.asks;
-      is_one_table = plain.is_one_table;
-      held_is = subst P plain.text answer.held_is;
+      held_is = answer.held_is;
+      accepted = built.accepted;
+      is_file = built.is_file;
+      is_one_table = built.is_one_table;
       written = answer.deck.written;
-      reads = reads_back plain.table text plain.is_one_table answer.deck.written;
-      pulls = pulls_down plain.table plain.is_one_table;
+      reads = reads_back built.table text built.is_one_table answer.deck.names answer.deck.written;
+      pulls = pulls_down built.table built.is_one_table;
     }

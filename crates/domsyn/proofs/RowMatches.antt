@@ -7,11 +7,11 @@ use Rattle.std.proofs.lemmas.Option.{same_Some}
 use Rattle.std.proofs.lemmas.List.Elements.{All-head, All-tail, All-nil, All-cons}
 use Rattle.dom_base.specs.declared.tri.Tri.{Tri}
 use Rattle.stage.specs.Known.{is_one}
-use Rattle.domsyn.specs.declared.letter.Letter.{Letter}
-use Rattle.domsyn.specs.declared.letter.Letter.TheVariants.{Zero, One, Any}
+use Rattle.blif_ast.specs.declared.letter.Letter.{Letter}
+use Rattle.blif_ast.specs.declared.letter.Letter.TheVariants.{Zero, One, Any}
 use Rattle.domsyn.specs.Bits.{tri_of}
 use Rattle.domsyn.specs.Deck.{literals}
-use Rattle.domsyn.specs.Table.{Matches}
+use Rattle.blif_ast.specs.TableValue.{Matches}
 
 pub is_one-tri_of : (b : Bool) → is_one (tri_of b) ≡ b
 is_one-tri_of true = refl

@@ -4,12 +4,13 @@ use Rattle.std.proofs.lemmas.List.{take-map, drop-map, length-map}
 use Rattle.dom_base.specs.declared.kind.Kind.{Kind}
 use Rattle.dom_base.specs.declared.kind.Kind.TheVariants.{N as nch, P as pch, Keep}
 use Rattle.deck.specs.CircuitData.{CircuitData}
+use Rattle.deck.specs.Escapes.{escaped}
 use Rattle.deck.specs.Pushes.{pushed, new_circuit}
 use Rattle.stage.specs.Card.{Card, with_cards}
 use Rattle.stage.specs.Cell.{CellNets, cell, dynamic_stage, inverter}
 use Rattle.stage.specs.Tree.{Tree, Leaf, Series, Parallel, spell, inner_count}
 use Rattle.domsyn.specs.Balanced.{balanced, balanced_within, first_half}
-use Rattle.domsyn.specs.declared.letter.Letter.{Letter}
+use Rattle.blif_ast.specs.declared.letter.Letter.{Letter}
 use Rattle.domsyn.specs.OneTableData.{OneTableData}
 use Rattle.domsyn.specs.Deck.{row_tree, table_tree, literals, pin_name, output_name, cell_nets, circuit_of}
 
@@ -150,7 +151,7 @@ cell_cards old a b c d new nets tree one two three four five =
     five ∙ ap (λ x. with_cards x inv) d_is ∙ sym (with_cards-append old (dynamic_stage nets tree) inv)
 
 pub circuit_of_parts : (t : OneTableData) (start celled done : CircuitData) (pins : List (List ℕ)) (rows : List (List Letter)) (model out vdd vss dynamic : List ℕ)
-    → model ≡ t.model → rows ≡ t.rows → pins ≡ map pin_name t.inputs → out ≡ output_name t.output → vdd ≡ codes "vdd" → vss ≡ codes "vss" → dynamic ≡ codes "d0"
+    → model ≡ escaped t.model → rows ≡ t.rows → pins ≡ map pin_name t.inputs → out ≡ output_name t.output → vdd ≡ codes "vdd" → vss ≡ codes "vss" → dynamic ≡ codes "d0"
     → start ≡ new_circuit model (record { net = out; plus = true } ∷ []) 1 pins (out ∷ [])
     → celled ≡ with_cards start (cell cell_nets (table_tree [] rows pins))
     → done ≡ with_cards celled (inverter vdd vss dynamic out)
@@ -158,7 +159,7 @@ pub circuit_of_parts : (t : OneTableData) (start celled done : CircuitData) (pin
 circuit_of_parts t start celled done pins rows model out vdd vss dynamic is_model is_rows is_pins is_out is_vdd is_vss is_dynamic one two three =
     let cells : List (Card (List ℕ)) = cell cell_nets (table_tree [] t.rows (map pin_name t.inputs)) in
     let inv : List (Card (List ℕ)) = inverter (codes "vdd") (codes "vss") (codes "d0") (output_name t.output) in
-    let begin : CircuitData = new_circuit t.model (record { net = output_name t.output; plus = true } ∷ []) 1 (map pin_name t.inputs) (output_name t.output ∷ []) in
+    let begin : CircuitData = new_circuit (escaped t.model) (record { net = output_name t.output; plus = true } ∷ []) 1 (map pin_name t.inputs) (output_name t.output ∷ []) in
     let started : start ≡ begin = one ∙ (λ i. new_circuit (is_model i) (record { net = is_out i; plus = true } ∷ []) 1 (is_pins i) (is_out i ∷ [])) in
     let made : celled ≡ with_cards begin cells = two ∙ (λ i. with_cards (started i) (cell cell_nets (table_tree [] (is_rows i) (is_pins i)))) in
     three ∙ (λ i. with_cards (made i) (inverter (is_vdd i) (is_vss i) (is_dynamic i) (is_out i))) ∙ sym (with_cards-append begin cells inv)

@@ -10,11 +10,11 @@ use Rattle.dom_base.specs.declared.tri.Tri.TheVariants.{Zero, One}
 use Rattle.stage.specs.Known.{IsKnown, is_one}
 use Rattle.stage.specs.Tree.{Parallel, joins, EachLeaf, tree_conduction}
 use Rattle.stage.proofs.Known.{IsKnown-tree_conduction, tree_conduction-one}
-use Rattle.domsyn.specs.declared.letter.Letter.{Letter}
+use Rattle.blif_ast.specs.declared.letter.Letter.{Letter}
 use Rattle.domsyn.specs.Bits.{tri_of}
 use Rattle.domsyn.specs.Deck.{literals, row_tree, table_tree}
 use Rattle.domsyn.specs.OneTable.{IsRow, HasGoodRows}
-use Rattle.domsyn.specs.Table.{IsOneAt}
+use Rattle.blif_ast.specs.TableValue.{IsOneAt}
 use Rattle.domsyn.proofs.BalancedTrees.{joins-row_tree, joins-parallel, EachLeaf-row_tree, EachLeaf-balanced}
 use Rattle.domsyn.proofs.Literals.{literals-bounds}
 use Rattle.domsyn.proofs.RowMatches.{list_all-literals, All-literals, Matches-from_all, all_from_Matches}

@@ -1,12 +1,13 @@
 use Rattle.std.specs.Prelude.{ℕ, true, List, [], ◌∷◌, ◌++◌, map, codes}
 use Rattle.std.specs.Fmt.{decimal}
+use Rattle.blif_ast.specs.declared.letter.Letter.{Letter}
+use Rattle.blif_ast.specs.declared.letter.Letter.TheVariants.{One}
 use Rattle.deck.specs.CircuitData.{CircuitData}
+use Rattle.deck.specs.Escapes.{escaped}
 use Rattle.deck.specs.Pushes.{new_circuit}
 use Rattle.stage.specs.Card.{Card, with_cards}
 use Rattle.stage.specs.Tree.{Tree, Leaf, Series, Parallel}
 use Rattle.stage.specs.Cell.{CellNets, cell, inverter}
-use Rattle.domsyn.specs.declared.letter.Letter.{Letter}
-use Rattle.domsyn.specs.declared.letter.Letter.TheVariants.{One}
 use Rattle.domsyn.specs.OneTableData.{OneTableData}
 use Rattle.domsyn.specs.Balanced.{balanced}
 
@@ -25,11 +26,13 @@ row_tree none nets = balanced Series (Leaf none) (map Leaf nets)
 abbrev pub table_tree : {Net : Type 0} → Net → List (List Letter) → List Net → Tree Net
 table_tree none rows nets = balanced Parallel (Leaf none) (map (λ row. row_tree none (literals row nets)) rows)
 
+-- the net of an input
 abbrev pub pin_name : List ℕ → List ℕ
-pin_name input = codes "i_" ++ input
+pin_name input = codes "i_" ++ escaped input
 
+-- the net of an output
 abbrev pub output_name : List ℕ → List ℕ
-output_name output = codes "o_" ++ output
+output_name output = codes "o_" ++ escaped output
 
 -- the nets of the first cell, on the first clock
 abbrev pub cell_nets : CellNets (List ℕ)
@@ -53,5 +56,5 @@ deck_cards t =
 abbrev pub circuit_of : OneTableData → CircuitData
 circuit_of t =
     with_cards
-    (new_circuit t.model (record { net = output_name t.output; plus = true } ∷ []) 1 (map pin_name t.inputs) (output_name t.output ∷ []))
+    (new_circuit (escaped t.model) (record { net = output_name t.output; plus = true } ∷ []) 1 (map pin_name t.inputs) (output_name t.output ∷ []))
     (deck_cards t)

@@ -5,6 +5,5 @@ pub mod Deck
 pub mod OneTable
 pub mod OneTableData
 pub mod PullDown
-pub mod Table
+pub mod Refusals
 pub mod Top
-pub mod Words

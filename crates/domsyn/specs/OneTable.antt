@@ -1,18 +1,12 @@
-use Rattle.std.specs.Prelude.{ℕ, ◌≤◌, ◌<◌, ◌≡◌, ◌≢◌, ◌⊎◌, Bool, true, false, List, [], ◌∷◌, ◌++◌, nat_eq, length, map, codes, All, count_by, sum_by, ◌==◌, if◌then◌else◌}
-use Rattle.std.specs.List.{flat_map, IsDistinct}
+use Rattle.std.specs.Prelude.{ℕ, ◌≤◌, ◌<◌, ◌≡◌, ◌≢◌, Bool, true, false, List, [], ◌∷◌, ◌++◌, nat_eq, length, All, count_by, sum_by}
+use Rattle.std.specs.List.{IsDistinct}
 use Rattle.std.specs.Cmp.Lexicographic.{pointwise}
-use Rattle.domsyn.specs.declared.letter.Letter.{Letter}
-use Rattle.domsyn.specs.declared.letter.Letter.TheVariants.{Zero, One, Any}
+use Rattle.blif_ast.specs.declared.letter.Letter.{Letter}
+use Rattle.blif_ast.specs.declared.letter.Letter.TheVariants.{Zero, One}
+use Rattle.blif_ast.specs.BlifFileData.{BlifFileData}
+use Rattle.blif_ast.specs.BlifModelData.{BlifModelData}
+use Rattle.blif_ast.specs.TableData.{TableData}
 use Rattle.domsyn.specs.OneTableData.{OneTableData}
-
--- a lower-case letter or a digit
-abbrev pub IsPlainByte : ℕ → Type 0
-IsPlainByte b = ((47 < b) × (b < 58)) ⊎ ((96 < b) × (b < 123))
-
--- a name that needs no escape
-pub record IsPlainName (name : List ℕ) : Type 0 where
-  pub some : name ≢ []
-  pub plain : All IsPlainByte name
 
 abbrev pub is_one : Letter → Bool
 is_one One = true
@@ -32,40 +26,55 @@ pub record HasGoodRows (width : ℕ) (all : List (List Letter)) : Type 0 where
   pub rows : All (IsRow width) all
   pub two_ones : 2 ≤ sum_by (count_by is_one) all
 
--- the networks that a deck is built for: one table of 1 to 4 rows over 1 to 4,096 inputs, with at least two ones in all
-pub record IsOneTable (t : OneTableData) : Type 0 where
-  pub model : IsPlainName t.model
-  pub inputs : All IsPlainName t.inputs
-  pub output : IsPlainName t.output
+-- 1 to 4 such rows over 1 to 4,096 inputs, with at least two ones in all
+pub record IsSmall (inputs : List (List ℕ)) (output : List ℕ) (all : List (List Letter)) : Type 0 where
   -- the inputs differ from each other and from the output
-  pub apart : IsDistinct (pointwise nat_eq) (t.inputs ++ t.output ∷ [])
-  pub some_input : 1 ≤ length t.inputs
-  pub few_inputs : length t.inputs ≤ 4096
-  pub rows : HasGoodRows (length t.inputs) t.rows
+  pub apart : IsDistinct (pointwise nat_eq) (inputs ++ output ∷ [])
+  pub some_input : 1 ≤ length inputs
+  pub few_inputs : length inputs ≤ 4096
+  pub rows : HasGoodRows (length inputs) all
 
--- a line of BLIF: its first word, one blank and a word for each of the others, and LF
-abbrev pub line : List ℕ → List (List ℕ) → List ℕ
-line first others = first ++ flat_map (λ word. 32 ∷ word) others ++ 10 ∷ []
+-- the networks that a deck is built for
+abbrev pub IsOneTable : OneTableData → Type 0
+IsOneTable t = IsSmall t.inputs t.output t.rows
 
-abbrev pub letter_byte : Letter → ℕ
-letter_byte Zero = 48
-letter_byte One = 49
-letter_byte Any = 45
+-- the table reads these inputs in order and drives this output, and its rows end in 1
+pub record IsTableOver (inputs : List (List ℕ)) (output : List ℕ) (table : TableData) : Type 0 where
+  pub on : table.on ≡ true
+  pub output_is : table.output ≡ output
+  pub inputs_are : table.inputs ≡ inputs
 
--- the letter that a byte stands for; Any where it stands for none
-abbrev pub letter_from : ℕ → Letter
-letter_from byte = if byte == 48 then Zero else (if byte == 49 then One else Any)
+-- the table reads all inputs of the network in order and drives its output, by the network's rows, which end in 1
+pub record IsTableOf (table : TableData) (t : OneTableData) : Type 0 where
+  pub inputs : table.inputs ≡ t.inputs
+  pub output : table.output ≡ t.output
+  pub on : table.on ≡ true
+  pub rows : table.rows ≡ t.rows
 
--- a row that ends in 1
-abbrev pub row_line : List Letter → List ℕ
-row_line row = line (map letter_byte row) (codes "1" ∷ [])
+-- the model is the network: it has its name and ports and this one table, and neither a latch nor an instance
+pub record IsModelOf (m : BlifModelData) (t : OneTableData) : Type 0 where
+  pub name : m.name ≡ t.model
+  pub inputs : m.inputs ≡ t.inputs
+  pub outputs : m.outputs ≡ t.output ∷ []
+  pub table : TableData
+  pub tables : m.tables ≡ table ∷ []
+  pub is_table : IsTableOf table t
+  pub latches : m.latches ≡ []
+  pub instances : m.instances ≡ []
 
--- the printed form of such a network
-abbrev pub printed : OneTableData → List ℕ
-printed t =
-    line (codes ".model") (t.model ∷ [])
-    ++ line (codes ".inputs") t.inputs
-    ++ line (codes ".outputs") (t.output ∷ [])
-    ++ line (codes ".names") (t.inputs ++ t.output ∷ [])
-    ++ flat_map row_line t.rows
-    ++ line (codes ".end") []
+-- the file is the network: it has this one model
+pub record IsFileOfTable (f : BlifFileData) (t : OneTableData) : Type 0 where
+  pub model : BlifModelData
+  pub models : f.models ≡ model ∷ []
+  pub is_model : IsModelOf model t
+
+-- a name that is not empty, of bytes
+pub record IsByteName (name : List ℕ) : Type 0 where
+  pub some : name ≢ []
+  pub bytes : All (λ b. b < 256) name
+
+-- the names of a network are such names
+pub record HasByteNames (t : OneTableData) : Type 0 where
+  pub model : IsByteName t.model
+  pub inputs : All IsByteName t.inputs
+  pub output : IsByteName t.output

@@ -1,5 +1,5 @@
 use Rattle.std.specs.Prelude.{ℕ, List}
-use Rattle.domsyn.specs.declared.letter.Letter.{Letter}
+use Rattle.blif_ast.specs.declared.letter.Letter.{Letter}
 
 -- a network of one table: its name, its inputs in order, its output, and the rows of the table,
 -- each with one letter per input; the rows end in 1

@@ -9,7 +9,7 @@ use Rattle.deck.specs.Switches.{value_of}
 use Rattle.domsyn.specs.Bits.{tri_of}
 use Rattle.domsyn.specs.Deck.{pin_name, output_name}
 use Rattle.domsyn.specs.OneTableData.{OneTableData}
-use Rattle.domsyn.specs.Table.{IsOneAt}
+use Rattle.blif_ast.specs.TableValue.{IsOneAt}
 
 -- the net of this name has this number
 abbrev pub IsNumber : CircuitData → List ℕ → ℕ → Type 0

@@ -1,16 +1,19 @@
 //! The deck of a network of one table: one domino cell and the inverter of its output.
 ghost use Rattle.std.specs.Prelude.{◌≡◌, ◌≤◌, ◌<◌, ◌+◌, ◌*◌, ◌^◌, ◌++◌, ◌∷◌, IfOk, OnOk, All, length, count_by, codes, map, true, []};
 ghost use Rattle.dom_base.specs.declared.kind.Kind.TheVariants.{N as nch};
+ghost use Rattle.deck.specs.Escapes.{escaped};
 ghost use Rattle.deck.specs.Pushes.{new_circuit};
 ghost use Rattle.stage.specs.Card.{with_cards};
 ghost use Rattle.stage.specs.Cell.{cell, inverter};
 ghost use Rattle.stage.specs.Tree.{spell, inner_count};
-ghost use Rattle.domsyn.specs.OneTable.{IsOneTable, IsRow, HasGoodRows, is_one};
+ghost use Rattle.domsyn.specs.OneTable.{IsOneTable, IsRow, HasByteNames, HasGoodRows, is_one as is_one_of};
 ghost use Rattle.domsyn.specs.CellNames.{IsNamed};
 ghost use Rattle.domsyn.specs.Deck.{literals, row_tree, table_tree, cell_nets, circuit_of, pin_name, output_name};
 
-use crate::names::{CellNames, inner_name, net_name, pin_names};
-use crate::{OneTable, Row};
+use crate::OneTable;
+use crate::check::is_one;
+use crate::names::{CellNames, escaped_name, inner_name, net_name, pin_names};
+use blif_ast::Row;
 use deck::{Circuit, Phase};
 use dom_base::{Kind, NetName, OutOfMemory};
 use std::alloc::Global;
@@ -18,13 +21,14 @@ use std::slice;
 
 /// The circuit of the network: its cell, and the inverter of its output.
 pub(crate) fn build(alloc: Global, table: &OneTable) -> Result<Circuit, OutOfMemory>
-    requires { IsOneTable table.now }
+    requires is_one_table { IsOneTable table.now }
+    requires names { HasByteNames table.now }
     ensures { IfOk result (λ circuit. circuit ≡ circuit_of table.now) }
 {
     let names = CellNames::new(alloc)?;
     let all_pins = pin_names(alloc, &table.inputs)?;
     let pins = all_pins.as_slice();
-    let out = net_name(alloc, b"o_", table.output.as_bytes())?;
+    let out = escaped_name(alloc, b"o_", &table.output)?;
     let mut circuit = without_devices(alloc, table, pins, &out)?;
     push_cell(alloc, &mut circuit, &table.rows, pins, &names)?;
     push_inverter(&mut circuit, &names, &names.dynamic, &out)?;
@@ -38,11 +42,12 @@ fn without_devices(
     out: &NetName,
 ) -> Result<Circuit, OutOfMemory>
     requires is_one_table { IsOneTable table.now }
+    requires names { HasByteNames table.now }
     requires pins { pins.now ≡ map pin_name table.now.inputs }
     requires out { out.now ≡ output_name table.now.output }
-    ensures { IfOk result (λ circuit. circuit ≡ new_circuit table.now.model (record { net = out.now; plus = true } ∷ []) 1 pins.now (out.now ∷ [])) }
+    ensures { IfOk result (λ circuit. circuit ≡ new_circuit (escaped table.now.model) (record { net = out.now; plus = true } ∷ []) 1 pins.now (out.now ∷ [])) }
 {
-    let name = net_name(alloc, b"", table.model.as_bytes())?;
+    let name = escaped_name(alloc, b"", &table.model)?;
     let net = net_name(alloc, b"", out.as_bytes())?;
     let mut phases = Vec::new(alloc);
     phases.push(Phase { net, plus: true })?;
@@ -134,7 +139,7 @@ fn literals_of(alloc: Global, row: &Row, pins: &[NetName]) -> Result<Vec<NetName
 {
     let mut nets = Vec::new(alloc);
     for (place, letter) in row.letters.iter().enumerate() {
-        if letter.is_one() {
+        if is_one(*letter) {
             push_name(alloc, &mut nets, &pins[place])?;
         }
     }

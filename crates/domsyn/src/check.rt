@@ -3,10 +3,9 @@ ghost use Rattle.std.specs.Prelude.{◌≡◌, ◌≢◌, ◌≤◌, ◌↔◌, 
 ghost use Rattle.std.specs.Cmp.Lexicographic.{pointwise};
 ghost use Rattle.std.specs.List.{IsDistinct};
 ghost use Rattle.indexmap.specs.IndexSet.{insert_key};
-ghost use Rattle.domsyn.specs.OneTable.{IsOneTable, IsPlainByte, IsPlainName, IsRow, HasGoodRows, is_one};
+ghost use Rattle.domsyn.specs.OneTable.{IsRow, IsSmall, HasGoodRows, is_one as is_one_of};
 
-use crate::one_table::name_of;
-use crate::{Letter, OneTable, Row};
+use blif_ast::{Letter, Row};
 use dom_base::{Name, OutOfMemory};
 use indexmap::IndexSet;
 use std::alloc::Global;
@@ -17,35 +16,30 @@ const MOST_ROWS: usize = 4;
 
 const MOST_ONES: usize = 4;
 
-/// Whether the network is one of those that are built.
-pub(crate) fn is_one_table(alloc: Global, table: &OneTable) -> Result<bool, OutOfMemory>
-    ensures { IfOk result (λ b. IsTrue b ↔ IsOneTable table.now) }
+/// Whether the network of a table of these rows is one of those that are built.
+pub(crate) fn is_small(
+    alloc: Global,
+    inputs: &[Name],
+    output: &Name,
+    rows: &[Row],
+) -> Result<bool, OutOfMemory>
+    ensures { IfOk result (λ b. IsTrue b ↔ IsSmall inputs.now output.now rows.now) }
 {
-    if !has_plain_names(table) || !has_good_width(table) || !has_good_rows(table) {
+    if !has_good_width(inputs) || !has_good_rows(inputs.len(), rows) {
         return Ok(false);
     }
-    are_apart(alloc, &table.inputs, &table.output)
+    are_apart(alloc, inputs, output)
 }
 
-fn has_plain_names(table: &OneTable) -> bool
-    ensures { IsTrue result ↔ (IsPlainName table.now.model × All IsPlainName table.now.inputs × IsPlainName table.now.output) }
+fn has_good_width(inputs: &[Name]) -> bool
+    ensures { IsTrue result ↔ ((1 ≤ length inputs.now) × (length inputs.now ≤ 4096)) }
 {
-    is_plain(&table.model)
-        && table.inputs.iter().all(|name| is_plain(name))
-        && is_plain(&table.output)
+    1 <= inputs.len() && inputs.len() <= MOST_INPUTS
 }
 
-fn has_good_width(table: &OneTable) -> bool
-    ensures { IsTrue result ↔ ((1 ≤ length table.now.inputs) × (length table.now.inputs ≤ 4096)) }
+fn has_good_rows(width: usize, rows: &[Row]) -> bool
+    ensures { IsTrue result ↔ HasGoodRows width rows.now }
 {
-    1 <= table.inputs.len() && table.inputs.len() <= MOST_INPUTS
-}
-
-fn has_good_rows(table: &OneTable) -> bool
-    ensures { IsTrue result ↔ HasGoodRows (length table.now.inputs) table.now.rows }
-{
-    let rows = table.rows.as_slice();
-    let width = table.inputs.len();
     1 <= rows.len()
         && rows.len() <= MOST_ROWS
         && rows.iter().all(|row| is_row(width, row))
@@ -55,8 +49,8 @@ fn has_good_rows(table: &OneTable) -> bool
 /// The ones of all rows.
 fn total_ones(rows: &[Row]) -> usize
     requires few { length rows.now ≤ 4 }
-    requires few_ones { All (λ row. count_by is_one row ≤ 4) rows.now }
-    ensures { result ≡ sum_by (count_by is_one) rows.now }
+    requires few_ones { All (λ row. count_by is_one_of row ≤ 4) rows.now }
+    ensures { result ≡ sum_by (count_by is_one_of) rows.now }
 {
     let mut total = 0;
     for row in rows {
@@ -71,27 +65,17 @@ fn are_apart(alloc: Global, inputs: &[Name], output: &Name) -> Result<bool, OutO
 {
     let mut names: IndexSet<Name> = IndexSet::new(alloc);
     for name in inputs {
-        insert(alloc, &mut names, name)?;
+        insert(&mut names, name)?;
     }
-    insert(alloc, &mut names, output)?;
+    insert(&mut names, output)?;
     Ok(names.len() == inputs.len() + 1)
 }
 
-fn insert(alloc: Global, names: &mut IndexSet<Name>, name: &Name) -> Result<(), OutOfMemory>
+fn insert(names: &mut IndexSet<Name>, name: &Name) -> Result<(), OutOfMemory>
     ensures { OnOk result (names.new.keys ≡ insert_key (pointwise nat_eq) names.old.keys name.now) }
 {
-    names.insert(name_of(alloc, name.as_bytes())?)?;
+    names.insert(name.clone()?)?;
     Ok(())
-}
-
-fn is_plain(name: &Name) -> bool
-    ensures { IsTrue result ↔ IsPlainName name.now }
-{
-    let bytes = name.as_bytes();
-    !bytes.is_empty()
-        && bytes
-            .iter()
-            .all(|b| matches!(*b, b'0'..=b'9' | b'a'..=b'z'))
 }
 
 fn is_row(width: usize, row: &Row) -> bool
@@ -105,7 +89,13 @@ fn is_row(width: usize, row: &Row) -> bool
 }
 
 fn ones(row: &Row) -> usize
-    ensures { result ≡ count_by is_one row.now }
+    ensures { result ≡ count_by is_one_of row.now }
 {
-    row.letters.iter().filter(|letter| letter.is_one()).count()
+    row.letters.iter().filter(|letter| is_one(**letter)).count()
+}
+
+pub(crate) fn is_one(letter: Letter) -> bool
+    ensures { result ≡ is_one_of letter }
+{
+    matches!(letter, Letter::One)
 }

@@ -1,10 +1,12 @@
 //! Names of the nets of a deck.
 ghost use Rattle.std.specs.Prelude.{◌≡◌, ◌++◌, IfOk, All, map, codes};
 ghost use Rattle.std.specs.Fmt.{decimal};
-ghost use Rattle.dom_base.specs.Names.{IsNetName};
-ghost use Rattle.domsyn.specs.Deck.{pin_name, output_name, cell_nets};
-ghost use Rattle.domsyn.specs.OneTable.{IsPlainName};
+ghost use Rattle.dom_base.specs.Names.{IsNetByte, IsNetName};
+ghost use Rattle.domsyn.specs.Deck.{pin_name, cell_nets};
+ghost use Rattle.deck.specs.Escapes.{escaped};
+ghost use Rattle.domsyn.specs.OneTable.{IsByteName};
 
+use deck::esc;
 use dom_base::{Name, NetName, OutOfMemory};
 use itoa::Buffer;
 use std::alloc::Global;
@@ -55,14 +57,25 @@ pub(crate) fn inner_name(alloc: Global, inner: u32) -> Result<NetName, OutOfMemo
     net_name(alloc, b"t0_", buffer.format(inner).as_bytes())
 }
 
-/// The pins of inputs with plain names.
+/// The name of a front and the escape of a name.
+#[tactic(auto, using(crate::proofs::EscapedNames::escaped_names))]
+pub(crate) fn escaped_name(alloc: Global, front: &[u8], name: &Name) -> Result<NetName, OutOfMemory>
+    requires name { IsByteName name.now }
+    requires front { All IsNetByte front.now }
+    ensures { IfOk result (λ net. net ≡ front.now ++ escaped name.now) }
+{
+    let escape = esc(alloc, name.as_bytes())?;
+    net_name(alloc, front, &escape)
+}
+
+/// The pins of inputs.
 pub(crate) fn pin_names(alloc: Global, inputs: &[Name]) -> Result<Vec<NetName>, OutOfMemory>
-    requires { All IsPlainName inputs.now }
+    requires { All IsByteName inputs.now }
     ensures { IfOk result (λ pins. pins.items ≡ map pin_name inputs.now) }
 {
     let mut pins = Vec::new(alloc);
     for input in inputs {
-        pins.push(net_name(alloc, b"i_", input.as_bytes())?)?;
+        pins.push(escaped_name(alloc, b"i_", input)?)?;
     }
     Ok(pins)
 }

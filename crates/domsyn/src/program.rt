@@ -5,27 +5,23 @@ ghost use Rattle.std.specs.Io.KnownBytes.{Appends};
 ghost use Rattle.dom_io.specs.Faults.{Rose};
 ghost use Rattle.dom_io.specs.Held.{held};
 ghost use Rattle.dom_io.specs.Pieces.{AppendsPrefix};
-ghost use Rattle.domsyn.specs.Top.{Asks, HasRoomForAnswer, IsAnswer, IsDeckFor, IsPlain, IsPulledDeck, Tells, line_of, usage_line};
+ghost use Rattle.domsyn.specs.declared.refusal.Refusal.{Refusal};
+ghost use Rattle.domsyn.specs.Refusals.{IsRefused, IsRefusedFor, refusal_line};
+ghost use Rattle.domsyn.specs.Top.{Asks, HasRoomForAnswer, HasRoomForRefusal, IsAnswer, IsBuildable, IsPulledDeck, Tells, line_of, usage_line};
 
-use crate::synth::synth;
+use crate::answer::answer;
 use crate::tell::{tell, tell_about};
 use crate::words::file_of;
-use dom_io::{FetchFault, Shelf, Sink, put_all};
+use dom_io::{FetchFault, Shelf, Sink};
 use std::alloc::Global;
-
-const DONE: u8 = 0;
-
-const NOT_BUILT: u8 = 1;
 
 const USAGE: u8 = 2;
 
 const CANNOT_READ: u8 = 3;
 
-const CANNOT_WRITE: u8 = 4;
-
 const OUT_OF_MEMORY: u8 = 5;
 
-/// Does all that the program does, and gives its status: 0 done, 1 the file's network is not built,
+/// Does all that the program does, and gives its status: 0 done, 1 the file is refused,
 /// 2 the words ask for nothing, 3 the file can't be read, 4 the output can't be written, 5 out of
 /// memory. `words` are those of the command line without the program's name. The deck goes to
 /// `out`, and a line to `err` at every status but 0.
@@ -39,6 +35,7 @@ pub fn top<S: Shelf, K: Sink, E: Sink>(
     requires names { (file : List ℕ) → Asks (map string_bytes words.now) file → S.may_ask shelf.old file }
     requires out_room { HasRoomForAnswer (S.files shelf.old) (map string_bytes words.now) (K.has_room out.old) }
     requires err_room { (status : ℕ) (file : List ℕ) → Asks (map string_bytes words.now) file ⊎ (status ≡ 2) → E.has_room err.old (length (line_of status file)) }
+    requires refusal_room { HasRoomForRefusal (S.files shelf.old) (map string_bytes words.now) (E.has_room err.old) }
 
     ensures known { result ≤ 5 }
     // The words are refused exactly where they ask for no deck, and then nothing is fetched.
@@ -52,20 +49,23 @@ pub fn top<S: Shelf, K: Sink, E: Sink>(
     ensures cannot_read { result ≡ 3 → Rose (S.faults shelf.old) (S.faults shelf.new) }
     ensures cannot_write { result ≡ 4 → Rose (K.faults out.old) (K.faults out.new) }
 
-    // Plain bytes give their deck, and all others are not built. What was put out reads back as a
-    // circuit whose pull-down conducts exactly where the table is 1.
+    // Bytes of a network that is built give its deck, and each other file is refused for its cause. What was put out
+    // reads back as a circuit whose pull-down conducts exactly where the table is 1.
     ensures done { result ≡ 0 → (text : List ℕ) × IsAnswer (S.files shelf.old) (map string_bytes words.now) text × Appends (K.taken out.old) (K.taken out.new) text }
     ensures pulled { result ≡ 0 → (text : List ℕ) × IsPulledDeck (S.files shelf.old) (map string_bytes words.now) text × Appends (K.taken out.old) (K.taken out.new) text }
     ensures part { result ≡ 4 → (text : List ℕ) × IsAnswer (S.files shelf.old) (map string_bytes words.now) text × AppendsPrefix (K.taken out.old) (K.taken out.new) text }
-    ensures refused { result ≡ 1 → IfSome (S.files shelf.old) (λ told. (file : List ℕ) → Asks (map string_bytes words.now) file → IsSomeAnd (held told file) (λ whole. IsPlain whole → ⊥)) }
-    ensures plain { IfSome (S.files shelf.old) (λ told. (file whole : List ℕ) → Asks (map string_bytes words.now) file → held told file ≡ Some whole → IsPlain whole
+    ensures refused { result ≡ 1 → (file : List ℕ) → Asks (map string_bytes words.now) file → (why : Refusal) × IsRefused (S.files shelf.old) file why
+        × Tells (E.taken err.old) (E.taken err.new) (E.faults err.old) (E.faults err.new) (refusal_line file why) }
+    ensures cause { result ≡ 1 → IfSome (S.files shelf.old) (λ told. (file whole : List ℕ) (why : Refusal) → Asks (map string_bytes words.now) file → held told file ≡ Some whole → IsRefusedFor whole why
+        → Tells (E.taken err.old) (E.taken err.new) (E.faults err.old) (E.faults err.new) (refusal_line file why)) }
+    ensures built { IfSome (S.files shelf.old) (λ told. (file whole : List ℕ) → Asks (map string_bytes words.now) file → held told file ≡ Some whole → IsBuildable whole
         → (Rose (S.faults shelf.old) (S.faults shelf.new) → ⊥) → (Rose (K.faults out.old) (K.faults out.new) → ⊥) → (result ≡ 0) ⊎ (result ≡ 5)) }
-    ensures other { IfSome (S.files shelf.old) (λ told. (file whole : List ℕ) → Asks (map string_bytes words.now) file → held told file ≡ Some whole → (IsPlain whole → ⊥)
+    ensures other { IfSome (S.files shelf.old) (λ told. (file whole : List ℕ) → Asks (map string_bytes words.now) file → held told file ≡ Some whole → (IsBuildable whole → ⊥)
         → (Rose (S.faults shelf.old) (S.faults shelf.new) → ⊥) → (result ≡ 1) ⊎ (result ≡ 5)) }
 
-    // Nothing is put out at another status, and `err` gets the line of the status.
+    // Nothing is put out at another status, and `err` gets the line of the status or of the cause.
     ensures nothing { result ≢ 0 → result ≢ 4 → out.new ≡ out.old }
-    ensures told { (file : List ℕ) → Asks (map string_bytes words.now) file ⊎ (result ≡ 2) → Tells (E.taken err.old) (E.taken err.new) (E.faults err.old) (E.faults err.new) (line_of result file) }
+    ensures told { result ≢ 1 → (file : List ℕ) → Asks (map string_bytes words.now) file ⊎ (result ≡ 2) → Tells (E.taken err.old) (E.taken err.new) (E.faults err.old) (E.faults err.new) (line_of result file) }
     ensures later { (S.faults shelf.old ≤ S.faults shelf.new) × (K.faults out.old ≤ K.faults out.new) × (E.faults err.old ≤ E.faults err.new) }
 {
     let Some(file) = file_of(words) else {
@@ -87,37 +87,3 @@ pub fn top<S: Shelf, K: Sink, E: Sink>(
 
 const USAGE_LINE: &[u8] =
     b"usage: domsyn synth FILE | flat FILE | run FILE STIM | sim DECK STIM | cosim FILE DECK STIM | report FILE | bench SEED SIZE\n";
-
-/// Puts out the deck of the bytes of a file.
-fn answer<K: Sink, E: Sink>(alloc: Global, file: &str, bytes: &[u8], out: &mut K, err: &mut E) -> u8
-    requires out_room { (text : List ℕ) → IsDeckFor bytes.now text → K.has_room out.old (length text) }
-    requires err_room { (status : ℕ) → E.has_room err.old (length (line_of status file.now)) }
-
-    ensures known { (result ≡ 0) ⊎ (result ≡ 1) ⊎ (result ≡ 4) ⊎ (result ≡ 5) }
-    ensures cannot_write { result ≡ 4 → Rose (K.faults out.old) (K.faults out.new) }
-    ensures done { result ≡ 0 → (text : List ℕ) × IsDeckFor bytes.now text × Appends (K.taken out.old) (K.taken out.new) text }
-    ensures part { result ≡ 4 → (text : List ℕ) × IsDeckFor bytes.now text × AppendsPrefix (K.taken out.old) (K.taken out.new) text }
-    ensures refused { result ≡ 1 → IsPlain bytes.now → ⊥ }
-    ensures nothing { result ≢ 0 → result ≢ 4 → out.new ≡ out.old }
-    ensures told { Tells (E.taken err.old) (E.taken err.new) (E.faults err.old) (E.faults err.new) (line_of result file.now) }
-    ensures out_later { K.faults out.old ≤ K.faults out.new }
-    ensures err_later { E.faults err.old ≤ E.faults err.new }
-{
-    match synth(alloc, bytes) {
-        Ok(Some(text)) => match put_all(out, &text) {
-            Ok(()) => DONE,
-            Err(_) => {
-                tell(err, b"domsyn: cannot write\n");
-                CANNOT_WRITE
-            }
-        },
-        Ok(None) => {
-            tell_about(err, file, b": not built\n");
-            NOT_BUILT
-        }
-        Err(_) => {
-            tell(err, b"domsyn: out of memory\n");
-            OUT_OF_MEMORY
-        }
-    }
-}

@@ -1,25 +1,52 @@
 //! From the bytes of a file to the text of its deck.
-ghost use Rattle.std.specs.Prelude.{IfOk, IfSome, IfNone};
-ghost use Rattle.domsyn.specs.Top.{IsDeckFor, IsPlain};
+ghost use Rattle.std.specs.Prelude.{◌≡◌, IfOk, IsErrOf};
+ghost use Rattle.domsyn.specs.declared.refusal.Refusal.{Refusal};
+ghost use Rattle.domsyn.specs.declared.synth.SynthFault.TheVariants.{Memory};
+ghost use Rattle.domsyn.specs.Refusals.{IsRefusedFor};
+ghost use Rattle.domsyn.specs.Top.{IsDeckFor};
 
 use crate::cell::build;
-use crate::read::read;
+use crate::one_table::one_table;
+use crate::refusal::Refusal;
+use blif_read::{BlifFault, read};
 use dom_base::OutOfMemory;
 use dom_io::is_too_long;
 use spice_text::write;
 use std::alloc::Global;
 
-/// The text of the deck of plain bytes; none for other bytes.
-pub(crate) fn synth(alloc: Global, bytes: &[u8]) -> Result<Option<Vec<u8>>, OutOfMemory>
-    ensures deck { IfOk result (λ found. IfSome found (λ text. IsDeckFor bytes.now text.items)) }
-    ensures refused { IfOk result (λ found. IfNone found (IsPlain bytes.now → ⊥)) }
+/// Why there is no deck.
+#[derive(Clone, Copy, Debug)]
+pub(crate) enum SynthFault {
+    Refused(Refusal),
+    Memory,
+}
+
+impl From<OutOfMemory> for SynthFault {
+    ghost from_gives = { λ _ e. e ≡ Memory };
+
+    fn from(_: OutOfMemory) -> Self {
+        SynthFault::Memory
+    }
+}
+
+/// The text of the deck of a file of these bytes.
+pub(crate) fn synth(alloc: Global, bytes: &[u8]) -> Result<Vec<u8>, SynthFault>
+    ensures deck { IfOk result (λ text. IsDeckFor bytes.now text.items) }
+    ensures refused { (why : Refusal) → IsErrOf result (SynthFault.Refused why) → IsRefusedFor bytes.now why }
 {
     if is_too_long(bytes) {
-        return Ok(None);
+        return Err(SynthFault::Refused(Refusal::TooLong));
     }
-    let Some(table) = read(alloc, bytes)? else {
-        return Ok(None);
+    let file = match read(alloc, bytes) {
+        Ok(file) => file,
+        Err(BlifFault::At { line, kind }) => {
+            return Err(SynthFault::Refused(Refusal::Fault { line, kind }));
+        }
+        Err(BlifFault::Memory) => return Err(SynthFault::Memory),
+    };
+    let Some(table) = one_table(alloc, &file)? else {
+        return Err(SynthFault::Refused(Refusal::NotBuilt));
     };
     let circuit = build(alloc, &table)?;
-    Ok(Some(write(alloc, &circuit)?))
+    Ok(write(alloc, &circuit)?)
 }

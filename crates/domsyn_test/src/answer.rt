@@ -5,6 +5,8 @@ use dom_base::OutOfMemory;
 use dom_io::{MemoryShelf, MemorySink};
 use domsyn::top;
 use std::alloc::{AllocError, Global};
+use std::process::Abort;
+use std::test::Fail;
 
 const PLENTY: usize = 1_048_576;
 
@@ -66,4 +68,37 @@ pub(crate) fn synth(alloc: Global, text: &[u8]) -> Result<Answer, OutOfMemory> {
         out: out.taken,
         err: err.taken,
     })
+}
+
+/// Asserts that a file of these bytes gives the deck.
+pub(crate) fn gives(
+    rt: &impl Abort,
+    alloc: Global,
+    what: &str,
+    text: &[u8],
+    deck: &[u8],
+) -> Result<(), Fail> {
+    let answer = synth(alloc, text)?;
+    assert_eq!(rt; answer.status, 0, "at {what}");
+    assert_eq!(rt; answer.out.as_slice(), deck, "at {what}");
+    assert!(rt; answer.err.is_empty(), "at {what}");
+    Ok(())
+}
+
+/// Asserts that a file of these bytes is refused, and what the line says behind the file's name.
+pub(crate) fn refuses(
+    rt: &impl Abort,
+    alloc: Global,
+    what: &str,
+    text: &[u8],
+    told: &str,
+) -> Result<(), Fail> {
+    let mut line = Vec::from_slice(alloc, b"domsyn: t.blif:")?;
+    line.extend_from_slice(told.as_bytes())?;
+    line.push(b'\n')?;
+    let answer = synth(alloc, text)?;
+    assert_eq!(rt; answer.status, 1, "at {what}");
+    assert!(rt; answer.out.is_empty(), "at {what}");
+    assert_eq!(rt; answer.err.as_slice(), line.as_slice(), "at {what}");
+    Ok(())
 }

@@ -1,18 +1,7 @@
 //! Files of one table, and their decks.
 
-use crate::answer::synth;
-use std::alloc::Global;
-use std::process::Abort;
+use crate::answer::gives;
 use std::test::Fail;
-
-/// Asserts that the file gives the deck.
-fn gives(rt: &impl Abort, alloc: Global, text: &str, deck: &str) -> Result<(), Fail> {
-    let answer = synth(alloc, text.as_bytes())?;
-    assert_eq!(rt; answer.status, 0, "at {text}");
-    assert_eq!(rt; answer.out.as_slice(), deck.as_bytes(), "at {text}");
-    assert!(rt; answer.err.is_empty(), "at {text}");
-    Ok(())
-}
 
 #[test]
 fn one_row(rt: HostRuntime) -> Result<(), Fail> {
@@ -140,7 +129,7 @@ fn one_row(rt: HostRuntime) -> Result<(), Fail> {
             .ends first\n",
         ),
     ] {
-        gives(&rt, alloc, text, deck)?;
+        gives(&rt, alloc, text, text.as_bytes(), deck.as_bytes())?;
     }
     Ok(())
 }
@@ -306,7 +295,7 @@ fn several_rows(rt: HostRuntime) -> Result<(), Fail> {
             .ends all\n",
         ),
     ] {
-        gives(&rt, alloc, text, deck)?;
+        gives(&rt, alloc, text, text.as_bytes(), deck.as_bytes())?;
     }
     Ok(())
 }
@@ -394,7 +383,7 @@ fn names(rt: HostRuntime) -> Result<(), Fail> {
             .ends pins\n",
         ),
     ] {
-        gives(&rt, alloc, text, deck)?;
+        gives(&rt, alloc, text, text.as_bytes(), deck.as_bytes())?;
     }
     Ok(())
 }

@@ -6,7 +6,11 @@ mod answer;
 #[cfg(test)]
 mod decks;
 #[cfg(test)]
+mod forms;
+#[cfg(test)]
 mod not_built;
+#[cfg(test)]
+mod refused;
 #[cfg(test)]
 mod statuses;
 #[cfg(test)]

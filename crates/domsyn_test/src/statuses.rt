@@ -10,7 +10,7 @@ pub(crate) const AND: &[u8] = b".model and2\n\
     11 1\n\
     .end\n";
 
-const AND_DECK: &[u8] = b"* domsyn deck 1\n\
+pub(crate) const AND_DECK: &[u8] = b"* domsyn deck 1\n\
     * phase o_f +\n\
     .subckt and2 vdd vss ck1 lm lmb ls lsb rs rsb\n\
     + i_a i_b\n\
@@ -30,11 +30,12 @@ const USAGE: &[u8] =
     b"usage: domsyn synth FILE | flat FILE | run FILE STIM | sim DECK STIM | cosim FILE DECK STIM | report FILE | bench SEED SIZE\n";
 
 #[test]
-fn done_and_not_built(rt: HostRuntime) -> Result<(), Fail> {
+fn done_and_refused(rt: HostRuntime) -> Result<(), Fail> {
     let alloc = rt.alloc();
     for (text, status, deck, line) in [
         (AND, 0, AND_DECK, b"".as_slice()),
-        (b"", 1, b"", b"domsyn: and2.blif: not built\n"),
+        (b".model t\n", 1, b"", b"domsyn: and2.blif: not built\n"),
+        (b"", 1, b"", b"domsyn: and2.blif:1: blif 8 NoModel\n"),
     ] {
         let mut shelf = shelf_of(alloc, "and2.blif", text)?;
         let mut out = ample(alloc)?;

@@ -1,6 +1,6 @@
 //! Tables at the most inputs, and beyond.
 
-use crate::answer::synth;
+use crate::answer::{refuses, synth};
 use itoa::Buffer;
 use std::alloc::{AllocError, Global};
 use std::test::Fail;
@@ -60,12 +60,5 @@ fn most_inputs(rt: HostRuntime) -> Result<(), Fail> {
 fn too_many_inputs(rt: HostRuntime) -> Result<(), Fail> {
     let alloc = rt.alloc();
     let text = ends_of(alloc, 4097)?;
-    let answer = synth(alloc, &text)?;
-    assert_eq!(rt; answer.status, 1);
-    assert!(rt; answer.out.is_empty());
-    assert_eq!(rt;
-        answer.err.as_slice(),
-        b"domsyn: t.blif: not built\n".as_slice()
-    );
-    Ok(())
+    refuses(&rt, alloc, "4,097 inputs", &text, "4: blif 7 TooWide")
 }

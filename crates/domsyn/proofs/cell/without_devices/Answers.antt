@@ -14,4 +14,4 @@ pub new-requires-clause-apart : goal.new-requires-clause-apart
 new-requires-clause-apart c =
     let out : c.from_ref.result.now ≡ output_name c.args.table.now.output ∷ [] = c.from_ref.ensures.value ∙ ap (λ o. o ∷ []) c.requires.out in
     let ports : c.args.pins.now ++ c.from_ref.result.now ≡ map pin_name c.args.table.now.inputs ++ output_name c.args.table.now.output ∷ [] = λ i. c.requires.pins i ++ out i in
-    subst (IsDistinct (pointwise nat_eq)) (sym ports) (pins_apart c.args.table.now.inputs c.args.table.now.output c.requires.is_one_table.apart)
+    subst (IsDistinct (pointwise nat_eq)) (sym ports) (pins_apart c.args.table.now.inputs c.args.table.now.output c.requires.names.inputs c.requires.is_one_table.apart)

@@ -1,0 +1,69 @@
+-- A file is refused for one cause alone.
+use Rattle.std.proofs.Common.{◌≡◌, ◌==◌, ℕ, List, refl, sym, ap, ◌∙◌, subst, arith}
+use Rattle.std.specs.Prelude.{if◌then◌else◌}
+use Rattle.blif_ast.specs.declared.kind.BlifKind.{BlifKind}
+use Rattle.blif_ast.specs.declared.kind.BlifKind.TheVariants.{ControlByte, UnknownCard, BadCard, RowOutsideTable, BadRow, MixedCover, TooWide, NoModel, LatchKind}
+use Rattle.blif_ast.specs.Faults.{kind_number}
+use Rattle.blif_ast.specs.Reading.{IsFault, IsFaultAt}
+use Rattle.domsyn.specs.declared.refusal.Refusal.{Refusal}
+use Rattle.domsyn.specs.declared.refusal.Refusal.TheVariants.{TooLong, Fault, NotBuilt}
+use Rattle.domsyn.specs.OneTable.{IsFileOfTable}
+use Rattle.domsyn.specs.Top.{IsBuildable}
+use Rattle.domsyn.specs.Refusals.{IsRefusedFor}
+
+-- the kind of a number from 1 to 9
+kind_of : ℕ → BlifKind
+kind_of n =
+    if n == 1 then ControlByte
+    else (if n == 2 then UnknownCard
+    else (if n == 3 then BadCard
+    else (if n == 4 then RowOutsideTable
+    else (if n == 5 then BadRow
+    else (if n == 6 then MixedCover
+    else (if n == 7 then TooWide
+    else (if n == 8 then NoModel else LatchKind)))))))
+
+kind_of-number : (kind : BlifKind) → kind_of (kind_number kind) ≡ kind
+unfolding kind_of
+kind_of-number ControlByte = refl
+kind_of-number UnknownCard = refl
+kind_of-number BadCard = refl
+kind_of-number RowOutsideTable = refl
+kind_of-number BadRow = refl
+kind_of-number MixedCover = refl
+kind_of-number TooWide = refl
+kind_of-number NoModel = refl
+kind_of-number LatchKind = refl
+
+pub kinds_alike : (a b : BlifKind) → kind_number a ≡ kind_number b → a ≡ b
+kinds_alike a b same = sym (kind_of-number a) ∙ (ap kind_of same ∙ kind_of-number b)
+
+-- a text is refused at one line for one kind
+pub faults_alike : (text : List ℕ) (m n : ℕ) (a b : BlifKind) → IsFaultAt text m a → IsFaultAt text n b → (m ≡ n) × (a ≡ b)
+faults_alike text m n a b x y =
+    let lower = x.first n b y.fault in
+    let upper = y.first m a x.fault in
+    let line : m ≡ n = omega (arith, lower, upper) in
+    let below = x.smallest b (subst (λ l. IsFault text l b) (sym line) y.fault) in
+    let above = y.smallest a (subst (λ l. IsFault text l a) line x.fault) in
+    (line, kinds_alike a b (omega (arith, below, above)))
+
+-- the causes of bytes are one
+pub causes_alike : (bytes : List ℕ) (a b : Refusal) → IsRefusedFor bytes a → IsRefusedFor bytes b → a ≡ b
+causes_alike bytes TooLong TooLong x y = refl
+causes_alike bytes TooLong (Fault line kind) x y = absurd (omega (arith, x, y.within))
+causes_alike bytes TooLong NotBuilt x y = absurd (omega (arith, x, y.within))
+causes_alike bytes (Fault line kind) TooLong x y = absurd (omega (arith, y, x.within))
+causes_alike bytes (Fault line kind) (Fault other any) x y = let same = faults_alike bytes line other kind any x.fault y.fault in λ i. Fault (same.0 i) (same.1 i)
+causes_alike bytes (Fault line kind) NotBuilt x y = absurd (y.accepted.no_fault line kind x.fault.fault)
+causes_alike bytes NotBuilt TooLong x y = absurd (omega (arith, y, x.within))
+causes_alike bytes NotBuilt (Fault line kind) x y = absurd (x.accepted.no_fault line kind y.fault.fault)
+causes_alike bytes NotBuilt NotBuilt x y = refl
+
+-- bytes that a deck is built for are refused for no cause
+pub not_both : (bytes : List ℕ) (why : Refusal) → IsRefusedFor bytes why → IsBuildable bytes → ⊥
+not_both bytes TooLong x built = omega (arith, x, built.within)
+not_both bytes (Fault line kind) x built = built.accepted.no_fault line kind x.fault.fault
+not_both bytes NotBuilt x built =
+    let same : built.file ≡ x.file = built.accepted.file_is ∙ sym x.accepted.file_is in
+    x.other built.table built.is_one_table (subst (λ f. IsFileOfTable f built.table) same built.is_file)
