@@ -6,3 +6,5 @@ pub mod Distinct
 pub mod Escaping
 pub mod Growth
 pub mod Order
+pub mod PortOrder
+pub mod PortRoles

@@ -1,4 +1,6 @@
 pub mod CircuitData
+pub mod DeckCards
+pub mod DeckFaults
 pub mod DeckText
 pub mod Escapes
 pub mod Nets
@@ -6,5 +8,6 @@ pub mod Numbers
 pub mod Paths
 pub mod Ports
 pub mod Pushes
+pub mod Roles
 pub mod Sources
 pub mod Switches

@@ -4,13 +4,19 @@
 mod circuit;
 mod device;
 mod escape;
+mod fault;
 mod number;
 mod phase;
+mod port_order;
 mod ports;
+mod role;
 #[cfg(test)]
 mod tests;
 
 pub use circuit::Circuit;
 pub use device::Device;
 pub use escape::{esc, escapes_differ};
+pub use fault::DeckKind;
 pub use phase::Phase;
+pub use port_order::{roles, roles_are_one};
+pub use role::{PortFault, Roles};

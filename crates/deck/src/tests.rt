@@ -1,10 +1,12 @@
 //! The circuit of an And of two inputs, by numbers that were worked by hand.
-ghost use Rattle.std.specs.Prelude.{◌≡◌, IfOk};
+ghost use Rattle.std.specs.Prelude.{◌≡◌, IfOk, IsTrue};
 ghost use Rattle.dom_base.specs.Names.{IsNetName};
 
-use crate::{Circuit, Device, Phase, esc};
+use crate::{Circuit, Device, Phase, PortFault, Roles, esc, roles};
 use dom_base::{Kind, NetName, OutOfMemory};
+use indexmap::IndexSet;
 use std::alloc::Global;
+use std::process::Abort;
 use std::test::Fail;
 
 const DEVICES: [Device; 9] = [
@@ -144,6 +146,72 @@ fn escapes_of_names(rt: HostRuntime) -> Result<(), Fail> {
     for (name, escape) in names {
         let text = esc(rt.alloc(), name)?;
         assert!(rt; text.as_slice() == escape);
+    }
+    Ok(())
+}
+
+fn is_net_name(bytes: &[u8]) -> bool
+    ensures { IsTrue result → IsNetName bytes.now }
+{
+    !bytes.is_empty()
+        && bytes
+            .iter()
+            .all(|b| *b > 32 && *b != 127 && (*b < 65 || *b > 90))
+}
+
+// The roles of a circuit that has these ports and no devices.
+fn roles_of_words(
+    rt: &impl Abort,
+    alloc: Global,
+    words: &str,
+) -> Result<Result<Roles, PortFault>, Fail> {
+    let mut nets = IndexSet::new(alloc);
+    for word in words.split(' ') {
+        let bytes = Vec::from_slice(alloc, word.as_bytes())?;
+        assert!(rt; is_net_name(bytes.as_slice()));
+        nets.insert_full(NetName(bytes))?;
+    }
+    let count = nets.as_slice().len();
+    assert!(rt; count <= 1_048_576);
+    let circuit = Circuit {
+        name: named(alloc, b"e")?,
+        phases: Vec::new(alloc),
+        ports: count as u32,
+        nets,
+        devices: Vec::new(alloc),
+    };
+    Ok(roles(&circuit))
+}
+
+#[test]
+fn roles_of_ports(rt: HostRuntime) -> Result<(), Fail> {
+    let alloc = rt.alloc();
+    for (words, clocks, pins, outs) in [
+        ("vdd vss ck1 lm lmb ls lsb rs rsb", 1, 0, 0),
+        (
+            "vdd vss ck1 ck2 ck3 ck4 lm lmb ls lsb rs rsb i_a i_b o_a",
+            4,
+            2,
+            1,
+        ),
+        ("vdd vss ck1 ck2 lm lmb ls lsb rs rsb o_a o_b", 2, 0, 2),
+    ] {
+        let found = roles_of_words(&rt, alloc, words)?;
+        let wanted = Roles { clocks, pins, outs };
+        assert!(rt; found == Ok(wanted), "at {words}");
+    }
+    for (words, place) in [
+        ("vss vdd ck1 lm lmb ls lsb rs rsb", 0),
+        ("vdd vss lm lmb ls lsb rs rsb", 2),
+        ("vdd vss ck1 ck2 ck3 ck4 ck5 lm lmb ls lsb rs rsb", 6),
+        ("vdd vss ck1 ck3 lm lmb ls lsb rs rsb", 3),
+        ("vdd vss ck1 ck2 lm lmb", 6),
+        ("vdd vss ck1", 3),
+        ("vdd vss ck1 lm lmb ls lsb rs rsb o_a i_a", 10),
+        ("vdd vss ck1 lm lmb ls lsb rs rsb i_a a o_a", 10),
+    ] {
+        let found = roles_of_words(&rt, alloc, words)?;
+        assert!(rt; found == Err(PortFault { place }), "at {words}");
     }
     Ok(())
 }

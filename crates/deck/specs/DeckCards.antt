@@ -1,0 +1,106 @@
+use Rattle.std.specs.Prelude.{ℕ, ◌^◌, Bool, true, false, ◌==◌, ◌||◌, ◌&&◌, not, nat_eq, nat_lt, if◌then◌else◌, List, [], ◌∷◌, ◌++◌, map, filter, length, drop, slice_index, Option, Some, None, codes}
+use Rattle.std.specs.List.{list_any, find, enumerate_from}
+use Rattle.std.specs.Set.{distinct_count}
+use Rattle.std.specs.Cmp.Lexicographic.{pointwise}
+use Rattle.dom_base.specs.Lines.{words}
+use Rattle.deck.specs.DeckText.{first_word, deck_lines, is_of_card, continues, added_words}
+
+-- a card of a deck: the number of its first line, from 1, and its words
+pub record NumberedCard : Type 0 where
+  pub number : ℕ
+  pub words : List (List ℕ)
+
+-- some lines of cards, each with its number, where the first of all the lines has this number
+abbrev pub numbered_lines_from : ℕ → List (List ℕ) → List (ℕ × List ℕ)
+numbered_lines_from number all = filter (λ p. is_of_card p.1) (enumerate_from number all)
+
+-- the lines of a deck's cards, each with its number
+abbrev pub numbered_lines : List ℕ → List (ℕ × List ℕ)
+numbered_lines text = numbered_lines_from 1 (deck_lines text)
+
+-- the cards of these lines, each with the number of its first line
+abbrev pub numbered_cards_of : List (ℕ × List ℕ) → List NumberedCard
+numbered_cards_of [] = []
+numbered_cards_of (p ∷ more) =
+    if continues p.1 then numbered_cards_of more
+    else record { number = p.0; words = words p.1 ++ added_words (map (λ q. q.1) more) } ∷ numbered_cards_of more
+
+-- the cards of a deck, up to `.end`, with it
+abbrev pub numbered_cards : List ℕ → List NumberedCard
+numbered_cards text = numbered_cards_of (numbered_lines text)
+
+-- the cards, each as its first word
+abbrev pub subckt_card : List ℕ
+subckt_card = codes ".subckt"
+
+abbrev pub ends_card : List ℕ
+ends_card = codes ".ends"
+
+abbrev pub end_card : List ℕ
+end_card = codes ".end"
+
+abbrev pub model_card : List ℕ
+model_card = codes ".model"
+
+-- a card that begins with this word
+abbrev pub begins : List ℕ → NumberedCard → Bool
+begins word card = pointwise nat_eq (first_word card.words) word
+
+-- the card of a device: its first letter is `m`
+abbrev pub is_device : NumberedCard → Bool
+is_device card = slice_index (first_word card.words) 0 == 109
+
+-- a card that is known
+abbrev pub is_known : NumberedCard → Bool
+is_known card = is_device card || begins subckt_card card || begins ends_card card || begins end_card card || begins model_card card
+
+-- a word with the byte `=`
+abbrev pub has_equals : List ℕ → Bool
+has_equals word = list_any (λ b. b == 61) word
+
+-- a known card in its form: a device has at least six words, `.subckt` has a name and no word with `=`,
+-- `.ends` has at most one word behind it, and `.end` and `.model` have any words
+abbrev pub is_form : NumberedCard → Bool
+is_form card =
+    if is_device card then nat_lt 5 (length card.words)
+    else (if begins subckt_card card then nat_lt 1 (length card.words) && not (list_any has_equals card.words)
+    else (if begins ends_card card then nat_lt (length card.words) 3
+    else true))
+
+-- a word for a kind of device
+abbrev pub is_model_word : List ℕ → Bool
+is_model_word word = pointwise nat_eq word (codes "nch") || pointwise nat_eq word (codes "pch") || pointwise nat_eq word (codes "pkeep")
+
+-- the ports that a card `.subckt` names, behind the name of the subcircuit
+abbrev pub port_names : NumberedCard → List (List ℕ)
+port_names card = drop 2 card.words
+
+-- it names fewer different ports than it names ports: one of them twice
+abbrev pub names_twice : NumberedCard → Bool
+names_twice card = nat_lt (distinct_count (pointwise nat_eq) (port_names card)) (length (port_names card))
+
+-- What stands before a card is given as the cards before it, the nearest first.
+
+-- the first of some cards, if there is one, begins with this word
+abbrev pub begins_some : List ℕ → Option NumberedCard → Bool
+begins_some word None = false
+begins_some word (Some card) = begins word card
+
+-- a subcircuit is open: the nearest `.subckt` or `.ends` before is a `.subckt`
+abbrev pub is_open : List NumberedCard → Bool
+is_open before = begins_some subckt_card (find (λ card. begins subckt_card card || begins ends_card card) before)
+
+-- a `.subckt` stands before
+abbrev pub has_subckt : List NumberedCard → Bool
+has_subckt before = list_any (begins subckt_card) before
+
+-- how many devices stand before
+abbrev pub device_count : List NumberedCard → ℕ
+device_count before = length (filter is_device before)
+
+-- the limits on devices and on ports
+abbrev pub most_devices : ℕ
+most_devices = 2 ^ 24
+
+abbrev pub most_ports : ℕ
+most_ports = 2 ^ 20

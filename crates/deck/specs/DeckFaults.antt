@@ -1,0 +1,77 @@
+use Rattle.std.specs.Prelude.{ℕ, ◌≡◌, ◌≤◌, ◌+◌, ◌⊎◌, Bool, true, false, ◌==◌, ◌||◌, ◌&&◌, not, nat_lt, if◌then◌else◌, List, [], ◌∷◌, ◌++◌, length, reverse, slice_index_or}
+use Rattle.std.specs.List.{list_any}
+use Rattle.dom_base.specs.Lines.{is_control}
+use Rattle.deck.specs.declared.fault.DeckKind.{DeckKind}
+use Rattle.deck.specs.declared.fault.DeckKind.TheVariants.{ControlByte, UnknownCard, BadCard, UnknownDevice, NoSubckt, SecondSubckt, NotClosed, DuplicatePort, TooMany}
+use Rattle.deck.specs.DeckText.{deck_lines, is_end, continues}
+use Rattle.deck.specs.DeckCards.{NumberedCard, numbered_lines, numbered_cards_of, numbered_cards, begins, subckt_card, ends_card, is_device, is_known, is_form, is_model_word, port_names, names_twice, is_open, has_subckt, device_count, most_devices, most_ports}
+
+-- the number of a kind: of two faults of a line the smaller one is told
+abbrev pub kind_number : DeckKind → ℕ
+kind_number ControlByte = 1
+kind_number UnknownCard = 2
+kind_number BadCard = 3
+kind_number UnknownDevice = 4
+kind_number NoSubckt = 5
+kind_number SecondSubckt = 6
+kind_number NotClosed = 7
+kind_number DuplicatePort = 8
+kind_number TooMany = 9
+
+-- a card has a fault of this kind, where the cards before it, the nearest first, are these
+abbrev pub has_fault : DeckKind → List NumberedCard → NumberedCard → Bool
+-- blanks and tabs are no control bytes, so each control byte of a card stands in a word
+has_fault ControlByte before card = list_any (list_any is_control) card.words
+has_fault UnknownCard before card = not (is_known card)
+has_fault BadCard before card = is_known card && not (is_form card)
+has_fault UnknownDevice before card = is_device card && nat_lt 5 (length card.words) && not (is_model_word (slice_index_or card.words 5 []))
+has_fault NoSubckt before card = (is_device card || begins ends_card card) && not (is_open before)
+has_fault SecondSubckt before card = begins subckt_card card && has_subckt before
+has_fault NotClosed before card = false
+has_fault DuplicatePort before card = begins subckt_card card && names_twice card
+has_fault TooMany before card = (is_device card && (device_count before == most_devices)) || (begins subckt_card card && nat_lt most_ports (length (port_names card)))
+
+-- a deck ends with a fault of this kind, where its cards, the last first, are these
+abbrev pub has_end_fault : DeckKind → List NumberedCard → Bool
+has_end_fault NoSubckt all = not (has_subckt all)
+has_end_fault NotClosed all = is_open all
+has_end_fault _ all = false
+
+-- the line at which a deck ends: that of `.end`, which is the last one read, or the one behind the last line
+abbrev pub end_line : List ℕ → ℕ
+end_line text = if list_any is_end (deck_lines text) then length (deck_lines text) else length (deck_lines text) + 1
+
+-- the card of this number has a fault of this kind; its context is what the cards before it say
+pub record IsFaultOfCard (text : List ℕ) (number : ℕ) (kind : DeckKind) : Type 0 where
+  -- the cards before it, the nearest first
+  pub before : List NumberedCard
+  pub card : NumberedCard
+  pub after : List NumberedCard
+  pub cards_are : numbered_cards text ≡ reverse before ++ card ∷ after
+  pub number_is : card.number ≡ number
+  pub fault : has_fault kind before card ≡ true
+
+-- the line of this number begins with `+` and no card stands before it
+pub record IsLooseLine (text : List ℕ) (number : ℕ) (kind : DeckKind) : Type 0 where
+  pub before : List (ℕ × List ℕ)
+  pub line : List ℕ
+  pub after : List (ℕ × List ℕ)
+  pub lines_are : numbered_lines text ≡ before ++ (number, line) ∷ after
+  pub line_continues : continues line ≡ true
+  pub no_card : numbered_cards_of before ≡ []
+  pub kind_is : kind ≡ BadCard
+
+-- the deck ends at the line of this number with a fault of this kind
+pub record IsFaultOfEnd (text : List ℕ) (number : ℕ) (kind : DeckKind) : Type 0 where
+  pub number_is : number ≡ end_line text
+  pub fault : has_end_fault kind (reverse (numbered_cards text)) ≡ true
+
+-- the text has a fault of this kind at the line of this number
+abbrev pub IsDeckFault : List ℕ → ℕ → DeckKind → Type 0
+IsDeckFault text number kind = IsFaultOfCard text number kind ⊎ IsLooseLine text number kind ⊎ IsFaultOfEnd text number kind
+
+-- the text is refused at this line for this kind: the first line with a fault, and the smallest kind of it there
+pub record IsDeckFaultAt (text : List ℕ) (number : ℕ) (kind : DeckKind) : Type 0 where
+  pub fault : IsDeckFault text number kind
+  pub first : (other : ℕ) (any : DeckKind) → IsDeckFault text other any → number ≤ other
+  pub smallest : (other : DeckKind) → IsDeckFault text number other → kind_number kind ≤ kind_number other

@@ -1,0 +1,36 @@
+use Rattle.std.specs.Prelude.{ℕ, ◌<◌, ◌≤◌, ◌+◌, ◌≡◌, List, ◌++◌, length, take}
+use Rattle.deck.specs.CircuitData.{CircuitData}
+use Rattle.deck.specs.Ports.{HasRoles}
+use Rattle.deck.specs.declared.role.Roles.{Roles}
+
+-- the ports of a circuit: the first nets
+abbrev pub ports_of : CircuitData → List (List ℕ)
+ports_of c = take c.ports c.nets
+
+-- the ports stand in the order of roles, with so many clocks, pins and outputs
+pub record AreRoles (ports : List (List ℕ)) (roles : Roles) : Type 0 where
+  pub pins : List (List ℕ)
+  pub outs : List (List ℕ)
+  pub in_order : HasRoles ports roles.clocks pins outs
+  pub pin_count : length pins ≡ roles.pins
+  pub out_count : length outs ≡ roles.outs
+
+-- some ports in the order of roles begin with these names
+pub record BeginsRoles (names : List (List ℕ)) : Type 0 where
+  pub more : List (List ℕ)
+  pub roles : Roles
+  pub in_order : AreRoles (names ++ more) roles
+
+-- the ports leave every order of roles at a place: they have none, the names before the place begin
+-- one, and with the name at the place, if one stands there, they begin none
+pub record LeavesRolesAt (ports : List (List ℕ)) (place : ℕ) : Type 0 where
+  pub no_order : (roles : Roles) → AreRoles ports roles → ⊥
+  pub within : place ≤ length ports
+  pub before : BeginsRoles (take place ports)
+  pub first : place < length ports → BeginsRoles (take (place + 1) ports) → ⊥
+
+-- ports have one count of clocks, pins and outputs, or leave every order at one place
+pub record RolesAreOne : Type 0 where
+  pub roles : (ports : List (List ℕ)) (a b : Roles) → AreRoles ports a → AreRoles ports b → a ≡ b
+  pub places : (ports : List (List ℕ)) (a b : ℕ) → LeavesRolesAt ports a → LeavesRolesAt ports b → a ≡ b
+  pub apart : (ports : List (List ℕ)) (a : Roles) (b : ℕ) → AreRoles ports a → LeavesRolesAt ports b → ⊥

@@ -1,0 +1,25 @@
+//! Kinds of faults of deck text.
+
+/// The kind of a fault of a deck. A card may go on over several lines; a subcircuit is open by what
+/// the nearest `.subckt` or `.ends` before the card is.
+#[derive(Clone, Copy, Debug, PartialEq, Eq)]
+pub enum DeckKind {
+    /// 1: a control byte other than a tab in a card.
+    ControlByte,
+    /// 2: a card that isn't known.
+    UnknownCard,
+    /// 3: a known card that isn't in its form, or a line with `+` that continues no card.
+    BadCard,
+    /// 4: a device whose model is none of `nch`, `pch` and `pkeep`.
+    UnknownDevice,
+    /// 5: a device or `.ends` where no subcircuit is open, or a deck without `.subckt`.
+    NoSubckt,
+    /// 6: a `.subckt` after another.
+    SecondSubckt,
+    /// 7: a deck that ends with its subcircuit open.
+    NotClosed,
+    /// 8: a `.subckt` that names a port twice.
+    DuplicatePort,
+    /// 9: a device after 16,777,216 others, or more than 1,048,576 ports.
+    TooMany,
+}
