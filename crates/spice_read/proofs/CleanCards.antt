@@ -1,0 +1,178 @@
+-- Cards without a fault.
+use Rattle.std.proofs.Common.{◌≡◌, ◌≢◌, ◌<◌, ◌≤◌, ℕ, Bool, true, false, ◌==◌, ◌||◌, ◌&&◌, not, if◌then◌else◌, List, [], ◌∷◌, length, drop, nat_eq, nat_lt, codes, slice_index, slice_index_or, refl, sym, ap, ◌∙◌, arith, Some, None, eqb-true, eq-eqb, All, subst}
+use Rattle.std.specs.List.{AllByRecursion, list_any}
+use Rattle.std.specs.Cmp.Lexicographic.{pointwise, bytes_decides}
+use Rattle.std.proofs.lemmas.Bool.{true≢false}
+use Rattle.std.proofs.lemmas.Bool.Decides.{nat_tests}
+use Rattle.std.proofs.lemmas.List.Elements.{All-from_recursion}
+use Rattle.dom_base.specs.Lines.{is_control}
+use Rattle.dom_base.specs.declared.kind.Kind.TheVariants.{N as nch, P as pch, Keep}
+use Rattle.deck.specs.declared.fault.DeckKind.{DeckKind}
+use Rattle.deck.specs.declared.fault.DeckKind.TheVariants.{ControlByte, UnknownCard, BadCard, UnknownDevice, NoSubckt, SecondSubckt, TooMany}
+use Rattle.deck.specs.CircuitData.{CircuitData}
+use Rattle.deck.specs.DeckText.{first_word, model_word, HasNoEquals, IsDeviceCard, NamedDevice}
+use Rattle.deck.specs.DeckCards.{NumberedCard, begins, subckt_card, ends_card, end_card, model_card, is_device, is_model_word, has_equals, port_names, most_devices}
+use Rattle.spice_read.specs.declared.stage.Stage.{Stage}
+use Rattle.spice_read.specs.declared.stage.Stage.TheVariants.{Before, Open, Closed}
+use Rattle.spice_read.specs.Stages.{fault_in, device_fault, subckt_fault, ends_fault, is_subckt_form, kind_of, ports_fault, room_fault, word_at}
+
+-- what a card without a fault is, by what was read before it
+pub data CleanCard : Stage → NumberedCard → Type 0 where
+  device : {c : CircuitData} {card : NumberedCard} → is_device card ≡ true → 5 < length card.words → is_model_word (word_at card 5) ≡ true → (length c.devices == most_devices) ≡ false → CleanCard (Open c) card
+  opening : {card : NumberedCard} → is_device card ≡ false → begins subckt_card card ≡ true → is_subckt_form card ≡ true → ports_fault card ≡ None → CleanCard Before card
+  ending : {c : CircuitData} {card : NumberedCard} → is_device card ≡ false → begins subckt_card card ≡ false → begins ends_card card ≡ true → length card.words < 3 → CleanCard (Open c) card
+  skipped : {stage : Stage} {card : NumberedCard} → is_device card ≡ false → begins subckt_card card ≡ false → begins ends_card card ≡ false → (begins end_card card || begins model_card card) ≡ true → CleanCard stage card
+
+some_fault : {P : Type 0} {k : DeckKind} → Some k ≡ None → P
+some_fault e = absurd (cc)
+
+clean_device : (stage : Stage) (card : NumberedCard) → is_device card ≡ true → device_fault stage card ≡ None → CleanCard stage card
+clean_device stage card d clean = by (nat_lt 5 (length card.words)) (is_model_word (word_at card 5)) refl refl clean
+  where
+    room : (s : Stage) → 5 < length card.words → is_model_word (word_at card 5) ≡ true → room_fault s ≡ None → CleanCard s card
+    room Before long known h = some_fault h
+    room (Open c) long known h = full (length c.devices == most_devices) refl h
+      where
+        full : (t : Bool) → (length c.devices == most_devices) ≡ t → (if t then Some TooMany else None) ≡ None → CleanCard (Open c) card
+        full true e g = some_fault g
+        full false e g = device d long known e
+    room (Closed c) long known h = some_fault h
+
+    by : (s t : Bool) → nat_lt 5 (length card.words) ≡ s → is_model_word (word_at card 5) ≡ t
+        → (if s then (if t then room_fault stage else Some UnknownDevice) else Some BadCard) ≡ None → CleanCard stage card
+    by true true e f h = room stage (grind (arith, nat_tests)) f h
+    by true false e f h = some_fault h
+    by false t e f h = some_fault h
+
+clean_subckt : (stage : Stage) (card : NumberedCard) → is_device card ≡ false → begins subckt_card card ≡ true → subckt_fault stage card ≡ None → CleanCard stage card
+clean_subckt Before card d s clean = by (is_subckt_form card) refl clean
+  where
+    by : (t : Bool) → is_subckt_form card ≡ t → (if t then ports_fault card else Some BadCard) ≡ None → CleanCard Before card
+    by true e h = opening d s e h
+    by false e h = some_fault h
+clean_subckt (Open c) card d s clean = by (is_subckt_form card) clean
+  where
+    by : (t : Bool) → (if t then Some SecondSubckt else Some BadCard) ≡ None → CleanCard (Open c) card
+    by true h = some_fault h
+    by false h = some_fault h
+clean_subckt (Closed c) card d s clean = by (is_subckt_form card) clean
+  where
+    by : (t : Bool) → (if t then Some SecondSubckt else Some BadCard) ≡ None → CleanCard (Closed c) card
+    by true h = some_fault h
+    by false h = some_fault h
+
+clean_ends : (stage : Stage) (card : NumberedCard) → is_device card ≡ false → begins subckt_card card ≡ false → begins ends_card card ≡ true → ends_fault stage card ≡ None → CleanCard stage card
+clean_ends Before card d s e clean = by (nat_lt (length card.words) 3) clean
+  where
+    by : (t : Bool) → (if t then Some NoSubckt else Some BadCard) ≡ None → CleanCard Before card
+    by true h = some_fault h
+    by false h = some_fault h
+clean_ends (Open c) card d s e clean = by (nat_lt (length card.words) 3) refl clean
+  where
+    by : (t : Bool) → nat_lt (length card.words) 3 ≡ t → (if t then None else Some BadCard) ≡ None → CleanCard (Open c) card
+    by true f h = ending d s e (grind (arith, nat_tests))
+    by false f h = some_fault h
+clean_ends (Closed c) card d s e clean = by (nat_lt (length card.words) 3) clean
+  where
+    by : (t : Bool) → (if t then Some NoSubckt else Some BadCard) ≡ None → CleanCard (Closed c) card
+    by true h = some_fault h
+    by false h = some_fault h
+
+pub clean_card : (stage : Stage) (card : NumberedCard) → fault_in stage card ≡ None → CleanCard stage card
+clean_card stage card clean = control (list_any (list_any is_control) card.words) clean
+  where
+    other : (s t u v : Bool) → is_device card ≡ s → begins subckt_card card ≡ t → begins ends_card card ≡ u → (begins end_card card || begins model_card card) ≡ v
+        → (if s then device_fault stage card else (if t then subckt_fault stage card else (if u then ends_fault stage card else (if v then None else Some UnknownCard)))) ≡ None
+        → CleanCard stage card
+    other true t u v d s e f h = clean_device stage card d h
+    other false true u v d s e f h = clean_subckt stage card d s h
+    other false false true v d s e f h = clean_ends stage card d s e h
+    other false false false true d s e f h = skipped d s e f
+    other false false false false d s e f h = some_fault h
+
+    control : (w : Bool) → (if w then Some ControlByte else (if is_device card then device_fault stage card else (if begins subckt_card card then subckt_fault stage card else (if begins ends_card card then ends_fault stage card else (if begins end_card card || begins model_card card then None else Some UnknownCard))))) ≡ None → CleanCard stage card
+    control true h = some_fault h
+    control false h = other (is_device card) (begins subckt_card card) (begins ends_card card) (begins end_card card || begins model_card card) refl refl refl refl h
+
+-- the words of such cards
+
+model_word-kind : (word : List ℕ) → is_model_word word ≡ true → word ≡ model_word (kind_of word)
+model_word-kind word is = by (pointwise nat_eq word (codes "nch")) (pointwise nat_eq word (codes "pch")) (pointwise nat_eq word (codes "pkeep")) refl refl refl is
+  where
+    by : (a b d : Bool) → pointwise nat_eq word (codes "nch") ≡ a → pointwise nat_eq word (codes "pch") ≡ b → pointwise nat_eq word (codes "pkeep") ≡ d → (a || b || d) ≡ true
+        → word ≡ model_word (kind_of word)
+    by true b d x y z h = (bytes_decides word (codes "nch")).0 x ∙ ap (λ (t : Bool). model_word (if t then nch else (if pointwise nat_eq word (codes "pch") then pch else Keep))) (sym x)
+    by false true d x y z h = (bytes_decides word (codes "pch")).0 y ∙ (λ i. model_word (if sym x i then nch else (if sym y i then pch else Keep)))
+    by false false true x y z h = (bytes_decides word (codes "pkeep")).0 z ∙ (λ i. model_word (if sym x i then nch else (if sym y i then pch else Keep)))
+    by false false false x y z h = absurd (true≢false (sym h))
+
+-- the device of a card
+abbrev pub device_of : NumberedCard → NamedDevice
+device_of card = record { kind = kind_of (word_at card 5); drain = word_at card 1; gate = word_at card 2; source = word_at card 3 }
+
+pub device_card : (card : NumberedCard) → is_device card ≡ true → 5 < length card.words → is_model_word (word_at card 5) ≡ true → IsDeviceCard card.words (device_of card)
+device_card card is long known = by card.words refl is long (model_word-kind (word_at card 5) known)
+  where
+    first_m : (word : List ℕ) → (slice_index word 0 == 109) ≡ true → (rest : List ℕ) × (word ≡ 109 ∷ rest)
+    first_m [] h = absurd (true≢false (sym h))
+    first_m (b ∷ bs) h = (bs, ap (λ x. x ∷ bs) (eqb-true b 109 h))
+
+    by : (all : List (List ℕ)) → card.words ≡ all → (slice_index (first_word all) 0 == 109) ≡ true → 5 < length all → slice_index_or all 5 [] ≡ model_word (kind_of (slice_index_or all 5 []))
+        → IsDeviceCard card.words (device_of card)
+    by [] e m l k = absurd (omega (arith, l))
+    by (a ∷ []) e m l k = absurd (omega (arith, l))
+    by (a ∷ b ∷ []) e m l k = absurd (omega (arith, l))
+    by (a ∷ b ∷ d ∷ []) e m l k = absurd (omega (arith, l))
+    by (a ∷ b ∷ d ∷ f ∷ []) e m l k = absurd (omega (arith, l))
+    by (a ∷ b ∷ d ∷ f ∷ g ∷ []) e m l k = absurd (omega (arith, l))
+    by (a ∷ b ∷ d ∷ f ∷ g ∷ h ∷ more) e m l k =
+        let name = first_m a m in
+        let P : List (List ℕ) → Type 0 = λ ws. IsDeviceCard ws (record { kind = kind_of (slice_index_or ws 5 []); drain = slice_index_or ws 1 []; gate = slice_index_or ws 2 []; source = slice_index_or ws 3 [] }) in
+        subst P (sym e) (record { name = name.0; bulk = g; more = more; words_are = λ i. name.1 i ∷ b ∷ d ∷ f ∷ g ∷ k i ∷ more })
+
+-- the words of a `.subckt` in its form
+pub record IsSubcktCard (card : NumberedCard) : Type 0 where
+  pub words_are : card.words ≡ codes ".subckt" ∷ word_at card 1 ∷ port_names card
+  pub no_equals : All HasNoEquals (word_at card 1 ∷ port_names card)
+
+byte_no_equals : (word : List ℕ) → has_equals word ≡ false → AllByRecursion (λ b. b ≢ 61) word
+byte_no_equals [] h = tt
+byte_no_equals (b ∷ bs) h = by (b == 61) refl h (λ rest. byte_no_equals bs rest)
+  where
+    by : (t : Bool) → (b == 61) ≡ t → (t || list_any (λ x. x == 61) bs) ≡ false → (list_any (λ x. x == 61) bs ≡ false → AllByRecursion (λ x. x ≢ 61) bs) → AllByRecursion (λ x. x ≢ 61) (b ∷ bs)
+    by true e f rest = absurd (true≢false f)
+    by false e f rest = ((λ same. true≢false (sym (eq-eqb b 61 same) ∙ e)), rest f)
+
+words_no_equals : (all : List (List ℕ)) → list_any has_equals all ≡ false → AllByRecursion HasNoEquals all
+words_no_equals [] h = tt
+words_no_equals (word ∷ all) h = by (has_equals word) refl h (λ rest. words_no_equals all rest)
+  where
+    by : (t : Bool) → has_equals word ≡ t → (t || list_any has_equals all) ≡ false → (list_any has_equals all ≡ false → AllByRecursion HasNoEquals all) → AllByRecursion HasNoEquals (word ∷ all)
+    by true e f rest = absurd (true≢false f)
+    by false e f rest = (All-from_recursion (λ b. b ≢ 61) word (byte_no_equals word e), rest f)
+
+pub subckt_words : (card : NumberedCard) → begins subckt_card card ≡ true → is_subckt_form card ≡ true → IsSubcktCard card
+subckt_words card is form = by (nat_lt 1 (length card.words)) (list_any has_equals card.words) refl refl form
+  where
+    shape : (all : List (List ℕ)) → card.words ≡ all → 1 < length all → pointwise nat_eq (first_word all) (codes ".subckt") ≡ true → AllByRecursion HasNoEquals all → IsSubcktCard card
+    shape [] e l s h = absurd (omega (arith, l))
+    shape (a ∷ []) e l s h = absurd (omega (arith, l))
+    shape (a ∷ b ∷ more) e l s h =
+        let first = (bytes_decides a (codes ".subckt")).0 s in
+        record {
+          words_are = e ∙ (λ i. first i ∷ slice_index_or (sym e i) 1 [] ∷ drop 2 (sym e i));
+          no_equals = subst (λ ws. All HasNoEquals (slice_index_or ws 1 [] ∷ drop 2 ws)) (sym e) (All-from_recursion HasNoEquals (b ∷ more) h.1);
+        }
+
+    by : (s t : Bool) → nat_lt 1 (length card.words) ≡ s → list_any has_equals card.words ≡ t → (s && not t) ≡ true → IsSubcktCard card
+    by true false e f h = shape card.words refl (grind (arith, nat_tests)) is (words_no_equals card.words f)
+    by true true e f h = absurd (true≢false (sym h))
+    by false t e f h = absurd (true≢false (sym h))
+
+-- the words of a `.ends` in its form
+pub ends_words : (card : NumberedCard) → begins ends_card card ≡ true → length card.words < 3 → (closing : List (List ℕ)) × (card.words ≡ codes ".ends" ∷ closing) × (length closing ≤ 1)
+ends_words card is short = by card.words is short
+  where
+    by : (all : List (List ℕ)) → pointwise nat_eq (first_word all) (codes ".ends") ≡ true → length all < 3 → (closing : List (List ℕ)) × (all ≡ codes ".ends" ∷ closing) × (length closing ≤ 1)
+    by [] e l = absurd (true≢false (sym e))
+    by (a ∷ closing) e l = (closing, ap (λ w. w ∷ closing) ((bytes_decides a (codes ".ends")).0 e), omega (arith, l))

@@ -1,0 +1,109 @@
+-- The fault of a card, by what was read before it.
+use Rattle.std.proofs.Common.{◌≡◌, ℕ, Bool, true, false, cond, ◌==◌, ◌||◌, ◌&&◌, not, List, length, nat_eq, nat_lt, slice_index, refl, sym, ap, ◌∙◌, Option, Some, None}
+use Rattle.std.specs.List.{list_any}
+use Rattle.std.specs.Cmp.Lexicographic.{pointwise, bytes_decides}
+use Rattle.std.proofs.lemmas.Bool.{true≢false}
+use Rattle.dom_base.specs.Lines.{is_control}
+use Rattle.deck.specs.declared.fault.DeckKind.{DeckKind}
+use Rattle.deck.specs.declared.fault.DeckKind.TheVariants.{ControlByte, UnknownCard, BadCard, UnknownDevice, NoSubckt, SecondSubckt, NotClosed, DuplicatePort, TooMany}
+use Rattle.deck.specs.DeckText.{first_word}
+use Rattle.deck.specs.DeckCards.{NumberedCard, begins, subckt_card, ends_card, end_card, model_card, is_device, is_form, is_model_word, names_twice, port_names, is_open, has_subckt, device_count, most_devices, most_ports}
+use Rattle.spice_read.specs.declared.stage.Stage.{Stage}
+use Rattle.spice_read.specs.declared.stage.Stage.TheVariants.{Before, Open, Closed}
+use Rattle.spice_read.specs.Stages.{fault_in, is_open_stage, has_begun, is_subckt_form, room_fault, word_at}
+use Rattle.spice_read.proofs.KindNumbers.{smallest_fault}
+
+-- how many devices were read
+abbrev pub devices_of : Stage → ℕ
+devices_of Before = 0
+devices_of (Open c) = length c.devices
+devices_of (Closed c) = length c.devices
+
+-- what was read says what the cards before say
+pub record IsContext (before : List NumberedCard) (stage : Stage) : Type 0 where
+  pub open_is : is_open before ≡ is_open_stage stage
+  pub begun_is : has_subckt before ≡ has_begun stage
+  pub count_is : device_count before ≡ devices_of stage
+
+room_is : (stage : Stage) → room_fault stage ≡ cond (is_open_stage stage) (cond (devices_of stage == most_devices) (Some TooMany) None) (Some NoSubckt)
+room_is Before = refl
+room_is (Open c) = refl
+room_is (Closed c) = refl
+
+-- the order of the tests doesn't matter
+decide : (control dev sub ends end model long known form short opened begun twice many full : Bool)
+    → (dev ≡ true → sub ≡ false) → (sub ≡ true → ends ≡ false)
+    → cond control (Some ControlByte)
+    (cond dev (cond long (cond known (cond opened (cond full (Some TooMany) None) (Some NoSubckt)) (Some UnknownDevice)) (Some BadCard))
+    (cond sub (cond form (cond begun (Some SecondSubckt) (cond twice (Some DuplicatePort) (cond many (Some TooMany) None))) (Some BadCard))
+    (cond ends (cond short (cond opened None (Some NoSubckt)) (Some BadCard))
+    (cond (end || model) None (Some UnknownCard)))))
+    ≡ cond control (Some ControlByte)
+    (cond (not (dev || sub || ends || end || model)) (Some UnknownCard)
+    (cond ((dev || sub || ends || end || model) && not (cond dev long (cond sub form (cond ends short true)))) (Some BadCard)
+    (cond (dev && long && not known) (Some UnknownDevice)
+    (cond ((dev || ends) && not opened) (Some NoSubckt)
+    (cond (sub && begun) (Some SecondSubckt)
+    (cond false (Some NotClosed)
+    (cond (sub && twice) (Some DuplicatePort)
+    (cond ((dev && full) || (sub && many)) (Some TooMany) None))))))))
+decide true dev sub ends end model long known form short opened begun twice many full h k = refl
+decide false true true ends end model long known form short opened begun twice many full h k = absurd (true≢false (h refl))
+decide false true false ends end model false known form short opened begun twice many full h k = refl
+decide false true false ends end model true false form short opened begun twice many full h k = refl
+decide false true false ends end model true true form short false begun twice many full h k = refl
+decide false true false ends end model true true form short true begun twice many true h k = refl
+decide false true false ends end model true true form short true begun twice many false h k = refl
+decide false false true true end model long known form short opened begun twice many full h k = absurd (true≢false (k refl))
+decide false false true false end model long known false short opened begun twice many full h k = refl
+decide false false true false end model long known true short opened true twice many full h k = refl
+decide false false true false end model long known true short opened false true many full h k = refl
+decide false false true false end model long known true short opened false false true full h k = refl
+decide false false true false end model long known true short opened false false false full h k = refl
+decide false false false true end model long known form false opened begun twice many full h k = refl
+decide false false false true end model long known form true false begun twice many full h k = refl
+decide false false false true end model long known form true true begun twice many full h k = refl
+decide false false false false true model long known form short opened begun twice many full h k = refl
+decide false false false false false true long known form short opened begun twice many full h k = refl
+decide false false false false false false long known form short opened begun twice many full h k = refl
+
+-- the smallest fault, where these stand for what the cards before say
+abbrev told : List NumberedCard → NumberedCard → Bool → Bool → ℕ → Option DeckKind
+told before card opened begun count =
+    cond (list_any (list_any is_control) card.words) (Some ControlByte)
+    (cond (not (is_device card || begins subckt_card card || begins ends_card card || begins end_card card || begins model_card card)) (Some UnknownCard)
+    (cond ((is_device card || begins subckt_card card || begins ends_card card || begins end_card card || begins model_card card) && not (is_form card)) (Some BadCard)
+    (cond (is_device card && nat_lt 5 (length card.words) && not (is_model_word (word_at card 5))) (Some UnknownDevice)
+    (cond ((is_device card || begins ends_card card) && not opened) (Some NoSubckt)
+    (cond (begins subckt_card card && begun) (Some SecondSubckt)
+    (cond false (Some NotClosed)
+    (cond (begins subckt_card card && names_twice card) (Some DuplicatePort)
+    (cond ((is_device card && (count == most_devices)) || (begins subckt_card card && nat_lt most_ports (length (port_names card)))) (Some TooMany) None))))))))
+
+-- a word that begins with `m` is no other card
+pub not_device : (card : NumberedCard) (word : List ℕ) → is_device card ≡ true → (slice_index word 0 == 109) ≡ false → begins word card ≡ false
+not_device card word is other = by (begins word card) refl
+  where
+    by : (t : Bool) → begins word card ≡ t → begins word card ≡ false
+    by true e = absurd (true≢false (sym is ∙ ap (λ (w : List ℕ). slice_index w 0 == 109) ((bytes_decides (first_word card.words) word).0 e) ∙ other))
+    by false e = e
+
+-- a card begins with one word
+pub begins_one : (card : NumberedCard) (word other : List ℕ) → begins word card ≡ true → pointwise nat_eq word other ≡ false → begins other card ≡ false
+begins_one card word other is apart = ap (λ (w : List ℕ). pointwise nat_eq w other) ((bytes_decides (first_word card.words) word).0 is) ∙ apart
+
+-- the fault by what was read is the smallest
+pub fault_in-smallest : (before : List NumberedCard) (stage : Stage) (card : NumberedCard) → IsContext before stage → fault_in stage card ≡ smallest_fault before card
+fault_in-smallest before stage card is =
+    ap (λ room. cond (list_any (list_any is_control) card.words) (Some ControlByte)
+    (cond (is_device card) (cond (nat_lt 5 (length card.words)) (cond (is_model_word (word_at card 5)) room (Some UnknownDevice)) (Some BadCard))
+    (cond (begins subckt_card card) (cond (is_subckt_form card) (cond (has_begun stage) (Some SecondSubckt) (cond (names_twice card) (Some DuplicatePort) (cond (nat_lt most_ports (length (port_names card))) (Some TooMany) None))) (Some BadCard))
+    (cond (begins ends_card card) (cond (nat_lt (length card.words) 3) (cond (is_open_stage stage) None (Some NoSubckt)) (Some BadCard))
+    (cond (begins end_card card || begins model_card card) None (Some UnknownCard)))))) (room_is stage)
+    ∙ decide (list_any (list_any is_control) card.words) (is_device card) (begins subckt_card card) (begins ends_card card) (begins end_card card) (begins model_card card)
+    (nat_lt 5 (length card.words)) (is_model_word (word_at card 5)) (is_subckt_form card) (nat_lt (length card.words) 3) (is_open_stage stage) (has_begun stage)
+    (names_twice card) (nat_lt most_ports (length (port_names card))) (devices_of stage == most_devices)
+    (λ e. not_device card subckt_card e refl) (λ e. begins_one card subckt_card ends_card e refl)
+    ∙ ap (λ opened. told before card opened (has_begun stage) (devices_of stage)) (sym is.open_is)
+    ∙ ap (λ begun. told before card (is_open before) begun (devices_of stage)) (sym is.begun_is)
+    ∙ ap (λ (count : ℕ). told before card (is_open before) (has_subckt before) count) (sym is.count_is)

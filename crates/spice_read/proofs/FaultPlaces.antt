@@ -1,0 +1,375 @@
+-- Where a deck has its first fault.
+use Rattle.std.proofs.Common.{◌≡◌, ℕ, ◌≤◌, ◌<◌, ◌+◌, ◌⊎◌, inl, inr, Bool, true, false, cond, ◌==◌, ◌||◌, ◌&&◌, not, if◌then◌else◌, List, [], ◌∷◌, ◌++◌, length, map, reverse, nat_eq, nat_lt, codes, slice_index, slice_index_or, eqb-true, refl, sym, ap, ◌∙◌, subst, arith, Some, None, append-nil, append_assoc}
+use Rattle.std.specs.List.{before_first, list_any}
+use Rattle.std.specs.Cmp.Lexicographic.{bytes_decides, pointwise}
+use Rattle.std.proofs.lemmas.Bool.{true≢false}
+use Rattle.std.proofs.lemmas.List.{reverse-reverse, reverse-append}
+use Rattle.dom_base.specs.Lines.{is_blank, lines, words}
+use Rattle.deck.specs.declared.fault.DeckKind.{DeckKind}
+use Rattle.deck.specs.declared.fault.DeckKind.TheVariants.{ControlByte, UnknownCard, BadCard, UnknownDevice, NoSubckt, SecondSubckt, NotClosed, DuplicatePort, TooMany}
+use Rattle.deck.specs.DeckText.{added_words, continues, deck_lines, first_word, is_end, is_of_card, read_line, through_end}
+use Rattle.deck.specs.DeckCards.{NumberedCard, begins, end_card, ends_card, model_card, subckt_card, is_device, numbered_cards, numbered_cards_of, numbered_lines, numbered_lines_from, has_equals, has_subckt, is_model_word, is_open, device_count, most_devices, most_ports, names_twice, port_names}
+use Rattle.deck.specs.DeckFaults.{has_fault, has_end_fault, kind_number, end_line, IsDeckFault, IsDeckFaultAt, IsFaultOfCard, IsLooseLine}
+use Rattle.deck.specs.CircuitData.{CircuitData}
+use Rattle.spice_read.specs.declared.stage.Stage.{Stage}
+use Rattle.spice_read.specs.declared.stage.Stage.TheVariants.{Before, Open, Closed}
+use Rattle.spice_read.specs.Stages.{end_fault}
+use Rattle.spice_read.specs.Rests.{end_from}
+use Rattle.spice_read.specs.Scans.{BeginsNumbered, IsLooseAt}
+use Rattle.spice_read.proofs.KindNumbers.{IsFound}
+use Rattle.spice_read.proofs.Contexts.{IsContext, begins_one}
+use Rattle.spice_read.proofs.FirstWords.{words-front}
+
+-- a number is before the end, or that of the line `.end`
+abbrev Within : ℕ → ℕ → Bool → Type 0
+Within number last ends = (number < last) ⊎ ((number ≡ last) × (ends ≡ true))
+
+-- the numbers of lines rise from this one on, up to the end
+abbrev LinesRise : ℕ → ℕ → List (ℕ × List ℕ) → Type 0
+LinesRise n last [] = Unit {0}
+LinesRise n last (p ∷ ps) = (n ≤ p.0) × Within p.0 last (is_end p.1) × LinesRise (p.0 + 1) last ps
+
+-- and so do those of cards
+abbrev CardsRise : ℕ → ℕ → List NumberedCard → Type 0
+CardsRise n last [] = Unit {0}
+CardsRise n last (card ∷ cards) = (n ≤ card.number) × Within card.number last (begins end_card card) × CardsRise (card.number + 1) last cards
+
+lines-weaker : (m n last : ℕ) (ps : List (ℕ × List ℕ)) → m ≤ n → LinesRise n last ps → LinesRise m last ps
+lines-weaker m n last [] le h = tt
+lines-weaker m n last (p ∷ ps) le h = (omega (arith, le, h.0), h.1, h.2)
+
+cards-weaker : (m n last : ℕ) (cards : List NumberedCard) → m ≤ n → CardsRise n last cards → CardsRise m last cards
+cards-weaker m n last [] le h = tt
+cards-weaker m n last (card ∷ cards) le h = (omega (arith, le, h.0), h.1, h.2)
+
+end-ge : (n : ℕ) (all : List (List ℕ)) → n ≤ end_from n all
+end-ge n [] = omega arith
+end-ge n (line ∷ all) = by (is_end line) (end-ge (n + 1) all)
+  where
+    by : (t : Bool) → n + 1 ≤ end_from (n + 1) all → n ≤ (if t then n else end_from (n + 1) all)
+    by true h = omega arith
+    by false h = omega (arith, h)
+
+-- the lines of cards up to `.end`
+lines-rise : (n : ℕ) (raw : List (List ℕ)) → LinesRise n (end_from n (through_end raw)) (numbered_lines_from n (through_end raw))
+lines-rise n [] = tt
+lines-rise n (line ∷ raw) = by (is_end line) (is_of_card line) refl (lines-rise (n + 1) raw) (end-ge (n + 1) (through_end raw))
+  where
+    by : (t s : Bool) → is_end line ≡ t → LinesRise (n + 1) (end_from (n + 1) (through_end raw)) (numbered_lines_from (n + 1) (through_end raw))
+        → n + 1 ≤ end_from (n + 1) (through_end raw)
+        → LinesRise n (if t then n else end_from (n + 1) (if t then [] else through_end raw)) (cond s ((n, line) ∷ numbered_lines_from (n + 1) (if t then [] else through_end raw)) (numbered_lines_from (n + 1) (if t then [] else through_end raw)))
+    by true true e h ge = (omega arith, inr (refl, e), tt)
+    by true false e h ge = tt
+    by false true e h ge = (omega arith, inl (omega (arith, ge)), h)
+    by false false e h ge = lines-weaker n (n + 1) (end_from (n + 1) (through_end raw)) (numbered_lines_from (n + 1) (through_end raw)) (omega arith) h
+
+-- more words leave the first one
+ends-first : (some more : List (List ℕ)) → pointwise nat_eq (first_word some) (codes ".end") ≡ true → pointwise nat_eq (first_word (some ++ more)) (codes ".end") ≡ true
+ends-first [] more h = absurd (true≢false (sym h))
+ends-first (word ∷ some) more h = h
+
+cards-rise : (n last : ℕ) (ps : List (ℕ × List ℕ)) → LinesRise n last ps → CardsRise n last (numbered_cards_of ps)
+cards-rise n last [] h = tt
+cards-rise n last (p ∷ ps) h = by (continues p.1) (cards-rise (p.0 + 1) last ps h.2)
+  where
+    within : Within p.0 last (is_end p.1) → Within p.0 last (begins end_card (record { number = p.0; words = words p.1 ++ added_words (map (λ q. q.1) ps) }))
+    within (inl lt) = inl lt
+    within (inr both) = inr (both.0, ends-first (words p.1) (added_words (map (λ q. q.1) ps)) both.1)
+
+    by : (t : Bool) → CardsRise (p.0 + 1) last (numbered_cards_of ps)
+        → CardsRise n last (if t then numbered_cards_of ps else record { number = p.0; words = words p.1 ++ added_words (map (λ q. q.1) ps) } ∷ numbered_cards_of ps)
+    by true rest = cards-weaker n (p.0 + 1) last (numbered_cards_of ps) (omega (arith, h.0)) rest
+    by false rest = (h.0, within h.1, rest)
+
+-- the end of the text by its lines
+end-from : (n : ℕ) (raw : List (List ℕ)) → end_from (n + 1) (through_end raw) ≡ n + (if list_any is_end (through_end raw) then length (through_end raw) else length (through_end raw) + 1)
+end-from n [] = omega arith
+end-from n (line ∷ raw) = by (is_end line) (end-from (n + 1) raw)
+  where
+    goes_on : (s : Bool) → end_from (n + 1 + 1) (through_end raw) ≡ n + 1 + (if s then length (through_end raw) else length (through_end raw) + 1)
+        → end_from (n + 1 + 1) (through_end raw) ≡ n + (if s then length (line ∷ through_end raw) else length (line ∷ through_end raw) + 1)
+    goes_on true h = omega (arith, h)
+    goes_on false h = omega (arith, h)
+
+    by : (t : Bool) → end_from (n + 1 + 1) (through_end raw) ≡ n + 1 + (if list_any is_end (through_end raw) then length (through_end raw) else length (through_end raw) + 1)
+        → (if t then n + 1 else end_from (n + 1 + 1) (if t then [] else through_end raw))
+        ≡ n + (if t || list_any is_end (if t then [] else through_end raw) then length (line ∷ (if t then [] else through_end raw)) else length (line ∷ (if t then [] else through_end raw)) + 1)
+    by true h = omega arith
+    by false h = goes_on (list_any is_end (through_end raw)) h
+
+pub end_line-from : (text : List ℕ) → end_line text ≡ end_from 1 (deck_lines text)
+end_line-from text = sym (end-from 0 (map read_line (lines text)) ∙ zero_plus _)
+  where
+    zero_plus : (n : ℕ) → 0 + n ≡ n
+    zero_plus n = omega arith
+
+lines_of_text-rise : (text : List ℕ) → LinesRise 1 (end_line text) (numbered_lines text)
+lines_of_text-rise text = subst (λ last. LinesRise 1 last (numbered_lines text)) (sym (end_line-from text)) (lines-rise 1 (map read_line (lines text)))
+
+cards_of_text-rise : (text : List ℕ) → CardsRise 1 (end_line text) (numbered_cards text)
+cards_of_text-rise text = cards-rise 1 (end_line text) (numbered_lines text) (lines_of_text-rise text)
+
+-- one of these cards has this number and a fault of this kind, where these cards stand before them, the nearest first
+abbrev pub FaultIn : List NumberedCard → List NumberedCard → ℕ → DeckKind → Type 0
+FaultIn before [] number kind = ⊥
+FaultIn before (card ∷ more) number kind = ((card.number ≡ number) × (has_fault kind before card ≡ true)) ⊎ FaultIn (card ∷ before) more number kind
+
+reverse-onto : (x : NumberedCard) (xs before : List NumberedCard) → reverse (x ∷ xs) ++ before ≡ reverse xs ++ x ∷ before
+reverse-onto x xs before = ap (λ l. l ++ before) (reverse-append (x ∷ []) xs) ∙ append_assoc (reverse xs) (x ∷ []) before
+
+walk : (xs before more : List NumberedCard) (n : ℕ) (kind : DeckKind) → FaultIn (reverse xs ++ before) more n kind → FaultIn before (xs ++ more) n kind
+walk [] before more n kind fault = fault
+walk (x ∷ xs) before more n kind fault = inr (walk xs (x ∷ before) more n kind (subst (λ b. FaultIn b more n kind) (reverse-onto x xs before) fault))
+
+fault_in : (text : List ℕ) (n : ℕ) (kind : DeckKind) → IsFaultOfCard text n kind → FaultIn [] (numbered_cards text) n kind
+fault_in text n kind f =
+    let here : FaultIn f.before (f.card ∷ f.after) n kind = inl (f.number_is, f.fault) in
+    let back : f.before ≡ reverse (reverse f.before) ++ [] = sym (append-nil (reverse (reverse f.before)) ∙ reverse-reverse f.before) in
+    subst (λ l. FaultIn [] l n kind) (sym f.cards_are) (walk (reverse f.before) [] (f.card ∷ f.after) n kind (subst (λ b. FaultIn b (f.card ∷ f.after) n kind) back here))
+
+-- the cards that were passed, the last first, and those that are left; all faults of cards are among the latter
+pub record IsPassed (text : List ℕ) (before rest : List NumberedCard) : Type 0 where
+  pub split : numbered_cards text ≡ reverse before ++ rest
+  pub faults : (n : ℕ) (kind : DeckKind) → FaultIn [] (numbered_cards text) n kind → FaultIn before rest n kind
+  pub least : ℕ
+  pub rise : CardsRise least (end_line text) rest
+
+pub none_passed : (text : List ℕ) → IsPassed text [] (numbered_cards text)
+none_passed text = record { split = refl; faults = λ n kind f. f; least = 1; rise = cards_of_text-rise text }
+
+snoc : (before : List NumberedCard) (card : NumberedCard) (more : List NumberedCard) → reverse before ++ card ∷ more ≡ reverse (card ∷ before) ++ more
+snoc before card more = sym (ap (λ l. l ++ more) (reverse-append (card ∷ []) before) ∙ append_assoc (reverse before) (card ∷ []) more)
+
+pub one_passed : (text : List ℕ) (before : List NumberedCard) (card : NumberedCard) (rest : List NumberedCard) → IsPassed text before (card ∷ rest) → IsFound before card None → IsPassed text (card ∷ before) rest
+one_passed text before card rest p clean = record {
+  split = p.split ∙ snoc before card rest;
+  faults = λ n kind f. behind n kind (p.faults n kind f);
+  least = card.number + 1;
+  rise = p.rise.2;
+}
+  where
+    behind : (n : ℕ) (kind : DeckKind) → FaultIn before (card ∷ rest) n kind → FaultIn (card ∷ before) rest n kind
+    behind n kind (inl here) = absurd (true≢false (sym here.1 ∙ clean kind))
+    behind n kind (inr later) = later
+
+-- a fault stands at no smaller number than that from which the numbers rise, and not behind the end
+rising-fault : (m last : ℕ) (before all : List NumberedCard) (n : ℕ) (kind : DeckKind) → CardsRise m last all → FaultIn before all n kind → m ≤ n
+rising-fault m last before [] n kind rise f = absurd f
+rising-fault m last before (card ∷ more) n kind rise (inl here) = omega (arith, rise.0, here.0)
+rising-fault m last before (card ∷ more) n kind rise (inr later) = omega (arith, rise.0, rising-fault (card.number + 1) last (card ∷ before) more n kind rise.2 later)
+
+no_card-continues : (ps : List (ℕ × List ℕ)) (p : ℕ × List ℕ) (after : List (ℕ × List ℕ)) → numbered_cards_of ps ≡ [] → continues p.1 ≡ true → BeginsNumbered (ps ++ p ∷ after) → ⊥
+no_card-continues [] p after none is starts = true≢false (sym is ∙ starts)
+no_card-continues (q ∷ ps) p after none is starts = by (continues q.1) starts none
+  where
+    by : (t : Bool) → t ≡ false → (if t then numbered_cards_of ps else record { number = q.0; words = words q.1 ++ added_words (map (λ r. r.1) ps) } ∷ numbered_cards_of ps) ≡ [] → ⊥
+    by true e f = true≢false e
+    by false e f = absurd (omega (arith, ap length f))
+
+-- a deck that begins with a card has no loose line
+pub no_loose : (text : List ℕ) → BeginsNumbered (numbered_lines text) → (n : ℕ) (kind : DeckKind) → IsLooseLine text n kind → ⊥
+no_loose text starts n kind l = no_card-continues l.before (n, l.line) l.after l.no_card l.line_continues (subst BeginsNumbered l.lines_are starts)
+
+-- a card `.end` has no fault but a control byte
+end_card_fault : (before : List NumberedCard) (card : NumberedCard) (kind : DeckKind) → begins end_card card ≡ true → has_fault kind before card ≡ true → kind_number kind ≤ 1
+end_card_fault before card kind n h = of kind h
+  where
+    d : is_device card ≡ false
+    d = ap (λ (w : List ℕ). slice_index w 0 == 109) ((bytes_decides (first_word card.words) (codes ".end")).0 n)
+
+    s : begins subckt_card card ≡ false
+    s = begins_one card end_card subckt_card n refl
+
+    e : begins ends_card card ≡ false
+    e = begins_one card end_card ends_card n refl
+
+    never : {P : Type 0} (k : DeckKind) → has_fault k before card ≡ true → has_fault k before card ≡ false → P
+    never k g none = absurd (true≢false (sym g ∙ none))
+
+    of : (k : DeckKind) → has_fault k before card ≡ true → kind_number k ≤ 1
+    of ControlByte g = omega arith
+    of UnknownCard g = never UnknownCard g (λ i. not (d i || s i || e i || n i || begins model_card card))
+    of BadCard g = never BadCard g (λ i. (d i || s i || e i || n i || begins model_card card) && not (if d i then nat_lt 5 (length card.words) else (if s i then nat_lt 1 (length card.words) && not (list_any has_equals card.words) else (if e i then nat_lt (length card.words) 3 else true))))
+    of UnknownDevice g = never UnknownDevice g (λ i. d i && nat_lt 5 (length card.words) && not (is_model_word (slice_index_or card.words 5 [])))
+    of NoSubckt g = never NoSubckt g (λ i. (d i || e i) && not (is_open before))
+    of SecondSubckt g = never SecondSubckt g (λ i. s i && has_subckt before)
+    of NotClosed g = never NotClosed g refl
+    of DuplicatePort g = never DuplicatePort g (λ i. s i && names_twice card)
+    of TooMany g = never TooMany g (λ i. (d i && (device_count before == most_devices)) || (s i && nat_lt most_ports (length (port_names card))))
+
+kind_number-ge : (kind : DeckKind) → 1 ≤ kind_number kind
+kind_number-ge ControlByte = omega arith
+kind_number-ge UnknownCard = omega arith
+kind_number-ge BadCard = omega arith
+kind_number-ge UnknownDevice = omega arith
+kind_number-ge NoSubckt = omega arith
+kind_number-ge SecondSubckt = omega arith
+kind_number-ge NotClosed = omega arith
+kind_number-ge DuplicatePort = omega arith
+kind_number-ge TooMany = omega arith
+
+-- the first card with a fault, where the deck begins with a card
+pub fault_at_card : (text : List ℕ) (before : List NumberedCard) (card : NumberedCard) (rest : List NumberedCard) (kind : DeckKind) → BeginsNumbered (numbered_lines text)
+    → IsPassed text before (card ∷ rest) → IsFound before card (Some kind) → IsDeckFaultAt text card.number kind
+fault_at_card text before card rest kind starts p found = record {
+  fault = inl ((record { before = before; card = card; after = rest; cards_are = p.split; number_is = refl; fault = found.0 }));
+  first = first;
+  smallest = smallest;
+}
+  where
+    before_end : Within card.number (end_line text) (begins end_card card) → card.number ≤ end_line text
+    before_end (inl lt) = omega (arith, lt)
+    before_end (inr both) = omega (arith, both.0)
+
+    first : (other : ℕ) (any : DeckKind) → IsDeckFault text other any → card.number ≤ other
+    first other any (inl f) = rising-fault card.number (end_line text) before (card ∷ rest) other any (omega arith, p.rise.1, p.rise.2) (p.faults other any (fault_in text other any f))
+    first other any (inr (inl l)) = absurd (no_loose text starts other any l)
+    first other any (inr (inr e)) = omega (arith, e.number_is, before_end p.rise.1)
+
+    here : (other : DeckKind) → FaultIn before (card ∷ rest) card.number other → kind_number kind ≤ kind_number other
+    here other (inl h) = found.1 other h.1
+    here other (inr later) = absurd (omega (arith, rising-fault (card.number + 1) (end_line text) (card ∷ before) rest card.number other p.rise.2 later))
+
+    at_end : (other : DeckKind) → card.number ≡ end_line text → Within card.number (end_line text) (begins end_card card) → kind_number kind ≤ kind_number other
+    at_end other same (inl lt) = absurd (omega (arith, lt, same))
+    at_end other same (inr both) = omega (arith, end_card_fault before card kind both.1 found.0, kind_number-ge other)
+
+    smallest : (other : DeckKind) → IsDeckFault text card.number other → kind_number kind ≤ kind_number other
+    smallest other (inl f) = here other (p.faults card.number other (fault_in text card.number other f))
+    smallest other (inr (inl l)) = absurd (no_loose text starts card.number other l)
+    smallest other (inr (inr e)) = at_end other e.number_is p.rise.1
+
+-- the cards, the last first, once all are passed
+all_passed : (text : List ℕ) (before : List NumberedCard) → IsPassed text before [] → reverse (numbered_cards text) ≡ before
+all_passed text before p = ap reverse (p.split ∙ append-nil (reverse before)) ∙ reverse-reverse before
+
+-- a fault of the end, where no card has one
+end_only : (text : List ℕ) (before : List NumberedCard) (n : ℕ) (kind : DeckKind) → BeginsNumbered (numbered_lines text) → IsPassed text before [] → IsDeckFault text n kind
+    → (n ≡ end_line text) × (has_end_fault kind before ≡ true)
+end_only text before n kind starts p (inl f) = absurd (p.faults n kind (fault_in text n kind f))
+end_only text before n kind starts p (inr (inl l)) = absurd (no_loose text starts n kind l)
+end_only text before n kind starts p (inr (inr e)) = (e.number_is, subst (λ all. has_end_fault kind all ≡ true) (all_passed text before p) e.fault)
+
+no_end : {P : Type 0} → false ≡ true → P
+no_end e = absurd (true≢false (sym e))
+
+end_number : (kind : DeckKind) (all : List NumberedCard) → has_end_fault kind all ≡ true → 5 ≤ kind_number kind
+end_number ControlByte all h = no_end h
+end_number UnknownCard all h = no_end h
+end_number BadCard all h = no_end h
+end_number UnknownDevice all h = no_end h
+end_number NoSubckt all h = omega arith
+end_number SecondSubckt all h = no_end h
+end_number NotClosed all h = omega arith
+end_number DuplicatePort all h = no_end h
+end_number TooMany all h = no_end h
+
+open_number : (kind : DeckKind) (all : List NumberedCard) → has_subckt all ≡ true → has_end_fault kind all ≡ true → 7 ≤ kind_number kind
+open_number ControlByte all b h = no_end h
+open_number UnknownCard all b h = no_end h
+open_number BadCard all b h = no_end h
+open_number UnknownDevice all b h = no_end h
+open_number NoSubckt all b h = absurd (true≢false (sym h ∙ ap not b))
+open_number SecondSubckt all b h = no_end h
+open_number NotClosed all b h = omega arith
+open_number DuplicatePort all b h = no_end h
+open_number TooMany all b h = no_end h
+
+closed_no_fault : (kind : DeckKind) (all : List NumberedCard) → has_subckt all ≡ true → is_open all ≡ false → has_end_fault kind all ≡ true → ⊥
+closed_no_fault ControlByte all b o h = no_end h
+closed_no_fault UnknownCard all b o h = no_end h
+closed_no_fault BadCard all b o h = no_end h
+closed_no_fault UnknownDevice all b o h = no_end h
+closed_no_fault NoSubckt all b o h = true≢false (sym h ∙ ap not b)
+closed_no_fault SecondSubckt all b o h = no_end h
+closed_no_fault NotClosed all b o h = true≢false (sym h ∙ o)
+closed_no_fault DuplicatePort all b o h = no_end h
+closed_no_fault TooMany all b o h = no_end h
+
+fault_told : (text : List ℕ) (before : List NumberedCard) (kind : DeckKind) → BeginsNumbered (numbered_lines text) → IsPassed text before [] → has_end_fault kind before ≡ true
+    → ((other : DeckKind) → has_end_fault other before ≡ true → kind_number kind ≤ kind_number other) → IsDeckFaultAt text (end_line text) kind
+fault_told text before kind starts p is least = record {
+  fault = inr (inr (record { number_is = refl; fault = subst (λ all. has_end_fault kind all ≡ true) (sym (all_passed text before p)) is }));
+  first = λ other any f. omega (arith, (end_only text before other any starts p f).0);
+  smallest = λ other f. least other (end_only text before (end_line text) other starts p f).1;
+}
+
+-- the fault of the end, where no card has one
+pub fault_at_end : (text : List ℕ) (before : List NumberedCard) (stage : Stage) (kind : DeckKind) → BeginsNumbered (numbered_lines text) → IsPassed text before [] → IsContext before stage
+    → end_fault stage ≡ Some kind → IsDeckFaultAt text (end_line text) kind
+fault_at_end text before Before kind starts p context is =
+    let same : NoSubckt ≡ kind = cc in
+    subst (IsDeckFaultAt text (end_line text)) same (fault_told text before NoSubckt starts p (ap not context.begun_is) (λ other h. end_number other before h))
+fault_at_end text before (Open c) kind starts p context is =
+    let same : NotClosed ≡ kind = cc in
+    subst (IsDeckFaultAt text (end_line text)) same (fault_told text before NotClosed starts p context.open_is (λ other h. open_number other before context.begun_is h))
+fault_at_end text before (Closed c) kind starts p context is = absurd (let never : ⊥ = cc in never)
+
+-- no fault at all, where no card has one and the subcircuit was closed
+pub no_fault : (text : List ℕ) (before : List NumberedCard) (c : CircuitData) → BeginsNumbered (numbered_lines text) → IsPassed text before [] → IsContext before (Closed c)
+    → (n : ℕ) (kind : DeckKind) → IsDeckFault text n kind → ⊥
+no_fault text before c starts p context n kind f = closed_no_fault kind before context.begun_is context.open_is (end_only text before n kind starts p f).1
+
+-- a line that continues a card is not the line `.end`
+plus_no_end : (line : List ℕ) → continues line ≡ true → is_end line ≡ false
+plus_no_end [] h = refl
+plus_no_end (b ∷ bs) h =
+    let plus : b ≡ 43 = eqb-true b 43 h in
+    let all = words-front b bs (ap is_blank plus) in
+    ap (λ ws. pointwise nat_eq (first_word ws) (codes ".end")) all.1
+    ∙ ap (λ (n : ℕ). pointwise nat_eq (n ∷ before_first is_blank bs) (codes ".end")) plus
+
+lines-least : (m last : ℕ) (before : List (ℕ × List ℕ)) (q : ℕ × List ℕ) (after : List (ℕ × List ℕ)) → LinesRise m last (before ++ q ∷ after) → m ≤ q.0
+lines-least m last [] q after h = h.0
+lines-least m last (p ∷ before) q after h = omega (arith, h.0, lines-least (p.0 + 1) last before q after h.2)
+
+-- the facts of a text whose first line of a card continues a card
+record LooseFacts (text : List ℕ) (n : ℕ) : Type 0 where
+  line : List ℕ
+  more : List (ℕ × List ℕ)
+  lines_are : numbered_lines text ≡ (n, line) ∷ more
+  line_continues : continues line ≡ true
+
+loose_facts : (text : List ℕ) (n : ℕ) → IsLooseAt (numbered_lines text) n → LooseFacts text n
+loose_facts text n h = by (numbered_lines text) refl h
+  where
+    by : (ps : List (ℕ × List ℕ)) → numbered_lines text ≡ ps → IsLooseAt ps n → LooseFacts text n
+    by [] e g = absurd g
+    by (p ∷ ps) e g = record { line = p.1; more = ps; lines_are = e ∙ ap (λ (k : ℕ). (k, p.1) ∷ ps) g.0; line_continues = g.1 }
+
+-- a deck that begins with a line with `+`
+pub fault_at_loose : (text : List ℕ) (n : ℕ) → IsLooseAt (numbered_lines text) n → IsDeckFaultAt text n BadCard
+fault_at_loose text n h = record {
+  fault = inr (inl (record { before = []; line = facts.line; after = facts.more; lines_are = facts.lines_are; line_continues = facts.line_continues; no_card = refl; kind_is = refl }));
+  first = first;
+  smallest = smallest;
+}
+  where
+    facts : LooseFacts text n
+    facts = loose_facts text n h
+
+    rise : LinesRise 1 (end_line text) ((n, facts.line) ∷ facts.more)
+    rise = subst (LinesRise 1 (end_line text)) facts.lines_are (lines_of_text-rise text)
+
+    cards_are : numbered_cards text ≡ numbered_cards_of facts.more
+    cards_are = ap numbered_cards_of facts.lines_are ∙ ap (λ (t : Bool). if t then numbered_cards_of facts.more else record { number = n; words = words facts.line ++ added_words (map (λ q. q.1) facts.more) } ∷ numbered_cards_of facts.more) facts.line_continues
+
+    later : (other : ℕ) (any : DeckKind) → IsFaultOfCard text other any → n + 1 ≤ other
+    later other any f = rising-fault (n + 1) (end_line text) [] (numbered_cards_of facts.more) other any (cards-rise (n + 1) (end_line text) facts.more rise.2) (subst (λ l. FaultIn [] l other any) cards_are (fault_in text other any f))
+
+    loose : (other : ℕ) (any : DeckKind) → IsLooseLine text other any → n ≤ other
+    loose other any l = lines-least n (end_line text) l.before (other, l.line) l.after (subst (LinesRise n (end_line text)) (sym facts.lines_are ∙ l.lines_are) (omega arith, rise.1, rise.2))
+
+    ends_later : Within n (end_line text) (is_end facts.line) → n < end_line text
+    ends_later (inl lt) = lt
+    ends_later (inr both) = absurd (true≢false (sym both.1 ∙ plus_no_end facts.line facts.line_continues))
+
+    first : (other : ℕ) (any : DeckKind) → IsDeckFault text other any → n ≤ other
+    first other any (inl f) = omega (arith, later other any f)
+    first other any (inr (inl l)) = loose other any l
+    first other any (inr (inr e)) = omega (arith, e.number_is, ends_later rise.1)
+
+    smallest : (other : DeckKind) → IsDeckFault text n other → kind_number BadCard ≤ kind_number other
+    smallest other (inl f) = absurd (omega (arith, later n other f))
+    smallest other (inr (inl l)) = omega (arith, ap kind_number l.kind_is)
+    smallest other (inr (inr e)) = absurd (omega (arith, e.number_is, ends_later rise.1))

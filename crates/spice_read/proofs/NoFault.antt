@@ -1,0 +1,243 @@
+-- A deck that has a circuit has no fault.
+use Rattle.std.proofs.Common.{◌≡◌, ◌≢◌, ℕ, ◌≤◌, ◌<◌, ◌+◌, ◌^◌, Bool, true, false, cond, ◌==◌, ◌||◌, ◌&&◌, not, if◌then◌else◌, List, [], ◌∷◌, ◌++◌, length, map, filter, drop, nat_eq, nat_lt, codes, slice_index, slice_index_or, refl, sym, ap, ◌∙◌, subst, arith, All, None, length-append, ne_eqb}
+use Rattle.std.specs.List.{AllByRecursion, AllZip, list_any}
+use Rattle.std.specs.Cmp.Lexicographic.{bytes_decides, pointwise}
+use Rattle.std.proofs.lemmas.Bool.Decides.{nat_tests}
+use Rattle.std.proofs.lemmas.List.Elements.{recursion_from_All}
+use Rattle.std.proofs.lemmas.Map.Made.{distinct_count-from_IsDistinct}
+use Rattle.dom_base.specs.Lines.{is_control}
+use Rattle.dom_base.specs.declared.kind.Kind.{Kind}
+use Rattle.dom_base.specs.declared.kind.Kind.TheVariants.{N as nch, P as pch, Keep}
+use Rattle.dom_base.proofs.PlainWords.{list_any-none}
+use Rattle.deck.specs.declared.fault.DeckKind.{DeckKind}
+use Rattle.deck.specs.CircuitData.{CircuitData}
+use Rattle.deck.specs.DeckText.{HasNoEquals, IsDeckOf, IsDeviceCard, NamedDevice, deck_cards, first_word, is_skipped, model_word}
+use Rattle.deck.specs.DeckCards.{NumberedCard, begins, end_card, ends_card, has_equals, is_device, is_model_word, model_card, most_ports, names_twice, numbered_cards, port_names, subckt_card}
+use Rattle.deck.specs.DeckFaults.{IsDeckFault}
+use Rattle.deck.proofs.Distinct.{names_equal}
+use Rattle.spice_read.specs.declared.stage.Stage.{Stage}
+use Rattle.spice_read.specs.declared.stage.Stage.TheVariants.{Before, Open, Closed}
+use Rattle.spice_read.specs.Stages.{fault_in, is_subckt_form, opened, ports_fault, stage_after, with_device}
+use Rattle.spice_read.proofs.Accepting.{IsVisible}
+use Rattle.spice_read.proofs.CleanCards.{CleanCard, device, opening, ending, skipped}
+use Rattle.spice_read.proofs.Contexts.{IsContext, begins_one, fault_in-smallest}
+use Rattle.spice_read.proofs.FaultPlaces.{IsPassed, no_fault, none_passed, one_passed}
+use Rattle.spice_read.proofs.KindNumbers.{IsFound, smallest_is}
+use Rattle.spice_read.proofs.Numbered.{begins_numbered, deck_cards-numbered}
+use Rattle.spice_read.proofs.Ports.{HasGoodPorts}
+use Rattle.spice_read.proofs.Stands.{Stands, stage_skipped, stands_after, starts}
+
+-- a card without a fault, by what it is
+clean_fault : (stage : Stage) (card : NumberedCard) → CleanCard stage card → list_any (list_any is_control) card.words ≡ false → fault_in stage card ≡ None
+clean_fault (Open c) card (device d long known room) no_control =
+    let five : nat_lt 5 (length card.words) ≡ true = grind (arith, nat_tests) in
+    rw (no_control, d, five, known, room) refl
+clean_fault Before card (opening d is form ports) no_control = rw (no_control, d, is, form) ports
+clean_fault (Open c) card (ending d no_subckt is short) no_control =
+    let three : nat_lt (length card.words) 3 ≡ true = grind (arith, nat_tests) in
+    rw (no_control, d, no_subckt, is, three) refl
+clean_fault stage card (skipped d no_subckt no_ends is) no_control = rw (no_control, d, no_subckt, no_ends, is) refl
+
+no_control_word : (word : List ℕ) → All (λ b. is_control b ≡ false) word → list_any is_control word ≡ false
+no_control_word word h = list_any-none is_control word (recursion_from_All (λ b. is_control b ≡ false) word h)
+
+no_control_words : (all : List (List ℕ)) → AllByRecursion (All (λ b. is_control b ≡ false)) all → AllByRecursion (λ word. list_any is_control word ≡ false) all
+no_control_words [] h = tt
+no_control_words (word ∷ all) h = (no_control_word word h.0, no_control_words all h.1)
+
+visible_clean : (all : List (List ℕ)) → IsVisible all → list_any (list_any is_control) all ≡ false
+visible_clean all h = list_any-none (list_any is_control) all (no_control_words all (recursion_from_All (All (λ b. is_control b ≡ false)) all h))
+
+-- a `.subckt` of a deck
+no_equals_byte : (word : List ℕ) → AllByRecursion (λ b. b ≢ 61) word → AllByRecursion (λ b. (b == 61) ≡ false) word
+no_equals_byte [] h = tt
+no_equals_byte (b ∷ bs) h = (ne_eqb b 61 h.0, no_equals_byte bs h.1)
+
+no_equals_words : (all : List (List ℕ)) → AllByRecursion HasNoEquals all → AllByRecursion (λ word. has_equals word ≡ false) all
+no_equals_words [] h = tt
+no_equals_words (word ∷ all) h = (list_any-none (λ b. b == 61) word (no_equals_byte word (recursion_from_All (λ b. b ≢ 61) word h.0)), no_equals_words all h.1)
+
+ports_clean : (card : NumberedCard) → HasGoodPorts (port_names card) → ports_fault card ≡ None
+ports_clean card good =
+    let same = distinct_count-from_IsDistinct names_equal (port_names card) good.differ in
+    let once : names_twice card ≡ false = grind (arith, nat_tests) in
+    let few : nat_lt most_ports (length (port_names card)) ≡ false = grind (arith, nat_tests, good.few) in
+    rw (once, few) refl
+
+opening_card : (card : NumberedCard) (name : List ℕ) (ports : List (List ℕ)) → card.words ≡ codes ".subckt" ∷ name ∷ ports → All HasNoEquals (name ∷ ports) → HasGoodPorts ports → CleanCard Before card
+opening_card card name ports is no_equals good =
+    let first : begins subckt_card card ≡ true = ap (λ ws. pointwise nat_eq (first_word ws) (codes ".subckt")) is in
+    let not_m : is_device card ≡ false = ap (λ ws. slice_index (first_word ws) 0 == 109) is in
+    let none : list_any has_equals (name ∷ ports) ≡ false = list_any-none has_equals (name ∷ ports) (no_equals_words (name ∷ ports) (recursion_from_All HasNoEquals (name ∷ ports) no_equals)) in
+    let form : is_subckt_form card ≡ true = ap (λ ws. nat_lt 1 (length ws) && not (list_any has_equals ws)) is ∙ form_of name ports none in
+    opening not_m first form (ports_clean card (subst (λ ws. HasGoodPorts (drop 2 ws)) (sym is) good))
+  where
+    form_of : (n : List ℕ) (ps : List (List ℕ)) → list_any has_equals (n ∷ ps) ≡ false → (nat_lt 1 (length (codes ".subckt" ∷ n ∷ ps)) && not (list_any has_equals (codes ".subckt" ∷ n ∷ ps))) ≡ true
+    form_of n ps none =
+        let long : nat_lt 1 (length (codes ".subckt" ∷ n ∷ ps)) ≡ true = grind (arith, nat_tests) in
+        λ i. long i && not (none i)
+
+ending_card : (c : CircuitData) (card : NumberedCard) (closing : List (List ℕ)) → card.words ≡ codes ".ends" ∷ closing → length closing ≤ 1 → CleanCard (Open c) card
+ending_card c card closing is few =
+    ending (ap (λ ws. slice_index (first_word ws) 0 == 109) is) (ap (λ ws. pointwise nat_eq (first_word ws) (codes ".subckt")) is) (ap (λ ws. pointwise nat_eq (first_word ws) (codes ".ends")) is)
+    (omega (arith, ap length is, few))
+
+model_known : (kind : Kind) → is_model_word (model_word kind) ≡ true
+model_known nch = refl
+model_known pch = refl
+model_known Keep = refl
+
+device_card : (c : CircuitData) (card : NumberedCard) (d : NamedDevice) → IsDeviceCard card.words d → length c.devices < 2 ^ 24 → CleanCard (Open c) card
+device_card c card d is room =
+    device (ap (λ ws. slice_index (first_word ws) 0 == 109) is.words_are) (omega (arith, ap length is.words_are))
+    (ap (λ ws. is_model_word (slice_index_or ws 5 [])) is.words_are ∙ model_known d.kind)
+    (grind (arith, nat_tests))
+
+-- what a card is not that is skipped
+abbrev SkippedParts : NumberedCard → Type 0
+SkippedParts card = (is_device card ≡ false) × (begins subckt_card card ≡ false) × (begins ends_card card ≡ false)
+
+parts_of : (card : NumberedCard) (word : List ℕ) → begins word card ≡ true → (slice_index word 0 == 109) ≡ false → pointwise nat_eq word subckt_card ≡ false → pointwise nat_eq word ends_card ≡ false → SkippedParts card
+parts_of card word is m s e = (
+  ap (λ (w : List ℕ). slice_index w 0 == 109) ((bytes_decides (first_word card.words) word).0 is) ∙ m,
+  begins_one card word subckt_card is s,
+  begins_one card word ends_card is e,
+)
+
+skipped_parts : (card : NumberedCard) → is_skipped card.words ≡ true → SkippedParts card
+skipped_parts card h = by (begins model_card card) refl h
+  where
+    by : (t : Bool) → begins model_card card ≡ t → (t || begins end_card card) ≡ true → SkippedParts card
+    by true e f = parts_of card model_card e refl refl refl
+    by false e f = parts_of card end_card f refl refl refl
+
+or_swap : (a b : Bool) → (a || b) ≡ true → (b || a) ≡ true
+or_swap true true e = refl
+or_swap true false e = refl
+or_swap false true e = refl
+or_swap false false e = e
+
+skipped_card : (stage : Stage) (card : NumberedCard) → is_skipped card.words ≡ true → CleanCard stage card
+skipped_card stage card h =
+    let parts = skipped_parts card h in
+    skipped parts.0 parts.1 parts.2 (or_swap (begins model_card card) (begins end_card card) h)
+
+-- the words of the cards that are left and add to the circuit
+abbrev left : List NumberedCard → List (List (List ℕ))
+left rest = filter (λ card. not (is_skipped card)) (map (λ card. card.words) rest)
+
+left-more : (card : NumberedCard) (rest : List NumberedCard) → is_skipped card.words ≡ false → left (card ∷ rest) ≡ card.words ∷ left rest
+left-more card rest e = ap (λ t. cond (not t) (card.words ∷ left rest) (left rest)) e
+
+left-same : (card : NumberedCard) (rest : List NumberedCard) → is_skipped card.words ≡ true → left (card ∷ rest) ≡ left rest
+left-same card rest e = ap (λ t. cond (not t) (card.words ∷ left rest) (left rest)) e
+
+-- devices that are left of a deck whose `.ends` has these words behind it
+record DevicesLeft (closing : List (List ℕ)) (c : CircuitData) (rest : List NumberedCard) : Type 0 where
+  cards : List (List (List ℕ))
+  devices : List NamedDevice
+  order : left rest ≡ cards ++ (codes ".ends" ∷ closing) ∷ []
+  cards_are : AllZip IsDeviceCard cards devices
+  few : length c.devices + length devices ≤ 2 ^ 24
+
+-- what is left of a deck, by what was read
+abbrev IsLeft : {text : List ℕ} {circuit : CircuitData} → IsDeckOf text circuit → Stage → List NumberedCard → Type 0
+IsLeft h Before rest = left rest ≡ (codes ".subckt" ∷ h.name ∷ h.ports) ∷ h.device_cards ++ (codes ".ends" ∷ h.closing) ∷ []
+IsLeft h (Open c) rest = DevicesLeft h.closing c rest
+IsLeft h (Closed c) rest = left rest ≡ []
+
+-- a card of a deck has no fault, and what it leaves
+record IsTaken {text : List ℕ} {circuit : CircuitData} (h : IsDeckOf text circuit) (stage : Stage) (card : NumberedCard) (rest : List NumberedCard) : Type 0 where
+  clean : CleanCard stage card
+  rest_left : IsLeft h (stage_after stage card) rest
+
+left_again : {text : List ℕ} {circuit : CircuitData} (h : IsDeckOf text circuit) (stage : Stage) (card : NumberedCard) (rest : List NumberedCard) → left (card ∷ rest) ≡ left rest → IsLeft h stage (card ∷ rest) → IsLeft h stage rest
+left_again h Before card rest same l = sym same ∙ l
+left_again h (Open c) card rest same l = record { cards = l.cards; devices = l.devices; order = sym same ∙ l.order; cards_are = l.cards_are; few = l.few }
+left_again h (Closed c) card rest same l = sym same ∙ l
+
+taken_skipped : {text : List ℕ} {circuit : CircuitData} (h : IsDeckOf text circuit) (stage : Stage) (card : NumberedCard) (rest : List NumberedCard) → is_skipped card.words ≡ true → IsLeft h stage (card ∷ rest)
+    → CleanCard stage card → IsTaken h stage card rest
+taken_skipped h stage card rest e l clean =
+    let parts = skipped_parts card e in
+    record {
+      clean = clean;
+      rest_left = subst (λ s. IsLeft h s rest) (sym (stage_skipped stage card parts.0 parts.1 parts.2)) (left_again h stage card rest (left-same card rest e) l);
+    }
+
+after_opening : {text : List ℕ} {circuit : CircuitData} (h : IsDeckOf text circuit) (card : NumberedCard) (rest : List NumberedCard) → is_skipped card.words ≡ false → IsLeft h Before (card ∷ rest) → IsTaken h Before card rest
+after_opening h card rest e l =
+    let all = sym (left-more card rest e) ∙ l in
+    let words : card.words ≡ codes ".subckt" ∷ h.name ∷ h.ports = cc in
+    let more : left rest ≡ h.device_cards ++ (codes ".ends" ∷ h.closing) ∷ [] = cc in
+    let first : begins subckt_card card ≡ true = ap (λ ws. pointwise nat_eq (first_word ws) (codes ".subckt")) words in
+    record {
+      clean = opening_card card h.name h.ports words h.no_equals (record { differ = h.ports_differ; few = h.few_ports });
+      rest_left = subst (λ s. IsLeft h s rest) (sym (ap (λ (t : Bool). if t then Open (opened card) else Before) first))
+          (record { cards = h.device_cards; devices = h.devices; order = more; cards_are = h.cards_are; few = omega (arith, h.few_devices) });
+    }
+
+after_open : {text : List ℕ} {circuit : CircuitData} (h : IsDeckOf text circuit) (c : CircuitData) (card : NumberedCard) (rest : List NumberedCard) (cards : List (List (List ℕ))) (devices : List NamedDevice)
+    → card.words ∷ left rest ≡ cards ++ (codes ".ends" ∷ h.closing) ∷ [] → AllZip IsDeviceCard cards devices → length c.devices + length devices ≤ 2 ^ 24 → IsTaken h (Open c) card rest
+after_open h c card rest [] devices all zip few =
+    let words : card.words ≡ codes ".ends" ∷ h.closing = cc in
+    let more : left rest ≡ [] = cc in
+    let not_m : is_device card ≡ false = ap (λ ws. slice_index (first_word ws) 0 == 109) words in
+    let first : begins ends_card card ≡ true = ap (λ ws. pointwise nat_eq (first_word ws) (codes ".ends")) words in
+    record {
+      clean = ending_card c card h.closing words h.few_closing;
+      rest_left = subst (λ s. IsLeft h s rest) (λ i. if sym not_m i then Open (with_device c card) else (if sym first i then Closed c else Open c)) more;
+    }
+after_open h c card rest (one ∷ cards) [] all zip few = absurd zip
+after_open h c card rest (one ∷ cards) (d ∷ devices) all zip few =
+    let words : card.words ≡ one = cc in
+    let more : left rest ≡ cards ++ (codes ".ends" ∷ h.closing) ∷ [] = cc in
+    let is = subst (λ ws. IsDeviceCard ws d) (sym words) zip.0 in
+    let m : is_device card ≡ true = ap (λ ws. slice_index (first_word ws) 0 == 109) is.words_are in
+    let count : length (with_device c card).devices ≡ length c.devices + 1 = length-append c.devices _ in
+    record {
+      clean = device_card c card d is (omega (arith, few));
+      rest_left = subst (λ s. IsLeft h s rest) (sym (ap (λ (t : Bool). if t then Open (with_device c card) else (if begins ends_card card then Closed c else Open c)) m))
+          (record { cards = cards; devices = devices; order = more; cards_are = zip.1; few = omega (arith, few, count) });
+    }
+
+taken : {text : List ℕ} {circuit : CircuitData} (h : IsDeckOf text circuit) (stage : Stage) (card : NumberedCard) (rest : List NumberedCard) → IsLeft h stage (card ∷ rest) → IsTaken h stage card rest
+taken h stage card rest l = by (is_skipped card.words) refl
+  where
+    other : (s : Stage) → is_skipped card.words ≡ false → IsLeft h s (card ∷ rest) → IsTaken h s card rest
+    other Before e k = after_opening h card rest e k
+    other (Open c) e k = after_open h c card rest k.cards k.devices (sym (left-more card rest e) ∙ k.order) k.cards_are k.few
+    other (Closed c) e k = absurd (let all : card.words ∷ left rest ≡ [] = sym (left-more card rest e) ∙ k in omega (arith, ap length all))
+
+    by : (t : Bool) → is_skipped card.words ≡ t → IsTaken h stage card rest
+    by true e = taken_skipped h stage card rest e l (skipped_card stage card e)
+    by false e = other stage e l
+
+-- the end of a deck: its subcircuit was closed
+nothing_left : {P : Type 0} {text : List ℕ} {circuit : CircuitData} (h : IsDeckOf text circuit) (stage : Stage) → IsLeft h stage [] → ((c : CircuitData) → stage ≡ Closed c → P) → P
+nothing_left h Before l f = absurd (omega (arith, ap length l))
+nothing_left h (Open c) l f = absurd (omega (arith, ap length l.order, length-append l.cards ((codes ".ends" ∷ h.closing) ∷ [])))
+nothing_left h (Closed c) l f = f c refl
+
+deck_walk : (text : List ℕ) (circuit : CircuitData) (h : IsDeckOf text circuit) (before rest : List NumberedCard) (stage : Stage)
+    → IsPassed text before rest → Stands before stage → AllByRecursion (λ card. IsVisible card.words) rest → IsLeft h stage rest
+    → (n : ℕ) (kind : DeckKind) → IsDeckFault text n kind → ⊥
+deck_walk text circuit h before [] stage p s v l n kind f =
+    nothing_left h stage l (λ c is. no_fault text before c (begins_numbered text h.begins) p (subst (λ e. IsContext before e) is s.context) n kind f)
+deck_walk text circuit h before (card ∷ rest) stage p s v l n kind f =
+    let t = taken h stage card rest l in
+    let clean = clean_fault stage card t.clean (visible_clean card.words v.0) in
+    let found : IsFound before card None = subst (IsFound before card) (sym (fault_in-smallest before stage card s.context) ∙ clean) (smallest_is before card) in
+    deck_walk text circuit h (card ∷ before) rest (stage_after stage card) (one_passed text before card rest p found) (stands_after before stage card s clean) v.1 t.rest_left n kind f
+
+visible_unmap : (cards : List NumberedCard) → AllByRecursion IsVisible (map (λ card. card.words) cards) → AllByRecursion (λ card. IsVisible card.words) cards
+visible_unmap [] h = tt
+visible_unmap (card ∷ cards) h = (h.0, visible_unmap cards h.1)
+
+-- a deck that has a circuit has no fault
+pub deck_no_fault : (text : List ℕ) (circuit : CircuitData) → IsDeckOf text circuit → (n : ℕ) (kind : DeckKind) → IsDeckFault text n kind → ⊥
+deck_no_fault text circuit h =
+    let cards = deck_cards-numbered text in
+    let visible = subst (AllByRecursion IsVisible) (sym cards) (recursion_from_All IsVisible (deck_cards text) h.visible) in
+    deck_walk text circuit h [] (numbered_cards text) Before (none_passed text) starts (visible_unmap (numbered_cards text) visible)
+    (ap (filter (λ card. not (is_skipped card))) cards ∙ h.order)

@@ -1,0 +1,4 @@
+pub mod Laws
+pub mod Rests
+pub mod Scans
+pub mod Stages
