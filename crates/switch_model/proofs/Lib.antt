@@ -1,0 +1,13 @@
+pub mod Decided
+pub mod Joined
+pub mod Lists
+pub mod Marks
+pub mod Nearness
+pub mod Reach
+pub mod Rules
+pub mod Searches
+pub mod SourceNets
+pub mod Targets
+pub mod Visits
+pub mod Walks
+pub mod Wirings
