@@ -1,0 +1,9 @@
+pub mod Chaining
+pub mod Choosing
+pub mod Following
+pub mod Listing
+pub mod Made
+pub mod Ordering
+pub mod Rising
+pub mod Stepping
+pub mod Tris

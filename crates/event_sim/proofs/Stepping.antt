@@ -1,0 +1,72 @@
+use Rattle.std.proofs.Common.{◌≡◌, ℕ, ◌<◌, ◌≤◌, false, nat_lt, List, length, get_or, Some, sym, ap, ◌∙◌, subst, arith}
+use Rattle.std.specs.List.{slice_get}
+use Rattle.std.proofs.lemmas.Option.{slice_get-get_or}
+use Rattle.std.proofs.lemmas.Bool.Decides.{nat_tests}
+use Rattle.dom_base.specs.declared.tri.Tri.{Tri}
+use Rattle.deck.specs.Switches.{value_of}
+use Rattle.switch_model.proofs.Targets.{target_unique}
+use Rattle.switch_model.specs.LinksData.{LinksData, is_first}
+use Rattle.switch_model.specs.Targets.{EventAt}
+use Rattle.event_sim.specs.Pending.{ArePending, IsPendingNet, IsResting, Targets}
+use Rattle.event_sim.specs.SimData.{SimData}
+
+-- without pending nets there is rest
+pub rests_where_none : (links : LinksData) (values : List Tri) (nets : List ℕ) → ArePending links values nets → length nets ≡ 0 → IsResting links values
+rests_where_none links values nets pending none = λ net v lt is.
+    let at = (pending.exact net).1 (lt, (v, is)) in
+    omega (arith, at.1, none)
+
+-- with a pending net there is none
+pub moves_where_some : (links : LinksData) (values : List Tri) (net : ℕ) → IsPendingNet links values net → IsResting links values → ⊥
+moves_where_some links values net at rest = rest net at.1.0 at.0 at.1.1
+
+-- what stands in the list is pending
+pub pending_at : (links : LinksData) (values : List Tri) (nets : List ℕ) (place net : ℕ)
+    → ArePending links values nets → place < length nets → net ≡ get_or nets place net → IsPendingNet links values net
+pending_at links values nets place net pending lt e = (pending.exact net).0 (place, lt, sym e)
+
+-- a pending net is no source
+pub pending_is_free : (links : LinksData) (values : List Tri) (net : ℕ) → IsPendingNet links values net → links.sources ≤ net
+pending_is_free links values net at = let e : nat_lt net links.sources ≡ false = at.1.1.0 in grind (arith, nat_tests)
+
+-- a net that is no source and differs from its target
+pub pending_where_differs : (links : LinksData) (values : List Tri) (net : ℕ) (target : Tri) → net < length values → links.sources ≤ net
+    → Targets links values net target → (value_of values net ≡ target → ⊥) → IsPendingNet links values net
+pending_where_differs links values net target lt free is differs =
+    let first : nat_lt net links.sources ≡ false = grind (arith, nat_tests) in
+    (lt, (target, (first, is, differs)))
+
+pub differs_where_pending : (links : LinksData) (values : List Tri) (net : ℕ) (target : Tri)
+    → Targets links values net target → IsPendingNet links values net → value_of values net ≡ target → ⊥
+differs_where_pending links values net target is at e =
+    at.1.1.2 (e ∙ target_unique links.devices (is_first links.sources) values net target at.1.0 is at.1.1.1)
+
+pub pending_moved : {k l : LinksData} {v w : List Tri} {nets : List ℕ} → k ≡ l → v ≡ w → ArePending k v nets → ArePending l w nets
+pending_moved {k} {l} {v} {w} {nets} e f h = subst (λ (x : List Tri). ArePending l x nets) f (subst (λ (x : LinksData). ArePending x v nets) e h)
+
+pub resting_moved : {k l : LinksData} {v w : List Tri} → k ≡ l → v ≡ w → IsResting k v → IsResting l w
+resting_moved {k} {l} {v} {w} e f h = subst (λ (x : List Tri). IsResting l x) f (subst (λ (x : LinksData). IsResting x v) e h)
+
+pub targets_moved : {k l : LinksData} {v w : List Tri} (net : ℕ) (t : Tri) → k ≡ l → v ≡ w → Targets k v net t → Targets l w net t
+targets_moved {k} {l} {v} {w} net t e f h = subst (λ (x : List Tri). Targets l x net t) f (subst (λ (x : LinksData). Targets x v net t) e h)
+
+pub event_moved : (links : LinksData) (net : ℕ) (before : List Tri) {after other : List Tri} → after ≡ other
+    → EventAt links.devices (is_first links.sources) net before after → EventAt links.devices (is_first links.sources) net before other
+event_moved links net before e h = (h.0, h.1, h.2, sym e ∙ h.3)
+
+pub stands_at : (nets : List ℕ) (place net : ℕ) → place < length nets → net ≡ get_or nets place net → slice_get nets place ≡ Some net
+stands_at nets place net lt e = slice_get-get_or nets place net lt ∙ ap Some (sym e)
+
+module _ {F : Type 0} where
+  pub links_same : {s t : SimData F} → s ≡ t → s.links ≡ t.links
+  links_same e = ap (λ (s : SimData F). s.links) e
+
+  pub values_same : {s t : SimData F} → s ≡ t → s.values ≡ t.values
+  values_same e = ap (λ (s : SimData F). s.values) e
+
+  pub step_same : {s t : SimData F} → s ≡ t → s.step ≡ t.step
+  step_same e = ap (λ (s : SimData F). s.step) e
+
+  -- what holds of who picks and of a count
+  pub pick_moved : (P : F → ℕ → Type 0) {s t : SimData F} {m n : ℕ} → s ≡ t → m ≡ n → P s.pick m → P t.pick n
+  pick_moved P {s} {t} {m} {n} e f h = subst (λ (k : ℕ). P t.pick k) f (subst (λ (x : SimData F). P x.pick m) e h)

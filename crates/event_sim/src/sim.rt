@@ -1,0 +1,159 @@
+//! Simulation, one event at a time.
+ghost use Rattle.std.specs.Prelude.{◌≡◌, ◌<◌, ◌≤◌, ◌↔◌, ◌-◌, ℕ, List, [], ◌∷◌, IfOk, IfSome, IsErrOf, IsNone, MatchOption, length, vec_capacity};
+ghost use Rattle.deck.specs.Roles.{AreRoles, LeavesRolesAt, ports_of};
+ghost use Rattle.deck.specs.Switches.{value_of};
+ghost use Rattle.deck.specs.declared.role.Roles.{Roles as RolesData};
+ghost use Rattle.deck.specs.declared.role.PortFault.{PortFault as PortFaultData};
+ghost use Rattle.switch_model.specs.LinksData.{is_first};
+ghost use Rattle.switch_model.specs.Targets.{EventAt};
+ghost use Rattle.event_sim.specs.Chains.{IsChosen};
+ghost use Rattle.event_sim.specs.Choices.{Chooses};
+ghost use Rattle.event_sim.specs.Pending.{ArePending, IsResting};
+ghost use Rattle.event_sim.specs.Settling.{IsSettling, most_events as most_of};
+ghost use Rattle.event_sim.specs.SimData.{power_sim, ran, with_value};
+ghost use Rattle.event_sim.specs.declared.event.Event.{Event as EventData};
+ghost use Rattle.event_sim.specs.declared.fault.SimFault.TheVariants.{Ports as ports};
+
+use crate::pending::list_pending;
+use crate::power::power_values;
+use crate::{Chooser, Event, Settled, SimFault};
+use deck::{Circuit, roles};
+use dom_base::Tri;
+use std::alloc::Global;
+use std::marker::Model;
+use switch_model::Links;
+
+/// A circuit with a value of each net and a step, and a chooser of what comes next.
+#[derive(Drop)]
+pub struct Sim<F: Fn(u64, u64) -> u64> {
+    chooser: Chooser<F>,
+    links: Links,
+    sources: u32,
+    values: Vec<Tri>,
+    step: u64,
+    // Room for the pending nets.
+    pending: Vec<u32>,
+}
+
+impl<F: Fn(u64, u64) -> u64> Model for Sim<F> {
+    ghost use Rattle.std.specs.Prelude.{vec_capacity};
+    ghost use Rattle.event_sim.specs.SimData.{SimData};
+    ghost use Rattle.event_sim.specs.Inside.{IsSim};
+
+    ghost Value = { SimData F };
+
+    ghost view = { λ s. record { pick = s.chooser.pick; links = s.links; values = s.values.items; step = s.step } };
+
+    ghost invariant = { λ s. IsSim s.links s.sources s.values.items (vec_capacity s.pending) };
+}
+
+impl<F: Fn(u64, u64) -> u64> Sim<F> {
+    /// The power state of a circuit, at step 0: `vdd` is `One`, `vss` and all clocks are `Zero`, `lm`,
+    /// `lmb`, `ls`, `lsb` are `Zero`, `One`, `Zero`, `One`, `rs` is `One` and `rsb` `Zero`, all pins are
+    /// `Zero`, and all other nets are `Unknown`. `Ports` has the place at which the ports leave every
+    /// order of roles.
+    pub fn new(alloc: Global, circuit: &Circuit, chooser: Chooser<F>) -> Result<Sim<F>, SimFault>
+        ensures power { IfOk result (λ sim. (roles : RolesData) × AreRoles (ports_of circuit.now) roles × (sim ≡ power_sim chooser.pick circuit.now roles)) }
+        ensures each { IfOk result (λ sim. (roles : RolesData) → AreRoles (ports_of circuit.now) roles → sim ≡ power_sim chooser.pick circuit.now roles) }
+        ensures whole { IfOk result (λ sim. (length sim.values ≡ length circuit.now.nets) × (length sim.values ≡ sim.links.nets)) }
+        ensures ports { (fault : PortFaultData) → IsErrOf result (ports fault) → LeavesRolesAt (ports_of circuit.now) fault.place }
+    {
+        let roles = roles(circuit)?;
+        let links = Links::new(alloc, circuit, roles)?;
+        let nets = circuit.nets.len();
+        let values = power_values(alloc, roles, nets)?;
+        let pending = Vec::with_capacity(alloc, nets)?;
+        Ok(Sim {
+            chooser,
+            links,
+            sources: roles.clocks as u32 + 8 + roles.pins,
+            values,
+            step: 0,
+            pending,
+        })
+    }
+
+    /// Gives a source other than `vdd` and `vss` a value. No other net changes. Takes no memory.
+    pub fn set_pin(&mut self, place: u32, value: Tri)
+        requires no_supply { 2 ≤ place }
+        requires source { place < self.old.links.sources }
+        ensures set { self.new ≡ with_value self.old place value }
+        ensures whole { length self.new.values ≡ length self.old.values }
+    {
+        self.values[place as usize] = value;
+    }
+
+    /// The value of a net. Takes no memory.
+    pub fn value(&self, net: u32) -> Tri
+        requires { net < length self.now.values }
+        ensures { result ≡ value_of self.now.values net }
+    {
+        self.values[net as usize]
+    }
+
+    /// The chosen event: of the pending nets by rising number the one at the place that the chooser
+    /// gives takes its target, and the step rises by one, modulo 2^64. `None` comes exactly at rest, and
+    /// then nothing changes. Takes no memory.
+    pub fn step(&mut self) -> Option<Event>
+        requires { Chooses (F.pre self.old.pick) (F.post self.old.pick) }
+        ensures rest { IsNone result ↔ IsResting self.old.links self.old.values }
+        ensures stays { IsNone result → self.new ≡ self.old }
+        ensures when { IfSome result (λ event. event.step ≡ self.old.step) }
+        ensures chosen { IfSome result (λ event. IsChosen (F.post self.old.pick) self.old.links self.old.values event) }
+        ensures legal { IfSome result (λ event. EventAt self.old.links.devices (is_first self.old.links.sources) event.net self.old.values self.new.values) }
+        ensures whole { length self.new.values ≡ length self.old.values }
+        ensures moved { IfSome result (λ event. self.new ≡ ran self.old (event ∷ [])) }
+    {
+        list_pending(
+            &mut self.links,
+            self.values.as_slice(),
+            self.sources,
+            &mut self.pending,
+        );
+        if self.pending.is_empty() {
+            return None;
+        }
+        let place = (self.chooser.pick)(self.step, self.pending.len() as u64);
+        let net = self.pending[place as usize];
+        let after = self.links.target(self.values.as_slice(), net);
+        let event = Event {
+            step: self.step,
+            net,
+            before: self.values[net as usize],
+            after,
+        };
+        self.values[net as usize] = after;
+        self.step = self.step.wrapping_add(1);
+        Some(event)
+    }
+
+    /// Events, each as by `step`, until rest, with their number; or as many as the square of one more
+    /// than the number of nets that are no sources, without rest. Takes no memory.
+    pub fn settle(&mut self) -> Settled
+        requires { Chooses (F.pre self.old.pick) (F.post self.old.pick) }
+        ensures run { (events : List EventData) × IsSettling (F.post self.old.pick) self.old.links self.old.values self.old.step events result × (self.new ≡ ran self.old events) }
+        ensures whole { length self.new.values ≡ length self.old.values }
+    {
+        let most = self.most_events();
+        let mut count = 0u64;
+        'events: while count < most {
+            let Some(_) = self.step() else {
+                return Settled::Rest(count);
+            };
+            count += 1;
+        }
+        if self.links.at_rest(self.values.as_slice()) {
+            Settled::Rest(count)
+        } else {
+            Settled::Unsettled(count)
+        }
+    }
+
+    /// How many events a going to rest may have.
+    fn most_events(&self) -> u64
+        ensures { result ≡ most_of self.now.links }
+    {
+        let more = self.values.len() as u64 - self.sources as u64 + 1;
+        more * more
+    }
+}
