@@ -4,6 +4,8 @@ ghost use Rattle.std.specs.Prelude.{◌≤◌};
 use dom_base::OutOfMemory;
 use dom_io::{MemoryShelf, MemorySink};
 use domsyn::top;
+use spice_read::read;
+use spice_text::write;
 use std::alloc::{AllocError, Global};
 use std::process::Abort;
 use std::test::Fail;
@@ -70,7 +72,8 @@ pub(crate) fn synth(alloc: Global, text: &[u8]) -> Result<Answer, OutOfMemory> {
     })
 }
 
-/// Asserts that a file of these bytes gives the deck.
+/// Asserts that a file of these bytes gives the deck, and that the deck reads back: it is what is
+/// written of its circuit.
 pub(crate) fn gives(
     rt: &impl Abort,
     alloc: Global,
@@ -82,6 +85,9 @@ pub(crate) fn gives(
     assert_eq!(rt; answer.status, 0, "at {what}");
     assert_eq!(rt; answer.out.as_slice(), deck, "at {what}");
     assert!(rt; answer.err.is_empty(), "at {what}");
+    let circuit = read(alloc, deck)?;
+    let written = write(alloc, &circuit)?;
+    assert_eq!(rt; written.as_slice(), deck, "at {what}");
     Ok(())
 }
 

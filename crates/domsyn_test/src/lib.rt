@@ -10,6 +10,8 @@ mod forms;
 #[cfg(test)]
 mod not_built;
 #[cfg(test)]
+mod printed;
+#[cfg(test)]
 mod refused;
 #[cfg(test)]
 mod statuses;
