@@ -1,0 +1,13 @@
+pub mod Cycling
+pub mod Going
+pub mod Leading
+pub mod MoveLists
+pub mod MovesAreOne
+pub mod OneAnswer
+pub mod OneTrace
+pub mod Rigs
+pub mod Running
+pub mod Settings
+pub mod Telling
+pub mod Texts
+pub mod Variants

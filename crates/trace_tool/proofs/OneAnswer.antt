@@ -1,0 +1,133 @@
+-- A deck and a stimulus have one trace in each order, or are refused for one cause.
+use Rattle.std.proofs.Common.{◌≡◌, ◌≢◌, ℕ, ◌⊎◌, inl, inr, Bool, List, refl, sym, ap, ◌∙◌, subst}
+use Rattle.deck.specs.CircuitData.{CircuitData}
+use Rattle.deck.specs.DeckFaults.{IsDeckFaultAt}
+use Rattle.deck.specs.DeckText.{IsDeckOf}
+use Rattle.deck.specs.Roles.{AreRoles, LeavesRolesAt, ports_of}
+use Rattle.deck.specs.declared.fault.DeckKind.{DeckKind}
+use Rattle.deck.specs.declared.role.Roles.{Roles}
+use Rattle.deck.proofs.DeckUnique.{IsDeckOf-unique}
+use Rattle.deck.proofs.PortOrder.{LeavesRolesAt-same}
+use Rattle.deck.proofs.PortRoles.{AreRoles-same}
+use Rattle.spice_read.specs.Laws.{IsAcceptedOnce as IsAcceptedDeck, IsRefusedOnce as IsRefusedDeck}
+use Rattle.spice_read.proofs.OneAnswer.{one_answer as deck_answer}
+use Rattle.stim_text.specs.Laws.{IsAcceptedOnce as IsAcceptedStimulus, IsRefusedOnce as IsRefusedStimulus}
+use Rattle.stim_text.specs.Stimuli.{IsFaultAt, IsStimulusOf}
+use Rattle.stim_text.specs.declared.fault.StimKind.{StimKind}
+use Rattle.stim_text.proofs.OneAnswer.{one_answer as stimulus_answer}
+use Rattle.trace_tool.specs.declared.fault.TraceFault.{TraceFault}
+use Rattle.trace_tool.specs.declared.fault.TraceFault.TheVariants.{Deck, Ports, Stim, Memory}
+use Rattle.trace_tool.specs.Laws.{AnswerIsOne}
+use Rattle.trace_tool.specs.Refusals.{HasBadPorts, HasBadStimulus, IsRefused}
+use Rattle.trace_tool.specs.TraceData.{TraceData, TraceOptionsData}
+use Rattle.trace_tool.specs.Traces.{IsRun, IsTraceOf, Setup, place_of}
+use Rattle.trace_tool.proofs.OneTrace.{trace_is_one}
+
+-- a deck that is refused has no circuit
+no_circuit : (text : List ℕ) (line : ℕ) (kind : DeckKind) (circuit : CircuitData) → IsDeckFaultAt text line kind → IsDeckOf text circuit → ⊥
+no_circuit text line kind circuit fault is = by (deck_answer text)
+  where
+    by : IsAcceptedDeck text ⊎ IsRefusedDeck text → ⊥
+    by (inl a) = a.once.no_refusal line kind fault
+    by (inr r) = r.no_circuit circuit is
+
+-- it is refused at one line for one kind
+deck_fault_same : (text : List ℕ) (line line' : ℕ) (kind kind' : DeckKind) → IsDeckFaultAt text line kind → IsDeckFaultAt text line' kind' → (line ≡ line') × (kind ≡ kind')
+deck_fault_same text line line' kind kind' x y = by (deck_answer text)
+  where
+    by : IsAcceptedDeck text ⊎ IsRefusedDeck text → (line ≡ line') × (kind ≡ kind')
+    by (inl a) = absurd (a.once.no_refusal line kind x)
+    by (inr r) = (r.one_line line kind x ∙ sym (r.one_line line' kind' y), r.one_kind line kind x ∙ sym (r.one_kind line' kind' y))
+
+-- at each number of pins a text is the stimulus of one list of cycles
+stimulus_same : (width : ℕ) (text : List ℕ) (a b : List (List Bool)) → IsStimulusOf width text a → IsStimulusOf width text b → a ≡ b
+stimulus_same width text a b x y = by (stimulus_answer width text)
+  where
+    by : IsAcceptedStimulus width text ⊎ IsRefusedStimulus width text → a ≡ b
+    by (inl s) = s.one_list a x ∙ sym (s.one_list b y)
+    by (inr r) = absurd (r.no_stimulus a x)
+
+-- one that is refused is no stimulus
+no_stimulus : (width : ℕ) (text : List ℕ) (line : ℕ) (kind : StimKind) (cycles : List (List Bool)) → IsFaultAt width text line kind → IsStimulusOf width text cycles → ⊥
+no_stimulus width text line kind cycles fault is = by (stimulus_answer width text)
+  where
+    by : IsAcceptedStimulus width text ⊎ IsRefusedStimulus width text → ⊥
+    by (inl s) = s.no_refusal line kind fault
+    by (inr r) = r.no_stimulus cycles is
+
+-- it is refused at one line for one kind
+stim_fault_same : (width : ℕ) (text : List ℕ) (line line' : ℕ) (kind kind' : StimKind) → IsFaultAt width text line kind → IsFaultAt width text line' kind' → (line ≡ line') × (kind ≡ kind')
+stim_fault_same width text line line' kind kind' x y = by (stimulus_answer width text)
+  where
+    by : IsAcceptedStimulus width text ⊎ IsRefusedStimulus width text → (line ≡ line') × (kind ≡ kind')
+    by (inl s) = absurd (s.no_refusal line kind x)
+    by (inr r) = (r.one_line line kind x ∙ sym (r.one_line line' kind' y), r.one_kind line kind x ∙ sym (r.one_kind line' kind' y))
+
+-- a deck has one count of clocks, pins and outputs
+roles_same : (deck : List ℕ) (c d : CircuitData) (r q : Roles) → IsDeckOf deck c → IsDeckOf deck d
+    → AreRoles (ports_of c) r → AreRoles (ports_of d) q → r ≡ q
+roles_same deck c d r q x y h k =
+    AreRoles-same (ports_of c) r q h
+    (subst (λ (e : CircuitData). AreRoles (ports_of e) q) (IsDeckOf-unique deck d c y x) k)
+
+abbrev setup_of : TraceOptionsData → CircuitData → Roles → Setup
+setup_of options c r = record { circuit = c; roles = r; place = place_of options.order options.seed; events = options.events }
+
+trace_same : (deck stim : List ℕ) (options : TraceOptionsData) (a b : TraceData)
+    → IsTraceOf deck stim options a → IsTraceOf deck stim options b → a ≡ b
+trace_same deck stim options a b x y =
+    let circuits = IsDeckOf-unique deck y.circuit x.circuit y.is_deck x.is_deck in
+    let roles = roles_same deck y.circuit x.circuit y.roles x.roles y.is_deck x.is_deck y.are_roles x.are_roles in
+    let cycles = stimulus_same x.roles.pins stim y.cycles x.cycles
+    (subst (λ (r : Roles). IsStimulusOf r.pins stim y.cycles) roles y.is_stimulus) x.is_stimulus in
+    trace_is_one (setup_of options x.circuit x.roles) x.cycles a b x.is_run
+    (subst (λ (l : List (List Bool)). IsRun (setup_of options x.circuit x.roles) l b) cycles
+    (subst (λ (r : Roles). IsRun (setup_of options x.circuit r) y.cycles b) roles
+    (subst (λ (c : CircuitData). IsRun (setup_of options c y.roles) y.cycles b) circuits y.is_run)))
+
+-- ports that leave every order of roles are no deck's whose ports are in order
+bad_ports_apart : (deck : List ℕ) (place : ℕ) (circuit : CircuitData) (roles : Roles) → HasBadPorts deck place → IsDeckOf deck circuit → AreRoles (ports_of circuit) roles → ⊥
+bad_ports_apart deck place circuit roles bad is are =
+    bad.leaves.no_order roles
+    (subst (λ (c : CircuitData). AreRoles (ports_of c) roles) (IsDeckOf-unique deck circuit bad.circuit is bad.is_deck) are)
+
+bad_ports_same : (deck : List ℕ) (place place' : ℕ) → HasBadPorts deck place → HasBadPorts deck place' → place ≡ place'
+bad_ports_same deck place place' x y =
+    LeavesRolesAt-same (ports_of x.circuit) place place' x.leaves
+    (subst (λ (c : CircuitData). LeavesRolesAt (ports_of c) place') (IsDeckOf-unique deck y.circuit x.circuit y.is_deck x.is_deck) y.leaves)
+
+bad_stimulus_same : (deck stim : List ℕ) (line line' : ℕ) (kind kind' : StimKind) → HasBadStimulus deck stim line kind → HasBadStimulus deck stim line' kind' → (line ≡ line') × (kind ≡ kind')
+bad_stimulus_same deck stim line line' kind kind' x y =
+    let roles = roles_same deck y.circuit x.circuit y.roles x.roles y.is_deck x.is_deck y.are_roles x.are_roles in
+    stim_fault_same x.roles.pins stim line line' kind kind' x.fault
+    (subst (λ (r : Roles). IsFaultAt r.pins stim line' kind') roles y.fault)
+
+cause_same : (deck stim : List ℕ) (a b : TraceFault) → a ≢ Memory → b ≢ Memory → IsRefused deck stim a → IsRefused deck stim b → a ≡ b
+cause_same deck stim Memory b p q x y = absurd (p refl)
+cause_same deck stim (Deck line kind) Memory p q x y = absurd (q refl)
+cause_same deck stim (Ports place) Memory p q x y = absurd (q refl)
+cause_same deck stim (Stim line kind) Memory p q x y = absurd (q refl)
+cause_same deck stim (Deck line kind) (Deck line' kind') p q x y =
+    let same = deck_fault_same deck line line' kind kind' x y in
+    ap (λ (n : ℕ). Deck n kind) same.0 ∙ ap (λ (k : DeckKind). Deck line' k) same.1
+cause_same deck stim (Deck line kind) (Ports place) p q x y = absurd (no_circuit deck line kind y.circuit x y.is_deck)
+cause_same deck stim (Deck line kind) (Stim line' kind') p q x y = absurd (no_circuit deck line kind y.circuit x y.is_deck)
+cause_same deck stim (Ports place) (Deck line kind) p q x y = absurd (no_circuit deck line kind x.circuit y x.is_deck)
+cause_same deck stim (Ports place) (Ports place') p q x y = ap Ports (bad_ports_same deck place place' x y)
+cause_same deck stim (Ports place) (Stim line kind) p q x y = absurd (bad_ports_apart deck place y.circuit y.roles x y.is_deck y.are_roles)
+cause_same deck stim (Stim line kind) (Deck line' kind') p q x y = absurd (no_circuit deck line' kind' x.circuit y x.is_deck)
+cause_same deck stim (Stim line kind) (Ports place) p q x y = absurd (bad_ports_apart deck place x.circuit x.roles y x.is_deck x.are_roles)
+cause_same deck stim (Stim line kind) (Stim line' kind') p q x y =
+    let same = bad_stimulus_same deck stim line line' kind kind' x y in
+    ap (λ (n : ℕ). Stim n kind) same.0 ∙ ap (λ (k : StimKind). Stim line' k) same.1
+
+trace_or_cause : (deck stim : List ℕ) (options : TraceOptionsData) (a : TraceData) (b : TraceFault) → b ≢ Memory → IsTraceOf deck stim options a → IsRefused deck stim b → ⊥
+trace_or_cause deck stim options a Memory q x y = q refl
+trace_or_cause deck stim options a (Deck line kind) q x y = no_circuit deck line kind x.circuit y x.is_deck
+trace_or_cause deck stim options a (Ports place) q x y = bad_ports_apart deck place x.circuit x.roles y x.is_deck x.are_roles
+trace_or_cause deck stim options a (Stim line kind) q x y =
+    let roles = roles_same deck y.circuit x.circuit y.roles x.roles y.is_deck x.is_deck y.are_roles x.are_roles in
+    no_stimulus x.roles.pins stim line kind x.cycles (subst (λ (r : Roles). IsFaultAt r.pins stim line kind) roles y.fault) x.is_stimulus
+
+pub answer_is_one : AnswerIsOne
+answer_is_one = record { trace = trace_same; cause = cause_same; apart = trace_or_cause }

@@ -1,0 +1,12 @@
+use Rattle.std.proofs.Common.{◌++◌, codes}
+use Rattle.std.specs.Fmt.{decimal}
+use Rattle.trace_tool.proofs.Texts.{piece}
+use Rattle.trace_tool.proofs.lines.put_unsettled.Goals as goal
+
+pub returns : goal.returns
+returns c =
+    piece _ _ _ (codes "unsettled cycle " ++ decimal c.args.cycle ++ codes " events " ++ decimal c.args.events) (codes "\n")
+    (piece _ _ _ (codes "unsettled cycle " ++ decimal c.args.cycle ++ codes " events ") (decimal c.args.events)
+    (piece _ _ _ (codes "unsettled cycle " ++ decimal c.args.cycle) (codes " events ")
+    (piece _ _ _ (codes "unsettled cycle ") (decimal c.args.cycle) c.in_ok-put.ensures c.in_ok-put_number.ensures)
+    c.in_ok-put-2.ensures) c.in_ok-put_number-2.ensures) c.in_ok-put-3.ensures

@@ -1,0 +1,71 @@
+use Rattle.std.specs.Prelude.{ℕ, ◌+◌, Bool, true, false, List, [], ◌∷◌, map, replicate, slice_set}
+use Rattle.std.specs.List.{enumerate_from}
+use Rattle.dom_base.specs.declared.tri.Tri.{Tri}
+use Rattle.dom_base.specs.declared.tri.Tri.TheVariants.{Zero, One}
+use Rattle.deck.specs.declared.role.Roles.{Roles}
+
+-- a port takes a value
+pub record Setting : Type 0 where
+  pub place : ℕ
+  pub value : Tri
+
+-- a move: ports take their values together, with no event between them
+abbrev pub Move : Type 0
+Move = List Setting
+
+-- the values of the nets after a move
+abbrev pub set_all : List Tri → Move → List Tri
+set_all values [] = values
+set_all values (s ∷ more) = set_all (slice_set values s.place s.value) more
+
+-- the ports from a place on take these values, one each
+abbrev pub set_from : ℕ → List Tri → Move
+set_from place values = map (λ p. record { place = p.0; value = p.1 }) (enumerate_from place values)
+
+-- the places of ports with these roles: `vdd` and `vss`, the clocks, `lm lmb ls lsb rs rsb`, the pins
+abbrev pub first_clock : ℕ
+first_clock = 2
+
+abbrev pub master_pair : Roles → ℕ
+master_pair roles = roles.clocks + 2
+
+abbrev pub slave_pair : Roles → ℕ
+slave_pair roles = roles.clocks + 4
+
+abbrev pub reset_pair : Roles → ℕ
+reset_pair roles = roles.clocks + 6
+
+abbrev pub first_pin : Roles → ℕ
+first_pin roles = roles.clocks + 8
+
+-- the value of a bit
+abbrev pub value_of_bit : Bool → Tri
+value_of_bit true = One
+value_of_bit false = Zero
+
+-- a pair is opened: its first port rises and its second falls together; and closed, the other way round
+abbrev pub open_pair : ℕ → Move
+open_pair place = set_from place (One ∷ Zero ∷ [])
+
+abbrev pub close_pair : ℕ → Move
+close_pair place = set_from place (Zero ∷ One ∷ [])
+
+-- power: from the power state to rest, then the reset ends
+abbrev pub power_moves : Roles → List Move
+power_moves roles = [] ∷ close_pair (reset_pair roles) ∷ []
+
+-- a cycle up to its reading: the pins take their bits, then the clocks rise one after the other
+abbrev pub evaluation_moves : Roles → List Bool → List Move
+evaluation_moves roles pins =
+    set_from (first_pin roles) (map value_of_bit pins)
+    ∷ map (λ s. s ∷ []) (set_from first_clock (replicate roles.clocks One))
+
+-- a cycle from its reading on: the masters are opened and closed, all clocks fall together, the slaves are opened and closed
+abbrev pub latching_moves : Roles → List Move
+latching_moves roles =
+    open_pair (master_pair roles)
+    ∷ close_pair (master_pair roles)
+    ∷ set_from first_clock (replicate roles.clocks Zero)
+    ∷ open_pair (slave_pair roles)
+    ∷ close_pair (slave_pair roles)
+    ∷ []

@@ -1,0 +1,74 @@
+//! The lines of a trace other than those of cycles.
+ghost use Rattle.std.specs.Prelude.{◌≡◌, ◌<◌, ◌++◌, OnOk, [], length, slice_index_or};
+ghost use Rattle.std.specs.Fmt.{decimal};
+ghost use Rattle.trace_tool.specs.TraceLines.{event_line, power_line, unsettled_line};
+
+use deck::Circuit;
+use dom_base::OutOfMemory;
+use event_sim::Event;
+use itoa::Buffer;
+
+/// Appends the line of an event.
+pub(crate) fn put_event(
+    text: &mut Vec<u8>,
+    circuit: &Circuit,
+    event: Event,
+) -> Result<(), OutOfMemory>
+    requires { event.net < length circuit.now.nets }
+    ensures { OnOk result (text.new.items ≡ text.old.items ++ event_line circuit.now.nets event) }
+{
+    put(text, b"event ")?;
+    put_number(text, event.step)?;
+    put(text, b" ")?;
+    put(text, name_of(circuit, event.net))?;
+    put(text, b" ")?;
+    put(
+        text,
+        &[event.before.letter(), b' ', event.after.letter(), b'\n'],
+    )?;
+    Ok(())
+}
+
+/// The name of a net.
+fn name_of(circuit: &Circuit, net: u32) -> &[u8]
+    requires { net < length circuit.now.nets }
+    ensures { result.now ≡ slice_index_or circuit.now.nets net [] }
+{
+    circuit.nets[net as usize].as_bytes()
+}
+
+/// Appends the line of power, with the number of its events.
+pub(crate) fn put_power(text: &mut Vec<u8>, events: u64) -> Result<(), OutOfMemory>
+    ensures { OnOk result (text.new.items ≡ text.old.items ++ power_line events) }
+{
+    put(text, b"power events ")?;
+    put_number(text, events)?;
+    put(text, b"\n")?;
+    Ok(())
+}
+
+/// Appends the line of a going to rest in a cycle that ended without rest after so many events.
+pub(crate) fn put_unsettled(text: &mut Vec<u8>, cycle: u64, events: u64) -> Result<(), OutOfMemory>
+    ensures { OnOk result (text.new.items ≡ text.old.items ++ unsettled_line cycle events) }
+{
+    put(text, b"unsettled cycle ")?;
+    put_number(text, cycle)?;
+    put(text, b" events ")?;
+    put_number(text, events)?;
+    put(text, b"\n")?;
+    Ok(())
+}
+
+fn put(text: &mut Vec<u8>, bytes: &[u8]) -> Result<(), OutOfMemory>
+    ensures { OnOk result (text.new.items ≡ text.old.items ++ bytes.now) }
+{
+    text.extend_from_slice(bytes)?;
+    Ok(())
+}
+
+fn put_number(text: &mut Vec<u8>, number: u64) -> Result<(), OutOfMemory>
+    ensures { OnOk result (text.new.items ≡ text.old.items ++ decimal number) }
+{
+    let mut buffer = Buffer::new();
+    put(text, buffer.format(number).as_bytes())
+}
