@@ -6,9 +6,9 @@ use Rattle.blif_ast.specs.declared.kind.BlifKind.TheVariants.{ControlByte, Unkno
 use Rattle.blif_ast.specs.Faults.{kind_number}
 use Rattle.blif_ast.specs.Reading.{IsFault, IsFaultAt}
 use Rattle.domsyn.specs.declared.refusal.Refusal.{Refusal}
-use Rattle.domsyn.specs.declared.refusal.Refusal.TheVariants.{TooLong, Fault, NotBuilt}
+use Rattle.domsyn.specs.declared.refusal.Refusal.TheVariants.{TooLong, Blif, NotBuilt, Deck, Ports, Stim}
 use Rattle.domsyn.specs.OneTable.{IsFileOfTable}
-use Rattle.domsyn.specs.Top.{IsBuildable}
+use Rattle.domsyn.specs.Decks.{IsBuildable}
 use Rattle.domsyn.specs.Refusals.{IsRefusedFor}
 
 -- the kind of a number from 1 to 9
@@ -51,19 +51,34 @@ faults_alike text m n a b x y =
 -- the causes of bytes are one
 pub causes_alike : (bytes : List ℕ) (a b : Refusal) → IsRefusedFor bytes a → IsRefusedFor bytes b → a ≡ b
 causes_alike bytes TooLong TooLong x y = refl
-causes_alike bytes TooLong (Fault line kind) x y = absurd (omega (arith, x, y.within))
+causes_alike bytes TooLong (Blif line kind) x y = absurd (omega (arith, x, y.within))
 causes_alike bytes TooLong NotBuilt x y = absurd (omega (arith, x, y.within))
-causes_alike bytes (Fault line kind) TooLong x y = absurd (omega (arith, y, x.within))
-causes_alike bytes (Fault line kind) (Fault other any) x y = let same = faults_alike bytes line other kind any x.fault y.fault in λ i. Fault (same.0 i) (same.1 i)
-causes_alike bytes (Fault line kind) NotBuilt x y = absurd (y.accepted.no_fault line kind x.fault.fault)
+causes_alike bytes TooLong (Deck line kind) x y = absurd y
+causes_alike bytes TooLong (Ports place) x y = absurd y
+causes_alike bytes TooLong (Stim line kind) x y = absurd y
+causes_alike bytes (Blif line kind) TooLong x y = absurd (omega (arith, y, x.within))
+causes_alike bytes (Blif line kind) (Blif other any) x y = let same = faults_alike bytes line other kind any x.fault y.fault in λ i. Blif (same.0 i) (same.1 i)
+causes_alike bytes (Blif line kind) NotBuilt x y = absurd (y.accepted.no_fault line kind x.fault.fault)
+causes_alike bytes (Blif line kind) (Deck other any) x y = absurd y
+causes_alike bytes (Blif line kind) (Ports place) x y = absurd y
+causes_alike bytes (Blif line kind) (Stim other any) x y = absurd y
 causes_alike bytes NotBuilt TooLong x y = absurd (omega (arith, y, x.within))
-causes_alike bytes NotBuilt (Fault line kind) x y = absurd (x.accepted.no_fault line kind y.fault.fault)
+causes_alike bytes NotBuilt (Blif line kind) x y = absurd (x.accepted.no_fault line kind y.fault.fault)
 causes_alike bytes NotBuilt NotBuilt x y = refl
+causes_alike bytes NotBuilt (Deck line kind) x y = absurd y
+causes_alike bytes NotBuilt (Ports place) x y = absurd y
+causes_alike bytes NotBuilt (Stim line kind) x y = absurd y
+causes_alike bytes (Deck line kind) b x y = absurd x
+causes_alike bytes (Ports place) b x y = absurd x
+causes_alike bytes (Stim line kind) b x y = absurd x
 
 -- bytes that a deck is built for are refused for no cause
 pub not_both : (bytes : List ℕ) (why : Refusal) → IsRefusedFor bytes why → IsBuildable bytes → ⊥
 not_both bytes TooLong x built = omega (arith, x, built.within)
-not_both bytes (Fault line kind) x built = built.accepted.no_fault line kind x.fault.fault
+not_both bytes (Blif line kind) x built = built.accepted.no_fault line kind x.fault.fault
 not_both bytes NotBuilt x built =
     let same : built.file ≡ x.file = built.accepted.file_is ∙ sym x.accepted.file_is in
     x.other built.table built.is_one_table (subst (λ f. IsFileOfTable f built.table) same built.is_file)
+not_both bytes (Deck line kind) x built = x
+not_both bytes (Ports place) x built = x
+not_both bytes (Stim line kind) x built = x

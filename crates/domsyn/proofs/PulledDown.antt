@@ -17,11 +17,11 @@ use Rattle.stage.proofs.Spellings.{tree_conduction-map_tree}
 use Rattle.spice_text.specs.Text.{IsWritten}
 use Rattle.spice_text.proofs.ReadBack.{read_back}
 use Rattle.domsyn.specs.Bits.{tri_of}
+use Rattle.domsyn.specs.Decks.{IsDeckFor, IsPulledDeckFor}
 use Rattle.domsyn.specs.Deck.{cell_nets, circuit_of, pin_name, table_tree}
 use Rattle.domsyn.specs.OneTable.{IsOneTable, HasByteNames}
 use Rattle.domsyn.specs.OneTableData.{OneTableData}
 use Rattle.domsyn.specs.PullDown.{HasBits, PullsDown}
-use Rattle.domsyn.specs.Top.{IsAnswer, IsPulledDeck}
 use Rattle.domsyn.proofs.CircuitCell.{holds_cell, clock_numbered, dynamic_numbered, pin_numbered, ports_first, vss_numbered}
 use Rattle.domsyn.proofs.DeckFacts.{IsCircuit-circuit_of}
 use Rattle.domsyn.proofs.DeckNames.{HasNetNames-circuit_of, IsGoodCircuit-circuit_of}
@@ -82,22 +82,19 @@ pub reads_back : (t : OneTableData) (text : List ℕ) → IsOneTable t → HasBy
 reads_back t text is names written =
     read_back (circuit_of t) text (record { is = IsCircuit-circuit_of t is names; names = HasNetNames-circuit_of t is names; good = IsGoodCircuit-circuit_of t names }) written
 
--- the answer to the words is a deck whose pull-down is the table of the file
-pub pulled_answer : (files : Option (List (List ℕ × List ℕ))) (words : List (List ℕ)) (text : List ℕ) → IsAnswer files words text → IsPulledDeck files words text
-pulled_answer files words text answer =
-    let built = answer.deck.buildable in
+-- the deck of bytes is one whose pull-down is the table of their network
+pub pulled_deck : (bytes text : List ℕ) → IsDeckFor bytes text → IsPulledDeckFor bytes text
+pulled_deck bytes text deck =
+    let built = deck.buildable in
     record {
-      file = answer.file;
-      bytes = answer.bytes;
+      within = built.within;
       read = built.file;
       table = built.table;
       circuit = circuit_of built.table;
-      asks = answer.asks;
-      held_is = answer.held_is;
       accepted = built.accepted;
       is_file = built.is_file;
       is_one_table = built.is_one_table;
-      written = answer.deck.written;
-      reads = reads_back built.table text built.is_one_table answer.deck.names answer.deck.written;
+      written = deck.written;
+      reads = reads_back built.table text built.is_one_table deck.names deck.written;
       pulls = pulls_down built.table built.is_one_table;
     }

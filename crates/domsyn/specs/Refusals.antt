@@ -1,13 +1,14 @@
-use Rattle.std.specs.Prelude.{ℕ, ◌≤◌, ◌<◌, List, ◌++◌, Option, IfSome, IsSomeAnd, length, codes}
+use Rattle.std.specs.Prelude.{ℕ, ◌≤◌, ◌<◌, List, ◌++◌, length, codes}
 use Rattle.std.specs.Fmt.{decimal}
-use Rattle.dom_io.specs.Held.{file_limit, held}
+use Rattle.dom_io.specs.Held.{file_limit}
 use Rattle.blif_ast.specs.BlifFileData.{BlifFileData}
 use Rattle.blif_ast.specs.declared.kind.BlifKind.{BlifKind}
-use Rattle.blif_ast.specs.declared.kind.BlifKind.TheVariants.{ControlByte, UnknownCard, BadCard, RowOutsideTable, BadRow, MixedCover, TooWide, NoModel, LatchKind}
-use Rattle.blif_ast.specs.Faults.{kind_number}
+use Rattle.blif_ast.specs.Faults.{kind_number as blif_number}
 use Rattle.blif_ast.specs.Reading.{IsFaultAt, IsFileOf}
+use Rattle.deck.specs.DeckFaults.{kind_number as deck_number}
 use Rattle.domsyn.specs.declared.refusal.Refusal.{Refusal}
-use Rattle.domsyn.specs.declared.refusal.Refusal.TheVariants.{TooLong, Fault, NotBuilt}
+use Rattle.domsyn.specs.declared.refusal.Refusal.TheVariants.{TooLong, Blif, NotBuilt, Deck, Ports, Stim}
+use Rattle.domsyn.specs.KindNames.{blif_name, deck_name, stim_name}
 use Rattle.domsyn.specs.OneTable.{IsOneTable, IsFileOfTable}
 use Rattle.domsyn.specs.OneTableData.{OneTableData}
 
@@ -23,32 +24,23 @@ pub record IsNotBuilt (bytes : List ℕ) : Type 0 where
   pub accepted : IsFileOf bytes file
   pub other : (t : OneTableData) → IsOneTable t → IsFileOfTable file t → ⊥
 
--- a file of these bytes is refused for this cause
+-- no deck is built of a file of these bytes, for this cause
 abbrev pub IsRefusedFor : List ℕ → Refusal → Type 0
 IsRefusedFor bytes TooLong = file_limit < length bytes
-IsRefusedFor bytes (Fault line kind) = IsFaultyAt bytes line kind
+IsRefusedFor bytes (Blif line kind) = IsFaultyAt bytes line kind
 IsRefusedFor bytes NotBuilt = IsNotBuilt bytes
-
--- where the files are told, the file is refused for this cause
-abbrev pub IsRefused : Option (List (List ℕ × List ℕ)) → List ℕ → Refusal → Type 0
-IsRefused files file why = IfSome files (λ told. IsSomeAnd (held told file) (λ whole. IsRefusedFor whole why))
-
-abbrev pub kind_name : BlifKind → List ℕ
-kind_name ControlByte = codes "ControlByte"
-kind_name UnknownCard = codes "UnknownCard"
-kind_name BadCard = codes "BadCard"
-kind_name RowOutsideTable = codes "RowOutsideTable"
-kind_name BadRow = codes "BadRow"
-kind_name MixedCover = codes "MixedCover"
-kind_name TooWide = codes "TooWide"
-kind_name NoModel = codes "NoModel"
-kind_name LatchKind = codes "LatchKind"
+IsRefusedFor bytes (Deck line kind) = ⊥
+IsRefusedFor bytes (Ports place) = ⊥
+IsRefusedFor bytes (Stim line kind) = ⊥
 
 -- what the line for a cause says behind the file's name
 abbrev pub refusal_text : Refusal → List ℕ
 refusal_text TooLong = codes ": too long\n"
-refusal_text (Fault line kind) = codes ":" ++ decimal line ++ codes ": blif " ++ decimal (kind_number kind) ++ codes " " ++ kind_name kind ++ codes "\n"
+refusal_text (Blif line kind) = codes ":" ++ decimal line ++ codes ": blif " ++ decimal (blif_number kind) ++ codes " " ++ blif_name kind ++ codes "\n"
 refusal_text NotBuilt = codes ": not built\n"
+refusal_text (Deck line kind) = codes ":" ++ decimal line ++ codes ": deck " ++ decimal (deck_number kind) ++ codes " " ++ deck_name kind ++ codes "\n"
+refusal_text (Ports place) = codes ": deck port " ++ decimal place ++ codes "\n"
+refusal_text (Stim line kind) = codes ":" ++ decimal line ++ codes ": stim " ++ stim_name kind ++ codes "\n"
 
 -- the line on `err` for a file that is refused
 abbrev pub refusal_line : List ℕ → Refusal → List ℕ

@@ -1,77 +1,79 @@
 //! Files that are refused.
-ghost use Rattle.std.specs.Prelude.{◌≡◌, ◌++◌, IfOk};
-ghost use Rattle.domsyn.specs.Refusals.{kind_name as name_of_kind, refusal_text};
-ghost use Rattle.blif_ast.specs.Faults.{kind_number as number_of_kind};
+ghost use Rattle.std.specs.Prelude.{◌≡◌, ◌++◌, IfOk, OnOk, codes};
+ghost use Rattle.std.specs.Fmt.{decimal};
+ghost use Rattle.domsyn.specs.Refusals.{refusal_text};
 
+use crate::kind_name::{blif_name, blif_number, deck_name, deck_number, stim_name};
 use blif_read::BlifKind;
+use deck::DeckKind;
 use dom_base::OutOfMemory;
 use itoa::Buffer;
 use std::alloc::Global;
+use stim_text::StimKind;
 
-/// Why the deck of a file isn't built.
+/// Why a file is refused.
 #[derive(Clone, Copy, Debug, PartialEq, Eq)]
 pub enum Refusal {
     /// It has more bytes than a file may have.
     TooLong,
-    /// Its text has this fault at this line, from 1.
-    Fault { line: u64, kind: BlifKind },
+    /// Its text, read as BLIF, has this fault at this line, from 1.
+    Blif { line: u64, kind: BlifKind },
     /// Its network isn't one of those that are built.
     NotBuilt,
+    /// Its text, read as a deck, has this fault at this line, from 1.
+    Deck { line: u64, kind: DeckKind },
+    /// The ports of its deck leave the order of roles at this place, from 0.
+    Ports { place: u32 },
+    /// Its text, read as a stimulus, has this fault at this line, from 1.
+    Stim { line: u64, kind: StimKind },
 }
 
 /// What the line about the file says behind the file's name.
 pub(crate) fn text_of(alloc: Global, why: Refusal) -> Result<Vec<u8>, OutOfMemory>
     ensures { IfOk result (λ text. text.items ≡ refusal_text why) }
 {
-    match why {
-        Refusal::TooLong => Ok(Vec::from_slice(alloc, b": too long\n")?),
-        Refusal::Fault { line, kind } => fault_text(alloc, line, kind),
-        Refusal::NotBuilt => Ok(Vec::from_slice(alloc, b": not built\n")?),
-    }
-}
-
-fn fault_text(alloc: Global, line: u64, kind: BlifKind) -> Result<Vec<u8>, OutOfMemory>
-    ensures { IfOk result (λ text. text.items ≡ refusal_text (Refusal.Fault line kind)) }
-{
-    let mut buffer = Buffer::new();
     let mut text = Vec::from_slice(alloc, b":")?;
-    text.extend_from_slice(buffer.format(line).as_bytes())?;
-    text.extend_from_slice(b": blif ")?;
-    text.extend_from_slice(buffer.format(kind_number(kind)).as_bytes())?;
-    text.extend_from_slice(b" ")?;
-    text.extend_from_slice(kind_name(kind))?;
-    text.extend_from_slice(b"\n")?;
+    match why {
+        Refusal::TooLong => put(&mut text, b" too long")?,
+        Refusal::Blif { line, kind } => {
+            put_number(&mut text, line)?;
+            put(&mut text, b": blif ")?;
+            put_number(&mut text, blif_number(kind))?;
+            put(&mut text, b" ")?;
+            put(&mut text, blif_name(kind))?;
+        }
+        Refusal::NotBuilt => put(&mut text, b" not built")?,
+        Refusal::Deck { line, kind } => {
+            put_number(&mut text, line)?;
+            put(&mut text, b": deck ")?;
+            put_number(&mut text, deck_number(kind))?;
+            put(&mut text, b" ")?;
+            put(&mut text, deck_name(kind))?;
+        }
+        Refusal::Ports { place } => {
+            put(&mut text, b" deck port ")?;
+            put_number(&mut text, place as u64)?;
+        }
+        Refusal::Stim { line, kind } => {
+            put_number(&mut text, line)?;
+            put(&mut text, b": stim ")?;
+            put(&mut text, stim_name(kind))?;
+        }
+    }
+    put(&mut text, b"\n")?;
     Ok(text)
 }
 
-fn kind_number(kind: BlifKind) -> u64
-    ensures { result ≡ number_of_kind kind }
+fn put(text: &mut Vec<u8>, bytes: &[u8]) -> Result<(), OutOfMemory>
+    ensures { OnOk result (text.new.items ≡ text.old.items ++ bytes.now) }
 {
-    match kind {
-        BlifKind::ControlByte => 1,
-        BlifKind::UnknownCard => 2,
-        BlifKind::BadCard => 3,
-        BlifKind::RowOutsideTable => 4,
-        BlifKind::BadRow => 5,
-        BlifKind::MixedCover => 6,
-        BlifKind::TooWide => 7,
-        BlifKind::NoModel => 8,
-        BlifKind::LatchKind => 9,
-    }
+    text.extend_from_slice(bytes)?;
+    Ok(())
 }
 
-fn kind_name(kind: BlifKind) -> &'static [u8]
-    ensures { result.now ≡ name_of_kind kind }
+fn put_number(text: &mut Vec<u8>, number: u64) -> Result<(), OutOfMemory>
+    ensures { OnOk result (text.new.items ≡ text.old.items ++ decimal number) }
 {
-    match kind {
-        BlifKind::ControlByte => b"ControlByte",
-        BlifKind::UnknownCard => b"UnknownCard",
-        BlifKind::BadCard => b"BadCard",
-        BlifKind::RowOutsideTable => b"RowOutsideTable",
-        BlifKind::BadRow => b"BadRow",
-        BlifKind::MixedCover => b"MixedCover",
-        BlifKind::TooWide => b"TooWide",
-        BlifKind::NoModel => b"NoModel",
-        BlifKind::LatchKind => b"LatchKind",
-    }
+    let mut buffer = Buffer::new();
+    put(text, buffer.format(number).as_bytes())
 }

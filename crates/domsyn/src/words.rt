@@ -1,18 +1,73 @@
 //! The words of the command line.
-ghost use Rattle.std.specs.Prelude.{◌≡◌, ℕ, List, MatchOption, IsTrue, ◌↔◌, map};
+ghost use Rattle.std.specs.Prelude.{◌≡◌, ◌∷◌, ℕ, List, MatchOption, IsTrue, ◌↔◌, codes, map};
 ghost use Rattle.std.specs.String.{string_bytes};
-ghost use Rattle.domsyn.specs.Top.{Asks, IsFileWord};
+ghost use Rattle.domsyn.specs.Asked.{asked};
+ghost use Rattle.domsyn.specs.Commands.{Asks, IsFileWord, Command as Plain};
 
-/// The file whose deck the words ask for.
-pub(crate) fn file_of(words: &[String]) -> Option<&str>
-    ensures { MatchOption result ((file : List ℕ) → Asks (map string_bytes words.now) file → ⊥) (λ file. Asks (map string_bytes words.now) file.now) }
+use crate::command::Command;
+use crate::settings::{Given, given_by};
+use std::alloc::Global;
+use trace_tool::{Order, TraceOptions};
+
+/// What the words ask for: the name of a command, its files, then its options.
+pub(crate) fn command_of<'a>(alloc: Global, words: &'a [String]) -> Option<Command<'a>>
+    ensures { MatchOption result ((command : Plain) → Asks (map string_bytes words.now) command → ⊥) (λ command. Asks (map string_bytes words.now) (asked command)) }
 {
-    match words {
-        [command, file] if command.as_str() == "synth" && is_file(file.as_str()) => Some(
-            file.as_str(),
-        ),
+    let [name, rest @ ..] = words else {
+        return None
+    };
+    match name.as_str() {
+        "synth" => synth_of(rest),
+        "sim" => sim_of(alloc, rest),
         _ => None,
     }
+}
+
+/// The command `synth FILE` by the words behind its name.
+fn synth_of<'a>(words: &'a [String]) -> Option<Command<'a>>
+    ensures { MatchOption result ((command : Plain) → Asks (codes "synth" ∷ map string_bytes words.now) command → ⊥) (λ command. Asks (codes "synth" ∷ map string_bytes words.now) (asked command)) }
+{
+    let [file] = words else { return None };
+    let file = file.as_str();
+    if !is_file(file) {
+        return None;
+    }
+    Some(Command::Synth { file })
+}
+
+/// The command `sim DECK STIM` with its options by the words behind its name.
+fn sim_of<'a>(alloc: Global, words: &'a [String]) -> Option<Command<'a>>
+    ensures { MatchOption result ((command : Plain) → Asks (codes "sim" ∷ map string_bytes words.now) command → ⊥) (λ command. Asks (codes "sim" ∷ map string_bytes words.now) (asked command)) }
+{
+    let [deck, stim, rest @ ..] = words else {
+        return None
+    };
+    let deck = deck.as_str();
+    let stim = stim.as_str();
+    if !is_file(deck) || !is_file(stim) {
+        return None;
+    }
+    let Some(given) = given_by(
+        rest,
+        Given {
+            order: None,
+            seed: None,
+            events: false,
+        },
+    ) else {
+        return None
+    };
+    let options = TraceOptions {
+        order: given.order.unwrap_or(Order::First),
+        seed: given.seed.unwrap_or(0),
+        probes: Vec::new(alloc),
+        events: given.events,
+    };
+    Some(Command::Sim {
+        deck,
+        stim,
+        options,
+    })
 }
 
 /// Whether a word names a file: it isn't empty, and doesn't begin with `-`.

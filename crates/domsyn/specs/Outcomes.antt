@@ -1,0 +1,98 @@
+use Rattle.std.specs.Prelude.{ℕ, ◌<◌, ◌≤◌, ◌≡◌, ◌⊎◌, Bool, if◌then◌else◌, List, Option, Some, IfSome, length}
+use Rattle.dom_io.specs.Held.{file_limit, held}
+use Rattle.domsyn.specs.declared.refusal.Refusal.{Refusal}
+use Rattle.domsyn.specs.declared.refusal.Refusal.TheVariants.{TooLong, Blif, NotBuilt, Deck, Ports, Stim}
+use Rattle.domsyn.specs.Commands.{Command, Synth, Sim}
+use Rattle.domsyn.specs.Decks.{IsDeckFor}
+use Rattle.domsyn.specs.Refusals.{IsRefusedFor}
+use Rattle.trace_tool.specs.Refusals.{IsRefused}
+use Rattle.trace_tool.specs.TraceData.{TraceOptionsData}
+use Rattle.trace_tool.specs.Traces.{IsTraceOf}
+use Rattle.trace_tool.specs.declared.fault.TraceFault.{TraceFault}
+use Rattle.trace_tool.specs.declared.fault.TraceFault.TheVariants.{Deck as deck_fault, Ports as port_fault, Stim as stim_fault}
+
+-- names with their bytes, where they are told
+abbrev pub Files : Type 0
+Files = Option (List (List ℕ × List ℕ))
+
+-- where the files are told, these are the bytes of this one
+abbrev pub Holds : Files → List ℕ → List ℕ → Type 0
+Holds files name bytes = IfSome files (λ told. held told name ≡ Some bytes)
+
+-- the file has these bytes, no more than a file may have
+pub record IsFile (files : Files) (name bytes : List ℕ) : Type 0 where
+  pub holds : Holds files name bytes
+  pub within : length bytes ≤ file_limit
+
+-- the file has more bytes than a file may have
+pub record IsTooLong (files : Files) (name : List ℕ) : Type 0 where
+  pub bytes : List ℕ
+  pub holds : Holds files name bytes
+  pub long : file_limit < length bytes
+
+-- what a command comes to: a text with its status, or the file that is refused and the cause
+pub data Outcome : Type 0 where
+  Told : (status : ℕ) → (text : List ℕ) → Outcome
+  Refused : (file : List ℕ) → (why : Refusal) → Outcome
+
+abbrev pub status_of : Outcome → ℕ
+status_of (Told status text) = status
+status_of (Refused file why) = 1
+
+-- the deck of a file, or the cause for which there is none
+pub record IsDeck (files : Files) (file : List ℕ) (status : ℕ) (text : List ℕ) : Type 0 where
+  pub bytes : List ℕ
+  pub is_file : IsFile files file bytes
+  pub deck : IsDeckFor bytes text
+  pub done : status ≡ 0
+
+pub record IsNoDeck (files : Files) (file name : List ℕ) (why : Refusal) : Type 0 where
+  pub bytes : List ℕ
+  pub holds : Holds files file bytes
+  pub refused : IsRefusedFor bytes why
+  pub name_is : name ≡ file
+
+-- the trace of a deck over a stimulus; the status tells whether each going to rest ended at rest
+pub record IsTrace (files : Files) (deck stim : List ℕ) (options : TraceOptionsData) (status : ℕ) (text : List ℕ) : Type 0 where
+  pub deck_bytes : List ℕ
+  pub stim_bytes : List ℕ
+  pub settled : Bool
+  pub is_deck : IsFile files deck deck_bytes
+  pub is_stim : IsFile files stim stim_bytes
+  pub trace : IsTraceOf deck_bytes stim_bytes options (record { text = text; settled = settled })
+  pub status_is : status ≡ (if settled then 0 else 6)
+
+-- the first of two files that has too many bytes
+abbrev pub IsFirstTooLong : Files → List ℕ → List ℕ → List ℕ → Type 0
+IsFirstTooLong files deck stim name =
+    ((name ≡ deck) × IsTooLong files deck)
+    ⊎ ((bytes : List ℕ) × (name ≡ stim) × IsFile files deck bytes × IsTooLong files stim)
+
+-- a deck and a stimulus of files are not simulated for this cause
+pub record IsNoTrace (files : Files) (deck stim : List ℕ) (fault : TraceFault) : Type 0 where
+  pub deck_bytes : List ℕ
+  pub stim_bytes : List ℕ
+  pub is_deck : IsFile files deck deck_bytes
+  pub is_stim : IsFile files stim stim_bytes
+  pub refused : IsRefused deck_bytes stim_bytes fault
+
+-- the file that is refused, of a deck and a stimulus, and the cause
+abbrev pub IsSimRefusal : Files → List ℕ → List ℕ → List ℕ → Refusal → Type 0
+IsSimRefusal files deck stim name TooLong = IsFirstTooLong files deck stim name
+IsSimRefusal files deck stim name (Deck line kind) = (name ≡ deck) × IsNoTrace files deck stim (deck_fault line kind)
+IsSimRefusal files deck stim name (Ports place) = (name ≡ deck) × IsNoTrace files deck stim (port_fault place)
+IsSimRefusal files deck stim name (Stim line kind) = (name ≡ stim) × IsNoTrace files deck stim (stim_fault line kind)
+IsSimRefusal files deck stim name (Blif line kind) = ⊥
+IsSimRefusal files deck stim name NotBuilt = ⊥
+
+-- the command comes to this over these files
+abbrev pub IsOutcome : Files → Command → Outcome → Type 0
+IsOutcome files (Synth file) (Told status text) = IsDeck files file status text
+IsOutcome files (Synth file) (Refused name why) = IsNoDeck files file name why
+IsOutcome files (Sim deck stim options) (Told status text) = IsTrace files deck stim options status text
+IsOutcome files (Sim deck stim options) (Refused name why) = IsSimRefusal files deck stim name why
+
+-- a file of the command, before which each one was read and isn't too long
+abbrev pub IsUnread : Files → Command → List ℕ → Type 0
+IsUnread files (Synth file) name = name ≡ file
+IsUnread files (Sim deck stim options) name = (name ≡ deck) ⊎ ((bytes : List ℕ) × (name ≡ stim) × IsFile files deck bytes)

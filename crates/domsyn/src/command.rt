@@ -1,0 +1,15 @@
+//! What the program is asked for.
+use trace_tool::TraceOptions;
+
+/// What the words of the command line ask for, with the names of the files.
+#[derive(Drop)]
+pub(crate) enum Command<'a> {
+    Synth {
+        file: &'a str,
+    },
+    Sim {
+        deck: &'a str,
+        stim: &'a str,
+        options: TraceOptions,
+    },
+}
