@@ -14,10 +14,20 @@ const PLENTY: usize = 1_048_576;
 
 /// A shelf of one file.
 pub(crate) fn shelf_of(alloc: Global, name: &str, text: &[u8]) -> Result<MemoryShelf, AllocError> {
-    let mut files = Vec::new(alloc);
-    files.push((String::from_str(alloc, name)?, text.to_vec(alloc)?))?;
+    shelf_with(alloc, &[(name, text)])
+}
+
+/// A shelf of these files.
+pub(crate) fn shelf_with(
+    alloc: Global,
+    files: &[(&str, &[u8])],
+) -> Result<MemoryShelf, AllocError> {
+    let mut owned = Vec::new(alloc);
+    for (name, text) in files {
+        owned.push((String::from_str(alloc, name)?, text.to_vec(alloc)?))?;
+    }
     Ok(MemoryShelf {
-        files,
+        files: owned,
         fails: Vec::new(alloc),
         calls: 0,
         faults: 0,
@@ -61,10 +71,19 @@ pub(crate) struct Answer {
 
 /// The answer to `synth t.blif`, where that file has these bytes.
 pub(crate) fn synth(alloc: Global, text: &[u8]) -> Result<Answer, OutOfMemory> {
-    let mut shelf = shelf_of(alloc, "t.blif", text)?;
+    answer_to(alloc, &["synth", "t.blif"], &[("t.blif", text)])
+}
+
+/// The answer to these words, where these files are held.
+pub(crate) fn answer_to(
+    alloc: Global,
+    words: &[&str],
+    files: &[(&str, &[u8])],
+) -> Result<Answer, OutOfMemory> {
+    let mut shelf = shelf_with(alloc, files)?;
     let mut out = ample(alloc)?;
     let mut err = ample(alloc)?;
-    let status = status_of(alloc, &["synth", "t.blif"], &mut shelf, &mut out, &mut err)?;
+    let status = status_of(alloc, words, &mut shelf, &mut out, &mut err)?;
     Ok(Answer {
         status,
         out: out.taken,

@@ -14,6 +14,12 @@ mod printed;
 #[cfg(test)]
 mod refused;
 #[cfg(test)]
+mod sim_words;
+#[cfg(test)]
 mod statuses;
+#[cfg(test)]
+mod trace_refused;
+#[cfg(test)]
+mod traces;
 #[cfg(test)]
 mod wide;
