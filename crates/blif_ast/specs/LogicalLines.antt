@@ -1,7 +1,8 @@
--- Comments, joined lines and logical lines of BLIF, the Berkeley Logic Interchange Format.
-use Rattle.std.specs.Prelude.{ℕ, nat_eq, nat_lt, ◌+◌, ◌-◌, Bool, ◌==◌, if◌then◌else◌, List, [], ◌∷◌, ◌++◌, length, map, filter, take}
-use Rattle.std.specs.List.{before_first, ends_with}
+-- Joined lines and logical lines of BLIF, the Berkeley Logic Interchange Format.
+use Rattle.std.specs.Prelude.{ℕ, nat_eq, nat_lt, ◌+◌, ◌-◌, Bool, if◌then◌else◌, List, [], ◌∷◌, ◌++◌, length, map, filter, take}
+use Rattle.std.specs.List.{ends_with}
 use Rattle.dom_base.specs.Lines.{lines, words}
+pub use Rattle.dom_base.specs.Lines.{without_comment}
 
 -- a logical line: the number of its first line, from 1, and its words
 pub record LogicalLine : Type 0 where
@@ -12,10 +13,6 @@ pub record LogicalLine : Type 0 where
 pub record NumberedBytes : Type 0 where
   pub number : ℕ
   pub bytes : List ℕ
-
--- a line without its comment, which begins at the first `#`
-abbrev pub without_comment : List ℕ → List ℕ
-without_comment line = before_first (λ b. b == 35) line
 
 -- a line that is joined with the next one: its last byte is `\`
 abbrev pub is_joined : List ℕ → Bool

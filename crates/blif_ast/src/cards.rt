@@ -3,9 +3,9 @@ ghost use Rattle.std.specs.Prelude.{◌≡◌, ◌++◌, ◌∷◌, ◌≤◌, O
 ghost use Rattle.std.specs.List.{flat_map};
 ghost use Rattle.blif_ast.specs.Printed.{line, letter_byte, row_words, names_words, table_lines, edge_word, signal_word, control_words, latch_words, binding_word, instance_words, port_lines};
 
-use crate::line::{end_line, put, put_word, put_words};
+use crate::line::{end_line, put_words};
 use crate::{Binding, Control, Edge2, Instance, Latch, Letter, Row, Table};
-use dom_base::{Name, OutOfMemory};
+use dom_base::{Name, OutOfMemory, put, put_word};
 
 /// Appends a card with the names of ports, if there are any.
 pub fn put_ports(text: &mut Vec<u8>, card: &[u8], names: &[Name]) -> Result<(), OutOfMemory>

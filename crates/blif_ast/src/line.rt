@@ -3,23 +3,7 @@ ghost use Rattle.std.specs.Prelude.{◌≡◌, ◌++◌, ◌∷◌, [], OnOk};
 ghost use Rattle.std.specs.List.{flat_map};
 ghost use Rattle.blif_ast.specs.Printed.{guard};
 
-use dom_base::{Name, OutOfMemory};
-
-/// Appends bytes.
-pub fn put(text: &mut Vec<u8>, bytes: &[u8]) -> Result<(), OutOfMemory>
-    ensures { OnOk result (text.new.items ≡ text.old.items ++ bytes.now) }
-{
-    text.extend_from_slice(bytes)?;
-    Ok(())
-}
-
-/// Appends a blank and a word.
-pub fn put_word(text: &mut Vec<u8>, word: &[u8]) -> Result<(), OutOfMemory>
-    ensures { OnOk result (text.new.items ≡ text.old.items ++ 32 ∷ word.now) }
-{
-    put(text, b" ")?;
-    put(text, word)
-}
+use dom_base::{Name, OutOfMemory, put, put_word};
 
 /// Appends a blank before each word, and the word.
 pub fn put_words(text: &mut Vec<u8>, words: &[Name]) -> Result<(), OutOfMemory>

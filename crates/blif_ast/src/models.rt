@@ -5,9 +5,9 @@ ghost use Rattle.blif_ast.specs.Good.{IsGoodLatch, IsGoodModel};
 ghost use Rattle.blif_ast.specs.Printed.{line, table_lines, latch_words, instance_words, model_lines};
 
 use crate::cards::{put_instance, put_latch, put_ports, put_table};
-use crate::line::{end_line, put, put_word};
+use crate::line::end_line;
 use crate::{BlifModel, Instance, Latch, Table};
-use dom_base::OutOfMemory;
+use dom_base::{OutOfMemory, put, put_word};
 
 /// Appends the lines of each model.
 pub fn put_models(text: &mut Vec<u8>, models: &[BlifModel]) -> Result<(), OutOfMemory>

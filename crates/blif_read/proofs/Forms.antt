@@ -1,10 +1,8 @@
-use Rattle.std.proofs.Common.{◌≡◌, ℕ, ◌+◌, ◌-◌, Bool, List, map, [], ◌∷◌, length, take, drop, refl, sym, ap, ◌∙◌, arith, Some, None}
-use Rattle.std.specs.Prelude.{◌&&◌, ◌||◌}
-use Rattle.std.specs.List.{list_all, list_any}
+use Rattle.std.proofs.Common.{◌≡◌, ℕ, ◌+◌, ◌-◌, List, map, [], length, take, drop, sym, ap, ◌∙◌, arith, Some, None}
 use Rattle.std.proofs.lemmas.List.{drop_all, take_all, take_rest, length-map, take-map, drop-map}
 use Rattle.memchr.specs.Find.{IsFirstByte, is_byte}
 use Rattle.blif_ast.specs.Cards.{formal_of, actual_of, table_inputs}
-use Rattle.blif_read.proofs.Cutting.{place_of_first, place_of_none}
+use Rattle.dom_base.proofs.Cutting.{place_of_first, place_of_none}
 
 -- what stands before and behind the first `=`
 pub formal_at : (word : List ℕ) (place : ℕ) → IsFirstByte (is_byte 61) word (Some place) → take place word ≡ formal_of word
@@ -12,14 +10,6 @@ formal_at word place first = ap (λ n. take n word) (sym (place_of_first 61 word
 
 pub actual_at : (word : List ℕ) (place : ℕ) → IsFirstByte (is_byte 61) word (Some place) → take (length word - (place + 1)) (drop (place + 1) word) ≡ actual_of word
 actual_at word place first = take_rest word (place + 1) ∙ ap (λ n. drop (n + 1) word) (sym (place_of_first 61 word place first))
-
-pub list_all-map : {X Y : Type 0} (p : Y → Bool) (f : X → Y) (xs : List X) → list_all p (map f xs) ≡ list_all (λ x. p (f x)) xs
-list_all-map p f [] = refl
-list_all-map p f (x ∷ xs) = ap (λ b. p (f x) && b) (list_all-map p f xs)
-
-pub list_any-map : {X Y : Type 0} (p : Y → Bool) (f : X → Y) (xs : List X) → list_any p (map f xs) ≡ list_any (λ x. p (f x)) xs
-list_any-map p f [] = refl
-list_any-map p f (x ∷ xs) = ap (λ b. p (f x) || b) (list_any-map p f xs)
 
 pub formal_none : (word : List ℕ) → IsFirstByte (is_byte 61) word None → word ≡ formal_of word
 formal_none word none = sym (ap (λ n. take n word) (place_of_none 61 word none) ∙ take_all (length word) word (omega arith))

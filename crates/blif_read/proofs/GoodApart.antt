@@ -1,9 +1,9 @@
 -- No two cards of a model stand on one line.
 use Rattle.std.proofs.Common.{◌≡◌, ℕ, ◌≤◌, ◌+◌, Bool, true, false, cond, List, [], ◌∷◌, ◌++◌, map, filter, refl, sym, ◌∙◌, subst, arith, nat_eq, eqb-true}
 use Rattle.std.specs.List.{AllByRecursion, IsDistinct}
+use Rattle.std.proofs.lemmas.Bool.{false_from_ne_true}
 use Rattle.dom_base.proofs.Each.{AllByRecursion-append, AllByRecursion-weaker}
 use Rattle.blif_ast.specs.LogicalLines.{LogicalLine}
-use Rattle.blif_read.proofs.Cutting.{bool_false}
 use Rattle.blif_read.proofs.GoodNumbers.{Rises, Rises-lower}
 
 abbrev pub numbers_of : (LogicalLine → Bool) → List LogicalLine → List ℕ
@@ -18,7 +18,7 @@ numbers_at_least n test (line ∷ more) rises = by (test line) refl (numbers_at_
     by false e rest = subst (λ b. AllByRecursion (λ m. n ≤ m) (map (λ k. k.number) (cond b (line ∷ filter test more) (filter test more)))) (sym e) rest
 
 differ : (a b : ℕ) → (a ≡ b → ⊥) → nat_eq a b ≡ false
-differ a b h = bool_false (nat_eq a b) (λ e. h (eqb-true a b e))
+differ a b h = false_from_ne_true (nat_eq a b) (λ e. h (eqb-true a b e))
 
 -- numbers that are greater
 greater : (n : ℕ) (ms : List ℕ) → AllByRecursion (λ m. n + 1 ≤ m) ms → AllByRecursion (λ m. nat_eq n m ≡ false) ms

@@ -2,6 +2,7 @@
 use Rattle.std.proofs.Common.{◌≡◌, ℕ, zero, suc, ◌<◌, Bool, true, false, ◌==◌, ◌&&◌, ◌||◌, not, nat_lt, if◌then◌else◌, List, [], ◌∷◌, length, filter, take, slice_index_or, refl, ap, sym, ◌∙◌, arith, inl, inr}
 use Rattle.std.specs.List.{AllByRecursion, list_any}
 use Rattle.std.specs.Cmp.Lexicographic.{same_text}
+use Rattle.std.proofs.lemmas.Bool.{false_from_ne_true}
 use Rattle.std.proofs.lemmas.Bool.Decides.{nat_tests}
 use Rattle.std.proofs.lemmas.List.Elements.{All-from_recursion}
 use Rattle.dom_base.specs.Lines.{is_blank, is_control, is_word}
@@ -12,7 +13,6 @@ use Rattle.blif_ast.specs.declared.kind.BlifKind.TheVariants.{ControlByte, BadCa
 use Rattle.blif_ast.specs.LogicalLines.{LogicalLine}
 use Rattle.blif_ast.specs.Cards.{same, begins, is_one_of, first_word, is_known, is_form, is_latch_form, is_subckt_form, model_card, inputs_card, outputs_card, names_card, latch_card, subckt_card, clock_card, end_card}
 use Rattle.blif_ast.specs.Faults.{has_fault}
-use Rattle.blif_read.proofs.Cutting.{bool_false}
 use Rattle.blif_read.proofs.GoodWords.{IsNoMark, IsPlainWord, IsPlainLine}
 use Rattle.blif_read.proofs.Positions.{FaultIn}
 
@@ -24,7 +24,7 @@ Free before (line ∷ more) = ((kind : BlifKind) → has_fault kind before line 
 pub Free-from : (before all : List LogicalLine) → ((number : ℕ) (kind : BlifKind) → FaultIn before all number kind → ⊥) → Free before all
 Free-from before [] none = tt
 Free-from before (line ∷ more) none =
-    (λ kind. bool_false (has_fault kind before line) (λ e. none line.number kind (inl (refl, e))), Free-from (line ∷ before) more (λ number kind h. none number kind (inr h)))
+    (λ kind. false_from_ne_true (has_fault kind before line) (λ e. none line.number kind (inl (refl, e))), Free-from (line ∷ before) more (λ number kind h. none number kind (inr h)))
 
 pub Free-take : (n : ℕ) (before all : List LogicalLine) → Free before all → Free before (take n all)
 Free-take zero before all h = tt

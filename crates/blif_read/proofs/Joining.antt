@@ -3,8 +3,8 @@ use Rattle.std.specs.List.{slice_split, onto_first, filter}
 use Rattle.std.proofs.lemmas.List.{append_assoc, append-nil}
 use Rattle.std.proofs.lemmas.List.Elements.{filter-append}
 use Rattle.std.proofs.lemmas.List.Splits.{length-slice_split}
-use Rattle.dom_base.specs.Lines.{words, is_blank, is_word}
-use Rattle.blif_ast.specs.LogicalLines.{LogicalLine, NumberedBytes, in_words, is_joined, joined_lines, but_last, with_line, with_next, without_comment}
+use Rattle.dom_base.specs.Lines.{words, is_blank, is_word, without_comment}
+use Rattle.blif_ast.specs.LogicalLines.{LogicalLine, NumberedBytes, in_words, is_joined, joined_lines, but_last, with_line, with_next}
 use Rattle.blif_read.specs.Cuts.{worded_lines, own_part, with_words, IsPiece}
 
 onto_first-append : (x : ℕ) (parts more : List (List ℕ)) → 0 < length parts → onto_first x (parts ++ more) ≡ onto_first x parts ++ more

@@ -1,5 +1,4 @@
 pub mod Contexts
-pub mod Cutting
 pub mod Forms
 pub mod GoodApart
 pub mod GoodLines
@@ -9,6 +8,7 @@ pub mod GoodParts
 pub mod GoodPrefix
 pub mod GoodRows
 pub mod GoodWords
+pub mod JoinBytes
 pub mod Joining
 pub mod KindNumbers
 pub mod OneAnswer

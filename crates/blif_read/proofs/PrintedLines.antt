@@ -4,7 +4,8 @@ use Rattle.std.proofs.lemmas.Bool.Decides.{nat_tests}
 use Rattle.std.specs.List.{AllByRecursion, flat_map}
 use Rattle.dom_base.proofs.LineLemmas.{ended, IsClean, lines-ended}
 use Rattle.blif_ast.specs.Printed.{line}
-use Rattle.blif_ast.specs.LogicalLines.{LogicalLine, in_words, has_words, joined_lines, with_line, with_next, with_blank, logical_lines, logical_lines_from, without_comment}
+use Rattle.dom_base.specs.Lines.{without_comment}
+use Rattle.blif_ast.specs.LogicalLines.{LogicalLine, in_words, has_words, joined_lines, with_line, with_next, with_blank, logical_lines, logical_lines_from}
 use Rattle.blif_read.proofs.PrintedWords.{body, IsNamesLine, body_words, body_clean, body_not_joined, body_uncommented}
 
 -- lines with numbers from this one on

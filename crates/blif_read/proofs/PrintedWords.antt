@@ -5,14 +5,14 @@ use Rattle.std.specs.Prelude.{slice_index_or}
 use Rattle.std.proofs.lemmas.Bool.Decides.{nat_tests}
 use Rattle.std.proofs.lemmas.List.Elements.{All-weaker, All-from_recursion, recursion_from_All, filter-append}
 use Rattle.std.proofs.lemmas.List.Splits.{slice_split_at}
-use Rattle.dom_base.specs.Lines.{is_line_feed, is_blank, is_word, words}
+use Rattle.dom_base.specs.Lines.{is_line_feed, is_blank, is_word, words, without_comment}
 use Rattle.dom_base.proofs.Each.{AllByRecursion-append, AllByRecursion-weaker, filter_all}
 use Rattle.dom_base.proofs.LineLemmas.{after_blanks, joined, IsClean, IsSolid, words-joined}
 use Rattle.blif_ast.specs.Good.{IsNameByte, IsGoodName}
 use Rattle.blif_ast.specs.Cards.{last_word}
 use Rattle.blif_ast.specs.Printed.{guard}
 use Rattle.blif_ast.proofs.LineWords.{joined_words, last_byte, last-append, joined-last}
-use Rattle.blif_ast.specs.LogicalLines.{is_joined, without_comment}
+use Rattle.blif_ast.specs.LogicalLines.{is_joined}
 use Rattle.blif_read.proofs.GoodPrefix.{take_while-keep}
 
 -- a printed line without its LF

@@ -11,7 +11,7 @@ use Rattle.blif_ast.specs.declared.kind.BlifKind.{BlifKind}
 use Rattle.blif_ast.specs.declared.kind.BlifKind.TheVariants.{NoModel}
 use Rattle.blif_read.specs.declared.context.Context.{Context}
 use Rattle.blif_ast.specs.LogicalLines.{LogicalLine, logical_lines, logical_lines_from}
-use Rattle.blif_read.specs.Cuts.{NumbersFit}
+use Rattle.dom_base.specs.Cuts.{NumbersFit}
 use Rattle.blif_ast.specs.Faults.{has_fault, kind_number}
 use Rattle.blif_ast.specs.Models.{models_of}
 use Rattle.blif_read.specs.Build.{Built, built_after, finished, closed_models}

@@ -1,15 +1,6 @@
-use Rattle.std.specs.Prelude.{ℕ, ◌≡◌, ◌<◌, ◌+◌, ◌^◌, Bool, true, false, if◌then◌else◌, List, [], ◌∷◌, ◌++◌, length, map}
-use Rattle.dom_base.specs.Lines.{lines, words}
-use Rattle.blif_ast.specs.LogicalLines.{LogicalLine, but_last, in_words, is_joined, joined_lines, without_comment}
-
--- a text is cut into its first line and the text behind it
-pub record IsCut (text line rest : List ℕ) : Type 0 where
-  pub lines_are : lines text ≡ line ∷ lines rest
-  pub shorter : length rest < length text
-
--- numbers of lines fit while the text is read: each line has a byte
-abbrev pub NumbersFit : ℕ → List ℕ → Type 0
-NumbersFit number rest = number + length rest < 2 ^ 64
+use Rattle.std.specs.Prelude.{ℕ, ◌≡◌, Bool, true, false, if◌then◌else◌, List, [], ◌∷◌, ◌++◌, map}
+use Rattle.dom_base.specs.Lines.{words, without_comment}
+use Rattle.blif_ast.specs.LogicalLines.{LogicalLine, but_last, in_words, is_joined, joined_lines}
 
 -- logical lines by their words
 abbrev pub worded_lines : ℕ → List (List ℕ) → List LogicalLine

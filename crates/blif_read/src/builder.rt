@@ -1,7 +1,6 @@
 //! The models of a file, made line by line.
-ghost use Rattle.std.specs.Prelude.{◌≡◌, ◌++◌, ◌∷◌, [], List, IfOk, OnOk, Some, None, if◌then◌else◌, drop};
+ghost use Rattle.std.specs.Prelude.{◌≡◌, ◌++◌, ◌∷◌, [], IfOk, OnOk, Some, None, if◌then◌else◌, drop};
 ghost use Rattle.std.specs.Option.{option_to_list};
-ghost use Rattle.blif_ast.specs.LogicalLines.{LogicalLine};
 ghost use Rattle.blif_ast.specs.Cards.{begins, latch_card, subckt_card, names_card};
 ghost use Rattle.blif_ast.specs.Models.{latch_of, instance_of};
 ghost use Rattle.blif_read.specs.Build.{built_after, closed_models, model_after_card, model_with_card, model_with_table, new_table, on_after, table_with_row};

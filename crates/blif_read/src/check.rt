@@ -5,8 +5,9 @@ ghost use Rattle.blif_read.specs.Steps.{fault_in, formed_card_fault, row_fault, 
 
 use crate::BlifKind;
 use crate::context::{Context, OpenTable};
-use crate::form::{have_control, is_latch_form, is_level, is_row_form, is_subckt_form};
+use crate::form::{is_latch_form, is_level, is_row_form, is_subckt_form};
 use crate::line::Line;
+use dom_base::have_control;
 
 const MOST_INPUTS: usize = 4096;
 

@@ -1,7 +1,6 @@
 //! The forms of cards and rows, by their words.
 ghost use Rattle.std.specs.Prelude.{◌≡◌, map};
-ghost use Rattle.std.specs.List.{list_all, list_any};
-ghost use Rattle.dom_base.specs.Lines.{is_control};
+ghost use Rattle.std.specs.List.{list_all};
 ghost use Rattle.blif_ast.specs.Cards.{same, is_init, is_edge, is_type, is_latch_form, is_level, is_binding, is_subckt_form, formal_of, actual_of, is_value, is_letter, is_row_form};
 
 use memchr::memchr;
@@ -108,23 +107,4 @@ pub(crate) fn is_row_form(width: usize, words: &[&[u8]]) -> bool
         }
         _ => false,
     }
-}
-
-fn is_control(b: u8) -> bool
-    ensures { result ≡ is_control b }
-{
-    b < b' ' && b != b'\t' || b == 0x7f
-}
-
-fn has_control(word: &[u8]) -> bool
-    ensures { result ≡ list_any is_control word.now }
-{
-    word.iter().any(|b| is_control(*b))
-}
-
-/// Whether a word has a control byte.
-pub(crate) fn have_control(words: &[&[u8]]) -> bool
-    ensures { result ≡ list_any (list_any is_control) (map (λ w. w.now) words.now) }
-{
-    words.iter().any(|word| has_control(word))
 }

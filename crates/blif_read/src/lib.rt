@@ -4,7 +4,6 @@
 mod builder;
 mod check;
 mod context;
-mod cut;
 mod fault;
 mod form;
 mod laws;

@@ -1,13 +1,13 @@
 //! Logical lines.
-ghost use Rattle.std.specs.Prelude.{◌≡◌, ◌≤◌, ◌<◌, ◌+◌, ◌-◌, ◌^◌, ◌++◌, ◌∷◌, ℕ, List, [], IfOk, IsOk, MatchOption, map, length, slice_index};
+ghost use Rattle.std.specs.Prelude.{◌≡◌, ◌≤◌, ◌<◌, ◌+◌, ◌-◌, ◌∷◌, [], IfOk, IsOk, MatchOption, map, length, slice_index, true, false};
+ghost use Rattle.dom_base.specs.Cuts.{NumbersFit};
 ghost use Rattle.dom_base.specs.Lines.{lines};
-ghost use Rattle.blif_ast.specs.LogicalLines.{logical_lines_from};
+ghost use Rattle.blif_ast.specs.LogicalLines.{but_last, is_joined, logical_lines_from};
 ghost use Rattle.blif_ast.specs.Cards.{begins, first_word, is_card, last_letter};
-ghost use Rattle.blif_read.specs.Cuts.{worded_lines, IsPiece, NumbersFit};
+ghost use Rattle.blif_read.specs.Cuts.{worded_lines, IsPiece};
 
-use crate::cut::{cut_line, cut_words, strip_comment, strip_join};
 use crate::form::same;
-use dom_base::OutOfMemory;
+use dom_base::{OutOfMemory, cut_line, cut_words, strip_comment, strip_last};
 use std::alloc::Global;
 use std::marker::Model;
 
@@ -76,6 +76,13 @@ fn last_byte(word: &[u8]) -> u8
     } else {
         word[word.len() - 1]
     }
+}
+
+/// The line without the `\` at its end, where it has one.
+fn strip_join(line: &[u8]) -> Option<&[u8]>
+    ensures { MatchOption result (is_joined line.now ≡ false) (λ front. (is_joined line.now ≡ true) × (front.now ≡ but_last line.now)) }
+{
+    strip_last(line, b'\\')
 }
 
 /// The lines of a text that aren't read yet, and the number of the first of them.

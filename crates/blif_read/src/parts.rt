@@ -1,5 +1,5 @@
 //! The parts of a file out of the words of cards and rows.
-ghost use Rattle.std.specs.Prelude.{◌≡◌, ◌++◌, ◌∷◌, [], IfOk, OnOk, map, drop, slice_index_or};
+ghost use Rattle.std.specs.Prelude.{◌≡◌, ◌++◌, [], IfOk, OnOk, map, drop, slice_index_or};
 ghost use Rattle.blif_ast.specs.Models.{letter_of, row_letters, control_of, init_of, latch_of, binding_of, instance_of};
 ghost use Rattle.blif_ast.specs.Cards.{table_inputs};
 ghost use Rattle.blif_read.specs.Build.{new_model, new_table};

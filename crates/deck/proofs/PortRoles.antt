@@ -56,7 +56,7 @@ behind-same a b x y la lb e =
     sym (drop_at (leading_ports a) x (a + 8) (length-leading a la)) ∙ ap (drop (a + 8)) e ∙ drop_at (leading_ports b) y (a + 8) long
 
 -- the pins and outputs of a list of names
-groups-same : (p o q r : List (List ℕ)) → All IsPin p → All IsOutput o → All IsPin q → All IsOutput r → p ++ o ≡ q ++ r → (p ≡ q) × (o ≡ r)
+pub groups-same : (p o q r : List (List ℕ)) → All IsPin p → All IsOutput o → All IsPin q → All IsOutput r → p ++ o ≡ q ++ r → (p ≡ q) × (o ≡ r)
 groups-same [] o [] r pp oo qq rr e = (refl, e)
 groups-same [] o (n ∷ q) r pp oo qq rr e = absurd (pin-no_output n (All-head IsPin n q qq) (All-head IsOutput n (q ++ r) (All-same IsOutput _ _ (sym e) oo)))
 groups-same (n ∷ p) o [] r pp oo qq rr e = absurd (pin-no_output n (All-head IsPin n p pp) (All-head IsOutput n (p ++ o) (All-same IsOutput _ _ e rr)))

@@ -1,3 +1,4 @@
+pub mod Cutting
 pub mod Each
 pub mod LineLemmas
 pub mod PlainWords

@@ -1,4 +1,6 @@
 pub mod Conduction
+pub mod Cuts
 pub mod Lines
 pub mod Names
+pub mod Texts
 pub mod Tri

@@ -1,5 +1,5 @@
 use Rattle.std.specs.Prelude.{ℕ, Bool, true, false, ◌==◌, ◌||◌, ◌&&◌, not, nat_lt, if◌then◌else◌, List, [], ◌∷◌, map, filter}
-use Rattle.std.specs.List.{slice_split}
+use Rattle.std.specs.List.{before_first, slice_split}
 
 -- a byte that ends a line: LF
 abbrev pub is_line_feed : ℕ → Bool
@@ -29,6 +29,10 @@ abbrev pub without_return : List ℕ → List ℕ
 without_return [] = []
 without_return (b ∷ []) = if b == 13 then [] else b ∷ []
 without_return (b ∷ next ∷ bs) = b ∷ without_return (next ∷ bs)
+
+-- a line without its comment, which begins at the first `#`
+abbrev pub without_comment : List ℕ → List ℕ
+without_comment line = before_first (λ b. b == 35) line
 
 -- the lines of a text: it is cut at LF, a last piece that is empty is no line, and a CR that ends a line is dropped
 abbrev pub lines : List ℕ → List (List ℕ)

@@ -1,22 +1,22 @@
 -- The first word of a line.
 use Rattle.std.proofs.Common.{◌≡◌, ℕ, suc, ◌<◌, ◌≤◌, ◌+◌, Bool, true, false, cond, not, if◌then◌else◌, List, [], ◌∷◌, length, take, filter, refl, sym, ap, ◌∙◌, arith, Some, None, take_all}
 use Rattle.std.specs.List.{slice_split, onto_first, before_first, position_or_len}
+use Rattle.std.proofs.lemmas.Bool.{false_from_ne_true}
 use Rattle.std.proofs.lemmas.List.Sums.{position_or_len_is}
 use Rattle.memchr.specs.Find.{IsFirstByte}
 use Rattle.dom_base.specs.Lines.{is_blank, is_word, unindented, words}
 use Rattle.deck.specs.DeckText.{first_word}
-use Rattle.spice_read.proofs.Cutting.{bool_false}
 
 -- the bytes before the first that passes a test
 pub front_at : (test : ℕ → Bool) (line : List ℕ) (i : ℕ) → IsFirstByte test line (Some i) → take i line ≡ before_first test line
 front_at test line i first =
     let lt : i < length line = first.0.high in
-    let place : position_or_len test line ≡ i = position_or_len_is test line i 0 (omega arith) (λ k l. bool_false _ (first.0.before k (omega arith) l)) (λ _. first.1) in
+    let place : position_or_len test line ≡ i = position_or_len_is test line i 0 (omega arith) (λ k l. false_from_ne_true _ (first.0.before k (omega arith) l)) (λ _. first.1) in
     ap (λ n. take n line) (sym place)
 
 pub front_none : (test : ℕ → Bool) (line : List ℕ) → IsFirstByte test line None → line ≡ before_first test line
 front_none test line none =
-    let place : position_or_len test line ≡ length line = position_or_len_is test line (length line) 0 (omega arith) (λ k l. bool_false _ (none k (omega arith) l)) (λ l. absurd (omega arith)) in
+    let place : position_or_len test line ≡ length line = position_or_len_is test line (length line) 0 (omega arith) (λ k l. false_from_ne_true _ (none k (omega arith) l)) (λ l. absurd (omega arith)) in
     sym (ap (λ n. take n line) place ∙ take_all (length line) line (omega arith))
 
 front-cons : (b : ℕ) (bs : List ℕ) → is_blank b ≡ false → before_first is_blank (b ∷ bs) ≡ b ∷ before_first is_blank bs

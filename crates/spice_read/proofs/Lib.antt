@@ -1,10 +1,8 @@
 pub mod Accepting
 pub mod CleanCards
 pub mod Contexts
-pub mod Cutting
 pub mod FaultPlaces
 pub mod FirstWords
-pub mod Forms
 pub mod KindNumbers
 pub mod LowerTexts
 pub mod Lowers

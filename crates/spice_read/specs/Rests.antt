@@ -1,6 +1,7 @@
-use Rattle.std.specs.Prelude.{ℕ, ◌≡◌, ◌<◌, ◌+◌, ◌^◌, Bool, true, false, ◌&&◌, not, nat_eq, if◌then◌else◌, List, [], ◌∷◌, length, map, codes, Option, Some, None}
+use Rattle.std.specs.Prelude.{ℕ, ◌≡◌, ◌<◌, ◌+◌, Bool, true, false, ◌&&◌, not, nat_eq, if◌then◌else◌, List, [], ◌∷◌, length, map, codes, Option, Some, None}
 use Rattle.std.specs.Cmp.Lexicographic.{pointwise}
 use Rattle.std.specs.List.{AllByRecursion, enumerate_from, filter_map}
+use Rattle.dom_base.specs.Cuts.{NumbersFit}
 use Rattle.dom_base.specs.Lines.{lines, unindented, words}
 use Rattle.deck.specs.declared.phase.Phase.{Phase}
 use Rattle.deck.specs.DeckText.{through_end, is_of_card, continues, is_end, phase_of}
@@ -33,16 +34,6 @@ begins_card line = is_of_card line && not (continues line)
 -- no upper-case ASCII letter stands in the text
 abbrev pub IsLowerText : List ℕ → Type 0
 IsLowerText text = AllByRecursion IsLower text
-
--- a text is cut into its first line and the text behind it
-pub record IsCut (text line rest : List ℕ) : Type 0 where
-  pub lines_are : lines text ≡ line ∷ lines rest
-  pub shorter : length rest < length text
-  pub lower : IsLowerText text → IsLowerText line × IsLowerText rest
-
--- numbers of lines fit while the text is read: each line has a byte
-abbrev pub NumbersFit : ℕ → List ℕ → Type 0
-NumbersFit number rest = number + length rest < 2 ^ 64
 
 -- the next line of a text, and the number and the text behind it
 pub record IsNextLine (number : ℕ) (rest line : List ℕ) (next : ℕ) (more : List ℕ) : Type 0 where

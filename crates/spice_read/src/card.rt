@@ -1,5 +1,5 @@
 //! Cards.
-ghost use Rattle.std.specs.Prelude.{◌≡◌, ◌≤◌, ◌<◌, ◌++◌, ◌∷◌, IfOk, MatchOption, length, map, slice_index_or, []};
+ghost use Rattle.std.specs.Prelude.{◌≡◌, ◌<◌, map, []};
 ghost use Rattle.deck.specs.DeckCards.{begins, is_device, port_names};
 ghost use Rattle.spice_read.specs.Stages.{word_at};
 

@@ -1,6 +1,6 @@
 //! The cards of a text.
-ghost use Rattle.std.specs.Prelude.{◌≡◌, ◌<◌, ◌≤◌, ◌++◌, ◌∷◌, ℕ, [], IfOk, IsOk, MatchOption, OnOk, length, map};
-ghost use Rattle.spice_read.specs.Rests.{cards_from, rest_lines, IsReady};
+ghost use Rattle.std.specs.Prelude.{◌≡◌, ◌<◌, ◌≤◌, ◌++◌, IfOk, IsOk, OnOk, length, map};
+ghost use Rattle.spice_read.specs.Rests.{IsReady};
 ghost use Rattle.std.specs.Option.{option_to_list};
 ghost use Rattle.dom_base.specs.Lines.{words};
 ghost use Rattle.deck.specs.DeckText.{phase_of};
@@ -8,11 +8,11 @@ ghost use Rattle.spice_read.specs.Rests.{IsLowerText};
 ghost use Rattle.spice_read.specs.Scans.{continued_words, IsCardRead, IsScanned};
 
 use crate::card::Card;
-use crate::cut::{begins_card, cut_words, strip_plus};
+use crate::cut::{begins_card, strip_plus};
 use crate::line::Lines;
 use crate::phase::push_phase;
 use deck::Phase;
-use dom_base::OutOfMemory;
+use dom_base::{OutOfMemory, cut_words};
 use std::alloc::Global;
 
 /// The cards of a text in lower case that aren't read yet, and the phases of the lines that are.

@@ -1,5 +1,5 @@
 //! The fault of a card.
-ghost use Rattle.std.specs.Prelude.{◌≡◌, IfOk, length, map, nat_eq, nat_lt, None};
+ghost use Rattle.std.specs.Prelude.{◌≡◌, IfOk, map, nat_eq, None};
 ghost use Rattle.std.specs.List.{list_any};
 ghost use Rattle.std.specs.Set.{distinct_count};
 ghost use Rattle.std.specs.Cmp.Lexicographic.{pointwise};
@@ -7,10 +7,9 @@ ghost use Rattle.deck.specs.DeckCards.{has_equals};
 ghost use Rattle.spice_read.specs.Stages.{device_fault, ends_fault, fault_in, is_subckt_form, ports_fault, room_fault, subckt_fault};
 
 use crate::card::Card;
-use crate::cut::have_control;
 use crate::stage::{Stage, kind_of};
 use deck::DeckKind;
-use dom_base::{Name, OutOfMemory};
+use dom_base::{Name, OutOfMemory, have_control};
 use indexmap::IndexSet;
 use std::alloc::Global;
 

@@ -4,7 +4,8 @@ ghost use Rattle.deck.specs.DeckCards.{numbered_lines_from};
 ghost use Rattle.spice_read.specs.Rests.{rest_lines, IsNextLine, IsReady};
 ghost use Rattle.spice_read.specs.Scans.{BeginsNumbered, IsLooseAt};
 
-use crate::cut::{begins_card, cut_line, is_end, strip_plus, unindent};
+use crate::cut::{begins_card, is_end, strip_plus, unindent};
+use dom_base::cut_line;
 
 /// The lines of a text in lower case that aren't read yet, and the number of the first of them. Once
 /// the line `.end` is read nothing is left, and the number is that of this line.

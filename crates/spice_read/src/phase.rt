@@ -1,5 +1,5 @@
 //! Phases out of comments.
-ghost use Rattle.std.specs.Prelude.{◌≡◌, ◌++◌, IfOk, OnOk, Option, None, Some, if◌then◌else◌, map};
+ghost use Rattle.std.specs.Prelude.{◌≡◌, ◌++◌, IfOk, OnOk, Option, None, Some, map};
 ghost use Rattle.std.specs.Option.{option_to_list};
 ghost use Rattle.std.specs.List.{AllByRecursion};
 ghost use Rattle.dom_base.specs.Lines.{words};
@@ -9,10 +9,10 @@ ghost use Rattle.dom_base.proofs.WordBytes.{IsLowerWord};
 ghost use Rattle.spice_read.specs.Rests.{IsLowerText};
 ghost use Rattle.spice_read.specs.Rests.{sign_of};
 
-use crate::cut::{cut_words, has_control, same};
+use crate::cut::same;
 use crate::name::net_name;
 use deck::Phase;
-use dom_base::OutOfMemory;
+use dom_base::{OutOfMemory, cut_words, has_control};
 use std::alloc::Global;
 
 /// Whether the sign is `+`, where it is `+` or `-`.

@@ -1,5 +1,5 @@
 //! The circuit, made card by card.
-ghost use Rattle.std.specs.Prelude.{◌≡◌, ◌<◌, ◌≤◌, ℕ, [], All, IfOk, OnOk, IsErrOf, Option, Some, None, length, map};
+ghost use Rattle.std.specs.Prelude.{◌≡◌, ◌<◌, ℕ, [], All, IfOk, OnOk, IsErrOf, Option, Some, None, map};
 ghost use Rattle.dom_base.specs.Names.{IsNetName};
 ghost use Rattle.deck.specs.Numbers.{with_all};
 ghost use Rattle.deck.specs.declared.fault.DeckKind.{DeckKind};

@@ -1,5 +1,5 @@
 use Rattle.std.proofs.Common.{◌≡◌, ℕ, ◌+◌, ◌<◌, ◌≤◌, min, List, [], ◌∷◌, ◌++◌, length, take, drop, get_or, codes, refl, sym, ap, ◌∙◌, arith}
-use Rattle.std.proofs.lemmas.List.{take_more, take_min, drop_min, length-take-le, append-nil}
+use Rattle.std.proofs.lemmas.List.{take_more, take_min, drop_min, length-take-le, append-nil, append_assoc}
 use Rattle.std.proofs.lemmas.List.Concat.{flat_map-append}
 use Rattle.std.specs.List.{flat_map, enumerate_from}
 use Rattle.deck.specs.declared.device.Device.{Device}
@@ -48,3 +48,16 @@ cards-more nets devices i d lt =
     ∙ ap (λ t. cards nets (take i devices) ++ t) (append-nil (card nets (i, get_or devices i d)))
 
 pub ruleset printing = (cards-more)
+
+-- two parts that are appended one after another
+appended : {x y : List ℕ} (z w u : List ℕ) → y ≡ z ++ w → x ≡ y ++ u → x ≡ z ++ (w ++ u)
+appended z w u ey ex = ex ∙ ap (λ l. l ++ u) ey ∙ append_assoc z w u
+
+-- a card, where its parts are appended one after another
+pub card_parts : (t m n d g s b k e number drain gate source bulk model : List ℕ)
+    → m ≡ t ++ 109 ∷ [] → n ≡ m ++ number → d ≡ n ++ 32 ∷ drain → g ≡ d ++ 32 ∷ gate → s ≡ g ++ 32 ∷ source → b ≡ s ++ 32 ∷ bulk → k ≡ b ++ 32 ∷ model → e ≡ k ++ 10 ∷ []
+    → e ≡ t ++ line (codes "m" ++ number) (drain ∷ gate ∷ source ∷ bulk ∷ model ∷ [])
+card_parts t m n d g s b k e number drain gate source bulk model em en ed eg es eb ek ee =
+    let last = ek ∙ ap (λ w. b ++ 32 ∷ w) (sym (append-nil model)) in
+    let words = appended n (32 ∷ drain) _ ed (appended d (32 ∷ gate) _ eg (appended g (32 ∷ source) _ es (appended s (32 ∷ bulk) _ eb last))) in
+    appended t _ (10 ∷ []) (appended t (109 ∷ []) _ em (appended m number _ en words)) ee

@@ -6,7 +6,7 @@ use Rattle.std.proofs.lemmas.List.{take_all, length-take-le, length-map}
 use Rattle.std.proofs.lemmas.List.Elements.{All-take, All-cons, All-weaker, All-from_recursion, recursion_from_All, filter_map-append}
 use Rattle.dom_base.specs.Lines.{is_control}
 use Rattle.dom_base.specs.Names.{IsNetName}
-use Rattle.dom_base.proofs.Each.{AllByRecursion-append, AllByRecursion-left, AllByRecursion-right, AllByRecursion-groups, AllByRecursion-map, filter_all}
+use Rattle.dom_base.proofs.Each.{AllByRecursion-append, AllByRecursion-left, AllByRecursion-right, AllByRecursion-groups, AllByRecursion-every, AllByRecursion-map, filter_all}
 use Rattle.dom_base.proofs.PlainWords.{IsNetName-from_test, no_control-name, no_control_in-name}
 use Rattle.deck.specs.declared.device.Device.{Device}
 use Rattle.deck.specs.declared.phase.Phase.{Phase}
@@ -77,7 +77,7 @@ all_of_cards : (P : List (List ℕ) → Type 0) (c : CircuitData) (leading : Lis
     → P (opening_row c.name leading) → ((group : List (List ℕ)) → P (codes "+" ∷ group)) → AllByRecursion P (rows_behind c)
     → AllByRecursion P (rows_of_cards c leading groups)
 all_of_cards P c leading groups o g b =
-    (o, AllByRecursion-append P (plus_rows (flat_map eights groups)) (rows_behind c) (AllByRecursion-map P (λ group. codes "+" ∷ group) g (flat_map eights groups)) b)
+    (o, AllByRecursion-append P (plus_rows (flat_map eights groups)) (rows_behind c) (AllByRecursion-map P (λ group. codes "+" ∷ group) (flat_map eights groups) (AllByRecursion-every (λ group. P (codes "+" ∷ group)) g (flat_map eights groups))) b)
 
 -- what is known of a circuit that is written
 pub record IsWritable (c : CircuitData) : Type 0 where
@@ -129,9 +129,9 @@ written_rows c w leading groups p = record {
       (header_plain, phases_plain c.phases (recursion_from_All (λ phase. IsNetName phase.net) c.phases w.names.phases_are))
       (opening_plain c w leading p.lead_plain, AllByRecursion-append IsPlainRow (plus_rows (flat_map eights groups)) (rows_behind c) (plus_plain (flat_map eights groups) p.groups_plain) (behind_plain c w));
   no_end = AllByRecursion-append IsNoEnd (comment_rows c) (rows_of_cards c leading groups)
-      (refl, AllByRecursion-map IsNoEnd phase_row (λ _. refl) c.phases)
+      (refl, AllByRecursion-map IsNoEnd phase_row c.phases (AllByRecursion-every (λ phase. IsNoEnd (phase_row phase)) (λ _. refl) c.phases))
       (all_of_cards IsNoEnd c leading groups refl (λ _. refl) (all_behind IsNoEnd c (λ _ _. refl) refl));
-  comments = (refl, AllByRecursion-map IsComment phase_row (λ _. refl) c.phases);
+  comments = (refl, AllByRecursion-map IsComment phase_row c.phases (AllByRecursion-every (λ phase. IsComment (phase_row phase)) (λ _. refl) c.phases));
   of_cards = all_of_cards IsOfCard c leading groups refl (λ _. refl) (all_behind IsOfCard c (λ _ _. refl) refl);
 }
 

@@ -4,10 +4,8 @@ ghost use Rattle.std.specs.List.{flat_map};
 ghost use Rattle.spice_text.specs.Text.{phase_line, card, cards, name_of, model_of, bulk_of};
 ghost use Rattle.spice_text.specs.Parts.{IsWithin};
 
-use crate::line::{put, put_word};
 use deck::{Device, Phase};
-use dom_base::{Kind, NetName, OutOfMemory};
-use itoa::Buffer;
+use dom_base::{Kind, NetName, OutOfMemory, put, put_number, put_word};
 
 /// Appends a line for each phase.
 pub fn put_phases(text: &mut Vec<u8>, phases: &[Phase]) -> Result<(), OutOfMemory>
@@ -51,9 +49,8 @@ fn put_card(
     requires { IsWithin (length nets.now) device }
     ensures { OnOk result (text.new.items ≡ text.old.items ++ card nets.now (place, device)) }
 {
-    let mut buffer = Buffer::new();
     put(text, b"m")?;
-    put(text, buffer.format(place).as_bytes())?;
+    put_number(text, place as u64)?;
     put_word(text, net_name(nets, device.drain))?;
     put_word(text, net_name(nets, device.gate))?;
     put_word(text, net_name(nets, device.source))?;

@@ -8,15 +8,13 @@ mod cards;
 mod law;
 mod line;
 mod ports;
-mod roles;
 #[cfg(test)]
 mod tests;
 
 use cards::{put_cards, put_phases};
-use deck::Circuit;
-use dom_base::OutOfMemory;
+use deck::{Circuit, roles};
+use dom_base::{OutOfMemory, put, put_word};
 pub use law::written_reads_back;
-use line::{put, put_word};
 use ports::put_subckt;
 use std::alloc::Global;
 
@@ -39,6 +37,7 @@ pub fn write(alloc: Global, circuit: &Circuit) -> Result<Vec<u8>, OutOfMemory>
         &mut text,
         circuit.name.as_bytes(),
         &nets[..circuit.ports as usize],
+        roles(circuit),
     )?;
     put_cards(&mut text, nets, circuit.devices.as_slice())?;
     put(&mut text, b".ends")?;

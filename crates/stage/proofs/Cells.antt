@@ -15,12 +15,12 @@ use Rattle.stage.specs.Card.{Card, device_of}
 use Rattle.stage.specs.Cell.{CellNets, IsCell, IsStageNet, dynamic_stage, inverter}
 use Rattle.stage.specs.Stage.{Spot, Top, Inside, IsSpot, Branch, stage, IsStage}
 use Rattle.stage.specs.Tree.{Tree, Leaf, Series, inner_count, joins, spell, tree_conduction}
-use Rattle.stage.proofs.Lists.{AllByRecursion-append, AllByRecursion-both, AllByRecursion-contains, AllByRecursion-left, AllByRecursion-map, AllByRecursion-weaker, and_true}
+use Rattle.dom_base.proofs.Each.{AllByRecursion-append, AllByRecursion-both, AllByRecursion-contains, AllByRecursion-left, AllByRecursion-map, AllByRecursion-weaker}
 use Rattle.stage.proofs.Reach.{Reach, Reach-kept}
 use Rattle.stage.proofs.Spellings.{spell-same}
 use Rattle.stage.proofs.Stages.{goes, through}
 use Rattle.stage.proofs.Tests.{IsStep, IsStrongStep, IsTest, joins-conduction}
-use Rattle.stage.proofs.Trees.{IsIn, IsOutside, Paints, Paints-painting, Reach-spell, painting, spell-ends, spell-kind}
+use Rattle.stage.proofs.Trees.{and_true, IsIn, IsOutside, Paints, Paints-painting, Reach-spell, painting, spell-ends, spell-kind}
 
 -- the nets of the dynamic stage of a cell as spots: the foot net is the first inner net
 abbrev pub cell_spots : CellNets ℕ → Spot → ℕ

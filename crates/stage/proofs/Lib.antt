@@ -1,7 +1,6 @@
 pub mod CellLaws
 pub mod Cells
 pub mod Known
-pub mod Lists
 pub mod NamedCells
 pub mod Numbering
 pub mod Reach

@@ -11,7 +11,7 @@ use Rattle.deck.proofs.Order.{place_cases}
 use Rattle.deck.proofs.Growth.{Grew, Grew-trans, pushed-grew, slice_get-append, slice_get-with_net, with_net-grows}
 use Rattle.deck.proofs.Distinct.{IsDistinct-with_net}
 use Rattle.stage.specs.Card.{Card, device_of, map_card, with_cards}
-use Rattle.stage.proofs.Lists.{AllByRecursion-contains, Contains-slice_get}
+use Rattle.dom_base.proofs.Each.{AllByRecursion-contains, Contains-slice_get}
 
 -- the name stands among the nets, at its number
 abbrev pub HasNumber : List (List ℕ) → List ℕ → Type 0

@@ -7,7 +7,7 @@ use Rattle.dom_base.specs.declared.kind.Kind.{Kind}
 use Rattle.deck.specs.declared.device.Device.{Device}
 use Rattle.stage.specs.Card.{Card, device_of}
 use Rattle.stage.specs.Tree.{Tree, Leaf, Series, Parallel, joins, inner_count, spell}
-use Rattle.stage.proofs.Lists.{AllByRecursion-append, AllByRecursion-left, AllByRecursion-right, AllByRecursion-weaker, and_true, or_true, or_false}
+use Rattle.dom_base.proofs.Each.{AllByRecursion-append, AllByRecursion-left, AllByRecursion-right, AllByRecursion-weaker}
 use Rattle.stage.proofs.Reach.{Reach, last, Reach-trans}
 
 -- all devices of a tree have its kind
@@ -18,6 +18,18 @@ spell-kind kind inner (Series l r) top bottom k =
     AllByRecursion-append _ _ _ (spell-kind kind inner l top (inner k) (k + 1)) (spell-kind kind inner r (inner k) bottom (k + 1 + inner_count l))
 spell-kind kind inner (Parallel l r) top bottom k =
     AllByRecursion-append _ _ _ (spell-kind kind inner l top bottom k) (spell-kind kind inner r top bottom (k + inner_count l))
+
+pub and_true : (a b : Bool) → cond a b false ≡ true → (a ≡ true) × (b ≡ true)
+and_true true b h = (refl, h)
+and_true false b h = absurd (cc)
+
+or_true : (a b : Bool) → cond a true b ≡ true → (a ≡ true) ⊎ (b ≡ true)
+or_true true b h = inl refl
+or_true false b h = inr h
+
+or_false : (a b : Bool) → cond a true b ≡ false → (a ≡ false) × (b ≡ false)
+or_false true b h = absurd (cc)
+or_false false b h = (refl, h)
 
 -- where each leaf that passes the test has Q, and the tree joins them, there is a path
 pub Reach-spell : (Q : Device → Type 0) (is_source : ℕ → Bool) (g : ℕ → Bool) (kind : Kind) (inner : ℕ → ℕ)

@@ -1,4 +1,3 @@
-pub mod Cutting
 pub mod OneAnswer
 pub mod PinLetters
 pub mod Progress

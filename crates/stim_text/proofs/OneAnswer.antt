@@ -1,14 +1,13 @@
 -- A text is the stimulus of one list of cycles or is refused for one fault.
 use Rattle.std.proofs.Common.{◌≡◌, ℕ, ◌⊎◌, inl, inr, Bool, true, false, not, List, [], ◌∷◌, ◌++◌, length, map, All, slice_index_or, refl, sym, ap, ◌∙◌, subst, arith}
-use Rattle.std.proofs.lemmas.Bool.{false≢true}
+use Rattle.std.proofs.lemmas.Bool.{false≢true, false_from_ne_true}
 use Rattle.std.proofs.lemmas.List.Elements.{All-nil, All-cons, All-head, All-tail}
 use Rattle.stim_text.specs.declared.fault.StimKind.{StimKind}
 use Rattle.stim_text.specs.declared.fault.StimKind.TheVariants.{BadLetter, BadLength}
 use Rattle.stim_text.specs.CycleLines.{pin_letters}
 use Rattle.stim_text.specs.Stimuli.{lettered_lines, are_letters, has_width, has_fault, IsStimulusOf, IsFaultAt}
 use Rattle.stim_text.specs.Laws.{IsAcceptedOnce, IsRefusedOnce}
-use Rattle.stim_text.specs.Cuts.{is_good}
-use Rattle.stim_text.proofs.Cutting.{bool_false}
+use Rattle.stim_text.specs.LinesRead.{is_good}
 use Rattle.stim_text.proofs.PinLetters.{both, pins_of, good_of, head_is, tail_is, cycles-injective}
 
 -- a line by its number and its letters
@@ -35,7 +34,7 @@ no_fault width BadLength letters good fault =
     false≢true (sym (ap not p.1) ∙ q.1)
 
 no_fault-false : (width : ℕ) (kind : StimKind) (letters : List ℕ) → is_good width letters ≡ true → has_fault width kind letters ≡ false
-no_fault-false width kind letters good = bool_false (has_fault width kind letters) (no_fault width kind letters good)
+no_fault-false width kind letters good = false_from_ne_true (has_fault width kind letters) (no_fault width kind letters good)
 
 good_from : (width : ℕ) (letters : List ℕ) → has_fault width BadLetter letters ≡ false → has_fault width BadLength letters ≡ false → is_good width letters ≡ true
 good_from width letters f g = by (fault_of width letters)

@@ -3,7 +3,7 @@ use Rattle.std.proofs.Common.{◌≡◌, ℕ, zero, suc, ◌<◌, Bool, true, fa
 use Rattle.std.proofs.lemmas.Bool.{false≢true}
 use Rattle.stim_text.specs.CycleLines.{bit_letter, pin_letters}
 use Rattle.stim_text.specs.Stimuli.{is_letter, are_letters, is_dash, has_width}
-use Rattle.stim_text.specs.Cuts.{IsPinsOf, is_good}
+use Rattle.stim_text.specs.LinesRead.{IsPinsOf, is_good}
 
 pub both : (a b : Bool) → (a && b) ≡ true → (a ≡ true) × (b ≡ true)
 both true b h = (refl, h)

@@ -1,13 +1,14 @@
 -- What is so after some lines of a stimulus.
 use Rattle.std.proofs.Common.{◌≡◌, ℕ, ◌+◌, Bool, true, List, [], ◌∷◌, ◌++◌, length, map, All, refl, sym, ap, ◌∙◌, subst, arith, append_assoc, append-nil, Result, Ok, Err, IsErrOf}
 use Rattle.std.proofs.lemmas.List.Elements.{All-nil, All-push}
+use Rattle.dom_base.specs.Cuts.{IsCut, NumbersFit}
 use Rattle.dom_base.specs.Lines.{lines, is_word}
 use Rattle.stim_text.specs.declared.fault.StimFault.{StimFault}
 use Rattle.stim_text.specs.declared.fault.StimKind.{StimKind}
 use Rattle.stim_text.specs.CycleLines.{pin_letters}
 use Rattle.stim_text.specs.Stimuli.{letters_of, lettered_from, lettered_lines, IsStimulusOf, IsFaultAt}
 use Rattle.stim_text.proofs.OneAnswer.{none_from_good}
-use Rattle.stim_text.specs.Cuts.{IsCut, NumbersFit, IsPinsOf, IsLineRead, IsLineFault, is_good}
+use Rattle.stim_text.specs.LinesRead.{IsPinsOf, IsLineRead, IsLineFault, is_good}
 
 -- the reader stands at these bytes and has these cycles
 pub record Reads (width : ℕ) (text : List ℕ) (number : ℕ) (rest : List ℕ) (cycles : List (List Bool)) : Type 0 where

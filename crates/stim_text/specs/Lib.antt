@@ -1,5 +1,5 @@
 pub mod CycleLines
 pub mod CycleRowData
-pub mod Cuts
 pub mod Laws
+pub mod LinesRead
 pub mod Stimuli

@@ -1,13 +1,9 @@
 use Rattle.std.specs.Prelude.{ℕ, ◌≡◌, Bool, true, false, ◌==◌, ◌||◌, ◌&&◌, not, if◌then◌else◌, List, [], ◌∷◌, ◌++◌, length, map, filter, All}
-use Rattle.std.specs.List.{before_first, enumerate_from, list_all}
-use Rattle.dom_base.specs.Lines.{is_blank, is_word, lines}
+use Rattle.std.specs.List.{enumerate_from, list_all}
+use Rattle.dom_base.specs.Lines.{is_blank, is_word, lines, without_comment}
 use Rattle.stim_text.specs.declared.fault.StimKind.{StimKind}
 use Rattle.stim_text.specs.declared.fault.StimKind.TheVariants.{BadLetter, BadLength}
 use Rattle.stim_text.specs.CycleLines.{pin_letters}
-
--- a line without its comment, which begins at the first `#`
-abbrev pub without_comment : List ℕ → List ℕ
-without_comment line = before_first (λ b. b == 35) line
 
 -- the letters of a line: what stands outside its comment, without blanks and tabs
 abbrev pub letters_of : List ℕ → List ℕ

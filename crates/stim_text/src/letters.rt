@@ -1,10 +1,10 @@
 //! The letters of a line.
 ghost use Rattle.std.specs.Prelude.{◌≡◌, ◌==◌, ◌++◌, IfOk, OnOk, MatchOption, true, map};
 ghost use Rattle.stim_text.specs.Stimuli.{letters_of, is_letter, are_letters, has_width, has_fault, is_dash};
-ghost use Rattle.stim_text.specs.Cuts.{IsPinsOf, is_good};
+ghost use Rattle.stim_text.specs.LinesRead.{IsPinsOf, is_good};
 
-use crate::cut::strip_comment;
 use crate::{Pins, StimKind};
+use dom_base::strip_comment;
 use std::alloc::{AllocError, Global};
 
 /// The bytes of a line outside its comment, without blanks and tabs.

@@ -1,7 +1,6 @@
 //! Stimuli, and the lines that are printed of cycles.
 #![tactic(auto)]
 
-mod cut;
 mod fault;
 mod laws;
 mod letters;

@@ -1,11 +1,11 @@
 //! The reader.
-ghost use Rattle.std.specs.Prelude.{ℕ, ◌≡◌, ◌<◌, ◌+◌, ◌^◌, IfOk, IsErrOf, OnOk, true};
-ghost use Rattle.stim_text.specs.Stimuli.{IsStimulusOf, IsFaultAt, has_fault, letters_of};
-ghost use Rattle.stim_text.specs.Cuts.{IsLineRead, IsLineFault};
+ghost use Rattle.std.specs.Prelude.{ℕ, ◌≡◌, ◌<◌, ◌+◌, IfOk, IsErrOf, OnOk};
+ghost use Rattle.stim_text.specs.Stimuli.{IsStimulusOf, IsFaultAt, letters_of};
+ghost use Rattle.stim_text.specs.LinesRead.{IsLineRead, IsLineFault};
 
-use crate::cut::cut_line;
 use crate::letters::{fault_of, letters_of, pins_of};
 use crate::{Pins, StimFault};
+use dom_base::cut_line;
 use std::alloc::Global;
 
 /// The cycles of a stimulus for this number of pins, or the first line with a fault and its kind.

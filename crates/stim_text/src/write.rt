@@ -1,13 +1,10 @@
 //! The line of a cycle.
-ghost use Rattle.std.specs.Prelude.{◌≡◌, ◌++◌, OnOk, OnErr, map};
-ghost use Rattle.std.specs.Fmt.{decimal};
-ghost use Rattle.stim_text.specs.CycleLines.{cycle_line, pin_letters, out_letters, events_part, bit_letter};
-ghost use Rattle.dom_base.specs.Tri.{letter_of};
-ghost use Rattle.stim_text.specs.Cuts.{KeepsFront};
+ghost use Rattle.std.specs.Prelude.{◌≡◌, ◌++◌, OnOk, OnErr};
+ghost use Rattle.stim_text.specs.CycleLines.{cycle_line, pin_letters, out_letters, events_part};
+ghost use Rattle.dom_base.specs.Texts.{KeepsFront};
 
 use crate::CycleRow;
-use dom_base::{OutOfMemory, Tri};
-use itoa::Buffer;
+use dom_base::{OutOfMemory, Tri, put, put_number};
 
 /// Appends the line `cycle C in PINS out OUTS`, and before its LF ` events E` where the row has
 /// events. PINS and OUTS have a letter `0`, `1` or `X` for each value; of none they are `-`. It fails
@@ -38,22 +35,6 @@ fn put_row(text: &mut Vec<u8>, row: &CycleRow) -> Result<(), OutOfMemory>
     put_outs(text, &row.outs)?;
     put_events(text, row.events)?;
     put(text, b"\n")
-}
-
-fn put(text: &mut Vec<u8>, bytes: &[u8]) -> Result<(), OutOfMemory>
-    ensures bytes { OnOk result (text.new.items ≡ text.old.items ++ bytes.now) }
-    ensures front { KeepsFront text.old.items text.new.items }
-{
-    text.extend_from_slice(bytes)?;
-    Ok(())
-}
-
-fn put_number(text: &mut Vec<u8>, number: u64) -> Result<(), OutOfMemory>
-    ensures digits { OnOk result (text.new.items ≡ text.old.items ++ decimal number) }
-    ensures front { KeepsFront text.old.items text.new.items }
-{
-    let mut buffer = Buffer::new();
-    put(text, buffer.format(number).as_bytes())
 }
 
 fn put_pins(text: &mut Vec<u8>, pins: &[bool]) -> Result<(), OutOfMemory>

@@ -1,16 +1,13 @@
 -- Which nets paths reach can be decided, by recursion on the devices.
-use Rattle.std.proofs.Common.{◌≡◌, ℕ, ◌<◌, Bool, true, false, List, [], ◌∷◌, ◌++◌, length, get_or, refl, sym, subst, ap, ◌∙◌, inl, inr, arith}
-use Rattle.std.specs.Prelude.{◌⊎◌, ◌≢◌, Contains}
+use Rattle.std.proofs.Common.{◌≡◌, ℕ, Bool, true, false, List, [], ◌∷◌, ◌++◌, refl, sym, ◌∙◌, inl, inr}
+use Rattle.std.specs.Prelude.{◌⊎◌, Contains}
 use Rattle.std.specs.List.{AllByRecursion}
-use Rattle.std.proofs.lemmas.Bool.Decides.{eqb_tells}
-use Rattle.std.proofs.lemmas.List.Elements.{All-contains_itself, recursion_from_All, Contains-append_left, Contains-append_right}
 use Rattle.deck.specs.declared.device.Device.{Device}
-use Rattle.dom_base.specs.declared.kind.Kind.{Kind}
-use Rattle.dom_base.specs.declared.kind.Kind.TheVariants.{N as nch, P as pch, Keep}
+use Rattle.dom_base.specs.declared.kind.Kind.TheVariants.{Keep}
 use Rattle.deck.specs.Paths.{Ends, Path, one, more, IsWeak}
 use Rattle.switch_model.proofs.Reach.{Reach, last, step, Reach-trans, Reach-weaker, Reach-from_path, path_from_Reach}
 use Rattle.switch_model.proofs.Decided.{Dec, dec_and, dec_or, dec_map, dec_nat, dec_bool, dec_any, dec_keeper}
-use Rattle.switch_model.proofs.Lists.{AllByRecursion-append, AllByRecursion-contains, AllByRecursion-weaker, Contains-first, Contains-later}
+use Rattle.dom_base.proofs.Each.{AllByRecursion-append, AllByRecursion-contains, AllByRecursion-weaker, Contains-first, Contains-later}
 
 pub Path-append : {is_source : ℕ → Bool} {a m b : ℕ} {p q : List Device} → Path is_source a p m → is_source m ≡ false → Path is_source m q b → Path is_source a (p ++ q) b
 Path-append (one e) n r = more e n r

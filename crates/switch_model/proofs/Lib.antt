@@ -1,6 +1,5 @@
 pub mod Decided
 pub mod Joined
-pub mod Lists
 pub mod Marks
 pub mod Nearness
 pub mod Reach

@@ -1,17 +1,15 @@
 -- Values that agree around a net give it the same target.
-use Rattle.std.proofs.Common.{◌≡◌, ℕ, Bool, true, false, List, [], ◌∷◌, ◌++◌, refl, sym, subst, ap, ◌∙◌, inl, inr}
-use Rattle.std.specs.Prelude.{◌⊎◌, ◌≢◌, ◌↔◌, Contains}
+use Rattle.std.proofs.Common.{◌≡◌, ℕ, Bool, List, [], ◌∷◌, ◌++◌, refl, sym, subst, ◌∙◌, inl, inr}
+use Rattle.std.specs.Prelude.{◌↔◌, Contains}
 use Rattle.std.specs.List.{AllByRecursion}
-use Rattle.dom_base.specs.Conduction.{conduction}
 use Rattle.dom_base.specs.declared.tri.Tri.{Tri}
-use Rattle.dom_base.specs.declared.tri.Tri.TheVariants.{Zero, One, Unknown}
 use Rattle.deck.specs.declared.device.Device.{Device}
 use Rattle.deck.specs.Paths.{Path, one, more, Ends, DefiniteStrong, DefiniteWeak, Possible, PossibleStrong, PossibleWeak}
 use Rattle.deck.specs.Switches.{IsOn, IsNotOff, value_of}
 use Rattle.switch_model.specs.Laws.{AgreeAround, IsNear}
-use Rattle.switch_model.specs.Targets.{Pulls, Disputes, Else, Holds, IsTarget}
+use Rattle.switch_model.specs.Targets.{Pulls, Disputes, Else, IsTarget}
 use Rattle.switch_model.proofs.Joined.{Path-append}
-use Rattle.switch_model.proofs.Lists.{AllByRecursion-append, AllByRecursion-both, AllByRecursion-weaker}
+use Rattle.dom_base.proofs.Each.{AllByRecursion-append, AllByRecursion-both, AllByRecursion-weaker}
 use Rattle.switch_model.proofs.Targets.{on-not_off, definite-possible_strong, definite-possible_weak}
 use Rattle.switch_model.proofs.Visits.{ends_at}
 

@@ -1,11 +1,10 @@
 -- Paths whose devices all have a property, without the list of devices.
-use Rattle.std.proofs.Common.{◌≡◌, ℕ, Bool, true, false, List, [], ◌∷◌, refl, sym, subst, ap, ◌∙◌, inl, inr, arith, ⊎_elim}
-use Rattle.std.specs.Prelude.{◌⊎◌, ◌≢◌, Contains}
+use Rattle.std.proofs.Common.{◌≡◌, ℕ, Bool, false, List, [], ◌∷◌, inl, inr}
+use Rattle.std.specs.Prelude.{◌≢◌}
 use Rattle.std.specs.List.{AllByRecursion}
 use Rattle.deck.specs.declared.device.Device.{Device}
 use Rattle.dom_base.specs.declared.kind.Kind.TheVariants.{Keep}
-use Rattle.dom_base.specs.declared.tri.Tri.{Tri}
-use Rattle.deck.specs.Paths.{Path, one, more, Ends, IsWeak, IsStrong}
+use Rattle.deck.specs.Paths.{Path, one, more, Ends, IsStrong}
 
 -- devices with Q join the first net to the second, end to end, with no source net inside
 pub data Reach (Q : Device → Type 0) (is_source : ℕ → Bool) : ℕ → ℕ → Type 0 where

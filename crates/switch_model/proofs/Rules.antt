@@ -1,6 +1,6 @@
 -- The rules of targets, by what searches find.
 use Rattle.std.proofs.Common.{◌≡◌, ℕ, Bool, true, false, List, refl, sym, subst, ap, ◌∙◌, inl, inr}
-use Rattle.std.specs.Prelude.{◌⊎◌, Option, Some, None}
+use Rattle.std.specs.Prelude.{Some, None}
 use Rattle.dom_base.specs.declared.tri.Tri.{Tri}
 use Rattle.dom_base.specs.declared.tri.Tri.TheVariants.{Unknown}
 use Rattle.deck.specs.declared.device.Device.{Device}
@@ -12,7 +12,7 @@ use Rattle.switch_model.specs.declared.drive.Drive.{Drive}
 use Rattle.switch_model.specs.declared.drive.Drive.TheVariants.{Nothing, Only, Mixed}
 use Rattle.switch_model.specs.declared.drive.Drives.{Drives}
 use Rattle.switch_model.specs.declared.crossing.Paths.TheVariants.{Definite, Possible as possible}
-use Rattle.switch_model.specs.Search.{IsCrossed, IsDrive, IsEnd, IsFound, Walk, drive_of, pull_of}
+use Rattle.switch_model.specs.Search.{IsCrossed, IsDrive, IsFound, Walk, pull_of}
 use Rattle.switch_model.proofs.Searches.{clash}
 use Rattle.switch_model.proofs.Targets.{definite-possible_strong, definite-possible_weak}
 use Rattle.switch_model.proofs.Walks.{definite_strong, definite_weak, possible_strong, possible_weak, possible_any, walk_definite_strong, walk_definite_weak, walk_possible_strong, walk_possible_weak, walk_possible}

@@ -1,5 +1,5 @@
 -- The sources of a circuit with roles.
-use Rattle.std.proofs.Common.{◌≡◌, ℕ, zero, suc, ◌+◌, ◌-◌, ◌<◌, ◌≤◌, Bool, true, false, not, ◌&&◌, List, [], ◌∷◌, ◌++◌, All, codes, length, take, get_or, nat_eq, nat_lt, refl, sym, subst, ap, ◌∙◌, inl, inr, arith, length-append, length-take, append_assoc}
+use Rattle.std.proofs.Common.{◌≡◌, ℕ, zero, suc, ◌+◌, ◌-◌, ◌<◌, ◌≤◌, Bool, true, false, List, [], ◌∷◌, ◌++◌, All, codes, length, take, get_or, nat_eq, nat_lt, refl, sym, subst, ap, ◌∙◌, inl, inr, arith, length-append, length-take}
 use Rattle.std.specs.Prelude.{◌⊎◌, ◌↔◌}
 use Rattle.dom_base.specs.declared.tri.Tri.{Tri}
 use Rattle.std.specs.List.{AllByRecursion, starts_with}
@@ -8,7 +8,7 @@ use Rattle.std.proofs.lemmas.List.{get_or-append_right, get_or-take, get_or_appe
 use Rattle.std.proofs.lemmas.List.Elements.{All-from_recursion}
 use Rattle.deck.specs.CircuitData.{CircuitData}
 use Rattle.deck.specs.Nets.{IsCircuit, ends}
-use Rattle.deck.specs.Ports.{IsPin, IsOutput, clock_ports, latch_ports, leading_ports, HasRoles}
+use Rattle.deck.specs.Ports.{IsOutput, clock_ports, latch_ports, leading_ports, HasRoles}
 use Rattle.deck.specs.Roles.{AreRoles, ports_of}
 use Rattle.deck.specs.Sources.{is_source}
 use Rattle.deck.specs.declared.role.Roles.{Roles}
@@ -17,7 +17,7 @@ use Rattle.deck.proofs.PortRoles.{joined, length-leading, pin-no_output}
 use Rattle.switch_model.specs.LinksData.{is_first, source_count}
 use Rattle.switch_model.specs.Targets.{IsTarget}
 use Rattle.switch_model.proofs.Decided.{lt_or_ge}
-use Rattle.switch_model.proofs.Lists.{AllByRecursion-append}
+use Rattle.dom_base.proofs.Each.{AllByRecursion-append}
 
 -- a circuit has at least as many nets as ports
 pub ports-few : (c : CircuitData) → IsCircuit c.ports c.nets c.devices → c.ports ≤ length c.nets

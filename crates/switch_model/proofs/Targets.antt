@@ -1,18 +1,17 @@
 -- Each net that is no source has exactly one target.
-use Rattle.std.proofs.Common.{◌≡◌, ℕ, Bool, true, false, List, [], ◌∷◌, refl, sym, ◌∙◌, inl, inr}
-use Rattle.std.specs.Prelude.{◌⊎◌, ◌≢◌, Contains}
+use Rattle.std.proofs.Common.{◌≡◌, ℕ, Bool, true, false, List, refl, sym, ◌∙◌, inl, inr}
+use Rattle.std.specs.Prelude.{◌≢◌, Contains}
 use Rattle.std.specs.List.{AllByRecursion}
 use Rattle.deck.specs.declared.device.Device.{Device}
-use Rattle.dom_base.specs.declared.kind.Kind.{Kind}
-use Rattle.dom_base.specs.declared.kind.Kind.TheVariants.{N as nch, P as pch, Keep}
+use Rattle.dom_base.specs.declared.kind.Kind.TheVariants.{Keep}
 use Rattle.dom_base.specs.declared.tri.Tri.{Tri}
 use Rattle.dom_base.specs.declared.tri.Tri.TheVariants.{Zero, One, Unknown}
 use Rattle.dom_base.specs.Conduction.{conduction}
-use Rattle.deck.specs.Paths.{Path, IsWeak, IsStrong, DefiniteStrong, PossibleStrong, DefiniteWeak, PossibleWeak, Possible}
+use Rattle.deck.specs.Paths.{Path, IsWeak, IsStrong, DefiniteStrong, PossibleStrong, DefiniteWeak, PossibleWeak}
 use Rattle.deck.specs.Switches.{IsOn, IsNotOff, value_of}
 use Rattle.switch_model.specs.Targets.{Pulls, Disputes, Else, Holds, IsTarget}
-use Rattle.switch_model.proofs.Reach.{Reach, Reach-from_path, path_from_Reach, strong_each, strong_from_each}
-use Rattle.switch_model.proofs.Lists.{AllByRecursion-both, AllByRecursion-weaker}
+use Rattle.switch_model.proofs.Reach.{Reach-from_path, path_from_Reach, strong_each, strong_from_each}
+use Rattle.dom_base.proofs.Each.{AllByRecursion-both, AllByRecursion-weaker}
 use Rattle.switch_model.proofs.Decided.{Dec, dec_and, dec_not, dec_map, dec_bool, dec_keeper, dec_tri}
 use Rattle.switch_model.proofs.Joined.{dec_reaches, dec_weak, Reaches, WeakPath}
 

@@ -1,6 +1,6 @@
 -- Stops that a search visits in turn.
-use Rattle.std.proofs.Common.{◌≡◌, ℕ, ◌+◌, ◌<◌, ◌≤◌, Bool, List, ◌++◌, ◌||◌, length, get_or, refl, sym, subst, ap, ◌∙◌, inl, inr, arith}
-use Rattle.std.specs.Prelude.{◌⊎◌, Contains, Some, slice_get}
+use Rattle.std.proofs.Common.{◌≡◌, ℕ, ◌<◌, List, ◌||◌, length, get_or, refl, sym, ap, ◌∙◌, inl, inr}
+use Rattle.std.specs.Prelude.{Contains, Some, slice_get}
 use Rattle.std.proofs.lemmas.Option.{get_or_from_slice_get, slice_get_read}
 use Rattle.std.proofs.lemmas.List.{get_or_append_left}
 use Rattle.dom_base.specs.Conduction.{conduction}
@@ -12,7 +12,7 @@ use Rattle.switch_model.specs.Laws.{EndsAt}
 use Rattle.switch_model.specs.declared.drive.Drives.{Drives}
 use Rattle.switch_model.specs.declared.crossing.Paths.{Paths}
 use Rattle.switch_model.specs.declared.search.Stop.{Stop}
-use Rattle.switch_model.specs.Search.{Admits, Grows, IsCrossed, IsMet, IsUnderWay, IsVisited, SearchData, is_keeper}
+use Rattle.switch_model.specs.Search.{Admits, Grows, IsMet, IsVisited, SearchData, is_keeper}
 use Rattle.switch_model.specs.Wiring.{IsEndPlace}
 use Rattle.switch_model.proofs.Searches.{met-grows}
 

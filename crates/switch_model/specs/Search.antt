@@ -1,4 +1,4 @@
-use Rattle.std.specs.Prelude.{◌≡◌, ◌≢◌, ◌≤◌, ◌<◌, ℕ, ◌*◌, ◌+◌, Bool, true, false, ◌||◌, List, [], ◌∷◌, ◌++◌, ◌⊎◌, ◌↔◌, length, slice_index_or, slice_set, Contains, Option, Some, None}
+use Rattle.std.specs.Prelude.{◌≡◌, ◌≢◌, ◌≤◌, ◌<◌, ℕ, ◌+◌, Bool, true, false, ◌||◌, List, [], ◌∷◌, ◌++◌, ◌⊎◌, ◌↔◌, length, slice_index_or, slice_set, Contains, Option, Some, None}
 use Rattle.dom_base.specs.Conduction.{conduction}
 use Rattle.dom_base.specs.declared.kind.Kind.{Kind}
 use Rattle.dom_base.specs.declared.kind.Kind.TheVariants.{N as nch, P as pch, Keep}
@@ -8,7 +8,6 @@ use Rattle.deck.specs.declared.device.Device.{Device}
 use Rattle.deck.specs.Paths.{Ends}
 use Rattle.deck.specs.Switches.{value_of}
 use Rattle.switch_model.specs.LinksData.{is_first}
-use Rattle.switch_model.specs.Laws.{EndsAt}
 use Rattle.switch_model.specs.declared.drive.Drive.{Drive}
 use Rattle.switch_model.specs.declared.drive.Drive.TheVariants.{Nothing, Only, Mixed}
 use Rattle.switch_model.specs.declared.drive.Drives.{Drives}

@@ -1,5 +1,5 @@
 //! Which devices paths go through.
-ghost use Rattle.std.specs.Prelude.{◌≡◌, ◌↔◌, ◌⊎◌, IsTrue};
+ghost use Rattle.std.specs.Prelude.{◌↔◌, IsTrue};
 ghost use Rattle.dom_base.specs.Conduction.{conduction};
 ghost use Rattle.deck.specs.Paths.{Ends};
 ghost use Rattle.switch_model.specs.Laws.{EndsAt};

@@ -4,7 +4,6 @@ ghost use Rattle.dom_base.specs.Conduction.{conduction};
 ghost use Rattle.deck.specs.Paths.{Ends};
 ghost use Rattle.deck.specs.Switches.{value_of};
 ghost use Rattle.switch_model.specs.Laws.{EndsAt};
-ghost use Rattle.switch_model.specs.LinksData.{is_first};
 ghost use Rattle.switch_model.specs.Search.{Admits, Grows, IsFound, IsListed, IsMet, IsReached, IsReady, IsUnderWay, IsVisited, is_keeper, is_marked, with_mark};
 ghost use Rattle.switch_model.specs.Wiring.{IsInRange};
 

@@ -1,5 +1,5 @@
 //! Targets that were worked by hand.
-ghost use Rattle.std.specs.Prelude.{◌≡◌, ◌<◌, ◌≤◌, ◌+◌, IsTrue, length};
+ghost use Rattle.std.specs.Prelude.{◌<◌, ◌+◌, IsTrue};
 ghost use Rattle.dom_base.specs.Names.{IsNetName};
 
 use crate::{Links, Switch, conducts};

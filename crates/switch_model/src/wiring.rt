@@ -1,5 +1,5 @@
 //! The devices of a circuit by the nets at which they end.
-ghost use Rattle.std.specs.Prelude.{◌≡◌, ◌<◌, ◌≤◌, ◌^◌, All, Contains, IfOk, OnOk, Some, [], length, ℕ, replicate, slice_get, slice_index_or, slice_set, ◌++◌, ◌∷◌, take};
+ghost use Rattle.std.specs.Prelude.{◌≡◌, ◌<◌, ◌≤◌, ◌^◌, All, Contains, IfOk, OnOk, Some, [], length, ℕ, replicate, slice_get, slice_index_or, slice_set, ◌++◌, ◌∷◌};
 ghost use Rattle.switch_model.specs.Wiring.{IsEndPlace, IsInRange, IsTouching};
 
 use crate::places::Places;

@@ -1,5 +1,5 @@
 use Rattle.std.proofs.Common.{◌==◌, ◌++◌, map, ap, ◌∙◌, sym, subst, tests, rules}
-use Rattle.stim_text.specs.Cuts.{IsPinsOf}
+use Rattle.stim_text.specs.LinesRead.{IsPinsOf}
 use Rattle.stim_text.proofs.PinLetters.{pins_are}
 use Rattle.stim_text.proofs.letters.pins_of.Goals as goal
 

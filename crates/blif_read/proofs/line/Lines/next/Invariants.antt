@@ -1,7 +1,7 @@
 use Rattle.std.proofs.Common.{◌≡◌, ◌≤◌, ◌+◌, length}
 use Rattle.dom_base.specs.Lines.{lines}
 use Rattle.blif_ast.specs.LogicalLines.{logical_lines_from}
-use Rattle.blif_read.specs.Cuts.{NumbersFit}
+use Rattle.dom_base.specs.Cuts.{NumbersFit}
 use Rattle.blif_read.proofs.line.Lines.next.Given as goal
 
 pub record Skips (l : goal.Live-lines) : Type 0 where

@@ -1,6 +1,7 @@
 use Rattle.std.proofs.Common.{◌≡◌, ◌<◌, ◌+◌, map, length}
 use Rattle.dom_base.specs.Lines.{lines}
-use Rattle.blif_read.specs.Cuts.{worded_lines, with_words, NumbersFit}
+use Rattle.dom_base.specs.Cuts.{NumbersFit}
+use Rattle.blif_read.specs.Cuts.{worded_lines, with_words}
 use Rattle.blif_read.proofs.line.Lines.next_joined.Given as goal
 
 pub record Joins (l : goal.Live-pieces) : Type 0 where

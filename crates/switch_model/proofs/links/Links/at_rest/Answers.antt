@@ -1,6 +1,4 @@
-use Rattle.std.proofs.Common.{◌≡◌, ◌<◌, ◌≤◌, ◌+◌, ℕ, false, true, length, sym, ap, subst, refl, ◌∙◌, inl, inr, arith}
-use Rattle.dom_base.specs.declared.tri.Tri.{Tri}
-use Rattle.deck.specs.Switches.{value_of}
+use Rattle.std.proofs.Common.{◌≡◌, ◌<◌, false, true, length, ap, subst, refl, ◌∙◌, inl, inr, arith}
 use Rattle.switch_model.specs.declared.links.Links.TheInside.{Inside}
 use Rattle.switch_model.specs.LinksData.{LinksData, is_first}
 use Rattle.switch_model.specs.Targets.{IsPending, IsTarget}

@@ -1,10 +1,10 @@
-use Rattle.std.proofs.Common.{◌≡◌, ◌<◌, ◌≤◌, ℕ, List, length, get_or, sym, ap, subst, refl, ◌∙◌, arith}
+use Rattle.std.proofs.Common.{◌≡◌, ◌<◌, ℕ, List, length, get_or, ap, refl, ◌∙◌, arith}
 use Rattle.std.specs.Prelude.{Some, slice_get}
 use Rattle.std.proofs.lemmas.Option.{slice_get_read}
 use Rattle.switch_model.specs.Search.{SearchData}
 use Rattle.switch_model.specs.declared.search.Stop.{Stop}
-use Rattle.switch_model.proofs.Lists.{Contains-slice_get}
-use Rattle.switch_model.proofs.Marks.{IsClearing, clearing-none, clearing-more, clearing-done}
+use Rattle.dom_base.proofs.Each.{Contains-slice_get}
+use Rattle.switch_model.proofs.Marks.{clearing-none, clearing-more, clearing-done}
 use Rattle.switch_model.proofs.search.Search.clear.Goals as goal
 
 -- a stop that is read of a list that is the same

@@ -1,9 +1,8 @@
-use Rattle.std.proofs.Common.{◌≡◌, ◌<◌, length, get_or, false, true, not, ◌||◌, sym, ap, subst, refl, ◌∙◌, arith}
-use Rattle.dom_base.specs.Conduction.{conduction}
+use Rattle.std.proofs.Common.{◌≡◌, ◌<◌, length, sym, ap, subst, arith}
 use Rattle.dom_base.specs.declared.tri.Tri.TheVariants.{Zero}
 use Rattle.deck.specs.Switches.{value_of}
 use Rattle.switch_model.specs.LinksData.{LinksData, is_first}
-use Rattle.switch_model.specs.Search.{Admits, IsAdded, IsCrossed, Tells, Walk, drive_of}
+use Rattle.switch_model.specs.Search.{IsAdded, IsCrossed, Tells, Walk, drive_of}
 use Rattle.switch_model.proofs.Searches.{admits_read, clash, end-in_range, ends-same, first-true, first-false, next_walk, read_same, tells-added, under_way-drive, under_way-stop}
 use Rattle.switch_model.proofs.search.Search.cross.Goals as goal
 

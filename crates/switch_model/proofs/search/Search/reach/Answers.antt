@@ -1,5 +1,5 @@
-use Rattle.std.proofs.Common.{◌≡◌, ◌<◌, ◌≤◌, ◌∷◌, ◌++◌, [], true, length, sym, ap, subst, refl, ◌∙◌, arith, rules}
-use Rattle.switch_model.specs.Search.{SearchData, IsListed, with_mark}
+use Rattle.std.proofs.Common.{◌≡◌, ◌∷◌, ◌++◌, [], true, length, sym, ap, subst, refl, ◌∙◌, arith, rules}
+use Rattle.switch_model.specs.Search.{SearchData, IsListed}
 use Rattle.switch_model.proofs.Marks.{data_same, has_room, reached-new, reached-with_mark, room-with_mark, with_stop}
 use Rattle.switch_model.proofs.search.Search.reach.Goals as goal
 

@@ -1,8 +1,7 @@
-use Rattle.std.proofs.Common.{◌≡◌, ◌<◌, ◌≤◌, ◌+◌, ℕ, true, length, get_or, sym, ap, subst, refl, ◌∙◌, inl, inr, arith}
-use Rattle.std.specs.Prelude.{Contains, Some, slice_get}
+use Rattle.std.proofs.Common.{◌≡◌, ◌<◌, ◌≤◌, length, get_or, sym, ap, subst, refl, ◌∙◌, inl, inr, arith}
+use Rattle.std.specs.Prelude.{Some, slice_get}
 use Rattle.std.proofs.lemmas.Option.{slice_get_read}
 use Rattle.dom_base.specs.declared.tri.Tri.TheVariants.{Zero}
-use Rattle.deck.specs.Switches.{value_of}
 use Rattle.switch_model.specs.Search.{SearchData, IsVisited}
 use Rattle.switch_model.specs.declared.search.Stop.{Stop}
 use Rattle.switch_model.proofs.Decided.{dec_nat}

@@ -1,12 +1,12 @@
-use Rattle.std.proofs.Common.{◌≡◌, ◌<◌, ◌+◌, ℕ, length, get_or, sym, ap, subst, refl, ◌∙◌, inl, inr, arith}
-use Rattle.std.specs.Prelude.{Contains, Some, slice_get}
+use Rattle.std.proofs.Common.{◌≡◌, get_or, sym, subst, ◌∙◌, inl, inr, arith}
+use Rattle.std.specs.Prelude.{Some, slice_get}
 use Rattle.std.proofs.lemmas.List.Elements.{Contains-get_or}
 use Rattle.std.proofs.lemmas.Option.{get_or_from_slice_get, slice_get_within}
 use Rattle.deck.specs.declared.device.Device.{Device}
 use Rattle.switch_model.specs.Laws.{EndsAt}
 use Rattle.switch_model.proofs.Decided.{dec_nat}
-use Rattle.switch_model.proofs.Lists.{Contains-slice_get}
-use Rattle.switch_model.proofs.Searches.{Grows-trans, listed-grows}
+use Rattle.dom_base.proofs.Each.{Contains-slice_get}
+use Rattle.switch_model.proofs.Searches.{Grows-trans}
 use Rattle.switch_model.proofs.Visits.{IsMetAt, met_at-grows, visited-all}
 use Rattle.switch_model.proofs.search.Search.visit.Goals as goal
 

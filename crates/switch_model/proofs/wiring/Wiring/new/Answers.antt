@@ -1,4 +1,4 @@
-use Rattle.std.proofs.Common.{◌≡◌, length, replicate, [], sym, ap, subst, ◌∙◌, All, arith}
+use Rattle.std.proofs.Common.{◌≡◌, length, [], sym, ap, subst, ◌∙◌, All, arith}
 use Rattle.std.proofs.lemmas.List.{length-replicate}
 use Rattle.switch_model.specs.Wiring.{IsInRange, IsTouching}
 use Rattle.switch_model.proofs.Wirings.{few-nets, nets-in_range}

@@ -1,7 +1,6 @@
-use Rattle.std.proofs.Common.{◌≡◌, ◌<◌, List, ℕ, [], length, get_or, sym, ap, subst, ◌∙◌, arith}
+use Rattle.std.proofs.Common.{◌<◌, [], length, sym, ap, subst, ◌∙◌, arith}
 use Rattle.std.specs.Prelude.{Contains}
 use Rattle.std.proofs.lemmas.List.{get_or_read}
-use Rattle.deck.specs.declared.device.Device.{Device}
 use Rattle.switch_model.specs.LinksData.{LinksData}
 use Rattle.switch_model.specs.Wiring.{IsEndPlace}
 use Rattle.switch_model.proofs.wiring.Wiring.places_at.Goals as goal

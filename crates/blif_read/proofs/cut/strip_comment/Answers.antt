@@ -1,8 +1,0 @@
-use Rattle.blif_read.proofs.Cutting.{comment_at, no_comment}
-use Rattle.blif_read.proofs.cut.strip_comment.Goals as goal
-
-pub returns-in-Some : goal.returns-in-Some
-returns-in-Some c = comment_at c.args.line.now c.in-Some.end c.in-Some.ensures
-
-pub returns-in-None : goal.returns-in-None
-returns-in-None c = no_comment c.args.line.now c.in-None.ensures

@@ -1,0 +1,24 @@
+use Rattle.std.specs.Prelude.{ℕ, ◌≡◌, ◌&&◌, Bool, true, List, [], ◌∷◌, ◌++◌, length}
+use Rattle.dom_base.specs.Lines.{is_word}
+use Rattle.stim_text.specs.CycleLines.{pin_letters}
+use Rattle.stim_text.specs.declared.fault.StimKind.{StimKind}
+use Rattle.stim_text.specs.Stimuli.{are_letters, has_width, has_fault}
+
+-- a line without fault
+abbrev pub is_good : ℕ → List ℕ → Bool
+is_good width letters = are_letters width letters && has_width width letters
+
+-- the bits of letters that are good for this number of pins
+pub record IsPinsOf (width : ℕ) (letters : List ℕ) (pins : List Bool) : Type 0 where
+  pub letters_are : pin_letters pins ≡ letters
+  pub width_is : length pins ≡ width
+
+-- a line with these letters was read: where it has letters they are good, and its cycle is appended
+abbrev pub IsLineRead : ℕ → List ℕ → List (List Bool) → List (List Bool) → Type 0
+IsLineRead width [] before after = after ≡ before
+IsLineRead width (b ∷ bs) before after = (pins : List Bool) × (is_good width (b ∷ bs) ≡ true) × IsPinsOf width (b ∷ bs) pins × (after ≡ before ++ pins ∷ [])
+
+-- a line with these letters has letters, and a fault of this kind
+pub record IsLineFault (width : ℕ) (letters : List ℕ) (kind : StimKind) : Type 0 where
+  pub some : is_word letters ≡ true
+  pub fault : has_fault width kind letters ≡ true
