@@ -1,6 +1,7 @@
 pub mod Chaining
 pub mod Choosing
 pub mod Following
+pub mod GoingsThere
 pub mod Listing
 pub mod Made
 pub mod Ordering

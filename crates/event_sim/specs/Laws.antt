@@ -25,6 +25,17 @@ SettlingIsOne = (place : ℕ → ℕ → ℕ) (links : LinksData) (values : List
     → IsSettling (By place) links values step a r → IsSettling (By place) links values step b s
     → (a ≡ b) × (r ≡ s)
 
+-- a function that answers below each count of at least 1
+abbrev pub IsBelow : (ℕ → ℕ → ℕ) → Type 0
+IsBelow place = (step count : ℕ) → 1 ≤ count → place step count < count
+
+-- a function that answers below the count has a going to rest from each list of values: it leads to rest, or makes as
+-- many events as it may without rest
+abbrev pub SettlingIsThere : Type 0
+SettlingIsThere = (place : ℕ → ℕ → ℕ) (links : LinksData) (values : List Tri) (step : ℕ)
+    → IsBelow place → links.sources ≤ links.nets → length values ≡ links.nets
+    → (events : List Event) × ((settled : Settled) × IsSettling (By place) links values step events settled)
+
 -- where the order follows a function its chains and its goings to rest are those of the function
 pub record FollowingIsBy (order : ℕ → ℕ → ℕ → Type 0) : Type 0 where
   pub chain : (place : ℕ → ℕ → ℕ) (links : LinksData) (values : List Tri) (step : ℕ) (events : List Event)
@@ -33,10 +44,6 @@ pub record FollowingIsBy (order : ℕ → ℕ → ℕ → Type 0) : Type 0 where
   pub settling : (place : ℕ → ℕ → ℕ) (links : LinksData) (values : List Tri) (step : ℕ) (events : List Event) (settled : Settled)
       → Follows place order → step < 2 ^ 64 → length values < 2 ^ 64
       → IsSettling order links values step events settled → IsSettling (By place) links values step events settled
-
--- a function that answers below each count of at least 1
-abbrev pub IsBelow : (ℕ → ℕ → ℕ) → Type 0
-IsBelow place = (step count : ℕ) → 1 ≤ count → place step count < count
 
 -- each of the three orders answers below the count
 pub record OrdersAreBelow : Type 0 where

@@ -6,6 +6,7 @@ ghost use Rattle.event_sim.specs.Laws.{
   OrdersAreBelow,
   PendingIsOne,
   SettlingIsOne,
+  SettlingIsThere,
 };
 
 use crate::Chooser;
@@ -23,6 +24,11 @@ pub fn chain_is_one()
 /// From one state an order that is a function has one going to rest, with one answer.
 pub fn settling_is_one()
     ensures { SettlingIsOne }
+{}
+
+/// From each list of values a function that answers below the count has a going to rest.
+pub fn settling_is_there()
+    ensures { SettlingIsThere }
 {}
 
 /// Where all answers of a chooser are those of a function, the chains and the goings to rest that it

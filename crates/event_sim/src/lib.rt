@@ -23,6 +23,7 @@ pub use event::Event;
 pub use fault::SimFault;
 pub use law::{
     chain_is_one, events_count, following_is_by, orders_are_below, pending_is_one, settling_is_one,
+    settling_is_there,
 };
 pub use order::{first, last, seeded};
 pub use settled::Settled;

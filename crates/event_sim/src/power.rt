@@ -1,5 +1,5 @@
 //! The values of nets at power on.
-ghost use Rattle.std.specs.Prelude.{◌≡◌, ◌+◌, ◌-◌, ◌<◌, ◌≤◌, ◌^◌, ◌++◌, IfOk, OnOk, [], ◌∷◌, replicate, vec_len};
+ghost use Rattle.std.specs.Prelude.{◌≡◌, ◌+◌, ◌-◌, ◌<◌, ◌≤◌, ◌^◌, ◌++◌, IfOk, OnOk, replicate, vec_len};
 ghost use Rattle.dom_base.specs.declared.tri.Tri.TheVariants.{One, Unknown, Zero};
 ghost use Rattle.switch_model.specs.LinksData.{source_count};
 ghost use Rattle.switch_model.specs.Power.{source_values};

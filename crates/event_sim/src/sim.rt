@@ -1,5 +1,5 @@
 //! Simulation, one event at a time.
-ghost use Rattle.std.specs.Prelude.{◌≡◌, ◌<◌, ◌≤◌, ◌↔◌, ◌-◌, ℕ, List, [], ◌∷◌, IfOk, IfSome, IsErrOf, IsNone, MatchOption, length, vec_capacity};
+ghost use Rattle.std.specs.Prelude.{◌≡◌, ◌<◌, ◌≤◌, ◌↔◌, ◌-◌, List, [], ◌∷◌, IfOk, IfSome, IsErrOf, IsNone, length, vec_capacity};
 ghost use Rattle.deck.specs.Roles.{AreRoles, LeavesRolesAt, ports_of};
 ghost use Rattle.deck.specs.Switches.{value_of};
 ghost use Rattle.deck.specs.declared.role.Roles.{Roles as RolesData};
@@ -8,7 +8,7 @@ ghost use Rattle.switch_model.specs.LinksData.{is_first};
 ghost use Rattle.switch_model.specs.Targets.{EventAt};
 ghost use Rattle.event_sim.specs.Chains.{IsChosen};
 ghost use Rattle.event_sim.specs.Choices.{Chooses};
-ghost use Rattle.event_sim.specs.Pending.{ArePending, IsResting};
+ghost use Rattle.event_sim.specs.Pending.{IsResting};
 ghost use Rattle.event_sim.specs.Settling.{IsSettling, most_events as most_of};
 ghost use Rattle.event_sim.specs.SimData.{power_sim, ran, with_value};
 ghost use Rattle.event_sim.specs.declared.event.Event.{Event as EventData};

@@ -1,3 +1,4 @@
+pub mod Courses
 pub mod Cycling
 pub mod Going
 pub mod Leading
@@ -10,4 +11,5 @@ pub mod Running
 pub mod Settings
 pub mod Telling
 pub mod Texts
+pub mod TraceThere
 pub mod Variants

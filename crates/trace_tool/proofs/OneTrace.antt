@@ -47,14 +47,14 @@ cycle_not_ends setup s pins read last a b l x y =
     leads_not_ends setup s (evaluation_moves setup.roles pins ++ latching_moves setup.roles) (x.evaluated ++ x.latched) b l last whole y
 
 -- the trace that a period leaves that ends unsettled
-abbrev cut : Setup → ℕ → List Event → List Event → TraceData
+abbrev pub cut : Setup → ℕ → List Event → List Event → TraceData
 cut setup cycle events last = record { text = cut_lines setup cycle events last; settled = false }
 
 cut_same : (setup : Setup) (cycle : ℕ) (a b l k : List Event) → a ≡ b → l ≡ k → cut setup cycle a l ≡ cut setup cycle b k
 cut_same setup cycle a b l k e f = ap (λ (x : List Event). cut setup cycle x l) e ∙ ap (λ (x : List Event). cut setup cycle b x) f
 
 -- the trace of power, and of a cycle, with what follows
-abbrev powered : Setup → List Event → TraceData → TraceData
+abbrev pub powered : Setup → List Event → TraceData → TraceData
 powered setup events rest = record {
   text = event_lines setup.events setup.circuit.nets events ++ power_line (length events) ++ rest.text;
   settled = rest.settled;
@@ -63,7 +63,7 @@ powered setup events rest = record {
 powered_same : (setup : Setup) (a b : List Event) (p q : TraceData) → a ≡ b → p ≡ q → powered setup a p ≡ powered setup b q
 powered_same setup a b p q e f = ap (λ (x : List Event). powered setup x p) e ∙ ap (λ (x : TraceData). powered setup b x) f
 
-abbrev cycled : Setup → ℕ → List Bool → State → List Event → TraceData → TraceData
+abbrev pub cycled : Setup → ℕ → List Bool → State → List Event → TraceData → TraceData
 cycled setup cycle pins read events rest = record {
   text = event_lines setup.events setup.circuit.nets events ++ row_line setup cycle pins read events ++ rest.text;
   settled = rest.settled;

@@ -1,5 +1,5 @@
 //! The moves of a run.
-ghost use Rattle.std.specs.Prelude.{ℕ, ◌≡◌, ◌+◌, ◌*◌, ◌<◌, ◌≤◌, ◌++◌, ◌^◌, true, false, [], ◌∷◌, IfOk, IsErrOf, length};
+ghost use Rattle.std.specs.Prelude.{ℕ, ◌≡◌, ◌+◌, ◌<◌, ◌≤◌, ◌++◌, ◌^◌, true, false, [], ◌∷◌, IfOk, IsErrOf, length};
 ghost use Rattle.event_sim.specs.Choices.{Chooses};
 ghost use Rattle.trace_tool.specs.Inside.{CameRound, CameToRest, IsReady, StayedUnsettled, Stopped, Went, pins_then_clocks, rises};
 ghost use Rattle.trace_tool.specs.Moves.{close_pair, evaluation_moves, first_clock, latching_moves, open_pair, power_moves, set_from};

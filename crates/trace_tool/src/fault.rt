@@ -1,7 +1,5 @@
 //! Why a deck isn't simulated.
 ghost use Rattle.std.specs.Prelude.{◌≡◌};
-ghost use Rattle.spice_read.specs.declared.fault.DeckFault.{DeckFault as DeckFaultData};
-ghost use Rattle.stim_text.specs.declared.fault.StimFault.{StimFault as StimFaultData};
 ghost use Rattle.trace_tool.specs.declared.fault.TraceFault.TheVariants.{Memory, Ports};
 ghost use Rattle.trace_tool.specs.Inside.{of_deck, of_stim};
 

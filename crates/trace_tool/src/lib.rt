@@ -17,7 +17,7 @@ mod tests;
 mod trace;
 
 pub use fault::TraceFault;
-pub use laws::{answer_is_one, trace_is_one};
+pub use laws::{answer_is_one, trace_is_one, trace_is_there};
 pub use options::{Order, ProbeWord, TraceOptions};
 pub use simulation::sim;
 pub use trace::Trace;

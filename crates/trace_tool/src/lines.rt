@@ -1,12 +1,10 @@
 //! The lines of a trace other than those of cycles.
 ghost use Rattle.std.specs.Prelude.{◌≡◌, ◌<◌, ◌++◌, OnOk, [], length, slice_index_or};
-ghost use Rattle.std.specs.Fmt.{decimal};
 ghost use Rattle.trace_tool.specs.TraceLines.{event_line, power_line, unsettled_line};
 
 use deck::Circuit;
-use dom_base::OutOfMemory;
+use dom_base::{OutOfMemory, put, put_number};
 use event_sim::Event;
-use itoa::Buffer;
 
 /// Appends the line of an event.
 pub(crate) fn put_event(
@@ -57,18 +55,4 @@ pub(crate) fn put_unsettled(text: &mut Vec<u8>, cycle: u64, events: u64) -> Resu
     put_number(text, events)?;
     put(text, b"\n")?;
     Ok(())
-}
-
-fn put(text: &mut Vec<u8>, bytes: &[u8]) -> Result<(), OutOfMemory>
-    ensures { OnOk result (text.new.items ≡ text.old.items ++ bytes.now) }
-{
-    text.extend_from_slice(bytes)?;
-    Ok(())
-}
-
-fn put_number(text: &mut Vec<u8>, number: u64) -> Result<(), OutOfMemory>
-    ensures { OnOk result (text.new.items ≡ text.old.items ++ decimal number) }
-{
-    let mut buffer = Buffer::new();
-    put(text, buffer.format(number).as_bytes())
 }

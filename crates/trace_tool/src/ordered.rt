@@ -1,7 +1,6 @@
 //! A run in the order that the options name.
-ghost use Rattle.std.specs.Prelude.{ℕ, ◌≡◌, ◌<◌, ◌≤◌, ◌^◌, All, IfOk, length};
-ghost use Rattle.event_sim.specs.Choices.{Chooses};
-ghost use Rattle.event_sim.specs.Orders.{Follows, first_place, last_place, seeded_place};
+ghost use Rattle.std.specs.Prelude.{◌≡◌, ◌<◌, ◌≤◌, All, IfOk, length};
+ghost use Rattle.event_sim.specs.Orders.{first_place, last_place, seeded_place};
 ghost use Rattle.trace_tool.specs.Inside.{IsRig, setup_of};
 ghost use Rattle.trace_tool.specs.Traces.{IsRun, place_of};
 

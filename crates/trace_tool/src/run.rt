@@ -1,5 +1,5 @@
 //! A run of a deck over its cycles.
-ghost use Rattle.std.specs.Prelude.{ℕ, ◌≡◌, ◌<◌, ◌++◌, All, IfOk, IsErrOf, OnOk, [], false, length};
+ghost use Rattle.std.specs.Prelude.{ℕ, ◌≡◌, ◌<◌, All, IfOk, [], false, length};
 ghost use Rattle.event_sim.specs.Choices.{Chooses};
 ghost use Rattle.event_sim.specs.Orders.{Follows, first_place};
 ghost use Rattle.event_sim.specs.SimData.{power_sim};

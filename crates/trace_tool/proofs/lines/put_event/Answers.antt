@@ -13,5 +13,5 @@ returns c =
     (piece _ _ _ (codes "event " ++ decimal c.args.event.step ++ codes " " ++ slice_index_or c.args.circuit.now.nets c.args.event.net []) (codes " ")
     (piece _ _ _ (codes "event " ++ decimal c.args.event.step ++ codes " ") (slice_index_or c.args.circuit.now.nets c.args.event.net [])
     (piece _ _ _ (codes "event " ++ decimal c.args.event.step) (codes " ")
-    (piece _ _ _ (codes "event ") (decimal c.args.event.step) c.in_ok-put.ensures c.in_ok-put_number.ensures)
-    c.in_ok-put-2.ensures) name) c.in_ok-put-4.ensures) last)
+    (piece _ _ _ (codes "event ") (decimal c.args.event.step) c.in_ok-put.ensures.bytes c.in_ok-put_number.ensures.digits)
+    c.in_ok-put-2.ensures.bytes) name) c.in_ok-put-4.ensures.bytes) last)
