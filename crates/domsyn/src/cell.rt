@@ -1,12 +1,12 @@
 //! The deck of a network of one table: one domino cell and the inverter of its output.
-ghost use Rattle.std.specs.Prelude.{◌≡◌, ◌≤◌, ◌<◌, ◌+◌, ◌*◌, ◌^◌, ◌++◌, ◌∷◌, IfOk, OnOk, All, length, count_by, codes, map, true, []};
+ghost use Rattle.std.specs.Prelude.{◌≡◌, ◌≤◌, ◌<◌, ◌+◌, ◌*◌, ◌^◌, ◌++◌, ◌∷◌, IfOk, OnOk, All, length, map, true, []};
 ghost use Rattle.dom_base.specs.declared.kind.Kind.TheVariants.{N as nch};
 ghost use Rattle.deck.specs.Escapes.{escaped};
 ghost use Rattle.deck.specs.Pushes.{new_circuit};
 ghost use Rattle.stage.specs.Card.{with_cards};
 ghost use Rattle.stage.specs.Cell.{cell, inverter};
 ghost use Rattle.stage.specs.Tree.{spell, inner_count};
-ghost use Rattle.domsyn.specs.OneTable.{IsOneTable, IsRow, HasByteNames, HasGoodRows, is_one as is_one_of};
+ghost use Rattle.domsyn.specs.OneTable.{IsOneTable, IsRow, HasByteNames, HasGoodRows};
 ghost use Rattle.domsyn.specs.CellNames.{IsNamed};
 ghost use Rattle.domsyn.specs.Deck.{literals, row_tree, table_tree, cell_nets, circuit_of, pin_name, output_name};
 

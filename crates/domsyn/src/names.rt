@@ -2,7 +2,7 @@
 ghost use Rattle.std.specs.Prelude.{◌≡◌, ◌++◌, IfOk, All, map, codes};
 ghost use Rattle.std.specs.Fmt.{decimal};
 ghost use Rattle.dom_base.specs.Names.{IsNetByte, IsNetName};
-ghost use Rattle.domsyn.specs.Deck.{pin_name, cell_nets};
+ghost use Rattle.domsyn.specs.Deck.{pin_name};
 ghost use Rattle.deck.specs.Escapes.{escaped};
 ghost use Rattle.domsyn.specs.OneTable.{IsByteName};
 

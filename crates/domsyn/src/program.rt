@@ -1,5 +1,5 @@
 //! What the program does.
-ghost use Rattle.std.specs.Prelude.{◌≡◌, ◌≢◌, ◌≤◌, ◌⊎◌, ℕ, List, Some, All, IfSome, IsSomeAnd, ◌↔◌, length, map};
+ghost use Rattle.std.specs.Prelude.{◌≡◌, ◌≢◌, ◌≤◌, ◌⊎◌, ℕ, List, Some, All, IfSome, ◌↔◌, length, map};
 ghost use Rattle.std.specs.String.{string_bytes};
 ghost use Rattle.std.specs.Io.KnownBytes.{Appends};
 ghost use Rattle.dom_io.specs.Faults.{Rose};
@@ -8,7 +8,7 @@ ghost use Rattle.dom_io.specs.Pieces.{AppendsPrefix};
 ghost use Rattle.domsyn.specs.declared.refusal.Refusal.{Refusal};
 ghost use Rattle.domsyn.specs.Commands.{Asks, Command, Synth, files_of};
 ghost use Rattle.domsyn.specs.Decks.{IsBuildable};
-ghost use Rattle.domsyn.specs.Outcomes.{IsOutcome, Outcome, Refused, Told, status_of};
+ghost use Rattle.domsyn.specs.Outcomes.{Outcome, Refused, Told, status_of};
 ghost use Rattle.domsyn.specs.Refusals.{refusal_line};
 ghost use Rattle.domsyn.specs.Top.{Comes, HasRoomFor, IsPulledDeck, IsRefusalLine, IsText, MeetsUnread, Tells, line_of, unread_line};
 

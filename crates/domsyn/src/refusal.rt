@@ -1,13 +1,11 @@
 //! Files that are refused.
-ghost use Rattle.std.specs.Prelude.{◌≡◌, ◌++◌, IfOk, OnOk, codes};
-ghost use Rattle.std.specs.Fmt.{decimal};
+ghost use Rattle.std.specs.Prelude.{◌≡◌, IfOk};
 ghost use Rattle.domsyn.specs.Refusals.{refusal_text};
 
 use crate::kind_name::{blif_name, blif_number, deck_name, deck_number, stim_name};
 use blif_read::BlifKind;
 use deck::DeckKind;
-use dom_base::OutOfMemory;
-use itoa::Buffer;
+use dom_base::{OutOfMemory, put, put_number};
 use std::alloc::Global;
 use stim_text::StimKind;
 
@@ -62,18 +60,4 @@ pub(crate) fn text_of(alloc: Global, why: Refusal) -> Result<Vec<u8>, OutOfMemor
     }
     put(&mut text, b"\n")?;
     Ok(text)
-}
-
-fn put(text: &mut Vec<u8>, bytes: &[u8]) -> Result<(), OutOfMemory>
-    ensures { OnOk result (text.new.items ≡ text.old.items ++ bytes.now) }
-{
-    text.extend_from_slice(bytes)?;
-    Ok(())
-}
-
-fn put_number(text: &mut Vec<u8>, number: u64) -> Result<(), OutOfMemory>
-    ensures { OnOk result (text.new.items ≡ text.old.items ++ decimal number) }
-{
-    let mut buffer = Buffer::new();
-    put(text, buffer.format(number).as_bytes())
 }

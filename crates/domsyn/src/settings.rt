@@ -1,5 +1,5 @@
 //! The options of a simulation on the command line.
-ghost use Rattle.std.specs.Prelude.{◌≡◌, ℕ, List, MatchOption, map};
+ghost use Rattle.std.specs.Prelude.{◌≡◌, ℕ, MatchOption, map};
 ghost use Rattle.std.specs.String.{string_bytes};
 ghost use Rattle.trace_tool.specs.declared.options.Order.{Order};
 ghost use Rattle.trace_tool.specs.TraceData.{TraceOptionsData};

@@ -1,5 +1,5 @@
 //! From the bytes of a file to the text of its deck.
-ghost use Rattle.std.specs.Prelude.{◌≡◌, ◌≤◌, IfOk, IsErrOf, IsTrue, length, true};
+ghost use Rattle.std.specs.Prelude.{◌≡◌, ◌≤◌, IfOk, IsErrOf, length, true};
 ghost use Rattle.dom_io.specs.Held.{file_limit};
 ghost use Rattle.domsyn.specs.declared.outcome.Stop.{Stop as Stopped};
 ghost use Rattle.domsyn.specs.Decks.{IsDeckFor};

@@ -1,11 +1,10 @@
 //! What is put out, and lines on the error sink.
-ghost use Rattle.std.specs.Prelude.{ℕ, ◌≡◌, ◌≢◌, ◌++◌, ◌≤◌, ◌⊎◌, List, OnOk, OnErr, codes, if◌then◌else◌, length};
+ghost use Rattle.std.specs.Prelude.{ℕ, ◌≡◌, ◌≢◌, ◌++◌, ◌≤◌, ◌⊎◌, OnOk, OnErr, codes, if◌then◌else◌, length};
 ghost use Rattle.std.specs.Io.KnownBytes.{Appends};
 ghost use Rattle.dom_io.specs.Faults.{Rose};
 ghost use Rattle.dom_io.specs.Pieces.{AppendsPrefix};
-ghost use Rattle.domsyn.specs.Refusals.{refusal_line};
 ghost use Rattle.domsyn.specs.Stops.{HasRoomForStop, IsToldAt};
-ghost use Rattle.domsyn.specs.Top.{Tells, line_of, unread_line};
+ghost use Rattle.domsyn.specs.Top.{Tells, line_of};
 
 use crate::outcome::{Answer, Stop};
 use crate::refusal::text_of;

@@ -1,5 +1,5 @@
 //! The words of the command line.
-ghost use Rattle.std.specs.Prelude.{◌≡◌, ◌∷◌, ℕ, List, MatchOption, IsTrue, ◌↔◌, codes, map};
+ghost use Rattle.std.specs.Prelude.{◌∷◌, MatchOption, IsTrue, ◌↔◌, codes, map};
 ghost use Rattle.std.specs.String.{string_bytes};
 ghost use Rattle.domsyn.specs.Asked.{asked};
 ghost use Rattle.domsyn.specs.Commands.{Asks, IsFileWord, Command as Plain};
