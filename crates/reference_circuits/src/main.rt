@@ -1,0 +1,82 @@
+//! Compares the targets and the traces of small circuits with plain, slow functions that were written
+//! from the rules alone. The circuits are generated, and the same ones each time.
+#![tactic(auto)]
+
+mod draws;
+mod moves;
+mod paths;
+mod play;
+mod report;
+mod sample;
+mod starts;
+mod targets;
+mod traces;
+mod trouble;
+
+use std::alloc::Global;
+use std::io;
+use std::process::ExitCode;
+use targets::{Outcome, targets};
+use traces::{Traced, traces};
+use trouble::Trouble;
+
+/// The status where a result differs.
+const DIFFERS: u8 = 1;
+
+/// The status where a circuit isn't read, memory doesn't suffice or a line isn't printed.
+const NOT_COMPARED: u8 = 2;
+
+/// How many circuits have their targets compared.
+const CIRCUITS: u64 = 800;
+
+/// How many decks have their traces compared.
+const DECKS: u64 = 400;
+
+/// Compares targets and prints what came of it. It answers whether all are alike.
+fn targets_are_alike(rt: &impl Print, alloc: Global) -> Result<bool, Trouble> {
+    match targets(alloc, CIRCUITS)? {
+        Outcome::Alike(count) => {
+            told(println!(rt; "targets {CIRCUITS} circuits, {count} targets, all alike"))?;
+            Ok(true)
+        }
+        Outcome::Differ(case) => {
+            told(println!(rt; "targets differ at case {case}"))?;
+            Ok(false)
+        }
+    }
+}
+
+/// Compares traces and prints what came of it. It answers whether all are alike.
+fn traces_are_alike(rt: &impl Print, alloc: Global) -> Result<bool, Trouble> {
+    match traces(alloc, DECKS)? {
+        Traced::Alike(unsettled) => {
+            told(println!(rt; "traces {DECKS} decks, {unsettled} unsettled, all alike"))?;
+            Ok(true)
+        }
+        Traced::Differ(case) => {
+            told(println!(rt; "traces differ at case {case}"))?;
+            Ok(false)
+        }
+    }
+}
+
+fn told(line: io::Result<()>) -> Result<(), Trouble> {
+    match line {
+        Ok(()) => Ok(()),
+        Err(_) => Err(Trouble::NotPrinted),
+    }
+}
+
+fn all_alike(rt: &impl Print, alloc: Global) -> Result<bool, Trouble> {
+    let targets = targets_are_alike(rt, alloc)?;
+    let traces = traces_are_alike(rt, alloc)?;
+    Ok(targets && traces)
+}
+
+fn main(rt: HostRuntime) -> ExitCode {
+    match all_alike(&rt, rt.alloc()) {
+        Ok(true) => ExitCode::from(0),
+        Ok(false) => ExitCode::from(DIFFERS),
+        Err(_) => ExitCode::from(NOT_COMPARED),
+    }
+}

@@ -1,0 +1,102 @@
+//! Decks, read twice.
+use crate::deck_read::{PlainAnswer, PlainDeck, read_plainly};
+use crate::deck_texts::{AND, WORKED, framed, of_lines, of_words};
+use crate::draws::Draws;
+use crate::tally::Tally;
+use deck::{Circuit, Device, Phase};
+use dom_base::{NetName, OutOfMemory};
+use spice_read::{DeckFault, DeckKind, read};
+use std::alloc::Global;
+
+/// The number of a kind in the table of refusals.
+fn number_of(kind: DeckKind) -> u8 {
+    match kind {
+        DeckKind::ControlByte => 1,
+        DeckKind::UnknownCard => 2,
+        DeckKind::BadCard => 3,
+        DeckKind::UnknownDevice => 4,
+        DeckKind::NoSubckt => 5,
+        DeckKind::SecondSubckt => 6,
+        DeckKind::NotClosed => 7,
+        DeckKind::DuplicatePort => 8,
+        DeckKind::TooMany => 9,
+    }
+}
+
+fn same_nets(nets: &[NetName], plain: &[Vec<u8>]) -> bool {
+    nets.len() == plain.len()
+        && nets
+            .iter()
+            .zip(plain.iter())
+            .all(|(net, name)| net.as_bytes() == name.as_slice())
+}
+
+fn same_phases(phases: &[Phase], plain: &[(Vec<u8>, bool)]) -> bool {
+    phases.len() == plain.len()
+        && phases.iter().zip(plain.iter()).all(|(phase, other)| {
+            phase.net.as_bytes() == other.0.as_slice() && phase.plus == other.1
+        })
+}
+
+fn same_devices(devices: &[Device], plain: &PlainDeck) -> bool {
+    devices.len() == plain.devices.len()
+        && devices.iter().zip(plain.devices.iter()).all(|(device, other)| {
+            device.kind == other.kind
+                && device.drain as usize == other.drain
+                && device.gate as usize == other.gate
+                && device.source as usize == other.source
+        })
+}
+
+fn same_deck(circuit: &Circuit, plain: &PlainDeck) -> bool {
+    circuit.name.as_bytes() == plain.name.as_slice()
+        && circuit.ports as usize == plain.ports
+        && same_nets(circuit.nets.as_slice(), &plain.nets)
+        && same_phases(&circuit.phases, &plain.phases)
+        && same_devices(&circuit.devices, plain)
+}
+
+/// Reads a text twice.
+fn compare(alloc: Global, tally: &mut Tally, text: &[u8]) -> Result<(), OutOfMemory> {
+    let plain = read_plainly(alloc, text)?;
+    match read(alloc, text) {
+        Ok(circuit) => {
+            let alike = match &plain {
+                PlainAnswer::Deck(deck) => same_deck(&circuit, deck),
+                PlainAnswer::Fault(_, _) => false,
+            };
+            tally.count(false, alike);
+            Ok(())
+        }
+        Err(DeckFault::At { line, kind }) => {
+            let alike = match &plain {
+                PlainAnswer::Deck(_) => false,
+                PlainAnswer::Fault(other, number) => line == *other && number_of(kind) == *number,
+            };
+            tally.count(true, alike);
+            Ok(())
+        }
+        Err(DeckFault::Memory) => Err(OutOfMemory),
+    }
+}
+
+/// Reads the worked texts, one of them cut short at each byte, and texts of drawn pieces.
+pub fn compare_decks(alloc: Global) -> Result<Tally, OutOfMemory> {
+    let mut tally = Tally::new();
+    for text in WORKED {
+        compare(alloc, &mut tally, text.as_bytes())?;
+    }
+    for end in 0..AND.len() {
+        let text = AND.as_bytes().get(..end).unwrap_or(&[]);
+        compare(alloc, &mut tally, text)?;
+    }
+    let mut draws = Draws::new(1);
+    for _ in 0..120u32 {
+        compare(alloc, &mut tally, &of_lines(alloc, &mut draws)?)?;
+        compare(alloc, &mut tally, &of_words(alloc, &mut draws)?)?;
+    }
+    for _ in 0..360u32 {
+        compare(alloc, &mut tally, &framed(alloc, &mut draws)?)?;
+    }
+    Ok(tally)
+}

@@ -1,0 +1,184 @@
+//! Decks: worked ones, and pieces.
+use crate::draws::Draws;
+use dom_base::OutOfMemory;
+use std::alloc::Global;
+
+pub const AND: &str =
+    "* domsyn deck 1\n* phase o_f +\n.subckt and2 vdd vss ck1 lm lmb ls lsb rs rsb\n+ i_a i_b\n+ o_f\nm0 d0 ck1 vdd vdd pch\nm1 d0 z0 vdd vdd pkeep\nm2 d0 i_a t0_0 vss nch\nm3 t0_0 i_b f0 vss nch\nm4 f0 ck1 vss vss nch\nm5 z0 d0 vdd vdd pch\nm6 z0 d0 vss vss nch\nm7 o_f d0 vdd vdd pch\nm8 o_f d0 vss vss nch\n.ends and2\n";
+
+pub const WORKED: &[&str] = &[
+    AND,
+    "",
+    "\n",
+    "\r",
+    "+ x\n",
+    "* x\n\n + \x01\n.subckt a\n",
+    ".subckt a o_f vss vdd\nm d g s x nch\nm g d o_f x pch\n.ends\n",
+    "* PHASE A +\r\n .SUBCKT Top\t\r\n* phase b -\n*phase c +\n\n * comment\n+ X y\r\nMx1 X\n* phase D +\n+Y\n\n+z vdd PKEEP l=1\n.ends top\n* phase e -",
+    ".model nch x=1\n.subckt a\n.ends a\n.end b\n* phase c +\n+ \x01\n.subckt a\n",
+    "* phase a + b\n* phase a *\n* phase a\x02 +\n.subckt a\n.ends",
+    ".subckt a\n\nm a b c\n+ d nch \x01\n",
+    ".subckt a\n.end \x01\n",
+    ".subckt a\n.end\n\n",
+    ".subckt a\n\n",
+    "m a b c d nmos\n",
+    ".subckt a\n.subckt b c c\n",
+    ".subckt a b\n+ c\n+ B\n",
+    ".subckt t vdd\nm0 a b c vss nch\n.ends\nm1 a b c vss nch\n",
+    ".subckt t\n.ends\n.end\r\r\n",
+    ".subckt t\n.ends\r\r\n",
+];
+
+const LINES: &[&str] = &[
+    ".subckt a vdd vss",
+    ".SUBCKT B x Y",
+    ".subckt c x y x",
+    ".subckt d x=1 y",
+    ".subckt",
+    "m1 a b c d nch",
+    "M2 x B Y vss PCH w=1",
+    "m3 vdd vss a b pkeep",
+    "m4 a b c d npn",
+    "m5 a b",
+    "m",
+    ".ends",
+    ".ends a",
+    ".ends a b",
+    ".end",
+    ".END x",
+    ".endsx",
+    ".model n p=1",
+    ".include q",
+    "x1 a b",
+    "1 1",
+    "* phase o_f +",
+    "*  PHASE Q\t-",
+    "*phase a -",
+    "* phase x\x01 +",
+    "* phase x + y",
+    "*",
+    "+",
+    "+ b",
+    "+nch",
+    "+ c d nch",
+    "+ =",
+    "+ \x01",
+    "+ .end",
+    "",
+    "",
+    " \t",
+];
+
+const DEVICES: &[&str] = &[
+    "m0 b a b a pkeep 1 2",
+    "m1 e f g x pch",
+    "m2 B vdd A \\ NCH",
+    "Model a b # c pch",
+    "m1 a b c d nch",
+    "m1 a b c d nch",
+    "m1 a b c d nch",
+    "m1 a b c d nch",
+    " M2 x B Y vss PCH w=1",
+    "\tm3 vdd vss a b pkeep",
+    "m4 y\n+ x a\n* phase z -\n+ vss nch",
+    "m5 c c c\n\n+c pkeep",
+    "* phase o_g +",
+    ".model m5 n",
+    "* m5",
+    "",
+    "m4 a b c d npn",
+    "m5 a b c d",
+    "m6 a b\x7f c d nch",
+    ".ends",
+];
+
+const HEADS: &[&str] = &[
+    ".subckt a vdd vss",
+    ".subckt a c b a",
+    ".subckt A#\\ c\n\n* x\n\t+\td",
+    ".subckt a vdd vss",
+    ".subckt a vdd vss",
+    ".Subckt B x Y",
+    "* a title\n.subckt c x\n+ y x1",
+    ".subckt d",
+    ".subckt d y Y",
+    ".subckt f\n+ x\n+ y = z",
+    "+ x",
+    ".model .subckt\n.subckt e b c a",
+];
+
+const TAILS: &[&str] = &[
+    ".ends",
+    ".ends",
+    ".ends",
+    ".ends\n* phase y -\n.end\n* phase z +\n.x",
+    ".ends",
+    ".ends",
+    ".ENDS a",
+    ".ends\n.end",
+    ".ends\n.end\n.subckt b",
+    ".ends a\n+ b",
+    ".end",
+    ".ends\n.subckt b\n.ends",
+    "",
+];
+
+const WORDS: &[&str] = &[
+    ".subckt",
+    ".subckt",
+    "a",
+    "b",
+    "vdd",
+    "A",
+    "m1",
+    "M",
+    "nch",
+    "pch",
+    "pkeep",
+    ".ends",
+    ".ends",
+    ".end",
+    ".model",
+    "*",
+    "* phase a +",
+    "+",
+    "-",
+    "=",
+    "\x01",
+    "\\",
+    "#",
+    "\u{e9}",
+];
+
+const PARTS: &[&str] = &[" ", " ", " ", "\t", "\n", "\n", "\n+", "\r\n", "", "\r"];
+
+const ENDS: &[&str] = &[
+    "\n", "\n", "\n", "\n", "\n", "\n", "\n", "\n", "\r\n", "\r\n", " \t\n", "\n\n", "\n* c\n",
+    "\r\r\n", " \x7f\n", " x\n", "\n ", "=\n", "",
+];
+
+/// Lines of all kinds.
+pub fn of_lines(alloc: Global, draws: &mut Draws) -> Result<Vec<u8>, OutOfMemory> {
+    let mut text = Vec::new(alloc);
+    let count = draws.below(8);
+    draws.append(&mut text, count, LINES, ENDS)?;
+    Ok(text)
+}
+
+/// Devices between `.subckt` and `.ends`.
+pub fn framed(alloc: Global, draws: &mut Draws) -> Result<Vec<u8>, OutOfMemory> {
+    let mut text = Vec::new(alloc);
+    draws.append(&mut text, 1, HEADS, &["\n", "\r\n"])?;
+    let count = draws.below(5);
+    draws.append(&mut text, count, DEVICES, &["\n", "\n", "\r\n", " x\n"])?;
+    draws.append(&mut text, 1, TAILS, &["\n", "\n", "\r\n", "\n.x\n", ""])?;
+    Ok(text)
+}
+
+/// Words and what parts them.
+pub fn of_words(alloc: Global, draws: &mut Draws) -> Result<Vec<u8>, OutOfMemory> {
+    let mut text = Vec::new(alloc);
+    let count = draws.below(16);
+    draws.append(&mut text, count, WORDS, PARTS)?;
+    Ok(text)
+}
