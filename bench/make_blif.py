@@ -147,4 +147,5 @@ def main():
         sys.stdout.write(piece)
 
 
-main()
+if __name__ == "__main__":
+    main()
