@@ -7,6 +7,7 @@ use Rattle.dom_base.specs.Lines.{is_control}
 use Rattle.dom_base.specs.declared.kind.Kind.TheVariants.{N as nch, P as pch, Keep}
 use Rattle.deck.specs.CircuitData.{CircuitData}
 use Rattle.deck.specs.DeckText.{is_skipped, deck_cards, deck_phases, card_lines, BeginsACard, NamedDevice, bare_circuit, with_devices, HasNoEquals, IsDeckOf}
+use Rattle.deck.specs.Worked.{and_devices}
 use Rattle.deck.proofs.Distinct.{names_equal}
 
 -- lines that each end in LF
@@ -37,8 +38,8 @@ and_text = text_of (
 and_ports : List (List ℕ)
 and_ports = codes "vdd" ∷ codes "vss" ∷ codes "ck1" ∷ codes "lm" ∷ codes "lmb" ∷ codes "ls" ∷ codes "lsb" ∷ codes "rs" ∷ codes "rsb" ∷ codes "i_a" ∷ codes "i_b" ∷ codes "o_f" ∷ []
 
-and_devices : List NamedDevice
-and_devices =
+and_named_devices : List NamedDevice
+and_named_devices =
     record { kind = pch; drain = codes "d0"; gate = codes "ck1"; source = codes "vdd" }
     ∷ record { kind = Keep; drain = codes "d0"; gate = codes "z0"; source = codes "vdd" }
     ∷ record { kind = nch; drain = codes "d0"; gate = codes "i_a"; source = codes "t0_0" }
@@ -70,17 +71,7 @@ and_circuit = record {
   phases = record { net = codes "o_f"; plus = true } ∷ [];
   ports = 12;
   nets = and_ports ++ codes "d0" ∷ codes "z0" ∷ codes "t0_0" ∷ codes "f0" ∷ [];
-  devices =
-      record { kind = pch; drain = 12; gate = 2; source = 0 }
-      ∷ record { kind = Keep; drain = 12; gate = 13; source = 0 }
-      ∷ record { kind = nch; drain = 12; gate = 9; source = 14 }
-      ∷ record { kind = nch; drain = 14; gate = 10; source = 15 }
-      ∷ record { kind = nch; drain = 15; gate = 2; source = 1 }
-      ∷ record { kind = pch; drain = 13; gate = 12; source = 0 }
-      ∷ record { kind = nch; drain = 13; gate = 12; source = 1 }
-      ∷ record { kind = pch; drain = 11; gate = 12; source = 0 }
-      ∷ record { kind = nch; drain = 11; gate = 12; source = 1 }
-      ∷ [];
+  devices = and_devices;
 }
 
 -- what a test says of each element
@@ -126,18 +117,18 @@ and_cards = refl
 and_phases : deck_phases and_text ≡ record { net = codes "o_f"; plus = true } ∷ []
 and_phases = refl
 
-and_pushed : with_devices (bare_circuit (codes "and2") (record { net = codes "o_f"; plus = true } ∷ []) and_ports) and_devices ≡ and_circuit
-unfolding and_ports and_devices and_circuit
+and_pushed : with_devices (bare_circuit (codes "and2") (record { net = codes "o_f"; plus = true } ∷ []) and_ports) and_named_devices ≡ and_circuit
+unfolding and_ports and_named_devices and_circuit
 and_pushed = refl
 
 -- the text of an And is a deck, and its circuit is the one above
 and_is_deck : IsDeckOf and_text and_circuit
-unfolding and_ports and_devices and_device_cards
+unfolding and_ports and_named_devices and_device_cards
 and_is_deck = record {
   name = codes "and2";
   ports = and_ports;
   device_cards = and_device_cards;
-  devices = and_devices;
+  devices = and_named_devices;
   closing = codes "and2" ∷ [];
   begins = refl;
   visible = visible_from_test (deck_cards and_text) refl;
@@ -175,7 +166,7 @@ and_is_deck = record {
       ),
     ),
   );
-  circuit_is = sym and_pushed ∙ ap (λ phases. with_devices (bare_circuit (codes "and2") phases and_ports) and_devices) (sym and_phases);
+  circuit_is = sym and_pushed ∙ ap (λ phases. with_devices (bare_circuit (codes "and2") phases and_ports) and_named_devices) (sym and_phases);
 }
 
 -- CR at the ends of lines, indents and tabs, upper-case letters, an empty line and comments before lines with `+`,

@@ -8,3 +8,4 @@ pub mod Growth
 pub mod Order
 pub mod PortOrder
 pub mod PortRoles
+pub mod Reach

@@ -11,3 +11,4 @@ pub mod Pushes
 pub mod Roles
 pub mod Sources
 pub mod Switches
+pub mod Worked

@@ -16,7 +16,7 @@ use Rattle.stage.specs.Cell.{CellNets, IsCell, IsStageNet, dynamic_stage, invert
 use Rattle.stage.specs.Stage.{Spot, Top, Inside, IsSpot, Branch, stage, IsStage}
 use Rattle.stage.specs.Tree.{Tree, Leaf, Series, inner_count, joins, spell, tree_conduction}
 use Rattle.dom_base.proofs.Each.{AllByRecursion-append, AllByRecursion-both, AllByRecursion-contains, AllByRecursion-left, AllByRecursion-map, AllByRecursion-weaker}
-use Rattle.stage.proofs.Reach.{Reach, Reach-kept}
+use Rattle.deck.proofs.Reach.{Reach, Reach-kept}
 use Rattle.stage.proofs.Spellings.{spell-same}
 use Rattle.stage.proofs.Stages.{goes, through}
 use Rattle.stage.proofs.Tests.{IsStep, IsStrongStep, IsTest, joins-conduction}

@@ -3,7 +3,6 @@ pub mod Cells
 pub mod Known
 pub mod NamedCells
 pub mod Numbering
-pub mod Reach
 pub mod Spellings
 pub mod Stages
 pub mod Tests

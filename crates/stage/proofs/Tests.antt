@@ -13,7 +13,7 @@ use Rattle.deck.specs.Switches.{IsOn, IsNotOff, value_of}
 use Rattle.stage.specs.Known.{is_one}
 use Rattle.stage.specs.Tree.{Tree, Leaf, Series, Parallel, both, either, joins, tree_conduction}
 use Rattle.dom_base.proofs.Each.{AllByRecursion-both, AllByRecursion-weaker}
-use Rattle.stage.proofs.Reach.{Reach, Reach-from_path, path_from_Reach}
+use Rattle.deck.proofs.Reach.{Reach, Reach-from_path, path_from_Reach}
 
 -- whether the value is One or Unknown
 abbrev pub is_not_zero : Tri → Bool

@@ -8,7 +8,7 @@ use Rattle.deck.specs.declared.device.Device.{Device}
 use Rattle.stage.specs.Card.{Card, device_of}
 use Rattle.stage.specs.Tree.{Tree, Leaf, Series, Parallel, joins, inner_count, spell}
 use Rattle.dom_base.proofs.Each.{AllByRecursion-append, AllByRecursion-left, AllByRecursion-right, AllByRecursion-weaker}
-use Rattle.stage.proofs.Reach.{Reach, last, Reach-trans}
+use Rattle.deck.proofs.Reach.{Reach, last, Reach-trans}
 
 -- all devices of a tree have its kind
 pub spell-kind : {Net : Type 0} (kind : Kind) (inner : ℕ → Net) (t : Tree Net) (top bottom : Net) (k : ℕ)

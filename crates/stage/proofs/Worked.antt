@@ -2,11 +2,12 @@
 use Rattle.std.proofs.Common.{◌≡◌, ℕ, ◌≤◌, ◌<◌, map, refl, inl, inr, arith}
 use Rattle.std.specs.Prelude.{◌⊎◌, ◌≢◌, Contains, nat_lt, false, slice_index_or}
 use Rattle.std.specs.List.{AllByRecursion}
+use Rattle.deck.specs.Worked.{and_devices}
 use Rattle.deck.specs.declared.device.Device.{Device}
 use Rattle.stage.specs.Card.{device_of}
 use Rattle.dom_base.specs.declared.kind.Kind.TheVariants.{N as nch, P as pch, Keep}
 use Rattle.stage.specs.Cell.{IsStageNet, cell, dynamic_stage}
-use Rattle.stage.specs.Worked.{AndHoldsCell, AndIsSpelled, ThreeInSeries, and_devices, and_nets, and_tree}
+use Rattle.stage.specs.Worked.{AndHoldsCell, AndIsSpelled, ThreeInSeries, and_nets, and_tree}
 use Rattle.stage.specs.Tree.{inner_count}
 use Rattle.dom_base.proofs.Each.{AllByRecursion-contains}
 

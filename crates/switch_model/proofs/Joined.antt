@@ -5,7 +5,7 @@ use Rattle.std.specs.List.{AllByRecursion}
 use Rattle.deck.specs.declared.device.Device.{Device}
 use Rattle.dom_base.specs.declared.kind.Kind.TheVariants.{Keep}
 use Rattle.deck.specs.Paths.{Ends, Path, one, more, IsWeak}
-use Rattle.switch_model.proofs.Reach.{Reach, last, step, Reach-trans, Reach-weaker, Reach-from_path, path_from_Reach}
+use Rattle.deck.proofs.Reach.{Reach, last, step, Reach-trans, Reach-weaker, Reach-from_path, path_from_Reach}
 use Rattle.switch_model.proofs.Decided.{Dec, dec_and, dec_or, dec_map, dec_nat, dec_bool, dec_any, dec_keeper}
 use Rattle.dom_base.proofs.Each.{AllByRecursion-append, AllByRecursion-contains, AllByRecursion-weaker, Contains-first, Contains-later}
 

@@ -2,7 +2,6 @@ pub mod Decided
 pub mod Joined
 pub mod Marks
 pub mod Nearness
-pub mod Reach
 pub mod Rules
 pub mod Searches
 pub mod SourceNets
