@@ -55,7 +55,7 @@ module _ {F : Type 0} where
   has_run-none order start = record { events = []; number = refl; chain = tt; now_is = refl }
 
   -- one event after some others
-  ran-push : (s : SimData F) (events : List Event) (event : Event) → ran (ran s events) (event ∷ []) ≡ ran s (events ++ event ∷ [])
+  pub ran-push : (s : SimData F) (events : List Event) (event : Event) → ran (ran s events) (event ∷ []) ≡ ran s (events ++ event ∷ [])
   ran-push s events event = λ i. record {
     pick = s.pick;
     links = s.links;

@@ -134,7 +134,7 @@ rest_or_moves place links values step (suc left) below =
 
 -- a going to rest
 pub settling_there : SettlingIsThere
-settling_there place links values step below within whole = by (rest_or_moves place links values step (most_events links) below)
+settling_there place links values step below = by (rest_or_moves place links values step (most_events links) below)
   where
     by : RestsWithin place links values step (most_events links) ⊎ MovesAfter place links values step (most_events links)
         → (events : List Event) × ((settled : Settled) × IsSettling (By place) links values step events settled)

@@ -19,7 +19,7 @@ ChainIsOne = (place : ℕ → ℕ → ℕ) (links : LinksData) (values : List Tr
     → IsChain (By place) links values step a → IsChain (By place) links values step b
     → length a ≡ length b → a ≡ b
 
--- an order that is a function has one going to rest, with one answer
+-- an order that is a function has at most one going to rest, with one answer
 abbrev pub SettlingIsOne : Type 0
 SettlingIsOne = (place : ℕ → ℕ → ℕ) (links : LinksData) (values : List Tri) (step : ℕ) (a b : List Event) (r s : Settled)
     → IsSettling (By place) links values step a r → IsSettling (By place) links values step b s
@@ -33,8 +33,7 @@ IsBelow place = (step count : ℕ) → 1 ≤ count → place step count < count
 -- many events as it may without rest
 abbrev pub SettlingIsThere : Type 0
 SettlingIsThere = (place : ℕ → ℕ → ℕ) (links : LinksData) (values : List Tri) (step : ℕ)
-    → IsBelow place → links.sources ≤ links.nets → length values ≡ links.nets
-    → (events : List Event) × ((settled : Settled) × IsSettling (By place) links values step events settled)
+    → IsBelow place → (events : List Event) × ((settled : Settled) × IsSettling (By place) links values step events settled)
 
 -- where the order follows a function its chains and its goings to rest are those of the function
 pub record FollowingIsBy (order : ℕ → ℕ → ℕ → Type 0) : Type 0 where

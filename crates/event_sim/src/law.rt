@@ -21,7 +21,7 @@ pub fn chain_is_one()
     ensures { ChainIsOne }
 {}
 
-/// From one state an order that is a function has one going to rest, with one answer.
+/// From one state an order that is a function has at most one going to rest, with one answer.
 pub fn settling_is_one()
     ensures { SettlingIsOne }
 {}

@@ -1,5 +1,5 @@
 -- Moves in turn have a course: they all come to rest, or one of them ends unsettled.
-use Rattle.std.proofs.Common.{◌≡◌, ℕ, ◌≤◌, ◌⊎◌, inl, inr, List, [], ◌∷◌, ◌++◌, length, refl, sym, ap, ◌∙◌, append_assoc}
+use Rattle.std.proofs.Common.{ℕ, ◌⊎◌, inl, inr, List, [], ◌∷◌, ◌++◌, refl, sym, ap, ◌∙◌, append_assoc}
 use Rattle.switch_model.specs.LinksData.{LinksData}
 use Rattle.event_sim.specs.declared.event.Event.{Event}
 use Rattle.event_sim.specs.declared.settled.Settled.{Settled}
@@ -7,11 +7,9 @@ use Rattle.event_sim.specs.declared.settled.Settled.TheVariants.{Rest, Unsettled
 use Rattle.event_sim.specs.Laws.{IsBelow}
 use Rattle.event_sim.specs.Orders.{By}
 use Rattle.event_sim.specs.Settling.{EndsAtRest, IsSettling}
-use Rattle.event_sim.proofs.Chaining.{length-values_after}
 use Rattle.event_sim.proofs.GoingsThere.{settling_there}
 use Rattle.trace_tool.specs.Moves.{Move}
 use Rattle.trace_tool.specs.Runs.{EndsWithin, LeadsTo, State, after, moved}
-use Rattle.trace_tool.proofs.Leading.{length-set_all}
 
 -- the moves lead to rest, or one of them ends unsettled
 abbrev pub HasCourse : (ℕ → ℕ → ℕ → Type 0) → LinksData → State → List Move → Type 0
@@ -64,12 +62,11 @@ module _ (order : ℕ → ℕ → ℕ → Type 0) (links : LinksData) where
   )
 
 -- where the order is a function that answers below the count
-pub course_is_there : (place : ℕ → ℕ → ℕ) (links : LinksData) → IsBelow place → links.sources ≤ links.nets
-    → (s : State) (moves : List Move) → length s.values ≡ links.nets → HasCourse (By place) links s moves
-course_is_there place links below within s [] whole = inl ([], s, (refl, refl))
-course_is_there place links below within s (move ∷ moves) whole =
-    let set = length-set_all s.values move ∙ whole in
-    let going = settling_there place links (moved s move).values s.step below within set in
+pub course_is_there : (place : ℕ → ℕ → ℕ) (links : LinksData) → IsBelow place
+    → (s : State) (moves : List Move) → HasCourse (By place) links s moves
+course_is_there place links below s [] = inl ([], s, (refl, refl))
+course_is_there place links below s (move ∷ moves) =
+    let going = settling_there place links (moved s move).values s.step below in
     course-first (By place) links s move moves
-    (λ first. course_is_there place links below within (after (moved s move) first) moves (length-values_after (moved s move).values first ∙ set))
+    (λ first. course_is_there place links below (after (moved s move) first) moves)
     going.0 going.1.0 going.1.1

@@ -1,38 +1,21 @@
 use Rattle.std.proofs.Common.{◌≡◌, ℕ, ◌+◌, ◌<◌, ◌≤◌, Bool, true, false, List, [], ◌∷◌, ◌++◌, flat_map, length, refl, sym, ap, ◌∙◌, subst, arith, append_assoc, append-nil}
 use Rattle.std.proofs.lemmas.Grind.{flat_map-append}
 use Rattle.std.proofs.lemmas.List.{length_push}
-use Rattle.dom_base.specs.declared.tri.Tri.{Tri}
 use Rattle.switch_model.specs.LinksData.{LinksData, links_of}
 use Rattle.event_sim.specs.declared.event.Event.{Event}
 use Rattle.event_sim.specs.declared.settled.Settled.TheVariants.{Rest, Unsettled}
-use Rattle.event_sim.specs.Chains.{IsChain, IsChosen, changed, next_step, step_after, values_after}
+use Rattle.event_sim.specs.Chains.{IsChain, IsChosen}
 use Rattle.event_sim.specs.Pending.{IsResting}
 use Rattle.event_sim.specs.Settling.{EndsAtRest, EndsUnsettled, IsSettling, most_events}
 use Rattle.event_sim.specs.SimData.{SimData, ran}
-use Rattle.event_sim.proofs.Chaining.{chain-push}
+use Rattle.event_sim.proofs.Chaining.{chain-push, ran-push}
 use Rattle.event_sim.proofs.Choosing.{chosen_is_pending}
 use Rattle.trace_tool.specs.Inside.{CameToRest, IsReady, StayedUnsettled, told}
 use Rattle.trace_tool.specs.TraceLines.{event_line, event_lines}
 use Rattle.trace_tool.specs.declared.rig.Rig.{Rig}
 use Rattle.trace_tool.proofs.Rigs.{ready-ran}
 
-values_after-push : (values : List Tri) (events : List Event) (event : Event) → values_after values (events ++ event ∷ []) ≡ changed (values_after values events) event
-values_after-push values [] event = refl
-values_after-push values (e ∷ es) event = values_after-push (changed values e) es event
-
-step_after-push : (step : ℕ) (events : List Event) (event : Event) → step_after step (events ++ event ∷ []) ≡ next_step (step_after step events)
-step_after-push step [] event = refl
-step_after-push step (e ∷ es) event = step_after-push (next_step step) es event
-
 module _ {F : Type 0} where
-  ran-push : (s : SimData F) (events : List Event) (event : Event) → ran (ran s events) (event ∷ []) ≡ ran s (events ++ event ∷ [])
-  ran-push s events event = λ i. record {
-    pick = s.pick;
-    links = s.links;
-    values = sym (values_after-push s.values events event) i;
-    step = sym (step_after-push s.step events event) i;
-  }
-
   -- so many events lead to this state, and the text has the lines of all of them
   pub record HasTold (order : ℕ → ℕ → ℕ → Type 0) (rig : Rig) (s : SimData F) (count : ℕ) (now : SimData F) (before after : List ℕ) : Type 0 where
     pub events : List Event
