@@ -1,8 +1,7 @@
 -- Joined lines and logical lines of BLIF, the Berkeley Logic Interchange Format.
 use Rattle.std.specs.Prelude.{ℕ, nat_eq, nat_lt, ◌+◌, ◌-◌, Bool, if◌then◌else◌, List, [], ◌∷◌, ◌++◌, length, map, filter, take}
 use Rattle.std.specs.List.{ends_with}
-use Rattle.dom_base.specs.Lines.{lines, words}
-pub use Rattle.dom_base.specs.Lines.{without_comment}
+use Rattle.dom_base.specs.Lines.{lines, words, without_comment}
 
 -- a logical line: the number of its first line, from 1, and its words
 pub record LogicalLine : Type 0 where

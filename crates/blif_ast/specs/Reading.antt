@@ -1,5 +1,6 @@
 -- The file of a BLIF text (Berkeley Logic Interchange Format), or its fault.
-use Rattle.std.specs.Prelude.{ℕ, ◌≡◌, ◌≤◌, ◌+◌, ◌⊎◌, true, List, [], ◌∷◌, ◌++◌, length, reverse}
+use Rattle.std.specs.Prelude.{ℕ, ◌≡◌, ◌+◌, ◌⊎◌, true, List, [], ◌∷◌, ◌++◌, length, reverse}
+use Rattle.dom_base.specs.Answers.{IsFirstFault}
 use Rattle.dom_base.specs.Lines.{lines}
 use Rattle.blif_ast.specs.BlifFileData.{BlifFileData}
 use Rattle.blif_ast.specs.declared.kind.BlifKind.{BlifKind}
@@ -29,10 +30,8 @@ abbrev pub IsFault : List ℕ → ℕ → BlifKind → Type 0
 IsFault text number kind = IsFaultOfLine (logical_lines text) number kind ⊎ IsFaultOfEmpty text number kind
 
 -- the text is refused at this line for this kind: the first line with a fault, and the smallest kind of it there
-pub record IsFaultAt (text : List ℕ) (number : ℕ) (kind : BlifKind) : Type 0 where
-  pub fault : IsFault text number kind
-  pub first : (other : ℕ) (any : BlifKind) → IsFault text other any → number ≤ other
-  pub smallest : (other : BlifKind) → IsFault text number other → kind_number kind ≤ kind_number other
+abbrev pub IsFaultAt : List ℕ → ℕ → BlifKind → Type 0
+IsFaultAt text number kind = IsFirstFault kind_number (IsFault text) number kind
 
 -- the text is accepted, and this is its file
 pub record IsFileOf (text : List ℕ) (file : BlifFileData) : Type 0 where

@@ -4,13 +4,14 @@ use Rattle.std.specs.Prelude.{Option}
 use Rattle.std.specs.List.{find}
 use Rattle.std.proofs.lemmas.List.{append_assoc}
 use Rattle.std.proofs.lemmas.Grind.{reverse_onto}
+use Rattle.dom_base.proofs.Smallest.{IsSmallest}
 use Rattle.blif_ast.specs.declared.kind.BlifKind.{BlifKind}
 use Rattle.blif_ast.specs.LogicalLines.{LogicalLine}
 use Rattle.blif_ast.specs.Faults.{has_fault, kind_number}
 use Rattle.blif_ast.specs.Reading.{IsFaultOfLine}
 use Rattle.blif_read.specs.Steps.{kinds}
 use Rattle.blif_read.proofs.GoodNumbers.{Rises}
-use Rattle.blif_read.proofs.KindNumbers.{Finds, is_kind, finds_smallest}
+use Rattle.blif_read.proofs.KindNumbers.{smallest_kind}
 use Rattle.blif_read.proofs.Positions.{FaultIn, rising-fault}
 
 -- the smallest kind that passes a test
@@ -19,12 +20,12 @@ pub record IsSmallestKind (test : BlifKind → Bool) : Type 0 where
   pub passes : test kind ≡ true
   pub smallest : (other : BlifKind) → test other ≡ true → kind_number kind ≤ kind_number other
 
-pub smallest_kind : (test : BlifKind → Bool) → ((kind : BlifKind) → test kind ≡ false) ⊎ IsSmallestKind test
-smallest_kind test = by (find test kinds) (finds_smallest test)
+none_or_smallest : (test : BlifKind → Bool) → ((kind : BlifKind) → test kind ≡ false) ⊎ IsSmallestKind test
+none_or_smallest test = by (find test kinds) (smallest_kind test)
   where
-    by : (found : Option BlifKind) → Finds test kinds found → ((kind : BlifKind) → test kind ≡ false) ⊎ IsSmallestKind test
-    by None none = inl (λ kind. none kind (is_kind kind))
-    by (Some kind) least = inr (record { kind = kind; passes = least.0; smallest = λ other. least.1 other (is_kind other) })
+    by : (found : Option BlifKind) → IsSmallest kind_number test found → ((kind : BlifKind) → test kind ≡ false) ⊎ IsSmallestKind test
+    by None none = inl none
+    by (Some kind) least = inr (record { kind = kind; passes = least.0; smallest = least.1 })
 
 fault_of_line : (all before rest : List LogicalLine) (number : ℕ) (kind : BlifKind) → all ≡ reverse before ++ rest → FaultIn before rest number kind → IsFaultOfLine all number kind
 fault_of_line all before [] number kind is h = absurd h
@@ -47,7 +48,7 @@ pub record IsFirstIn (before all : List LogicalLine) : Type 0 where
 -- some lines have no fault, or a first one
 pub first_in : (n : ℕ) (before all : List LogicalLine) → Rises n all → ((number : ℕ) (kind : BlifKind) → FaultIn before all number kind → ⊥) ⊎ IsFirstIn before all
 first_in n before [] rises = inl (λ number kind h. h)
-first_in n before (line ∷ more) rises = by (smallest_kind (λ kind. has_fault kind before line)) (first_in (line.number + 1) (line ∷ before) more rises.1)
+first_in n before (line ∷ more) rises = by (none_or_smallest (λ kind. has_fault kind before line)) (first_in (line.number + 1) (line ∷ before) more rises.1)
   where
     here_first : (other : ℕ) (any : BlifKind) → FaultIn before (line ∷ more) other any → line.number ≤ other
     here_first other any (inl here) = omega (arith, here.0)

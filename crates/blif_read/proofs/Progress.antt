@@ -6,6 +6,7 @@ use Rattle.blif_read.specs.declared.fault.BlifFault.TheVariants.{At}
 use Rattle.std.proofs.lemmas.Bool.{true≢false}
 use Rattle.std.proofs.lemmas.List.{append_assoc, reverse-append}
 use Rattle.dom_base.specs.Lines.{lines}
+use Rattle.dom_base.proofs.Smallest.{IsSmallest}
 use Rattle.blif_ast.specs.BlifFileData.{BlifFileData}
 use Rattle.blif_ast.specs.declared.kind.BlifKind.{BlifKind}
 use Rattle.blif_ast.specs.declared.kind.BlifKind.TheVariants.{NoModel}
@@ -16,10 +17,10 @@ use Rattle.blif_ast.specs.Faults.{has_fault, kind_number}
 use Rattle.blif_ast.specs.Models.{models_of}
 use Rattle.blif_read.specs.Build.{Built, built_after, finished, closed_models}
 use Rattle.blif_ast.specs.Reading.{IsFaultAt, IsFaultOfLine, IsFileOf}
-use Rattle.blif_read.specs.Steps.{context_of, kinds, fault_in as fault_by}
+use Rattle.blif_read.specs.Steps.{context_of, fault_in as fault_by}
 use Rattle.blif_read.proofs.Building.{finished-line, finished-none}
 use Rattle.blif_read.proofs.GoodNumbers.{Rises, logical_lines_from-rise}
-use Rattle.blif_read.proofs.KindNumbers.{Finds, is_kind, finds_smallest}
+use Rattle.blif_read.proofs.KindNumbers.{smallest_kind}
 use Rattle.blif_read.proofs.Positions.{FaultIn, fault_in, rising-fault, passed}
 use Rattle.blif_read.proofs.Smallest.{fault_in-smallest}
 
@@ -37,9 +38,9 @@ pub record Reads (text : List ℕ) (context : Context) (built : Built) (some : B
 
 -- the fault that the context gives, and no fault where it gives none
 smallest_is : (before : List LogicalLine) (line : LogicalLine) (context : Context) (found : Option BlifKind) → context ≡ context_of before → found ≡ fault_by context line
-    → Finds (λ kind. has_fault kind before line) kinds found
+    → IsSmallest kind_number (λ kind. has_fault kind before line) found
 smallest_is before line context found is by =
-    subst (Finds (λ kind. has_fault kind before line) kinds) (sym (by ∙ ap (λ c. fault_by c line) is ∙ fault_in-smallest before line)) (finds_smallest (λ kind. has_fault kind before line))
+    subst (IsSmallest kind_number (λ kind. has_fault kind before line)) (sym (by ∙ ap (λ c. fault_by c line) is ∙ fault_in-smallest before line)) (smallest_kind (λ kind. has_fault kind before line))
 
 pub starts : (text : List ℕ) (context : Context) (built : Built) → context ≡ context_of [] → built ≡ record { models = []; model = None; table = None } → NumbersFit 1 text
     → Reads text context built false 1 text
@@ -74,7 +75,7 @@ step text context after built next_built some number next rest more line r is fi
   fit = fit;
   count = count ∙ r.count;
   split = r.split ∙ ap (λ l. reverse r.before ++ l) is ∙ snoc r.before line (logical_lines_from next (lines more));
-  faults = λ n kind fault. passed r.before line (logical_lines_from next (lines more)) (λ k. smallest_is r.before line context None r.context_is clean k (is_kind k)) n kind
+  faults = λ n kind fault. passed r.before line (logical_lines_from next (lines more)) (smallest_is r.before line context None r.context_is clean) n kind
       (subst (λ l. FaultIn r.before l n kind) is (r.faults n kind fault));
   built_is = r.built_is ∙ ap (finished built) is ∙ sym (finished-line built line (logical_lines_from next (lines more))) ∙ ap (λ b. finished b (logical_lines_from next (lines more))) (sym push);
   some_line = λ _ none. not_empty (reverse r.before) line (logical_lines_from next (lines more)) (sym (r.split ∙ ap (λ l. reverse r.before ++ l) is) ∙ none);
@@ -96,7 +97,7 @@ fault text context built some number next rest more line kind r is by =
       first = λ other any f. elim f as (λ _. line.number ≤ other) [ inl g ↦ rising-fault line.number r.before (line ∷ logical_lines_from next (lines more)) other any (omega arith, rising.1) (all other any (fault_in (logical_lines text) other any g)) | inr e ↦ absurd (no_end e.empty) ];
       smallest = λ other f. elim f as (λ _. kind_number kind ≤ kind_number other) [
         | inl g ↦ elim (all line.number other (fault_in (logical_lines text) line.number other g)) as (λ _. kind_number kind ≤ kind_number other)
-            [ inl here ↦ least.1 other (is_kind other) here.1 | inr later ↦ absurd (omega (arith, rising-fault (line.number + 1) (line ∷ r.before) (logical_lines_from next (lines more)) line.number other rising.1 later)) ]
+            [ inl here ↦ least.1 other here.1 | inr later ↦ absurd (omega (arith, rising-fault (line.number + 1) (line ∷ r.before) (logical_lines_from next (lines more)) line.number other rising.1 later)) ]
         | inr e ↦ absurd (no_end e.empty)
       ];
     }

@@ -1,34 +1,28 @@
 //! The forms of cards and rows, by their words.
 ghost use Rattle.std.specs.Prelude.{◌≡◌, map};
 ghost use Rattle.std.specs.List.{list_all};
-ghost use Rattle.blif_ast.specs.Cards.{same, is_init, is_edge, is_type, is_latch_form, is_level, is_binding, is_subckt_form, formal_of, actual_of, is_value, is_letter, is_row_form};
+ghost use Rattle.blif_ast.specs.Cards.{is_init, is_edge, is_type, is_latch_form, is_level, is_binding, is_subckt_form, formal_of, actual_of, is_value, is_letter, is_row_form};
 
+use dom_base::same_word;
 use memchr::memchr;
-
-/// Whether these are the same bytes.
-pub(crate) fn same(word: &[u8], other: &[u8]) -> bool
-    ensures { result ≡ same word.now other.now }
-{
-    word == other
-}
 
 fn is_init(word: &[u8]) -> bool
     ensures { result ≡ is_init word.now }
 {
-    same(word, b"0") || same(word, b"1") || same(word, b"2") || same(word, b"3")
+    same_word(word, b"0") || same_word(word, b"1") || same_word(word, b"2") || same_word(word, b"3")
 }
 
 fn is_edge(word: &[u8]) -> bool
     ensures { result ≡ is_edge word.now }
 {
-    same(word, b"re") || same(word, b"fe")
+    same_word(word, b"re") || same_word(word, b"fe")
 }
 
 /// Whether the word is the type of a latch that takes its input at a level of its control.
 pub(crate) fn is_level(word: &[u8]) -> bool
     ensures { result ≡ is_level word.now }
 {
-    same(word, b"ah") || same(word, b"al") || same(word, b"as")
+    same_word(word, b"ah") || same_word(word, b"al") || same_word(word, b"as")
 }
 
 fn is_type(word: &[u8]) -> bool
@@ -87,7 +81,7 @@ pub(crate) fn is_subckt_form(words: &[&[u8]]) -> bool
 fn is_value(word: &[u8]) -> bool
     ensures { result ≡ is_value word.now }
 {
-    same(word, b"0") || same(word, b"1")
+    same_word(word, b"0") || same_word(word, b"1")
 }
 
 fn are_letters(word: &[u8]) -> bool

@@ -6,8 +6,7 @@ ghost use Rattle.blif_ast.specs.LogicalLines.{but_last, is_joined, logical_lines
 ghost use Rattle.blif_ast.specs.Cards.{begins, first_word, is_card, last_letter};
 ghost use Rattle.blif_read.specs.Cuts.{worded_lines, IsPiece};
 
-use crate::form::same;
-use dom_base::{OutOfMemory, cut_line, cut_words, strip_comment, strip_last};
+use dom_base::{OutOfMemory, cut_line, cut_words, same_word, strip_comment, strip_last};
 use std::alloc::Global;
 use std::marker::Model;
 
@@ -41,7 +40,7 @@ impl<'a> Line<'a> {
     pub fn begins(&self, word: &[u8]) -> bool
         ensures { result ≡ begins word.now self.now }
     {
-        same(self.first_word(), word)
+        same_word(self.first_word(), word)
     }
 
     /// Whether the line is a card; any other is a row.

@@ -4,10 +4,10 @@ ghost use Rattle.blif_ast.specs.Models.{letter_of, row_letters, control_of, init
 ghost use Rattle.blif_ast.specs.Cards.{table_inputs};
 ghost use Rattle.blif_read.specs.Build.{new_model, new_table};
 
-use crate::form::{same, sides};
+use crate::form::sides;
 use crate::line::Line;
 use blif_ast::{Binding, BlifModel, Control, Edge2, Instance, Latch, Letter, Row, Table};
-use dom_base::{Name, OutOfMemory};
+use dom_base::{Name, OutOfMemory, same_word};
 use std::alloc::{AllocError, Global};
 
 fn name_of(alloc: Global, word: &[u8]) -> Result<Name, AllocError>
@@ -117,12 +117,12 @@ pub(crate) fn row_of(alloc: Global, words: &[&[u8]]) -> Result<Row, OutOfMemory>
 fn control_of(alloc: Global, kind: &[u8], word: &[u8]) -> Result<Control, OutOfMemory>
     ensures { IfOk result (λ control. control ≡ control_of kind.now word.now) }
 {
-    let edge = if same(kind, b"re") {
+    let edge = if same_word(kind, b"re") {
         Edge2::Rising
     } else {
         Edge2::Falling
     };
-    let signal = if same(word, b"NIL") {
+    let signal = if same_word(word, b"NIL") {
         None
     } else {
         Some(name_of(alloc, word)?)

@@ -1,5 +1,6 @@
-use Rattle.std.specs.Prelude.{ℕ, ◌≡◌, ◌≤◌, ◌+◌, ◌⊎◌, Bool, true, false, ◌==◌, ◌||◌, ◌&&◌, not, nat_lt, if◌then◌else◌, List, [], ◌∷◌, ◌++◌, length, reverse, slice_index_or}
+use Rattle.std.specs.Prelude.{ℕ, ◌≡◌, ◌+◌, ◌⊎◌, Bool, true, false, ◌==◌, ◌||◌, ◌&&◌, not, nat_lt, if◌then◌else◌, List, [], ◌∷◌, ◌++◌, length, reverse, slice_index_or}
 use Rattle.std.specs.List.{list_any}
+use Rattle.dom_base.specs.Answers.{IsFirstFault}
 use Rattle.dom_base.specs.Lines.{is_control}
 use Rattle.deck.specs.declared.fault.DeckKind.{DeckKind}
 use Rattle.deck.specs.declared.fault.DeckKind.TheVariants.{ControlByte, UnknownCard, BadCard, UnknownDevice, NoSubckt, SecondSubckt, NotClosed, DuplicatePort, TooMany}
@@ -71,7 +72,5 @@ abbrev pub IsDeckFault : List ℕ → ℕ → DeckKind → Type 0
 IsDeckFault text number kind = IsFaultOfCard text number kind ⊎ IsLooseLine text number kind ⊎ IsFaultOfEnd text number kind
 
 -- the text is refused at this line for this kind: the first line with a fault, and the smallest kind of it there
-pub record IsDeckFaultAt (text : List ℕ) (number : ℕ) (kind : DeckKind) : Type 0 where
-  pub fault : IsDeckFault text number kind
-  pub first : (other : ℕ) (any : DeckKind) → IsDeckFault text other any → number ≤ other
-  pub smallest : (other : DeckKind) → IsDeckFault text number other → kind_number kind ≤ kind_number other
+abbrev pub IsDeckFaultAt : List ℕ → ℕ → DeckKind → Type 0
+IsDeckFaultAt text number kind = IsFirstFault kind_number (IsDeckFault text) number kind

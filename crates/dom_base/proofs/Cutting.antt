@@ -3,7 +3,7 @@ use Rattle.std.proofs.Common.{◌≡◌, ◌≢◌, ℕ, zero, suc, ◌<◌, ◌
 use Rattle.std.proofs.Math.Seq.{drop-length}
 use Rattle.std.specs.List.{slice_split, before_first, position_or_len, after_first}
 use Rattle.std.proofs.lemmas.Bool.{false_from_ne_true}
-use Rattle.std.proofs.lemmas.List.{take_all, take_rest, get_or_default}
+use Rattle.std.proofs.lemmas.List.{take_all, take_rest, get_or_default, drop_all}
 use Rattle.std.proofs.lemmas.List.Sums.{position_or_len_is}
 use Rattle.std.proofs.lemmas.List.Splits.{slice_split_first, slice_split_none, length-slice_split}
 use Rattle.memchr.specs.Find.{IsFirstByte, is_byte}
@@ -74,6 +74,7 @@ IsCut-at text line i is first =
     rw (take_rest, is) record {
       ending = (parts-at text i lt).0;
       text_is = (parts-at text i lt).1;
+      rest_is = ap (λ n. drop (n + 1) text) (sym (place_of_first 10 text i first));
       lines_are = lines-at text i lt (place_of_first 10 text i first);
       shorter = omega (arith, length-drop (i + 1) text, lt);
     }
@@ -86,11 +87,16 @@ not_empty : (text : List ℕ) → text ≢ [] → 0 < length text
 not_empty [] some = absurd (some refl)
 not_empty (b ∷ bs) some = omega arith
 
+-- nothing stands behind a line feed that isn't there
+nothing-behind : (text : List ℕ) → IsFirstByte (is_byte 10) text None → after_first is_line_feed text ≡ []
+nothing-behind text none = ap (λ n. drop (n + 1) text) (place_of_none 10 text none) ∙ drop_all (length text + 1) text (omega arith)
+
 pub IsCut-whole : (text line : List ℕ) → text ≢ [] → line ≡ without_return text → IsFirstByte (is_byte 10) text None → IsCut text line (take (length text - length text) (drop (length text) text))
 IsCut-whole text line some is none =
     rw (take_rest, drop-length, is) record {
       ending = (return_of text).0;
       text_is = (return_of text).1 ∙ sym (append-nil (without_return text ++ (return_of text).0));
+      rest_is = sym (nothing-behind text none);
       lines_are = lines-whole text some (λ k d l. ap is_line_feed (get_or_default text k d 0 l) ∙ false_from_ne_true _ (none k (omega arith) l));
       shorter = omega (arith, not_empty text some);
     }

@@ -1,3 +1,4 @@
+pub mod Answers
 pub mod Conduction
 pub mod Cuts
 pub mod Lines

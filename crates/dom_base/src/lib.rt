@@ -16,4 +16,4 @@ pub use memory::OutOfMemory;
 pub use name::{Name, NetName};
 pub use text::{put, put_number, put_word};
 pub use tri::Tri;
-pub use words::{cut_words, has_control, have_control};
+pub use words::{cut_words, has_control, have_control, same_word};

@@ -1,5 +1,6 @@
 //! Words of a line.
-ghost use Rattle.std.specs.Prelude.{◌≡◌, IfOk, map};
+ghost use Rattle.std.specs.Prelude.{◌≡◌, IfOk, map, nat_eq};
+ghost use Rattle.std.specs.Cmp.Lexicographic.{pointwise};
 ghost use Rattle.std.specs.List.{list_any};
 ghost use Rattle.dom_base.specs.Lines.{is_control, words};
 
@@ -12,6 +13,13 @@ pub fn cut_words(alloc: Global, line: &[u8]) -> Result<Vec<&[u8]>, AllocError>
     line.split(|b| *b == b' ' || *b == b'\t')
         .filter(|word| !word.is_empty())
         .collect(alloc)
+}
+
+/// Whether these are the same bytes.
+pub fn same_word(word: &[u8], other: &[u8]) -> bool
+    ensures { result ≡ pointwise nat_eq word.now other.now }
+{
+    word == other
 }
 
 fn is_control(b: u8) -> bool

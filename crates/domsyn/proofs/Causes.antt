@@ -1,52 +1,18 @@
 -- A file is refused for one cause alone.
-use Rattle.std.proofs.Common.{◌≡◌, ◌==◌, ℕ, List, refl, sym, ap, ◌∙◌, subst, arith}
-use Rattle.std.specs.Prelude.{if◌then◌else◌}
+use Rattle.std.proofs.Common.{◌≡◌, ℕ, List, refl, sym, ◌∙◌, subst, arith}
+use Rattle.dom_base.proofs.OneAnswer.{refusal_same}
 use Rattle.blif_ast.specs.declared.kind.BlifKind.{BlifKind}
-use Rattle.blif_ast.specs.declared.kind.BlifKind.TheVariants.{ControlByte, UnknownCard, BadCard, RowOutsideTable, BadRow, MixedCover, TooWide, NoModel, LatchKind}
-use Rattle.blif_ast.specs.Faults.{kind_number}
-use Rattle.blif_ast.specs.Reading.{IsFault, IsFaultAt}
+use Rattle.blif_ast.specs.Reading.{IsFault, IsFaultAt, IsFileOf}
+use Rattle.blif_read.proofs.OneAnswer.{one_answer}
 use Rattle.domsyn.specs.declared.refusal.Refusal.{Refusal}
 use Rattle.domsyn.specs.declared.refusal.Refusal.TheVariants.{TooLong, Blif, NotBuilt, Deck, Ports, Stim}
 use Rattle.domsyn.specs.OneTable.{IsFileOfTable}
 use Rattle.domsyn.specs.Decks.{IsBuildable}
 use Rattle.domsyn.specs.Refusals.{IsRefusedFor}
 
--- the kind of a number from 1 to 9
-kind_of : ℕ → BlifKind
-kind_of n =
-    if n == 1 then ControlByte
-    else (if n == 2 then UnknownCard
-    else (if n == 3 then BadCard
-    else (if n == 4 then RowOutsideTable
-    else (if n == 5 then BadRow
-    else (if n == 6 then MixedCover
-    else (if n == 7 then TooWide
-    else (if n == 8 then NoModel else LatchKind)))))))
-
-kind_of-number : (kind : BlifKind) → kind_of (kind_number kind) ≡ kind
-unfolding kind_of
-kind_of-number ControlByte = refl
-kind_of-number UnknownCard = refl
-kind_of-number BadCard = refl
-kind_of-number RowOutsideTable = refl
-kind_of-number BadRow = refl
-kind_of-number MixedCover = refl
-kind_of-number TooWide = refl
-kind_of-number NoModel = refl
-kind_of-number LatchKind = refl
-
-pub kinds_alike : (a b : BlifKind) → kind_number a ≡ kind_number b → a ≡ b
-kinds_alike a b same = sym (kind_of-number a) ∙ (ap kind_of same ∙ kind_of-number b)
-
 -- a text is refused at one line for one kind
-pub faults_alike : (text : List ℕ) (m n : ℕ) (a b : BlifKind) → IsFaultAt text m a → IsFaultAt text n b → (m ≡ n) × (a ≡ b)
-faults_alike text m n a b x y =
-    let lower = x.first n b y.fault in
-    let upper = y.first m a x.fault in
-    let line : m ≡ n = omega (arith, lower, upper) in
-    let below = x.smallest b (subst (λ l. IsFault text l b) (sym line) y.fault) in
-    let above = y.smallest a (subst (λ l. IsFault text l a) line x.fault) in
-    (line, kinds_alike a b (omega (arith, below, above)))
+faults_alike : (text : List ℕ) (m n : ℕ) (a b : BlifKind) → IsFaultAt text m a → IsFaultAt text n b → (m ≡ n) × (a ≡ b)
+faults_alike text m n a b x y = refusal_same (IsFileOf text) (IsFault text) (IsFaultAt text) (λ l k f. f.fault) (one_answer text) m n a b x y
 
 -- the causes of bytes are one
 pub causes_alike : (bytes : List ℕ) (a b : Refusal) → IsRefusedFor bytes a → IsRefusedFor bytes b → a ≡ b

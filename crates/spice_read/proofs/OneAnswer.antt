@@ -1,15 +1,17 @@
 -- A text is accepted with one circuit or refused for one fault.
-use Rattle.std.proofs.Common.{◌≡◌, ℕ, ◌⊎◌, inl, inr, Bool, true, false, List, [], ◌∷◌, refl, sym, ◌∙◌, subst, arith, Some, None, Option}
+use Rattle.std.proofs.Common.{◌≡◌, ℕ, ◌⊎◌, inl, inr, Bool, true, false, List, [], ◌∷◌, refl, sym, ◌∙◌, subst, Some, None, Option}
+use Rattle.dom_base.specs.Answers.{HasOneAnswer, IsOnlyAnswer}
+use Rattle.dom_base.proofs.OneAnswer.{only_refusal}
 use Rattle.deck.specs.CircuitData.{CircuitData}
 use Rattle.deck.specs.declared.fault.DeckKind.{DeckKind}
 use Rattle.deck.specs.declared.fault.DeckKind.TheVariants.{BadCard, NoSubckt, NotClosed}
 use Rattle.deck.specs.DeckText.{IsDeckOf, continues, deck_phases}
 use Rattle.deck.specs.DeckCards.{NumberedCard, numbered_cards, numbered_lines}
-use Rattle.deck.specs.DeckFaults.{IsDeckFault, IsDeckFaultAt, end_line}
+use Rattle.deck.specs.DeckFaults.{IsDeckFault, IsDeckFaultAt, end_line, kind_number}
 use Rattle.deck.proofs.DeckUnique.{IsDeckOf-unique}
 use Rattle.spice_read.specs.declared.stage.Stage.{Stage}
 use Rattle.spice_read.specs.declared.stage.Stage.TheVariants.{Before, Open, Closed}
-use Rattle.spice_read.specs.Laws.{IsAcceptedOnce, IsDeckOnce, IsRefusedOnce, TextHasOneAnswer}
+use Rattle.spice_read.specs.Laws.{TextHasOneAnswer}
 use Rattle.spice_read.specs.Scans.{BeginsNumbered, IsLooseAt}
 use Rattle.spice_read.specs.Stages.{fault_in, stage_after}
 use Rattle.spice_read.proofs.Accepting.{AllVisible, accepted, visible_after}
@@ -65,39 +67,21 @@ answer text = by (begin_or_loose (numbered_lines text))
     by (inl b) = answer_of_cards text [] (numbered_cards text) Before b (none_passed text) starts tt
     by (inr l) = inr (record { number = l.0; kind = BadCard; is_fault = fault_at_loose text l.0 l.1 })
 
-pub deck_once : (text : List ℕ) (circuit : CircuitData) → IsDeckOf text circuit → IsDeckOnce text circuit
+pub deck_once : (text : List ℕ) (circuit : CircuitData) → IsDeckOf text circuit → IsOnlyAnswer (IsDeckOf text) (IsDeckFault text) circuit
 deck_once text circuit is = record {
-  is_circuit = is;
-  one_circuit = λ other h. IsDeckOf-unique text other circuit h is;
+  is_answer = is;
+  one_answer = λ other h. IsDeckOf-unique text other circuit h is;
   no_fault = deck_no_fault text circuit is;
-  no_refusal = λ number kind told. deck_no_fault text circuit is number kind told.fault;
 }
-
-refused_once : (text : List ℕ) (number : ℕ) (kind : DeckKind) → IsDeckFaultAt text number kind → IsRefusedOnce text
-refused_once text number kind told = record {
-  number = number;
-  kind = kind;
-  is_fault = told;
-  one_line = one_line;
-  one_kind = one_kind;
-  no_circuit = λ circuit is. deck_no_fault text circuit is number kind told.fault;
-}
-  where
-    one_line : (other : ℕ) (any : DeckKind) → IsDeckFaultAt text other any → other ≡ number
-    one_line other any it = omega (arith, it.first number kind told.fault, told.first other any it.fault)
-
-    one_kind : (other : ℕ) (any : DeckKind) → IsDeckFaultAt text other any → any ≡ kind
-    one_kind other any it =
-        let line = one_line other any it in
-        kind_number-injective any kind (omega (
-          arith,
-          it.smallest kind (subst (λ n. IsDeckFault text n kind) (sym line) told.fault),
-          told.smallest any (subst (λ n. IsDeckFault text n any) line it.fault),
-        ))
 
 pub one_answer : TextHasOneAnswer
 one_answer text = by (answer text)
   where
-    by : HasCircuit text ⊎ HasFault text → IsAcceptedOnce text ⊎ IsRefusedOnce text
-    by (inl a) = inl (record { circuit = a.circuit; once = deck_once text a.circuit a.is_circuit })
-    by (inr f) = inr (refused_once text f.number f.kind f.is_fault)
+    by : HasCircuit text ⊎ HasFault text → HasOneAnswer (IsDeckOf text) (IsDeckFault text) (IsDeckFaultAt text)
+    by (inl a) = inl (a.circuit, deck_once text a.circuit a.is_circuit)
+    by (inr f) = inr (
+      f.number,
+      f.kind,
+      only_refusal kind_number (IsDeckFault text) (IsDeckOf text) kind_number-injective f.number f.kind f.is_fault
+          (λ circuit is. deck_no_fault text circuit is f.number f.kind f.is_fault.fault),
+    )

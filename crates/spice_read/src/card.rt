@@ -3,7 +3,7 @@ ghost use Rattle.std.specs.Prelude.{◌≡◌, ◌<◌, map, []};
 ghost use Rattle.deck.specs.DeckCards.{begins, is_device, port_names};
 ghost use Rattle.spice_read.specs.Stages.{word_at};
 
-use crate::cut::same;
+use dom_base::same_word;
 use std::marker::Model;
 
 /// A card: the number of its first line, from 1, and its words, which are parts of the text.
@@ -36,7 +36,7 @@ impl<'a> Card<'a> {
     pub fn begins(&self, word: &[u8]) -> bool
         ensures { result ≡ begins word.now self.now }
     {
-        same(self.word(0), word)
+        same_word(self.word(0), word)
     }
 
     /// The ports that a `.subckt` names, behind the name of the subcircuit.

@@ -1,11 +1,11 @@
 //! The first bytes of lines.
-ghost use Rattle.std.specs.Prelude.{◌≡◌, ◌∷◌, MatchOption, nat_eq, false};
-ghost use Rattle.std.specs.Cmp.Lexicographic.{pointwise};
+ghost use Rattle.std.specs.Prelude.{◌≡◌, ◌∷◌, MatchOption, false};
 ghost use Rattle.std.specs.List.{before_first};
 ghost use Rattle.dom_base.specs.Lines.{is_blank, unindented};
 ghost use Rattle.deck.specs.DeckText.{continues, is_end};
 ghost use Rattle.spice_read.specs.Rests.{begins_card};
 
+use dom_base::same_word;
 use memchr::memchr2;
 
 fn is_blank(byte: u8) -> bool
@@ -43,7 +43,7 @@ pub(crate) fn is_end(line: &[u8]) -> bool
     requires { unindented line.now ≡ line.now }
     ensures { result ≡ is_end line.now }
 {
-    same(front_word(line), b".end")
+    same_word(front_word(line), b".end")
 }
 
 /// Whether a card begins with the line: it isn't empty, and its first byte is neither `*` nor `+`.
@@ -64,11 +64,4 @@ pub(crate) fn strip_plus(line: &[u8]) -> Option<&[u8]>
         [b'+', rest @ ..] => Some(rest),
         _ => None,
     }
-}
-
-/// Whether these are the same bytes.
-pub(crate) fn same(word: &[u8], other: &[u8]) -> bool
-    ensures { result ≡ pointwise nat_eq word.now other.now }
-{
-    word == other
 }

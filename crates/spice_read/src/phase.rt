@@ -9,19 +9,18 @@ ghost use Rattle.dom_base.proofs.WordBytes.{IsLowerWord};
 ghost use Rattle.spice_read.specs.Rests.{IsLowerText};
 ghost use Rattle.spice_read.specs.Rests.{sign_of};
 
-use crate::cut::same;
 use crate::name::net_name;
 use deck::Phase;
-use dom_base::{OutOfMemory, cut_words, has_control};
+use dom_base::{OutOfMemory, cut_words, has_control, same_word};
 use std::alloc::Global;
 
 /// Whether the sign is `+`, where it is `+` or `-`.
 fn sign_of(sign: &[u8]) -> Option<bool>
     ensures { result ≡ sign_of sign.now }
 {
-    if same(sign, b"+") {
+    if same_word(sign, b"+") {
         Some(true)
-    } else if same(sign, b"-") {
+    } else if same_word(sign, b"-") {
         Some(false)
     } else {
         None
@@ -48,7 +47,7 @@ fn phase_of(alloc: Global, words: &[&[u8]]) -> Result<Option<Phase>, OutOfMemory
 {
     match words {
         [star, word, name, sign] => {
-            if same(star, b"*") && same(word, b"phase") && !has_control(name) {
+            if same_word(star, b"*") && same_word(word, b"phase") && !has_control(name) {
                 signed_phase(alloc, name, sign)
             } else {
                 Ok(None)

@@ -8,10 +8,9 @@ ghost use Rattle.spice_read.specs.declared.stage.Stage.TheVariants.{Before};
 
 use crate::DeckFault;
 use crate::card::Card;
-use crate::cut::same;
 use crate::name::net_name;
 use deck::{Circuit, DeckKind, Phase};
-use dom_base::{Kind, NetName, OutOfMemory};
+use dom_base::{Kind, NetName, OutOfMemory, same_word};
 use indexmap::IndexSet;
 use std::alloc::Global;
 
@@ -27,11 +26,11 @@ pub(crate) enum Stage {
 pub(crate) fn kind_of(word: &[u8]) -> Option<Kind>
     ensures { result ≡ known_kind word.now }
 {
-    if same(word, b"nch") {
+    if same_word(word, b"nch") {
         Some(Kind::N)
-    } else if same(word, b"pch") {
+    } else if same_word(word, b"pch") {
         Some(Kind::P)
-    } else if same(word, b"pkeep") {
+    } else if same_word(word, b"pkeep") {
         Some(Kind::Keep)
     } else {
         None

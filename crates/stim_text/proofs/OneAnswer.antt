@@ -2,11 +2,11 @@
 use Rattle.std.proofs.Common.{◌≡◌, ℕ, ◌⊎◌, inl, inr, Bool, true, false, not, List, [], ◌∷◌, ◌++◌, length, map, All, slice_index_or, refl, sym, ap, ◌∙◌, subst, arith}
 use Rattle.std.proofs.lemmas.Bool.{false≢true, false_from_ne_true}
 use Rattle.std.proofs.lemmas.List.Elements.{All-nil, All-cons, All-head, All-tail}
+use Rattle.dom_base.specs.Answers.{HasOneAnswer}
 use Rattle.stim_text.specs.declared.fault.StimKind.{StimKind}
 use Rattle.stim_text.specs.declared.fault.StimKind.TheVariants.{BadLetter, BadLength}
 use Rattle.stim_text.specs.CycleLines.{pin_letters}
 use Rattle.stim_text.specs.Stimuli.{lettered_lines, are_letters, has_width, has_fault, IsStimulusOf, IsFaultAt}
-use Rattle.stim_text.specs.Laws.{IsAcceptedOnce, IsRefusedOnce}
 use Rattle.stim_text.specs.LinesRead.{is_good}
 use Rattle.stim_text.proofs.PinLetters.{both, pins_of, good_of, head_is, tail_is, cycles-injective}
 
@@ -130,42 +130,50 @@ never_both width text cycles number kind is f =
     (subst (All (Good width)) f.lines_are (all_good width (lettered_lines text) cycles is.letters_are is.widths_are))
     f.fault
 
-accepted_once : (width : ℕ) (text : List ℕ) → All (Good width) (lettered_lines text) → IsAcceptedOnce width text
+-- a text that is the stimulus of one list of cycles, or is refused for one fault
+abbrev Once : ℕ → List ℕ → Type 0
+Once width text = HasOneAnswer (IsStimulusOf width text) (IsFaultAt width text) (IsFaultAt width text)
+
+accepted_once : (width : ℕ) (text : List ℕ) → All (Good width) (lettered_lines text) → Once width text
 accepted_once width text good =
     let found = cycles_of width (lettered_lines text) good in
     let is : IsStimulusOf width text found.0 = record { letters_are = found.1; widths_are = found.2 } in
-    record {
-      cycles = found.0;
-      is_stimulus = is;
-      one_list = λ other so. cycles-injective other found.0 (sym so.letters_are ∙ found.1);
-      no_refusal = λ number kind f. never_both width text found.0 number kind is f;
-    }
+    inl (
+      found.0,
+      record {
+        is_answer = is;
+        one_answer = λ other so. cycles-injective other found.0 (sym so.letters_are ∙ found.1);
+        no_fault = λ number kind f. never_both width text found.0 number kind is f;
+      },
+    )
 
 two_faults : (width : ℕ) (text : List ℕ) (number other : ℕ) (kind any : StimKind) → IsFaultAt width text number kind → IsFaultAt width text other any → (other ≡ number) × (any ≡ kind)
 two_faults width text number other kind any f g =
     let same = same_line width f.before g.before (number, f.letters) (other, g.letters) f.after g.after kind any (sym f.lines_are ∙ g.lines_are) (good_from_none width f.before f.none_before) (good_from_none width g.before g.none_before) f.fault g.fault in
     (ap (λ (l : Line). l.0) same, one_kind width kind any f.letters f.fault (subst (λ (l : List ℕ). has_fault width any l ≡ true) (ap (λ (l : Line). l.1) same) g.fault))
 
-refused_once : (width : ℕ) (text : List ℕ) (number : ℕ) (kind : StimKind) → IsFaultAt width text number kind → IsRefusedOnce width text
-refused_once width text number kind f = record {
-  number = number;
-  kind = kind;
-  is_fault = f;
-  one_line = λ other any g. (two_faults width text number other kind any f g).0;
-  one_kind = λ other any g. (two_faults width text number other kind any f g).1;
-  no_stimulus = λ cycles is. never_both width text cycles number kind is f;
-}
+refused_once : (width : ℕ) (text : List ℕ) (number : ℕ) (kind : StimKind) → IsFaultAt width text number kind → Once width text
+refused_once width text number kind f = inr (
+  number,
+  kind,
+  record {
+    is_refused = f;
+    one_line = λ other any g. (two_faults width text number other kind any f g).0;
+    one_kind = λ other any g. (two_faults width text number other kind any f g).1;
+    no_answer = λ cycles is. never_both width text cycles number kind is f;
+  },
+)
 
-pub one_answer : (width : ℕ) (text : List ℕ) → IsAcceptedOnce width text ⊎ IsRefusedOnce width text
+pub one_answer : (width : ℕ) (text : List ℕ) → Once width text
 one_answer width text = by (first_of width (lettered_lines text))
   where
-    by : All (Good width) (lettered_lines text) ⊎ ((number : ℕ) × (kind : StimKind) × IsFirst width (lettered_lines text) number kind) → IsAcceptedOnce width text ⊎ IsRefusedOnce width text
-    by (inl good) = inl (accepted_once width text good)
-    by (inr (number, kind, f)) = inr (refused_once width text number kind (record {
+    by : All (Good width) (lettered_lines text) ⊎ ((number : ℕ) × (kind : StimKind) × IsFirst width (lettered_lines text) number kind) → Once width text
+    by (inl good) = accepted_once width text good
+    by (inr (number, kind, f)) = refused_once width text number kind (record {
       before = f.before;
       letters = f.letters;
       after = f.after;
       lines_are = f.lines_are;
       fault = f.fault;
       none_before = none_from_good width f.before f.good_before;
-    }))
+    })

@@ -1,7 +1,8 @@
 -- A deck and a stimulus have one trace in each order, or are refused for one cause.
-use Rattle.std.proofs.Common.{◌≡◌, ◌≢◌, ℕ, ◌⊎◌, inl, inr, Bool, List, refl, sym, ap, ◌∙◌, subst}
+use Rattle.std.proofs.Common.{◌≡◌, ◌≢◌, ℕ, Bool, List, refl, ap, ◌∙◌, subst}
+use Rattle.dom_base.proofs.OneAnswer.{answer_or_refusal, answer_same, refusal_same}
 use Rattle.deck.specs.CircuitData.{CircuitData}
-use Rattle.deck.specs.DeckFaults.{IsDeckFaultAt}
+use Rattle.deck.specs.DeckFaults.{IsDeckFault, IsDeckFaultAt}
 use Rattle.deck.specs.DeckText.{IsDeckOf}
 use Rattle.deck.specs.Roles.{AreRoles, LeavesRolesAt, ports_of}
 use Rattle.deck.specs.declared.fault.DeckKind.{DeckKind}
@@ -9,9 +10,7 @@ use Rattle.deck.specs.declared.role.Roles.{Roles}
 use Rattle.deck.proofs.DeckUnique.{IsDeckOf-unique}
 use Rattle.deck.proofs.PortOrder.{LeavesRolesAt-same}
 use Rattle.deck.proofs.PortRoles.{AreRoles-same}
-use Rattle.spice_read.specs.Laws.{IsAcceptedOnce as IsAcceptedDeck, IsRefusedOnce as IsRefusedDeck}
 use Rattle.spice_read.proofs.OneAnswer.{one_answer as deck_answer}
-use Rattle.stim_text.specs.Laws.{IsAcceptedOnce as IsAcceptedStimulus, IsRefusedOnce as IsRefusedStimulus}
 use Rattle.stim_text.specs.Stimuli.{IsFaultAt, IsStimulusOf}
 use Rattle.stim_text.specs.declared.fault.StimKind.{StimKind}
 use Rattle.stim_text.proofs.OneAnswer.{one_answer as stimulus_answer}
@@ -25,43 +24,23 @@ use Rattle.trace_tool.proofs.OneTrace.{trace_is_one}
 
 -- a deck that is refused has no circuit
 no_circuit : (text : List ℕ) (line : ℕ) (kind : DeckKind) (circuit : CircuitData) → IsDeckFaultAt text line kind → IsDeckOf text circuit → ⊥
-no_circuit text line kind circuit fault is = by (deck_answer text)
-  where
-    by : IsAcceptedDeck text ⊎ IsRefusedDeck text → ⊥
-    by (inl a) = a.once.no_refusal line kind fault
-    by (inr r) = r.no_circuit circuit is
+no_circuit text line kind circuit fault is = answer_or_refusal (IsDeckOf text) (IsDeckFault text) (IsDeckFaultAt text) (λ l k f. f.fault) (deck_answer text) circuit line kind is fault
 
 -- it is refused at one line for one kind
 deck_fault_same : (text : List ℕ) (line line' : ℕ) (kind kind' : DeckKind) → IsDeckFaultAt text line kind → IsDeckFaultAt text line' kind' → (line ≡ line') × (kind ≡ kind')
-deck_fault_same text line line' kind kind' x y = by (deck_answer text)
-  where
-    by : IsAcceptedDeck text ⊎ IsRefusedDeck text → (line ≡ line') × (kind ≡ kind')
-    by (inl a) = absurd (a.once.no_refusal line kind x)
-    by (inr r) = (r.one_line line kind x ∙ sym (r.one_line line' kind' y), r.one_kind line kind x ∙ sym (r.one_kind line' kind' y))
+deck_fault_same text line line' kind kind' x y = refusal_same (IsDeckOf text) (IsDeckFault text) (IsDeckFaultAt text) (λ l k f. f.fault) (deck_answer text) line line' kind kind' x y
 
 -- at each number of pins a text is the stimulus of one list of cycles
 stimulus_same : (width : ℕ) (text : List ℕ) (a b : List (List Bool)) → IsStimulusOf width text a → IsStimulusOf width text b → a ≡ b
-stimulus_same width text a b x y = by (stimulus_answer width text)
-  where
-    by : IsAcceptedStimulus width text ⊎ IsRefusedStimulus width text → a ≡ b
-    by (inl s) = s.one_list a x ∙ sym (s.one_list b y)
-    by (inr r) = absurd (r.no_stimulus a x)
+stimulus_same width text a b x y = answer_same (IsStimulusOf width text) (IsFaultAt width text) (IsFaultAt width text) (stimulus_answer width text) a b x y
 
 -- one that is refused is no stimulus
 no_stimulus : (width : ℕ) (text : List ℕ) (line : ℕ) (kind : StimKind) (cycles : List (List Bool)) → IsFaultAt width text line kind → IsStimulusOf width text cycles → ⊥
-no_stimulus width text line kind cycles fault is = by (stimulus_answer width text)
-  where
-    by : IsAcceptedStimulus width text ⊎ IsRefusedStimulus width text → ⊥
-    by (inl s) = s.no_refusal line kind fault
-    by (inr r) = r.no_stimulus cycles is
+no_stimulus width text line kind cycles fault is = answer_or_refusal (IsStimulusOf width text) (IsFaultAt width text) (IsFaultAt width text) (λ l k f. f) (stimulus_answer width text) cycles line kind is fault
 
 -- it is refused at one line for one kind
 stim_fault_same : (width : ℕ) (text : List ℕ) (line line' : ℕ) (kind kind' : StimKind) → IsFaultAt width text line kind → IsFaultAt width text line' kind' → (line ≡ line') × (kind ≡ kind')
-stim_fault_same width text line line' kind kind' x y = by (stimulus_answer width text)
-  where
-    by : IsAcceptedStimulus width text ⊎ IsRefusedStimulus width text → (line ≡ line') × (kind ≡ kind')
-    by (inl s) = absurd (s.no_refusal line kind x)
-    by (inr r) = (r.one_line line kind x ∙ sym (r.one_line line' kind' y), r.one_kind line kind x ∙ sym (r.one_kind line' kind' y))
+stim_fault_same width text line line' kind kind' x y = refusal_same (IsStimulusOf width text) (IsFaultAt width text) (IsFaultAt width text) (λ l k f. f) (stimulus_answer width text) line line' kind kind' x y
 
 -- a deck has one count of clocks, pins and outputs
 roles_same : (deck : List ℕ) (c d : CircuitData) (r q : Roles) → IsDeckOf deck c → IsDeckOf deck d
