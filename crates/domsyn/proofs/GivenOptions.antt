@@ -175,6 +175,35 @@ filled_events true settings = true
 abbrev filled : Option Order → Option ℕ → Bool → List Setting → TraceOptionsData
 filled order seed events settings = record { order = filled_order order settings; seed = filled_seed seed settings; probes = []; events = filled_events events settings }
 
+-- no option leaves what was given, and an option gives what wasn't
+filled-none : (order : Option Order) (seed : Option ℕ) (events : Bool) → filled order seed events [] ≡ options_given order seed events
+filled-none None None false = refl
+filled-none None None true = refl
+filled-none None (Some s) false = refl
+filled-none None (Some s) true = refl
+filled-none (Some o) None false = refl
+filled-none (Some o) None true = refl
+filled-none (Some o) (Some s) false = refl
+filled-none (Some o) (Some s) true = refl
+
+filled-order : (next : Order) (seed : Option ℕ) (events : Bool) (settings : List Setting) → filled (Some next) seed events settings ≡ filled None seed events (SetOrder next ∷ settings)
+filled-order next None false settings = refl
+filled-order next None true settings = refl
+filled-order next (Some s) false settings = refl
+filled-order next (Some s) true settings = refl
+
+filled-seed : (order : Option Order) (next : ℕ) (events : Bool) (settings : List Setting) → filled order (Some next) events settings ≡ filled order None events (SetSeed next ∷ settings)
+filled-seed None next false settings = refl
+filled-seed None next true settings = refl
+filled-seed (Some o) next false settings = refl
+filled-seed (Some o) next true settings = refl
+
+filled-events : (order : Option Order) (seed : Option ℕ) (settings : List Setting) → filled order seed true settings ≡ filled order seed false (SetEvents ∷ settings)
+filled-events None None settings = refl
+filled-events None (Some s) settings = refl
+filled-events (Some o) None settings = refl
+filled-events (Some o) (Some s) settings = refl
+
 true≢false : true ≡ false → ⊥
 true≢false e = cc
 
@@ -206,43 +235,15 @@ free-events order seed (SetEvents ∷ settings) d h = absurd (true≢false d.0)
 completes-once : (settings : List Setting) (order : Option Order) (seed : Option ℕ) (events : Bool) → AreFree order seed events settings → AreOnce settings
     → Completes settings order seed events (filled order seed events settings)
 unfolding IsDistinct
-completes-once [] order seed events free once = by order seed events
-  where
-    by : (o : Option Order) (s : Option ℕ) (e : Bool) → filled o s e [] ≡ options_given o s e
-    by None None false = refl
-    by None None true = refl
-    by None (Some s) false = refl
-    by None (Some s) true = refl
-    by (Some o) None false = refl
-    by (Some o) None true = refl
-    by (Some o) (Some s) false = refl
-    by (Some o) (Some s) true = refl
+completes-once [] order seed events free once = filled-none order seed events
 completes-once (SetOrder next ∷ settings) None seed events free once =
-    (refl, subst (Completes settings (Some next) seed events) (by seed events) (completes-once settings (Some next) seed events (free-order next seed events settings once.0 free.1) once.1))
-  where
-    by : (s : Option ℕ) (e : Bool) → filled (Some next) s e settings ≡ filled None s e (SetOrder next ∷ settings)
-    by None false = refl
-    by None true = refl
-    by (Some s) false = refl
-    by (Some s) true = refl
+    (refl, subst (Completes settings (Some next) seed events) (filled-order next seed events settings) (completes-once settings (Some next) seed events (free-order next seed events settings once.0 free.1) once.1))
 completes-once (SetOrder next ∷ settings) (Some order) seed events free once = absurd (some≢none order free.0)
 completes-once (SetSeed next ∷ settings) order None events free once =
-    (refl, subst (Completes settings order (Some next) events) (by order events) (completes-once settings order (Some next) events (free-seed order next events settings once.0 free.1) once.1))
-  where
-    by : (o : Option Order) (e : Bool) → filled o (Some next) e settings ≡ filled o None e (SetSeed next ∷ settings)
-    by None false = refl
-    by None true = refl
-    by (Some o) false = refl
-    by (Some o) true = refl
+    (refl, subst (Completes settings order (Some next) events) (filled-seed order next events settings) (completes-once settings order (Some next) events (free-seed order next events settings once.0 free.1) once.1))
 completes-once (SetSeed next ∷ settings) order (Some seed) events free once = absurd (some≢none seed free.0)
 completes-once (SetEvents ∷ settings) order seed false free once =
-    (refl, subst (Completes settings order seed true) (by order seed) (completes-once settings order seed true (free-events order seed settings once.0 free.1) once.1))
-  where
-    by : (o : Option Order) (s : Option ℕ) → filled o s true settings ≡ filled o s false (SetEvents ∷ settings)
-    by None None = refl
-    by None (Some s) = refl
-    by (Some o) None = refl
-    by (Some o) (Some s) = refl
+    (refl, subst (Completes settings order seed true) (filled-events order seed settings) (completes-once settings order seed true (free-events order seed settings once.0 free.1) once.1))
 completes-once (SetEvents ∷ settings) order seed true free once = absurd (true≢false free.0)
 
 -- nothing was given before the first option
@@ -290,49 +291,21 @@ pub record IsWhole (settings : List Setting) (order : Option Order) (seed : Opti
 
 is-whole : (settings : List Setting) (order : Option Order) (seed : Option ℕ) (events : Bool) (options : TraceOptionsData) → Completes settings order seed events options → IsWhole settings order seed events options
 unfolding IsDistinct
-is-whole [] order seed events options h = record { free = tt; once = tt; is = h ∙ by order seed events }
-  where
-    by : (o : Option Order) (s : Option ℕ) (e : Bool) → options_given o s e ≡ filled o s e []
-    by None None false = refl
-    by None None true = refl
-    by None (Some s) false = refl
-    by None (Some s) true = refl
-    by (Some o) None false = refl
-    by (Some o) None true = refl
-    by (Some o) (Some s) false = refl
-    by (Some o) (Some s) true = refl
+is-whole [] order seed events options h = record { free = tt; once = tt; is = h ∙ sym (filled-none order seed events) }
 is-whole (SetOrder next ∷ settings) None seed events options h =
     let more = is-whole settings (Some next) seed events options h.1 in
     let apart = no_order-again next seed events settings more.free in
-    record { free = (refl, apart.1); once = (apart.0, more.once); is = more.is ∙ by seed events }
-  where
-    by : (s : Option ℕ) (e : Bool) → filled (Some next) s e settings ≡ filled None s e (SetOrder next ∷ settings)
-    by None false = refl
-    by None true = refl
-    by (Some s) false = refl
-    by (Some s) true = refl
+    record { free = (refl, apart.1); once = (apart.0, more.once); is = more.is ∙ filled-order next seed events settings }
 is-whole (SetOrder next ∷ settings) (Some order) seed events options h = absurd (some≢none order h.0)
 is-whole (SetSeed next ∷ settings) order None events options h =
     let more = is-whole settings order (Some next) events options h.1 in
     let apart = no_seed-again order next events settings more.free in
-    record { free = (refl, apart.1); once = (apart.0, more.once); is = more.is ∙ by order events }
-  where
-    by : (o : Option Order) (e : Bool) → filled o (Some next) e settings ≡ filled o None e (SetSeed next ∷ settings)
-    by None false = refl
-    by None true = refl
-    by (Some o) false = refl
-    by (Some o) true = refl
+    record { free = (refl, apart.1); once = (apart.0, more.once); is = more.is ∙ filled-seed order next events settings }
 is-whole (SetSeed next ∷ settings) order (Some seed) events options h = absurd (some≢none seed h.0)
 is-whole (SetEvents ∷ settings) order seed false options h =
     let more = is-whole settings order seed true options h.1 in
     let apart = no_events-again order seed settings more.free in
-    record { free = (refl, apart.1); once = (apart.0, more.once); is = more.is ∙ by order seed }
-  where
-    by : (o : Option Order) (s : Option ℕ) → filled o s true settings ≡ filled o s false (SetEvents ∷ settings)
-    by None None = refl
-    by None (Some s) = refl
-    by (Some o) None = refl
-    by (Some o) (Some s) = refl
+    record { free = (refl, apart.1); once = (apart.0, more.once); is = more.is ∙ filled-events order seed settings }
 is-whole (SetEvents ∷ settings) order seed true options h = absurd (true≢false h.0)
 
 -- the pieces of options that words write
