@@ -1,7 +1,7 @@
 //! Other forms of a text: the network is the same, and so is the deck.
 
 use crate::answer::gives;
-use crate::statuses::{AND, AND_DECK};
+use domsyn_calls::{AND, AND_DECK};
 use std::test::Fail;
 
 #[test]

@@ -1,4 +1,4 @@
-//! Tests of the program's one function over files and sinks in memory.
+//! Tests of the statuses and of the command `synth` on the program's one function.
 #![tactic(auto)]
 
 #[cfg(test)]
@@ -14,12 +14,6 @@ mod printed;
 #[cfg(test)]
 mod refused;
 #[cfg(test)]
-mod sim_words;
-#[cfg(test)]
 mod statuses;
-#[cfg(test)]
-mod trace_refused;
-#[cfg(test)]
-mod traces;
 #[cfg(test)]
 mod wide;

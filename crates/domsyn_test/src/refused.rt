@@ -1,8 +1,8 @@
 //! Texts with a fault: the first line with one, and its smallest kind.
 
 use crate::answer::{gives, refuses};
-use crate::statuses::{AND, AND_DECK};
 use dom_io::FILE_LIMIT;
+use domsyn_calls::{AND, AND_DECK};
 use std::test::Fail;
 
 #[test]

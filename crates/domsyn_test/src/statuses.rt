@@ -1,33 +1,7 @@
 //! Each status, and what stands on both sinks.
 
-use crate::answer::{ample, failing, shelf_of, status_of};
+use domsyn_calls::{AND, AND_DECK, ample, asking, failing, shelf_of, status_of};
 use std::test::Fail;
-
-pub(crate) const AND: &[u8] = b".model and2\n\
-    .inputs a b\n\
-    .outputs f\n\
-    .names a b f\n\
-    11 1\n\
-    .end\n";
-
-pub(crate) const AND_DECK: &[u8] = b"* domsyn deck 1\n\
-    * phase o_f +\n\
-    .subckt and2 vdd vss ck1 lm lmb ls lsb rs rsb\n\
-    + i_a i_b\n\
-    + o_f\n\
-    m0 d0 ck1 vdd vdd pch\n\
-    m1 d0 z0 vdd vdd pkeep\n\
-    m2 d0 i_a t0_0 vss nch\n\
-    m3 t0_0 i_b f0 vss nch\n\
-    m4 f0 ck1 vss vss nch\n\
-    m5 z0 d0 vdd vdd pch\n\
-    m6 z0 d0 vss vss nch\n\
-    m7 o_f d0 vdd vdd pch\n\
-    m8 o_f d0 vss vss nch\n\
-    .ends and2\n";
-
-pub(crate) const USAGE: &[u8] =
-    b"usage: domsyn synth FILE | flat FILE | run FILE STIM | sim DECK STIM | cosim FILE DECK STIM | report FILE | bench SEED SIZE\n";
 
 #[test]
 fn done_and_refused(rt: HostRuntime) -> Result<(), Fail> {
@@ -55,9 +29,8 @@ fn done_and_refused(rt: HostRuntime) -> Result<(), Fail> {
 #[test]
 fn bad_words(rt: HostRuntime) -> Result<(), Fail> {
     let alloc = rt.alloc();
-    let mut shelf = shelf_of(alloc, "a", AND)?;
-    for words in [
-        [].as_slice(),
+    let all: [&[&str]; 21] = [
+        &[],
         &["synth"],
         &["synth", "a", "b"],
         &["synth", "a", "a"],
@@ -78,14 +51,8 @@ fn bad_words(rt: HostRuntime) -> Result<(), Fail> {
         &["cosim", "a", "a", "a"],
         &["bench", "1", "0"],
         &["synth", "a", "--width", "4"],
-    ] {
-        let mut out = ample(alloc)?;
-        let mut err = ample(alloc)?;
-        assert_eq!(rt; status_of(alloc, words, &mut shelf, &mut out, &mut err)?, 2);
-        assert!(rt; out.taken.is_empty());
-        assert_eq!(rt; err.taken.as_slice(), USAGE);
-        assert_eq!(rt; shelf.calls, 0, "nothing is fetched");
-    }
+    ];
+    assert_eq!(rt; asking(alloc, &[("a", AND)], &all)?, None);
     Ok(())
 }
 

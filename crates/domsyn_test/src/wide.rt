@@ -1,6 +1,7 @@
 //! Tables at the most inputs, and beyond.
 
-use crate::answer::{refuses, synth};
+use crate::answer::refuses;
+use domsyn_calls::synth;
 use itoa::Buffer;
 use std::alloc::{AllocError, Global};
 use std::test::Fail;

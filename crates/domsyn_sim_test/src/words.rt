@@ -1,29 +1,21 @@
 //! Words that ask for no trace.
 
-use crate::answer::{ample, shelf_with, status_of};
-use crate::statuses::{AND_DECK, USAGE};
+use domsyn_calls::{AND_DECK, asking};
 use std::alloc::Global;
 use std::process::Abort;
 use std::test::Fail;
 
 /// Asserts that each of these lists of words is answered 2, and that nothing is fetched.
-fn asks_for_nothing(rt: &impl Abort, alloc: Global, all: &[&[&str]]) -> Result<(), Fail> {
-    let mut shelf = shelf_with(alloc, &[("d", AND_DECK), ("s", b"11\n")])?;
-    for words in all {
-        let mut out = ample(alloc)?;
-        let mut err = ample(alloc)?;
-        assert_eq!(rt; status_of(alloc, words, &mut shelf, &mut out, &mut err)?, 2);
-        assert!(rt; out.taken.is_empty());
-        assert_eq!(rt; err.taken.as_slice(), USAGE);
-        assert_eq!(rt; shelf.calls, 0, "nothing is fetched");
-    }
+fn sims_nothing(rt: &impl Abort, alloc: Global, all: &[&[&str]]) -> Result<(), Fail> {
+    let files = [("d", AND_DECK), ("s", b"11\n".as_slice())];
+    assert_eq!(rt; asking(alloc, &files, all)?, None);
     Ok(())
 }
 
 #[test]
 fn files_are_missing_or_too_many(rt: HostRuntime) -> Result<(), Fail> {
     let alloc = rt.alloc();
-    asks_for_nothing(
+    sims_nothing(
         &rt,
         alloc,
         &[
@@ -47,7 +39,7 @@ fn files_are_missing_or_too_many(rt: HostRuntime) -> Result<(), Fail> {
 #[test]
 fn options_are_unknown_or_twice(rt: HostRuntime) -> Result<(), Fail> {
     let alloc = rt.alloc();
-    asks_for_nothing(
+    sims_nothing(
         &rt,
         alloc,
         &[
@@ -71,7 +63,7 @@ fn options_are_unknown_or_twice(rt: HostRuntime) -> Result<(), Fail> {
 #[test]
 fn values_are_missing_or_wrong(rt: HostRuntime) -> Result<(), Fail> {
     let alloc = rt.alloc();
-    asks_for_nothing(
+    sims_nothing(
         &rt,
         alloc,
         &[
@@ -91,7 +83,7 @@ fn values_are_missing_or_wrong(rt: HostRuntime) -> Result<(), Fail> {
 #[test]
 fn numbers_are_wrong(rt: HostRuntime) -> Result<(), Fail> {
     let alloc = rt.alloc();
-    asks_for_nothing(
+    sims_nothing(
         &rt,
         alloc,
         &[

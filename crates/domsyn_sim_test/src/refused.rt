@@ -1,8 +1,7 @@
 //! Decks and stimuli that are not simulated, simulations that end unsettled, and faults of the outside.
 
-use crate::answer::{ample, answer_to, failing, shelf_with, status_of};
-use crate::statuses::AND_DECK;
 use dom_io::{FILE_LIMIT, MemoryShelf};
+use domsyn_calls::{AND_DECK, ample, answer_to, failing, shelf_with, status_of};
 use std::alloc::Global;
 use std::process::Abort;
 use std::test::Fail;

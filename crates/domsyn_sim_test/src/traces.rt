@@ -1,7 +1,6 @@
 //! Traces: the worked ones, in each order, with and without their events.
 
-use crate::answer::answer_to;
-use crate::statuses::AND_DECK;
+use domsyn_calls::{AND_DECK, answer_to};
 use std::alloc::Global;
 use std::process::Abort;
 use std::test::Fail;
