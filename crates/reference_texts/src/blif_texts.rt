@@ -36,9 +36,37 @@ pub const WORKED: &[&str] = &[
     ".model t\n.names a f\\# c\n1 1\n",
     ".model t\n.names a f\\\r\n1 1\n",
     ".model t\n.names a f\n1 1\n# c\n\n0 1\n.clock\n.model u\n.end\n.model t\n",
+    ".model m\n.latch a f al b\n",
+    ".model m\n.latch a f as b 3\n",
+    ".model m\n.latch a f b 1\n",
+    ".model m\n.latch a f b c 1\n",
+    ".model m\n.latch a f fe NIL\n.latch A NIL re a 3\n.latch a f 0\n.latch a f 1\n",
+    ".model m\n.subckt u a b=c\n",
+    ".model m\n.subckt u a=b a=b= B==a\n.subckt a=b\n",
+    ".model m\n.inputs a\\\\\nb\n.outputs A a\\b \\\n a\n",
+    " \\\n\n# c \\\n\\\n",
+    ".model m\n.names f\n.inputs a\n1\n",
+    ".model m\n.names a f\n1 01\n",
+    ".model m\n.names a b f\n1 1 1\n",
+    ".model m\n.names a b A f F\n01-0 0\n---- 0\n1010 0\n",
 ];
 
-const LINES: &[&str] = &[
+/// Texts with a byte at each `?`.
+pub const PATTERNS: &[&str] = &[
+    "?.model m\n",
+    ".model m?n\n.inputs a?b\n.outputs ?\n",
+    ".model m\n.inputs a?\n.clock?\nb\n.end",
+    ".model m\n?names f\n1\n",
+    ".model m\n.names f\n?\n",
+    ".model m\n.names a f\n? 1\n",
+    ".model m\n.names a b f\n1? 0\n",
+    ".model m\n.names a f\n1 ?\n",
+    ".model m\n.latch a q ?\n.latch b r re ? ?\n",
+    ".model m\n.subckt u a?b c=?\n",
+    ".model m\n.end ?\n",
+];
+
+pub const LINES: &[&str] = &[
     ".model m",
     ".model m",
     ".model",
@@ -118,7 +146,7 @@ const CARDS: &[&str] = &[
     ".end",
 ];
 
-const WORDS: &[&str] = &[
+pub const WORDS: &[&str] = &[
     ".model",
     ".model m\n",
     ".inputs",
@@ -152,22 +180,14 @@ const WORDS: &[&str] = &[
     "3",
 ];
 
-const PARTS: &[&str] = &[
+pub const PARTS: &[&str] = &[
     " ", " ", " ", "\t", "\n", "\n", "\\\n", "\r\n", "", "\r", " #",
 ];
 
-const ENDS: &[&str] = &[
+pub const ENDS: &[&str] = &[
     "\n", "\n", "\n", "\n", "\n", "\n", "\n", "\n", "\r\n", "\r\n", " \t\n", "\n\n", " # c\n",
     "#\r\n", "\\\n", " \\\n", "\\\r\n", "\\ \n", "\\#\n", "\r\r\n", "\x7f\n", " 1\n", " =\n", "",
 ];
-
-/// Lines of all kinds.
-pub fn of_lines(alloc: Global, draws: &mut Draws) -> Result<Vec<u8>, OutOfMemory> {
-    let mut text = Vec::new(alloc);
-    let count = draws.below(8);
-    draws.append(&mut text, count, LINES, ENDS)?;
-    Ok(text)
-}
 
 /// Cards of a model.
 pub fn framed(alloc: Global, draws: &mut Draws) -> Result<Vec<u8>, OutOfMemory> {
@@ -186,17 +206,10 @@ pub fn framed(alloc: Global, draws: &mut Draws) -> Result<Vec<u8>, OutOfMemory> 
     Ok(text)
 }
 
-/// Words and what parts them.
-pub fn of_words(alloc: Global, draws: &mut Draws) -> Result<Vec<u8>, OutOfMemory> {
-    let mut text = Vec::new(alloc);
-    let count = draws.below(20);
-    draws.append(&mut text, count, WORDS, PARTS)?;
-    Ok(text)
-}
-
-/// A table with so many inputs and a row.
-pub fn wide(alloc: Global, width: u32) -> Result<Vec<u8>, OutOfMemory> {
-    let mut text = Vec::from_slice(alloc, b".model w\n.names")?;
+/// A table with so many inputs and a row, behind this line.
+pub fn wide(alloc: Global, head: &str, width: u32) -> Result<Vec<u8>, OutOfMemory> {
+    let mut text = Vec::from_slice(alloc, head.as_bytes())?;
+    text.extend_from_slice(b"\n.names")?;
     for _ in 0..width {
         text.extend_from_slice(b" a")?;
     }

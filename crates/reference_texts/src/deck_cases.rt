@@ -1,7 +1,8 @@
 //! Decks, read twice.
 use crate::deck_read::{PlainAnswer, PlainDeck, read_plainly};
-use crate::deck_texts::{AND, WORKED, framed, of_lines, of_words};
+use crate::deck_texts::{AND, ENDS, LINES, PARTS, PATTERNS, WORDS, WORKED, framed};
 use crate::draws::Draws;
+use crate::listed::listed;
 use crate::tally::Tally;
 use deck::{Circuit, Device, Phase};
 use dom_base::{NetName, OutOfMemory};
@@ -80,20 +81,17 @@ fn compare(alloc: Global, tally: &mut Tally, text: &[u8]) -> Result<(), OutOfMem
     }
 }
 
-/// Reads the worked texts, one of them cut short at each byte, and texts of drawn pieces.
+/// Reads the worked texts, one of them cut short at each byte, patterns with each byte, and texts of
+/// drawn pieces.
 pub fn compare_decks(alloc: Global) -> Result<Tally, OutOfMemory> {
     let mut tally = Tally::new();
-    for text in WORKED {
-        compare(alloc, &mut tally, text.as_bytes())?;
-    }
-    for end in 0..AND.len() {
-        let text = AND.as_bytes().get(..end).unwrap_or(&[]);
-        compare(alloc, &mut tally, text)?;
+    for text in listed(alloc, WORKED, AND, PATTERNS)? {
+        compare(alloc, &mut tally, &text)?;
     }
     let mut draws = Draws::new(1);
     for _ in 0..120u32 {
-        compare(alloc, &mut tally, &of_lines(alloc, &mut draws)?)?;
-        compare(alloc, &mut tally, &of_words(alloc, &mut draws)?)?;
+        compare(alloc, &mut tally, &draws.text(alloc, 8, LINES, ENDS)?)?;
+        compare(alloc, &mut tally, &draws.text(alloc, 16, WORDS, PARTS)?)?;
     }
     for _ in 0..360u32 {
         compare(alloc, &mut tally, &framed(alloc, &mut draws)?)?;

@@ -27,9 +27,26 @@ pub const WORKED: &[&str] = &[
     ".subckt t vdd\nm0 a b c vss nch\n.ends\nm1 a b c vss nch\n",
     ".subckt t\n.ends\n.end\r\r\n",
     ".subckt t\n.ends\r\r\n",
+    ".subckt a\n.ends\n.endx\n.end\n",
+    ".subckt a\n.subckts\n.ends\n",
+    ".subckt a\n.endss\n.ends\n",
+    ".subckt a=b x\n.ends\n",
+    ".subckt a\n.ends b\n.end",
+    "** phase x +\n*x phase y -\n* phases z +\n* phase\n.subckt a\n.ends\n",
+    ".subckt a\n\t * PHASE\tA  -\r\n* phase b\n+ +\n.ends x=y\n.model\n.end z=",
 ];
 
-const LINES: &[&str] = &[
+/// Decks with a byte at each `?`.
+pub const PATTERNS: &[&str] = &[
+    "?.subckt a\n.ends\n",
+    ".subckt a?b c?\n+?d\n.ends\n",
+    ".subckt a\n?m x y z w nch\n.ends\n",
+    ".subckt a\nm x?y z w nch\n+?.ends\n.ends\n",
+    ".subckt a\n.ends ?\n.end?\n",
+    "*?phase a -\n* phase b? +\n* phase c ?\n.subckt a\n.ends\n",
+];
+
+pub const LINES: &[&str] = &[
     ".subckt a vdd vss",
     ".SUBCKT B x Y",
     ".subckt c x y x",
@@ -123,7 +140,7 @@ const TAILS: &[&str] = &[
     "",
 ];
 
-const WORDS: &[&str] = &[
+pub const WORDS: &[&str] = &[
     ".subckt",
     ".subckt",
     "a",
@@ -150,20 +167,12 @@ const WORDS: &[&str] = &[
     "\u{e9}",
 ];
 
-const PARTS: &[&str] = &[" ", " ", " ", "\t", "\n", "\n", "\n+", "\r\n", "", "\r"];
+pub const PARTS: &[&str] = &[" ", " ", " ", "\t", "\n", "\n", "\n+", "\r\n", "", "\r"];
 
-const ENDS: &[&str] = &[
+pub const ENDS: &[&str] = &[
     "\n", "\n", "\n", "\n", "\n", "\n", "\n", "\n", "\r\n", "\r\n", " \t\n", "\n\n", "\n* c\n",
     "\r\r\n", " \x7f\n", " x\n", "\n ", "=\n", "",
 ];
-
-/// Lines of all kinds.
-pub fn of_lines(alloc: Global, draws: &mut Draws) -> Result<Vec<u8>, OutOfMemory> {
-    let mut text = Vec::new(alloc);
-    let count = draws.below(8);
-    draws.append(&mut text, count, LINES, ENDS)?;
-    Ok(text)
-}
 
 /// Devices between `.subckt` and `.ends`.
 pub fn framed(alloc: Global, draws: &mut Draws) -> Result<Vec<u8>, OutOfMemory> {
@@ -172,13 +181,5 @@ pub fn framed(alloc: Global, draws: &mut Draws) -> Result<Vec<u8>, OutOfMemory> 
     let count = draws.below(5);
     draws.append(&mut text, count, DEVICES, &["\n", "\n", "\r\n", " x\n"])?;
     draws.append(&mut text, 1, TAILS, &["\n", "\n", "\r\n", "\n.x\n", ""])?;
-    Ok(text)
-}
-
-/// Words and what parts them.
-pub fn of_words(alloc: Global, draws: &mut Draws) -> Result<Vec<u8>, OutOfMemory> {
-    let mut text = Vec::new(alloc);
-    let count = draws.below(16);
-    draws.append(&mut text, count, WORDS, PARTS)?;
     Ok(text)
 }

@@ -1,5 +1,6 @@
 //! Texts that are assembled of pieces by drawn numbers.
 use dom_base::OutOfMemory;
+use std::alloc::Global;
 
 /// Drawn numbers, the same in each run.
 #[derive(Drop)]
@@ -41,5 +42,18 @@ impl Draws {
             text.extend_from_slice(self.pick(ends).as_bytes())?;
         }
         Ok(())
+    }
+    /// A text of fewer than so many of these pieces, each with one of the ends behind it.
+    pub fn text(
+        &mut self,
+        alloc: Global,
+        bound: usize,
+        pieces: &[&'static str],
+        ends: &[&'static str],
+    ) -> Result<Vec<u8>, OutOfMemory> {
+        let mut text = Vec::new(alloc);
+        let count = self.below(bound);
+        self.append(&mut text, count, pieces, ends)?;
+        Ok(text)
     }
 }

@@ -54,22 +54,16 @@ const THREE: &[&str] = &[
 
 /// Letters and what parts lines.
 pub fn of_letters(alloc: Global, draws: &mut Draws) -> Result<Vec<u8>, OutOfMemory> {
-    let mut text = Vec::new(alloc);
-    let count = draws.below(12);
-    draws.append(&mut text, count, LETTERS, &[""])?;
-    Ok(text)
+    draws.text(alloc, 12, LETTERS, &[""])
 }
 
 /// Lines for one number of pins.
 pub fn of_lines(alloc: Global, draws: &mut Draws) -> Result<Vec<u8>, OutOfMemory> {
-    let mut text = Vec::new(alloc);
     let lines = match draws.below(4) {
         0 => NONE,
         1 => ONE,
         2 => TWO,
         _ => THREE,
     };
-    let count = draws.below(6);
-    draws.append(&mut text, count, lines, &["\n", "\n", "\r\n", " \n"])?;
-    Ok(text)
+    draws.text(alloc, 6, lines, &["\n", "\n", "\r\n", " \n"])
 }
