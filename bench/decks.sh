@@ -14,12 +14,7 @@
 set -eu
 here=$(CDPATH='' cd -- "$(dirname -- "$0")" && pwd)
 . "$here/measure.sh"
-domsyn=${1:-$here/../crates/domsyn_cli/out/domsyn_cli}
-runs=${2:-3}
-yardstick=${YARDSTICK:-}
 deck=$folder/deck.sp
-need "$domsyn"
-need /usr/bin/time
 echo x >"$folder/bad.txt"
 : >"$folder/none.txt"
 

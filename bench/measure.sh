@@ -1,5 +1,5 @@
 # shellcheck shell=sh
-# Functions of the benchmarks. The scripts read this file after `set -eu`.
+# What the benchmarks share. The scripts read this file after `set -eu`, with `here` for their folder.
 
 export LC_ALL=C
 # The bytes of the largest texts: as many as a file may have, or LIMIT for a short trial.
@@ -14,6 +14,14 @@ escape=$(printf '\033')
 need() {
     command -v "$1" >/dev/null || { echo "no program $1" >&2; exit 1; }
 }
+
+# The words of each script: the program, and how often it runs.
+domsyn=${1:-$here/../crates/domsyn_cli/out/domsyn_cli}
+runs=${2:-3}
+# shellcheck disable=SC2034
+yardstick=${YARDSTICK:-}
+need "$domsyn"
+need /usr/bin/time
 
 # machine: says what the numbers were measured on.
 machine() {

@@ -11,12 +11,7 @@
 set -eu
 here=$(CDPATH='' cd -- "$(dirname -- "$0")" && pwd)
 . "$here/measure.sh"
-domsyn=${1:-$here/../crates/domsyn_cli/out/domsyn_cli}
-runs=${2:-3}
-yardstick=${YARDSTICK:-}
 file=$folder/text.blif
-need "$domsyn"
-need /usr/bin/time
 
 # write KIND BYTES: makes the file.
 write() {

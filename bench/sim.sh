@@ -11,16 +11,11 @@
 set -eu
 here=$(CDPATH='' cd -- "$(dirname -- "$0")" && pwd)
 . "$here/measure.sh"
-domsyn=${1:-$here/../crates/domsyn_cli/out/domsyn_cli}
-runs=${2:-3}
 cycles=${3:-100}
 seed=${4:-3}
 tables=${5:-85}
-yardstick=${YARDSTICK:-}
 deck=$folder/deck.sp
 stim=$folder/stim.txt
-need "$domsyn"
-need /usr/bin/time
 
 # write_deck: makes the deck and the stimulus.
 write_deck() {
