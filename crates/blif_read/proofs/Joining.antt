@@ -78,11 +78,6 @@ one_more_piece whole all first number next goes_on before after rest so_far is p
     ∙ ap (λ w. with_words goes_on first w (worded_lines (number + 1) rest)) (sym p.words_are)
     ∙ ap (λ n. with_words goes_on first after (worded_lines n rest)) (sym is)
 
--- at the end of the text a line that goes on ends too
-pub with_words-end : (goes_on : Bool) (number : ℕ) (front : List (List ℕ)) → with_words goes_on number front [] ≡ record { number = number; words = front } ∷ []
-with_words-end true number front = refl
-with_words-end false number front = refl
-
 pub first_piece_of : (all : List (List ℕ)) (number next : ℕ) (goes_on : Bool) (before after rest : List (List ℕ)) → before ≡ [] → next ≡ number + 1 → IsPiece all goes_on before after rest
     → worded_lines number all ≡ with_words goes_on number after (worded_lines next rest)
 first_piece_of all number next goes_on before after rest none is p = first_piece all number next goes_on after rest is (subst (λ b. IsPiece all goes_on b after rest) none p)

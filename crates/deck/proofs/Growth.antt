@@ -4,7 +4,7 @@ use Rattle.std.specs.Cmp.Lexicographic.{pointwise, bytes_decides}
 use Rattle.dom_base.specs.declared.kind.Kind.{Kind}
 use Rattle.deck.specs.declared.device.Device.{Device}
 use Rattle.deck.specs.CircuitData.{CircuitData}
-use Rattle.deck.specs.Nets.{place_of, with_net, with_nets}
+use Rattle.deck.specs.Nets.{place_of, with_net}
 use Rattle.deck.specs.Pushes.{pushed}
 
 -- a later state of a circuit that only grew
@@ -73,22 +73,3 @@ slice_get-with_net (x ∷ xs) name = by (pointwise nat_eq name x) refl (slice_ge
         ap (λ (n : ℕ). slice_get (if list_any (pointwise nat_eq name) xs then x ∷ xs else (x ∷ xs) ++ name ∷ []) n) next
         ∙ ap (λ l. slice_get l (suc (place_of xs name))) (tail_case (list_any (pointwise nat_eq name) xs)) ∙ rest
         )
-
--- the names of the three nets of a device that was pushed
-pub record HasEnds (nets : List (List ℕ)) (drain gate source : ℕ) (d g s : List ℕ) : Type 0 where
-  pub drain_is : slice_get nets drain ≡ Some d
-  pub gate_is : slice_get nets gate ≡ Some g
-  pub source_is : slice_get nets source ≡ Some s
-
-pub pushed-ends : (nets : List (List ℕ)) (d g s : List ℕ)
-    → HasEnds (with_nets nets d g s) (place_of nets d) (place_of (with_net nets d) g) (place_of (with_net (with_net nets d) g) s) d g s
-pushed-ends nets d g s =
-    let b = with_net-grows (with_net nets d) g in
-    let e = with_net-grows (with_net (with_net nets d) g) s in
-    let gate_is = slice_get-append (with_net (with_net nets d) g) e.0 (place_of (with_net nets d) g) g (slice_get-with_net (with_net nets d) g) in
-    let drain_is = slice_get-append (with_net nets d) b.0 (place_of nets d) d (slice_get-with_net nets d) in
-    record {
-      drain_is = ap (λ l. slice_get l (place_of nets d)) e.1 ∙ slice_get-append (with_net (with_net nets d) g) e.0 (place_of nets d) d (ap (λ l. slice_get l (place_of nets d)) b.1 ∙ drain_is);
-      gate_is = ap (λ l. slice_get l (place_of (with_net nets d) g)) e.1 ∙ gate_is;
-      source_is = slice_get-with_net (with_net (with_net nets d) g) s;
-    }

@@ -1,29 +1,12 @@
 -- Files of one model with one table, and their networks.
-use Rattle.std.proofs.Common.{◌≡◌, ◌==◌, ℕ, Bool, true, List, [], ◌∷◌, sym, ap, ◌∙◌, subst}
+use Rattle.std.proofs.Common.{◌≡◌, ◌==◌, ℕ, Bool, true, List, [], ◌∷◌, sym, ap, ◌∙◌}
 use Rattle.std.specs.Prelude.{IsTrue}
 use Rattle.std.specs.Cmp.Lexicographic.{pointwise, pointwise_decides, bytes_decides}
 use Rattle.blif_ast.specs.BlifFileData.{BlifFileData}
 use Rattle.blif_ast.specs.BlifModelData.{BlifModelData}
 use Rattle.blif_ast.specs.TableData.{TableData}
-use Rattle.domsyn.specs.OneTable.{IsFileOfTable, IsModelOf, IsTableOf, IsTableOver}
+use Rattle.domsyn.specs.OneTable.{IsFileOfTable, IsTableOver}
 use Rattle.domsyn.specs.OneTableData.{OneTableData}
-
-same_single : {X : Type 0} (a b : X) → a ∷ [] ≡ b ∷ [] → a ≡ b
-same_single a b e = cc
-
--- the one table of the one model of the file of a network fits
-pub table_fits : (f : BlifFileData) (m : BlifModelData) (output : List ℕ) (table : TableData) (t : OneTableData) → f.models ≡ m ∷ [] → m.outputs ≡ output ∷ [] → m.tables ≡ table ∷ []
-    → IsFileOfTable f t → IsTableOver m.inputs output table
-table_fits f m output table t one out only is =
-    let model : is.model ≡ m = same_single is.model m (sym is.models ∙ one) in
-    let whole : IsModelOf m t = subst (λ x. IsModelOf x t) model is.is_model in
-    let mine : whole.table ≡ table = same_single whole.table table (sym whole.tables ∙ only) in
-    let table_is : IsTableOf table t = subst (λ x. IsTableOf x t) mine whole.is_table in
-    record {
-      inputs_are = table_is.inputs ∙ sym whole.inputs;
-      output_is = table_is.output ∙ same_single t.output output (sym whole.outputs ∙ out);
-      on = table_is.on;
-    }
 
 -- and where it fits, the file is that of its network
 pub file_of_table : (f : BlifFileData) (m : BlifModelData) (output : List ℕ) (table : TableData) (t : OneTableData) → f.models ≡ m ∷ [] → m.outputs ≡ output ∷ [] → m.tables ≡ table ∷ []

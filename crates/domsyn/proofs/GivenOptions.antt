@@ -14,9 +14,6 @@ use Rattle.std.proofs.lemmas.List.{take_rest}
 abbrev pub GivesNothing : List (List ℕ) → Option Order → Option ℕ → Bool → Type 0
 GivesNothing words order seed events = (options : TraceOptionsData) → GivesMore words order seed events options → ⊥
 
-pub gives_none : (words : List (List ℕ)) (order : Option Order) (seed : Option ℕ) (events : Bool) → words ≡ [] → GivesMore words order seed events (options_given order seed events)
-gives_none words order seed events e = record { settings = []; written = e; complete = refl }
-
 -- the first option that words write
 pub by_first : (words more : List (List ℕ)) (option : List ℕ) (order : Option Order) (seed : Option ℕ) (events : Bool) (options : TraceOptionsData) → words ≡ option ∷ more
     → ((next : Order) (rest : List (List ℕ)) → option ≡ codes "--order" → more ≡ order_word next ∷ rest → order ≡ None → GivesMore rest (Some next) seed events options → ⊥)

@@ -51,9 +51,6 @@ module _ {F : Type 0} where
     pub chain : IsChain order start.links start.values start.step events
     pub now_is : now ≡ ran start events
 
-  pub has_run-none : (order : ℕ → ℕ → ℕ → Type 0) (start : SimData F) → HasRun order start 0 start
-  has_run-none order start = record { events = []; number = refl; chain = tt; now_is = refl }
-
   -- one event after some others
   pub ran-push : (s : SimData F) (events : List Event) (event : Event) → ran (ran s events) (event ∷ []) ≡ ran s (events ++ event ∷ [])
   ran-push s events event = λ i. record {

@@ -64,9 +64,6 @@ module _ {F : Type 0} where
   pub values_same : {s t : SimData F} → s ≡ t → s.values ≡ t.values
   values_same e = ap (λ (s : SimData F). s.values) e
 
-  pub step_same : {s t : SimData F} → s ≡ t → s.step ≡ t.step
-  step_same e = ap (λ (s : SimData F). s.step) e
-
   -- what holds of who picks and of a count
   pub pick_moved : (P : F → ℕ → Type 0) {s t : SimData F} {m n : ℕ} → s ≡ t → m ≡ n → P s.pick m → P t.pick n
   pick_moved P {s} {t} {m} {n} e f h = subst (λ (k : ℕ). P t.pick k) f (subst (λ (x : SimData F). P x.pick m) e h)

@@ -1,29 +1,22 @@
 -- Reading the lines of a card.
-use Rattle.std.proofs.Common.{◌≡◌, ℕ, Bool, true, false, ◌==◌, ◌&&◌, not, cond, nat_eq, if◌then◌else◌, List, [], ◌∷◌, ◌++◌, drop, map, filter, codes, Option, Some, None, refl, sym, ap, ◌∙◌, append_assoc, append-nil, eqb-true}
+use Rattle.std.proofs.Common.{◌≡◌, ℕ, Bool, true, false, ◌==◌, ◌&&◌, not, cond, nat_eq, if◌then◌else◌, List, [], ◌∷◌, ◌++◌, filter, codes, Option, Some, None, refl, sym, ap, ◌∙◌, append_assoc, append-nil, eqb-true}
 use Rattle.std.specs.List.{cons_option, before_first}
 use Rattle.std.specs.Option.{option_to_list}
 use Rattle.std.specs.Cmp.Lexicographic.{pointwise}
 use Rattle.dom_base.specs.Lines.{is_blank, words, unindented}
 use Rattle.deck.specs.declared.phase.Phase.{Phase}
-use Rattle.deck.specs.DeckText.{is_of_card, continues, added_words, phase_of}
+use Rattle.deck.specs.DeckText.{is_of_card, continues, phase_of}
 use Rattle.deck.specs.DeckCards.{numbered_lines_from, numbered_cards_of}
 use Rattle.spice_read.specs.Rests.{rest_lines, cards_from, phases_from, begins_card, IsNextLine}
-use Rattle.spice_read.specs.Scans.{continued_words, with_words, IsRest}
+use Rattle.spice_read.specs.Scans.{with_words, IsRest}
 use Rattle.spice_read.proofs.FirstWords.{words-front, no_blank}
 
 -- the lines of cards behind a line
 abbrev lines_at : ℕ → List ℕ → List (ℕ × List ℕ)
 lines_at number rest = numbered_lines_from number (rest_lines rest)
 
--- the words that they add to a card before them
-abbrev added_at : ℕ → List ℕ → List (List ℕ)
-added_at number rest = added_words (map (λ q. q.1) (lines_at number rest))
-
 lines-kept : (n : ℕ) (rest line : List ℕ) (m : ℕ) (more : List ℕ) → IsNextLine n rest line m more → is_of_card line ≡ true → lines_at n rest ≡ (n, line) ∷ lines_at m more
 lines-kept n rest line m more is e = ap (filter (λ p. is_of_card p.1)) is.numbered ∙ ap (λ (t : Bool). cond t ((n, line) ∷ lines_at m more) (lines_at m more)) e
-
-lines-dropped : (n : ℕ) (rest line : List ℕ) (m : ℕ) (more : List ℕ) → IsNextLine n rest line m more → is_of_card line ≡ false → lines_at n rest ≡ lines_at m more
-lines-dropped n rest line m more is e = ap (filter (λ p. is_of_card p.1)) is.numbered ∙ ap (λ (t : Bool). cond t ((n, line) ∷ lines_at m more) (lines_at m more)) e
 
 -- a comment or an empty line continues no card
 apart : (line : List ℕ) → is_of_card line ≡ false → continues line ≡ false
@@ -43,56 +36,12 @@ card_line line e = by (is_of_card line) (continues line) refl refl e
     by true true f g h = absurd (let never : false ≡ true = h in cc)
     by false t f g h = absurd (let never : false ≡ true = h in cc)
 
--- what any other line is
-other_line : (P : Type 0) (line : List ℕ) → begins_card line ≡ false → (is_of_card line ≡ true → continues line ≡ true → P) → (is_of_card line ≡ false → continues line ≡ false → P) → P
-other_line P line e continuing other = by (is_of_card line) (continues line) refl refl e
-  where
-    by : (s t : Bool) → is_of_card line ≡ s → continues line ≡ t → (s && not t) ≡ false → P
-    by true true f g h = continuing f g
-    by true false f g h = absurd (let never : true ≡ false = h in cc)
-    by false t f g h = other f (apart line f)
-
--- a line that begins the next card
-pub words-next_card : (place : ℕ) (front : List (List ℕ)) (n : ℕ) (rest line : List ℕ) (m : ℕ) (more : List ℕ) → IsNextLine n rest line m more → begins_card line ≡ true
-    → with_words place front (lines_at n rest) ≡ record { number = place; words = front } ∷ cards_from n (rest_lines rest)
-words-next_card place front n rest line m more is e =
-    let kinds = card_line line e in
-    let kept = lines-kept n rest line m more is kinds.0 in
-    let none : added_words (map (λ q. q.1) (lines_at n rest)) ≡ [] = ap (λ l. added_words (map (λ q. q.1) l)) kept ∙ ap (λ (t : Bool). if t then words (drop 1 line) ++ added_words (map (λ q. q.1) (lines_at m more)) else []) kinds.1 in
-    ap (λ a. record { number = place; words = front ++ a } ∷ numbered_cards_of (lines_at n rest)) none
-    ∙ ap (λ w. record { number = place; words = w } ∷ numbered_cards_of (lines_at n rest)) (append-nil front)
-
 pub cards-next_card : (n : ℕ) (rest line : List ℕ) (m : ℕ) (more : List ℕ) → IsNextLine n rest line m more → begins_card line ≡ true
     → cards_from n (rest_lines rest) ≡ with_words n (words line) (lines_at m more)
 cards-next_card n rest line m more is e =
     let kinds = card_line line e in
     ap numbered_cards_of (lines-kept n rest line m more is kinds.0)
     ∙ ap (λ (t : Bool). if t then numbered_cards_of (lines_at m more) else with_words n (words line) (lines_at m more)) kinds.1
-
--- any other line
-pub words-next_other : (place : ℕ) (front : List (List ℕ)) (n : ℕ) (rest line : List ℕ) (m : ℕ) (more : List ℕ) → IsNextLine n rest line m more → begins_card line ≡ false
-    → with_words place front (lines_at n rest) ≡ with_words place (front ++ continued_words line) (lines_at m more)
-words-next_other place front n rest line m more is e = other_line _ line e continuing other
-  where
-    continuing : is_of_card line ≡ true → continues line ≡ true → with_words place front (lines_at n rest) ≡ with_words place (front ++ continued_words line) (lines_at m more)
-    continuing f g =
-        ap (with_words place front) (lines-kept n rest line m more is f)
-        ∙ ap (λ (t : Bool). record { number = place; words = front ++ (if t then words (drop 1 line) ++ (added_at m more) else []) } ∷ (if t then numbered_cards_of (lines_at m more) else with_words n (words line) (lines_at m more))) g
-        ∙ ap (λ w. record { number = place; words = w } ∷ numbered_cards_of (lines_at m more)) (sym (append_assoc front (words (drop 1 line)) (added_at m more)))
-        ∙ ap (λ (t : Bool). record { number = place; words = (front ++ (if t then words (drop 1 line) else [])) ++ (added_at m more) } ∷ numbered_cards_of (lines_at m more)) (sym g)
-
-    other : is_of_card line ≡ false → continues line ≡ false → with_words place front (lines_at n rest) ≡ with_words place (front ++ continued_words line) (lines_at m more)
-    other f g =
-        ap (with_words place front) (lines-dropped n rest line m more is f)
-        ∙ ap (λ w. record { number = place; words = w ++ (added_at m more) } ∷ numbered_cards_of (lines_at m more)) (sym (append-nil front))
-        ∙ ap (λ (t : Bool). record { number = place; words = (front ++ (if t then words (drop 1 line) else [])) ++ (added_at m more) } ∷ numbered_cards_of (lines_at m more)) (sym g)
-
-pub cards-next_other : (n : ℕ) (rest line : List ℕ) (m : ℕ) (more : List ℕ) → IsNextLine n rest line m more → begins_card line ≡ false
-    → cards_from n (rest_lines rest) ≡ cards_from m (rest_lines more)
-cards-next_other n rest line m more is e = other_line _ line e
-    (λ f g. ap numbered_cards_of (lines-kept n rest line m more is f)
-    ∙ ap (λ (t : Bool). if t then numbered_cards_of (lines_at m more) else with_words n (words line) (lines_at m more)) g)
-    (λ f g. ap numbered_cards_of (lines-dropped n rest line m more is f))
 
 cons_option-list : {X : Type 0} (o : Option X) (xs : List X) → cons_option o xs ≡ option_to_list o ++ xs
 cons_option-list None xs = refl
@@ -109,9 +58,6 @@ rest-line n rest phases line m more after is e = record {
       ∙ sym (append_assoc phases (option_to_list (phase_of (words line))) (phases_from (rest_lines more)))
       ∙ ap (λ l. l ++ phases_from (rest_lines more)) (sym e);
 }
-
-pub rest-refl : (n : ℕ) (rest : List ℕ) (phases : List Phase) → IsRest n rest phases n rest phases
-rest-refl n rest phases = record { end_is = refl; phases_are = refl }
 
 pub rest-trans : (n : ℕ) (rest : List ℕ) (phases : List Phase) (m : ℕ) (more : List ℕ) (mid : List Phase) (k : ℕ) (last : List ℕ) (after : List Phase)
     → IsRest n rest phases m more mid → IsRest m more mid k last after → IsRest n rest phases k last after

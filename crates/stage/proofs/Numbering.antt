@@ -11,7 +11,6 @@ use Rattle.deck.proofs.Order.{place_cases}
 use Rattle.deck.proofs.Growth.{Grew, Grew-trans, pushed-grew, slice_get-append, slice_get-with_net, with_net-grows}
 use Rattle.deck.proofs.Distinct.{IsDistinct-with_net}
 use Rattle.stage.specs.Card.{Card, device_of, map_card, with_cards}
-use Rattle.dom_base.proofs.Each.{AllByRecursion-contains, Contains-slice_get}
 
 -- the name stands among the nets, at its number
 abbrev pub HasNumber : List (List ℕ) → List ℕ → Type 0
@@ -89,20 +88,6 @@ place_of-with_net nets name = by (place_cases (pointwise nat_eq name) nets)
 -- two names with one number are one
 pub same_number : (nets : List (List ℕ)) (a b : List ℕ) → HasNumber nets a → HasNumber nets b → place_of nets a ≡ place_of nets b → a ≡ b
 same_number nets a b at at' e = let same : Some a ≡ Some b = sym at ∙ ap (slice_get nets) e ∙ at' in cc
-
--- where the names differ, a name stands at its number alone
-pub place_of-distinct : (nets : List (List ℕ)) (i : ℕ) (name : List ℕ) → IsDistinct (pointwise nat_eq) nets → slice_get nets i ≡ Some name → i ≡ place_of nets name
-unfolding IsDistinct
-place_of-distinct [] i name d at = absurd (cc)
-place_of-distinct (x ∷ xs) zero name d at = let same : x ≡ name = cc in sym (place_of-first x xs name ((bytes_decides name x).1 (sym same)))
-place_of-distinct (x ∷ xs) (suc i) name d at = by (pointwise nat_eq name x) refl (place_of-distinct xs i name d.1 at)
-  where
-    apart : pointwise nat_eq x name ≡ false
-    apart = AllByRecursion-contains (λ y. pointwise nat_eq x y ≡ false) xs name d.0 (Contains-slice_get xs i name at)
-
-    by : (b : Bool) → pointwise nat_eq name x ≡ b → i ≡ place_of xs name → suc i ≡ place_of (x ∷ xs) name
-    by true e rest = let same : pointwise nat_eq x name ≡ true = (bytes_decides x name).1 (sym ((bytes_decides name x).0 e)) in let never : true ≡ false = sym same ∙ apart in absurd (cc)
-    by false e rest = ap suc rest ∙ sym (place_of-later x xs name e)
 
 -- a name that does not stand among the first nets has a number behind them
 pub place_of-behind : (nets more : List (List ℕ)) (name : List ℕ) → list_any (pointwise nat_eq name) nets ≡ false → length nets ≤ place_of (nets ++ more) name

@@ -97,9 +97,6 @@ reached-new s stop room h lt e le = (
         clash : false ≡ true → ⊥
         clash x = cc
 
-pub reached-same : (s : SearchData) (stop : Stop) → IsListed s → is_marked s stop.net stop.weak ≡ true → IsReached s s stop
-reached-same s stop h m = record { sized = refl; marked = m; kept = λ n w e. e; list = inl refl }
-
 pub room-with_mark : (s : SearchData) (net : ℕ) (weak on : Bool) → (with_mark s net weak on).room ≡ s.room
 room-with_mark s net true on = refl
 room-with_mark s net false on = refl

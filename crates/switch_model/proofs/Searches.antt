@@ -1,8 +1,8 @@
 -- Searches on their way, and what they find.
-use Rattle.std.proofs.Common.{◌≡◌, ℕ, zero, suc, ◌<◌, ◌≤◌, Bool, true, false, not, List, [], ◌∷◌, ◌++◌, ◌⊎◌, ◌||◌, inl, inr, length, get_or, refl, sym, subst, ap, ◌∙◌, arith, append_assoc, append-nil}
+use Rattle.std.proofs.Common.{◌≡◌, ℕ, zero, suc, ◌<◌, ◌≤◌, Bool, true, false, not, List, [], ◌∷◌, ◌++◌, ◌⊎◌, ◌||◌, inl, inr, length, get_or, refl, sym, subst, ap, ◌∙◌, arith, append_assoc}
 use Rattle.std.specs.Prelude.{Contains, ◌↔◌}
 use Rattle.std.proofs.lemmas.Bool.Decides.{nat_tests}
-use Rattle.std.proofs.lemmas.List.Elements.{Contains-append_left, Contains-push_cases}
+use Rattle.std.proofs.lemmas.List.Elements.{Contains-push_cases}
 use Rattle.dom_base.specs.Conduction.{conduction}
 use Rattle.dom_base.specs.declared.kind.Kind.{Kind}
 use Rattle.dom_base.specs.declared.tri.Tri.{Tri}
@@ -57,12 +57,6 @@ tells-added (Only u) after v (inl h) = subst (λ d. Tells d v) (sym h.1) (sym h.
 tells-added (Only u) after v (inr h) = subst (λ d. Tells d v) (sym h.1) tt
 tells-added Mixed after v e = subst (λ d. Tells d v) (sym e) tt
 
-pub tells-kept : (before after : Drive) (v w : Tri) → IsAdded before v after → Tells before w → Tells after w
-tells-kept Nothing after v w e t = absurd t
-tells-kept (Only u) after v w (inl h) t = subst (λ d. Tells d w) (sym h.1) t
-tells-kept (Only u) after v w (inr h) t = subst (λ d. Tells d w) (sym h.1) tt
-tells-kept Mixed after v w e t = subst (λ d. Tells d w) (sym e) tt
-
 some-added : (S : ℕ → Type 0) (values : List Tri) (before after : Drive) (v : Tri) (s : ℕ) → S s → value_of values s ≡ v
     → IsAdded before v after → IsDriveOfSome S values before → IsDriveOfSome S values after
 some-added S values Nothing after v s h is e b = subst (IsDriveOfSome S values) (sym e) (s, h, is)
@@ -85,9 +79,6 @@ ends-same d a m n (inl x) (inr y) = sym x.1 ∙ y.0 ∙ sym x.0 ∙ y.1
 ends-same d a m n (inr x) (inl y) = sym x.1 ∙ y.0 ∙ sym x.0 ∙ y.1
 ends-same d a m n (inr x) (inr y) = sym x.1 ∙ y.1
 
-pub Grows-same : (s : SearchData) (drives : Drives) → Grows s s drives drives
-Grows-same s drives = record { marks = λ n w h. h; more = []; list = sym (append-nil s.reached); tells = λ w v t. t }
-
 pub Grows-trans : (a b c : SearchData) (d e f : Drives) → Grows a b d e → Grows b c e f → Grows a c d f
 Grows-trans a b c d e f g h = record {
   marks = λ n w m. h.marks n w (g.marks n w m);
@@ -95,9 +86,6 @@ Grows-trans a b c d e f g h = record {
   list = h.list ∙ ap (λ l. l ++ h.more) g.list ∙ append_assoc a.reached g.more h.more;
   tells = λ w v t. h.tells w v (g.tells w v t);
 }
-
-pub listed-grows : (a b : SearchData) (d e : Drives) (stop : Stop) → Grows a b d e → Contains a.reached stop → Contains b.reached stop
-listed-grows a b d e stop g h = subst (λ l. Contains l stop) (sym g.list) (Contains-append_left a.reached g.more stop h)
 
 pub met-grows : (sources : ℕ) (values : List Tri) (a b : SearchData) (d e : Drives) (net : ℕ) (weak : Bool) → Grows a b d e → IsMet sources values a d net weak → IsMet sources values b e net weak
 met-grows sources values a b d e net weak g m = record { source = λ h. g.tells weak (value_of values net) (m.source h); inner = λ h. g.marks net weak (m.inner h) }
@@ -151,16 +139,6 @@ module _ (devices : List Device) (paths : Paths) (values : List Tri) (sources fr
       rest w e = subst (λ x. IsDriveOfSome (IsEnd devices paths values sources from x) values (drive_of drives' x)) (sym e)
           (subst (IsDriveOfSome (IsEnd devices paths values sources from (not weak)) values) (sym other) (u.drives_are (not weak)))
 
-  pub grows-drive : (s : SearchData) (drives drives' : Drives) (weak : Bool) (v : Tri)
-      → IsAdded (drive_of drives weak) v (drive_of drives' weak) → drive_of drives' (not weak) ≡ drive_of drives (not weak) → Grows s s drives drives'
-  grows-drive s drives drives' weak v added other = record { marks = λ n w h. h; more = []; list = sym (append-nil s.reached); tells = tells }
-    where
-      tells : (w : Bool) (u : Tri) → Tells (drive_of drives w) u → Tells (drive_of drives' w) u
-      tells w u t = elim (either_mark weak w) [
-        | inl e ↦ subst (λ x. Tells (drive_of drives' x) u) (sym e) (tells-kept (drive_of drives weak) (drive_of drives' weak) v u added (subst (λ x. Tells (drive_of drives x) u) e t))
-        | inr e ↦ subst (λ x. Tells (drive_of drives' x) u) (sym e) (subst (λ d. Tells d u) (sym other) (subst (λ x. Tells (drive_of drives x) u) e t))
-      ]
-
   -- a stop at the end of a walk is reached
   pub under_way-stop : (s s' : SearchData) (drives : Drives) (stop : Stop) → IsUnderWay devices paths values sources from s drives
       → IsListed s' → IsReached s s' stop → stop.net < length values → is_first sources stop.net ≡ false
@@ -181,12 +159,6 @@ module _ (devices : List Device) (paths : Paths) (values : List Tri) (sources fr
           | inr h ↦ subst (λ x. (x.net < length values) × (is_first sources x.net ≡ false) × Walk (IsCrossed devices paths values) (is_first sources) from x.net x.weak) h (lt, free, walk)
         ]
       ]
-
-  pub grows-stop : (s s' : SearchData) (drives : Drives) (stop : Stop) → IsReached s s' stop → Grows s s' drives drives
-  grows-stop s s' drives stop r = elim r.list [
-    | inl e ↦ record { marks = r.kept; more = []; list = e ∙ sym (append-nil s.reached); tells = λ w v t. t }
-    | inr e ↦ record { marks = r.kept; more = stop ∷ []; list = e; tells = λ w v t. t }
-  ]
 
   -- a drive that tells of all sources is exact
   exact : (S : ℕ → Type 0) (d : Drive) → IsDriveOfSome S values d → ((s : ℕ) → S s → Tells d (value_of values s)) → IsDrive S values d

@@ -1,7 +1,7 @@
 -- Devices at the nets where they end.
-use Rattle.std.proofs.Common.{◌≡◌, ℕ, ◌+◌, ◌^◌, ◌<◌, ◌≤◌, List, [], ◌∷◌, ◌++◌, ◌⊎◌, inl, inr, max, All, length, get_or, set, replicate, sym, subst, ap, ◌∙◌, arith}
+use Rattle.std.proofs.Common.{◌≡◌, ℕ, ◌+◌, ◌^◌, ◌<◌, ◌≤◌, List, [], ◌∷◌, ◌++◌, ◌⊎◌, inl, inr, max, All, length, get_or, set, sym, subst, ap, ◌∙◌, arith}
 use Rattle.std.specs.Prelude.{Contains, Some, slice_get}
-use Rattle.std.proofs.lemmas.List.{get_or-set_same, get_or-set_other, get_or-replicate, get_or_past, length-set, length-replicate}
+use Rattle.std.proofs.lemmas.List.{get_or-set_same, get_or-set_other, length-set}
 use Rattle.std.specs.List.{AllByRecursion}
 use Rattle.std.proofs.lemmas.List.Elements.{All-from_recursion, Contains-append_left, Contains-push, Contains-push_cases}
 use Rattle.std.proofs.lemmas.Option.{slice_get_within}
@@ -80,18 +80,6 @@ touching-more devices k d t is ld ls h = record { ends = ends; all = all }
             let same : d ≡ d' = cc in
             let here : d.source ≡ net = ap (λ f. f.source) same ∙ x in
             rw (z, ← here) (with_place-there (with_place t d.drain k) d.source k ls')
-
-pub touching-none : (devices : List Device) (n : ℕ) → IsTouchingBelow devices 0 (replicate n [])
-touching-none devices n = record { ends = λ net place c. absurd (nothing n net place c); all = λ net place lt below e. absurd (omega arith) }
-  where
-    below : (a b : ℕ) → (a < b) ⊎ (b ≤ a)
-    below a b = grind arith
-
-    empty : (place : ℕ) → Contains [] place → ⊥
-    empty place c = let lt = c.1 in omega (arith, lt)
-
-    nothing : (n net place : ℕ) → Contains (get_or (replicate n []) net []) place → ⊥
-    nothing n net place c = elim (below net n) [ inl lt ↦ empty place (subst (λ l. Contains l place) (get_or-replicate n net [] [] lt) c) | inr le ↦ empty place (subst (λ l. Contains l place) (get_or_past (replicate n []) net [] (simp length-replicate le)) c) ]
 
 pub touching-whole : (devices : List Device) (t : List (List ℕ)) (k : ℕ) → length devices ≤ k → IsTouchingBelow devices k t → IsTouching devices t
 touching-whole devices t k le h = record {

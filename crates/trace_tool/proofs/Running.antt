@@ -4,9 +4,9 @@ use Rattle.deck.specs.CircuitData.{CircuitData}
 use Rattle.deck.specs.declared.role.Roles.{Roles}
 use Rattle.switch_model.specs.LinksData.{links_of}
 use Rattle.event_sim.specs.Orders.{By, Follows, first_place}
-use Rattle.event_sim.specs.SimData.{SimData, power_sim}
+use Rattle.event_sim.specs.SimData.{SimData}
 use Rattle.event_sim.specs.declared.event.Event.{Event}
-use Rattle.trace_tool.specs.Inside.{CameRound, HasCycles, IsCut, IsReady, IsRig, Stopped, Went, setup_of, state_of, told}
+use Rattle.trace_tool.specs.Inside.{CameRound, HasCycles, IsCut, IsReady, Stopped, Went, setup_of, state_of, told}
 use Rattle.trace_tool.specs.Moves.{Move, evaluation_moves, latching_moves, power_moves}
 use Rattle.trace_tool.specs.Runs.{EndsWithin, LeadsTo, State}
 use Rattle.trace_tool.specs.TraceData.{TraceData, TraceOptionsData}
@@ -58,13 +58,6 @@ module _ {F : Type 0} (P : F → ℕ → ℕ → ℕ → Type 0) (rig : Rig) whe
 
   few_values : (s : SimData F) → IsReady rig s → length s.values < 2 ^ 64
   few_values s ready = omega (arith, ready.whole, ready.rig_is.few)
-
-  pub rounds-none : (s : SimData F) (cycles : List (List Bool)) (before : List ℕ) → IsReady rig s → HasRounds s cycles before 0 s before
-  rounds-none s cycles before ready = record {
-    ready = ready;
-    same_pick = refl;
-    so_far = λ place follows. record { lines = []; text_is = sym (append-nil before); goes_on = λ rest h. h };
-  }
 
   -- a cycle that came round is one in each order that the chooser follows
   is_cycle : (s t : SimData F) (before after : List ℕ) (number : ℕ) (pins : List Bool) (place : ℕ → ℕ → ℕ) → IsReady rig s → Follows place (P s.pick)
@@ -181,15 +174,6 @@ module _ {F : Type 0} (P : F → ℕ → ℕ → ℕ → Type 0) (rig : Rig) whe
         rest.1,
         (λ i. trace_of ((rest.2 ∙ ap (λ (l : List ℕ). l ++ rest.0) whole) i) settled),
       )
-
-  -- the power state is ready
-  pub ready_power : (pick : F) (sim : SimData F) → IsRig rig → sim ≡ power_sim pick rig.circuit rig.roles → length sim.values ≡ length rig.circuit.nets → IsReady rig sim
-  ready_power pick sim is power whole = record {
-    rig_is = is;
-    links_are = ap (λ (x : SimData F). x.links) power;
-    whole = whole;
-    fits = let none : sim.step ≡ 0 = ap (λ (x : SimData F). x.step) power in omega (arith, none);
-  }
 
 pub rig_is : (rig : Rig) (circuit : CircuitData) (roles : Roles) (events : Bool) → rig.circuit ≡ circuit → rig.roles ≡ roles → rig.events ≡ events
     → rig ≡ record { circuit = circuit; roles = roles; events = events }
