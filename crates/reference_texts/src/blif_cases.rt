@@ -1,11 +1,13 @@
 //! BLIF texts, read twice.
 use crate::blif_plain::{PlainAnswer, read_plainly};
+use crate::blif_print::print_plainly;
 use crate::blif_same::same_file;
 use crate::blif_texts::{AND, ENDS, LINES, PARTS, PATTERNS, WORDS, WORKED, framed, wide};
 use crate::draws::Draws;
 use crate::listed::listed;
 use crate::tally::Tally;
-use blif_read::{BlifFault, BlifKind, read};
+use blif_ast::print;
+use blif_read::{BlifFault, BlifKind, accepted_file_is_good, read};
 use dom_base::OutOfMemory;
 use std::alloc::Global;
 
@@ -30,7 +32,11 @@ fn compare(alloc: Global, tally: &mut Tally, text: &[u8]) -> Result<(), OutOfMem
     match read(alloc, text) {
         Ok(file) => {
             let alike = match &plain {
-                PlainAnswer::Lines(lines) => same_file(&file, lines),
+                PlainAnswer::Lines(lines) => {
+                    accepted_file_is_good();
+                    let printed = print(alloc, &file)?;
+                    same_file(&file, lines) && printed == print_plainly(alloc, lines)?
+                }
                 PlainAnswer::Fault(_, _) => false,
             };
             tally.count(false, alike);

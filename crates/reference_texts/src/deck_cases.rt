@@ -1,12 +1,14 @@
 //! Decks, read twice.
 use crate::deck_read::{PlainAnswer, PlainDeck, read_plainly};
 use crate::deck_texts::{AND, ENDS, LINES, PARTS, PATTERNS, WORDS, WORKED, framed};
+use crate::deck_write::write_plainly;
 use crate::draws::Draws;
 use crate::listed::listed;
 use crate::tally::Tally;
 use deck::{Circuit, Device, Phase};
 use dom_base::{NetName, OutOfMemory};
 use spice_read::{DeckFault, DeckKind, read};
+use spice_text::write;
 use std::alloc::Global;
 
 /// The number of a kind in the table of refusals.
@@ -63,7 +65,10 @@ fn compare(alloc: Global, tally: &mut Tally, text: &[u8]) -> Result<(), OutOfMem
     match read(alloc, text) {
         Ok(circuit) => {
             let alike = match &plain {
-                PlainAnswer::Deck(deck) => same_deck(&circuit, deck),
+                PlainAnswer::Deck(deck) => {
+                    let written = write(alloc, &circuit)?;
+                    same_deck(&circuit, deck) && written == write_plainly(alloc, deck)?
+                }
                 PlainAnswer::Fault(_, _) => false,
             };
             tally.count(false, alike);

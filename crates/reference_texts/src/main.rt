@@ -4,12 +4,14 @@
 
 mod blif_cases;
 mod blif_plain;
+mod blif_print;
 mod blif_same;
 mod blif_texts;
 mod cut;
 mod deck_cases;
 mod deck_read;
 mod deck_texts;
+mod deck_write;
 mod draws;
 mod listed;
 mod port_cases;

@@ -11,7 +11,11 @@ use std::alloc::Global;
 /// Finds the roles of these ports twice. Where one of them stands twice there is no circuit, and
 /// nothing is counted.
 fn compare(alloc: Global, tally: &mut Tally, names: &[&str]) -> Result<(), OutOfMemory> {
-    let plain = roles_plainly(alloc, names)?;
+    let mut ports = Vec::new(alloc);
+    for name in names {
+        ports.push(Vec::from_slice(alloc, name.as_bytes())?)?;
+    }
+    let plain = roles_plainly(alloc, &ports)?;
     match read(alloc, &deck_with(alloc, names)?) {
         Ok(circuit) => {
             let found = match roles(&circuit) {

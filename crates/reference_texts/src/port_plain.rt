@@ -31,21 +31,21 @@ fn leading_names(alloc: Global, clocks: usize) -> Result<Vec<&'static str>, OutO
 }
 
 /// Whether a port can stand at a place, behind these leading ports and with so many pins.
-fn fits(leading: &[&str], pins: usize, place: usize, name: &str) -> bool {
+fn fits(leading: &[&str], pins: usize, place: usize, name: &[u8]) -> bool {
     match leading.get(place) {
-        Some(wanted) => *wanted == name,
+        Some(wanted) => wanted.as_bytes() == name,
         None => {
             if place < leading.len().saturating_add(pins) {
-                name.starts_with("i_")
+                name.starts_with(b"i_")
             } else {
-                name.starts_with("o_")
+                name.starts_with(b"o_")
             }
         }
     }
 }
 
 /// How many ports can stand where they do, before the first that can't.
-fn count_fitting(leading: &[&str], pins: usize, names: &[&str]) -> usize {
+fn count_fitting(leading: &[&str], pins: usize, names: &[Vec<u8>]) -> usize {
     names
         .iter()
         .enumerate()
@@ -53,7 +53,7 @@ fn count_fitting(leading: &[&str], pins: usize, names: &[&str]) -> usize {
         .count()
 }
 
-pub fn roles_plainly(alloc: Global, names: &[&str]) -> Result<PlainRoles, OutOfMemory> {
+pub fn roles_plainly(alloc: Global, names: &[Vec<u8>]) -> Result<PlainRoles, OutOfMemory> {
     let total = names.len();
     let mut longest = 0;
     for clocks in 1..5usize {
