@@ -100,3 +100,11 @@ fn numbers_are_wrong(rt: HostRuntime) -> Result<(), Fail> {
         ],
     )
 }
+
+#[test]
+fn a_command_is_found_among_other_words(rt: HostRuntime) -> Result<(), Fail> {
+    let files = [("d", AND_DECK), ("s", b"11\n".as_slice())];
+    let all: [&[&str]; 3] = [&["sim", "d"], &["sim", "d", "s"], &["sim"]];
+    assert_eq!(rt; asking(rt.alloc(), &files, &all)?, Some(1));
+    Ok(())
+}
