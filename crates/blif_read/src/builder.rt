@@ -14,7 +14,7 @@ use std::marker::Model;
 
 /// The closed models, the open model and its open table.
 #[derive(Drop)]
-pub(crate) struct Builder {
+pub struct Builder {
     models: Vec<BlifModel>,
     model: Option<BlifModel>,
     table: Option<Table>,

@@ -12,7 +12,7 @@ use dom_base::have_control;
 const MOST_INPUTS: usize = 4096;
 
 /// The fault of a line with the smallest number, where it has one.
-pub(crate) fn fault_of(line: &Line<'_>, context: Context) -> Option<BlifKind>
+pub fn fault_of(line: &Line<'_>, context: Context) -> Option<BlifKind>
     ensures { result ≡ fault_in context line.now }
 {
     if have_control(&line.words) {

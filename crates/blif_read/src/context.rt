@@ -7,14 +7,14 @@ use crate::line::Line;
 
 /// The table to which a row belongs: how many inputs it has, and the last letter of its first row.
 #[derive(Clone, Copy, Debug)]
-pub(crate) struct OpenTable {
+pub struct OpenTable {
     pub width: usize,
     pub letter: Option<u8>,
 }
 
 /// Whether a model is open, and the open table.
 #[derive(Clone, Copy, Debug)]
-pub(crate) struct Context {
+pub struct Context {
     pub model: bool,
     pub table: Option<OpenTable>,
 }

@@ -19,7 +19,7 @@ fn is_edge(word: &[u8]) -> bool
 }
 
 /// Whether the word is the type of a latch that takes its input at a level of its control.
-pub(crate) fn is_level(word: &[u8]) -> bool
+pub fn is_level(word: &[u8]) -> bool
     ensures { result ≡ is_level word.now }
 {
     same_word(word, b"ah") || same_word(word, b"al") || same_word(word, b"as")
@@ -32,7 +32,7 @@ fn is_type(word: &[u8]) -> bool
 }
 
 /// Whether these are the words of a card `.latch` in its form.
-pub(crate) fn is_latch_form(words: &[&[u8]]) -> bool
+pub fn is_latch_form(words: &[&[u8]]) -> bool
     ensures { result ≡ is_latch_form (map (λ w. w.now) words.now) }
 {
     match words {
@@ -45,7 +45,7 @@ pub(crate) fn is_latch_form(words: &[&[u8]]) -> bool
 }
 
 /// The sides of a word at its first `=`; without one the second is empty.
-pub(crate) fn sides(word: &[u8]) -> (&[u8], &[u8])
+pub fn sides(word: &[u8]) -> (&[u8], &[u8])
     ensures formal { result.0.now ≡ formal_of word.now }
     ensures actual { result.1.now ≡ actual_of word.now }
 {
@@ -69,7 +69,7 @@ fn are_bindings(words: &[&[u8]]) -> bool
 }
 
 /// Whether these are the words of a card `.subckt` in its form.
-pub(crate) fn is_subckt_form(words: &[&[u8]]) -> bool
+pub fn is_subckt_form(words: &[&[u8]]) -> bool
     ensures { result ≡ is_subckt_form (map (λ w. w.now) words.now) }
 {
     match words {
@@ -91,7 +91,7 @@ fn are_letters(word: &[u8]) -> bool
 }
 
 /// Whether these are the words of a row of a table with so many inputs.
-pub(crate) fn is_row_form(width: usize, words: &[&[u8]]) -> bool
+pub fn is_row_form(width: usize, words: &[&[u8]]) -> bool
     ensures { result ≡ is_row_form width (map (λ w. w.now) words.now) }
 {
     match words {

@@ -12,7 +12,7 @@ use std::marker::Model;
 
 /// A logical line: the number of its first line, from 1, and its words, which are parts of the text.
 #[derive(Drop)]
-pub(crate) struct Line<'a> {
+pub struct Line<'a> {
     pub number: u64,
     pub words: Vec<&'a [u8]>,
 }
@@ -86,7 +86,7 @@ fn strip_join(line: &[u8]) -> Option<&[u8]>
 
 /// The lines of a text that aren't read yet, and the number of the first of them.
 #[derive(Drop)]
-pub(crate) struct Lines<'a> {
+pub struct Lines<'a> {
     pub rest: &'a [u8],
     pub number: u64,
 }

@@ -17,11 +17,7 @@ fn name_of(alloc: Global, word: &[u8]) -> Result<Name, AllocError>
 }
 
 /// Appends these words as names.
-pub(crate) fn push_names(
-    alloc: Global,
-    names: &mut Vec<Name>,
-    words: &[&[u8]],
-) -> Result<(), OutOfMemory>
+pub fn push_names(alloc: Global, names: &mut Vec<Name>, words: &[&[u8]]) -> Result<(), OutOfMemory>
     ensures { OnOk result (names.new.items ≡ names.old.items ++ map (λ w. w.now) words.now) }
 {
     for word in words {
@@ -41,7 +37,7 @@ fn name_at(alloc: Global, words: &[&[u8]], place: usize) -> Result<Name, AllocEr
 }
 
 /// The model of a card `.model`, without lines.
-pub(crate) fn new_model(alloc: Global, line: &Line<'_>) -> Result<BlifModel, OutOfMemory>
+pub fn new_model(alloc: Global, line: &Line<'_>) -> Result<BlifModel, OutOfMemory>
     ensures { IfOk result (λ model. model ≡ new_model line.now) }
 {
     Ok(BlifModel {
@@ -74,7 +70,7 @@ fn inputs_of(alloc: Global, words: &[&[u8]]) -> Result<Vec<Name>, OutOfMemory>
 }
 
 /// The table of a card `.names`, without rows.
-pub(crate) fn new_table(alloc: Global, line: &Line<'_>) -> Result<Table, OutOfMemory>
+pub fn new_table(alloc: Global, line: &Line<'_>) -> Result<Table, OutOfMemory>
     ensures { IfOk result (λ table. table ≡ new_table line.now) }
 {
     let words = line.words.as_slice();
@@ -104,7 +100,7 @@ fn letters_of(alloc: Global, word: &[u8]) -> Result<Vec<Letter>, AllocError>
 }
 
 /// The row of these words.
-pub(crate) fn row_of(alloc: Global, words: &[&[u8]]) -> Result<Row, OutOfMemory>
+pub fn row_of(alloc: Global, words: &[&[u8]]) -> Result<Row, OutOfMemory>
     ensures { IfOk result (λ row. row ≡ row_letters (map (λ w. w.now) words.now)) }
 {
     let letters = match words {
@@ -141,11 +137,7 @@ fn init_of(word: &[u8]) -> u8
 }
 
 /// The latch of a card `.latch` on this line.
-pub(crate) fn latch_of(
-    alloc: Global,
-    line: u64,
-    words: &[&[u8]],
-) -> Result<Option<Latch>, OutOfMemory>
+pub fn latch_of(alloc: Global, line: u64, words: &[&[u8]]) -> Result<Option<Latch>, OutOfMemory>
     ensures { IfOk result (λ latch. latch ≡ latch_of line (map (λ w. w.now) words.now)) }
 {
     let (control, init) = match words {
@@ -195,7 +187,7 @@ fn bindings_behind(alloc: Global, words: &[&[u8]]) -> Result<Vec<Binding>, OutOf
 }
 
 /// The instance of a card `.subckt`.
-pub(crate) fn instance_of(alloc: Global, line: &Line<'_>) -> Result<Instance, OutOfMemory>
+pub fn instance_of(alloc: Global, line: &Line<'_>) -> Result<Instance, OutOfMemory>
     ensures { IfOk result (λ instance. instance ≡ instance_of line.now) }
 {
     let words = line.words.as_slice();

@@ -20,7 +20,7 @@ use std::alloc::Global;
 use std::slice;
 
 /// The circuit of the network: its cell, and the inverter of its output.
-pub(crate) fn build(alloc: Global, table: &OneTable) -> Result<Circuit, OutOfMemory>
+pub fn build(alloc: Global, table: &OneTable) -> Result<Circuit, OutOfMemory>
     requires is_one_table { IsOneTable table.now }
     requires names { HasByteNames table.now }
     ensures { IfOk result (λ circuit. circuit ≡ circuit_of table.now) }

@@ -17,7 +17,7 @@ const MOST_ROWS: usize = 4;
 const MOST_ONES: usize = 4;
 
 /// Whether the network of a table of these rows is one of those that are built.
-pub(crate) fn is_small(
+pub fn is_small(
     alloc: Global,
     inputs: &[Name],
     output: &Name,
@@ -94,7 +94,7 @@ fn ones(row: &Row) -> usize
     row.letters.iter().filter(|letter| is_one(**letter)).count()
 }
 
-pub(crate) fn is_one(letter: Letter) -> bool
+pub fn is_one(letter: Letter) -> bool
     ensures { result ≡ is_one_of letter }
 {
     matches!(letter, Letter::One)

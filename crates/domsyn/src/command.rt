@@ -3,7 +3,7 @@ use trace_tool::TraceOptions;
 
 /// What the words of the command line ask for, with the names of the files.
 #[derive(Drop)]
-pub(crate) enum Command<'a> {
+pub enum Command<'a> {
     Synth {
         file: &'a str,
     },

@@ -11,11 +11,7 @@ use dom_io::{FetchFault, Shelf, is_too_long};
 use std::alloc::Global;
 
 /// The bytes of a file, where it has no more than a file may have.
-pub(crate) fn fetch<'a, S: Shelf>(
-    alloc: Global,
-    shelf: &mut S,
-    file: &'a str,
-) -> Result<Vec<u8>, Stop<'a>>
+pub fn fetch<'a, S: Shelf>(alloc: Global, shelf: &mut S, file: &'a str) -> Result<Vec<u8>, Stop<'a>>
     requires name { S.may_ask shelf.old file.now }
     ensures bytes { IfOk result (λ bytes. IsFile (S.files shelf.old) file.now bytes.items) }
     ensures stopped { (stop : Stopped) → IsErrOf result stop → IsUnfetched (S.files shelf.old) file.now (Rose (S.faults shelf.old) (S.faults shelf.new)) stop }

@@ -8,7 +8,7 @@ use blif_read::BlifKind;
 use deck::DeckKind;
 use stim_text::StimKind;
 
-pub(crate) fn blif_number(kind: BlifKind) -> u64
+pub fn blif_number(kind: BlifKind) -> u64
     ensures { result ≡ blif_kind_number kind }
 {
     match kind {
@@ -24,7 +24,7 @@ pub(crate) fn blif_number(kind: BlifKind) -> u64
     }
 }
 
-pub(crate) fn deck_number(kind: DeckKind) -> u64
+pub fn deck_number(kind: DeckKind) -> u64
     ensures { result ≡ deck_kind_number kind }
 {
     match kind {
@@ -40,7 +40,7 @@ pub(crate) fn deck_number(kind: DeckKind) -> u64
     }
 }
 
-pub(crate) fn blif_name(kind: BlifKind) -> &'static [u8]
+pub fn blif_name(kind: BlifKind) -> &'static [u8]
     ensures { result.now ≡ blif_kind_name kind }
 {
     match kind {
@@ -56,7 +56,7 @@ pub(crate) fn blif_name(kind: BlifKind) -> &'static [u8]
     }
 }
 
-pub(crate) fn deck_name(kind: DeckKind) -> &'static [u8]
+pub fn deck_name(kind: DeckKind) -> &'static [u8]
     ensures { result.now ≡ deck_kind_name kind }
 {
     match kind {
@@ -72,7 +72,7 @@ pub(crate) fn deck_name(kind: DeckKind) -> &'static [u8]
     }
 }
 
-pub(crate) fn stim_name(kind: StimKind) -> &'static [u8]
+pub fn stim_name(kind: StimKind) -> &'static [u8]
     ensures { result.now ≡ stim_kind_name kind }
 {
     match kind {

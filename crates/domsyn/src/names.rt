@@ -13,7 +13,7 @@ use std::alloc::Global;
 
 /// The nets of the first cell that have one name each.
 #[derive(Drop)]
-pub(crate) struct CellNames {
+pub struct CellNames {
     pub vdd: NetName,
     pub vss: NetName,
     pub clock: NetName,
@@ -40,7 +40,7 @@ impl CellNames {
 }
 
 /// The name of these two parts.
-pub(crate) fn net_name(alloc: Global, front: &[u8], rest: &[u8]) -> Result<NetName, OutOfMemory>
+pub fn net_name(alloc: Global, front: &[u8], rest: &[u8]) -> Result<NetName, OutOfMemory>
     requires { IsNetName (front.now ++ rest.now) }
     ensures { IfOk result (λ name. name ≡ front.now ++ rest.now) }
 {
@@ -50,7 +50,7 @@ pub(crate) fn net_name(alloc: Global, front: &[u8], rest: &[u8]) -> Result<NetNa
 }
 
 /// The inner net of the cell's tree with this number, from 0.
-pub(crate) fn inner_name(alloc: Global, inner: u32) -> Result<NetName, OutOfMemory>
+pub fn inner_name(alloc: Global, inner: u32) -> Result<NetName, OutOfMemory>
     ensures { IfOk result (λ name. name ≡ codes "t0_" ++ decimal inner) }
 {
     let mut buffer = Buffer::new();
@@ -59,7 +59,7 @@ pub(crate) fn inner_name(alloc: Global, inner: u32) -> Result<NetName, OutOfMemo
 
 /// The name of a front and the escape of a name.
 #[tactic(auto, using(crate::proofs::EscapedNames::escaped_names))]
-pub(crate) fn escaped_name(alloc: Global, front: &[u8], name: &Name) -> Result<NetName, OutOfMemory>
+pub fn escaped_name(alloc: Global, front: &[u8], name: &Name) -> Result<NetName, OutOfMemory>
     requires name { IsByteName name.now }
     requires front { All IsNetByte front.now }
     ensures { IfOk result (λ net. net ≡ front.now ++ escaped name.now) }
@@ -69,7 +69,7 @@ pub(crate) fn escaped_name(alloc: Global, front: &[u8], name: &Name) -> Result<N
 }
 
 /// The pins of inputs.
-pub(crate) fn pin_names(alloc: Global, inputs: &[Name]) -> Result<Vec<NetName>, OutOfMemory>
+pub fn pin_names(alloc: Global, inputs: &[Name]) -> Result<Vec<NetName>, OutOfMemory>
     requires { All IsByteName inputs.now }
     ensures { IfOk result (λ pins. pins.items ≡ map pin_name inputs.now) }
 {

@@ -28,7 +28,7 @@ impl Model for OneTable {
 }
 
 /// The network of a file, where it is one of those that are built.
-pub(crate) fn one_table(alloc: Global, file: &BlifFile) -> Result<Option<OneTable>, OutOfMemory>
+pub fn one_table(alloc: Global, file: &BlifFile) -> Result<Option<OneTable>, OutOfMemory>
     ensures found { IfOk result (λ found. IfSome found (λ t. IsOneTable t × IsFileOfTable file.now t)) }
     ensures refused { IfOk result (λ found. IfNone found ((t : OneTableData) → IsOneTable t → IsFileOfTable file.now t → ⊥)) }
 {

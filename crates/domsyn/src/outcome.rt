@@ -19,14 +19,14 @@ use std::alloc::Global;
 
 /// A text to be put out, and whether it ends as it should: a simulation that doesn't come to rest ends unsettled.
 #[derive(Drop)]
-pub(crate) struct Answer {
+pub struct Answer {
     pub text: Vec<u8>,
     pub settled: bool,
 }
 
 /// Why there is no text: a file is refused, a file can't be read, or memory did not suffice.
 #[derive(Clone, Copy)]
-pub(crate) enum Stop<'a> {
+pub enum Stop<'a> {
     Refused { file: &'a str, why: Refusal },
     Unread { file: &'a str },
     Memory,
@@ -41,7 +41,7 @@ impl<'a> From<OutOfMemory> for Stop<'a> {
 }
 
 /// What a command comes to over the files of a shelf.
-pub(crate) fn outcome_of<'a, S: Shelf>(
+pub fn outcome_of<'a, S: Shelf>(
     alloc: Global,
     command: &Command<'a>,
     shelf: &mut S,

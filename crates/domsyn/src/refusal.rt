@@ -27,7 +27,7 @@ pub enum Refusal {
 }
 
 /// What the line about the file says behind the file's name.
-pub(crate) fn text_of(alloc: Global, why: Refusal) -> Result<Vec<u8>, OutOfMemory>
+pub fn text_of(alloc: Global, why: Refusal) -> Result<Vec<u8>, OutOfMemory>
     ensures { IfOk result (λ text. text.items ≡ refusal_text why) }
 {
     let mut text = Vec::from_slice(alloc, b":")?;

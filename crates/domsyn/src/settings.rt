@@ -10,14 +10,14 @@ use trace_tool::Order;
 
 /// What the options gave so far: `None`, or false, where one wasn't given.
 #[derive(Clone, Copy)]
-pub(crate) struct Given {
-    pub(crate) order: Option<Order>,
-    pub(crate) seed: Option<u64>,
-    pub(crate) events: bool,
+pub struct Given {
+    pub order: Option<Order>,
+    pub seed: Option<u64>,
+    pub events: bool,
 }
 
 /// What the words of options give beside what was given before them. No option may be given twice.
-pub(crate) fn given_by(words: &[String], mut given: Given) -> Option<Given>
+pub fn given_by(words: &[String], mut given: Given) -> Option<Given>
     ensures { MatchOption result ((options : TraceOptionsData) → GivesMore (map string_bytes words.now) given.order given.seed given.events options → ⊥)
         (λ all. GivesMore (map string_bytes words.now) given.order given.seed given.events (options_given all.order all.seed all.events)) }
 {

@@ -10,7 +10,7 @@ use std::alloc::Global;
 use trace_tool::{TraceFault, TraceOptions, sim};
 
 /// The trace of the deck of one file over the stimulus of another.
-pub(crate) fn simulate<'a>(
+pub fn simulate<'a>(
     alloc: Global,
     deck: &'a str,
     stim: &'a str,

@@ -14,7 +14,7 @@ use spice_text::write;
 use std::alloc::Global;
 
 /// The deck of a file of these bytes.
-pub(crate) fn synth<'a>(alloc: Global, file: &'a str, bytes: &[u8]) -> Result<Answer, Stop<'a>>
+pub fn synth<'a>(alloc: Global, file: &'a str, bytes: &[u8]) -> Result<Answer, Stop<'a>>
     requires within { length bytes.now ≤ file_limit }
     ensures deck { IfOk result (λ answer. IsDeckFor bytes.now answer.text.items × (answer.settled ≡ true)) }
     ensures stopped { (stop : Stopped) → IsErrOf result stop → IsUnbuilt file.now bytes.now stop }

@@ -24,7 +24,7 @@ const OUT_OF_MEMORY: u8 = 5;
 const UNSETTLED: u8 = 6;
 
 /// Puts out a text, and gives the status.
-pub(crate) fn put<K: Sink, E: Sink>(answer: &Answer, out: &mut K, err: &mut E) -> u8
+pub fn put<K: Sink, E: Sink>(answer: &Answer, out: &mut K, err: &mut E) -> u8
     requires out_room { K.has_room out.old (length answer.now.text.items) }
     requires err_room { (status : ℕ) → E.has_room err.old (length (line_of status)) }
     ensures known { (result ≡ (if answer.now.settled then 0 else 6)) ⊎ (result ≡ 4) }
@@ -46,7 +46,7 @@ pub(crate) fn put<K: Sink, E: Sink>(answer: &Answer, out: &mut K, err: &mut E) -
 }
 
 /// Tells why there is no text, and gives the status.
-pub(crate) fn tell_stop<E: Sink>(alloc: Global, stop: Stop, err: &mut E) -> u8
+pub fn tell_stop<E: Sink>(alloc: Global, stop: Stop, err: &mut E) -> u8
     requires stop_room { HasRoomForStop stop (E.has_room err.old) }
     requires err_room { (status : ℕ) → E.has_room err.old (length (line_of status)) }
     ensures told { IsToldAt stop.entry result (Tells (E.taken err.old) (E.taken err.new) (E.faults err.old) (E.faults err.new)) }
@@ -70,7 +70,7 @@ pub(crate) fn tell_stop<E: Sink>(alloc: Global, stop: Stop, err: &mut E) -> u8
 }
 
 /// Puts a line on the sink, whose failures change no status.
-pub(crate) fn tell<E: Sink>(err: &mut E, line: &[u8])
+pub fn tell<E: Sink>(err: &mut E, line: &[u8])
     requires { E.has_room err.old (length line.now) }
     ensures told { Tells (E.taken err.old) (E.taken err.new) (E.faults err.old) (E.faults err.new) line.now }
     ensures later { E.faults err.old ≤ E.faults err.new }

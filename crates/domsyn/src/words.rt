@@ -10,7 +10,7 @@ use std::alloc::Global;
 use trace_tool::{Order, TraceOptions};
 
 /// What the words ask for: the name of a command, its files, then its options.
-pub(crate) fn command_of<'a>(alloc: Global, words: &'a [String]) -> Option<Command<'a>>
+pub fn command_of<'a>(alloc: Global, words: &'a [String]) -> Option<Command<'a>>
     ensures { MatchOption result ((command : Plain) → Asks (map string_bytes words.now) command → ⊥) (λ command. Asks (map string_bytes words.now) (asked command)) }
 {
     let [name, rest @ ..] = words else {

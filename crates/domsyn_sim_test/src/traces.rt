@@ -5,7 +5,7 @@ use std::alloc::Global;
 use std::process::Abort;
 use std::test::Fail;
 
-pub(crate) const RING: &[u8] = b".subckt ring vdd vss ck1 lm lmb ls lsb rs rsb\n\
+pub const RING: &[u8] = b".subckt ring vdd vss ck1 lm lmb ls lsb rs rsb\n\
     m0 a c u vss pch\n\
     m1 u rs vdd vdd pch\n\
     m2 a c vss vss nch\n\

@@ -9,7 +9,7 @@ use std::test::Fail;
 
 /// Asserts that a file of these bytes gives the deck, and that the deck reads back: it is what is
 /// written of its circuit.
-pub(crate) fn gives(
+pub fn gives(
     rt: &impl Abort,
     alloc: Global,
     what: &str,
@@ -27,7 +27,7 @@ pub(crate) fn gives(
 }
 
 /// Asserts that a file of these bytes is refused, and what the line says behind the file's name.
-pub(crate) fn refuses(
+pub fn refuses(
     rt: &impl Abort,
     alloc: Global,
     what: &str,

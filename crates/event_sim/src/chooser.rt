@@ -6,7 +6,7 @@ ghost use Rattle.event_sim.specs.Choices.{Chooses};
 /// of pending nets, at least 1, to a place below that number.
 #[derive(Drop)]
 pub struct Chooser<F: Fn(u64, u64) -> u64> {
-    pub(crate) pick: F,
+    pub pick: F,
 }
 
 impl<F: Fn(u64, u64) -> u64> Chooser<F> {

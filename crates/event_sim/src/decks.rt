@@ -69,7 +69,7 @@ fn with_devices(
 
 /// The domino cell of an And of two inputs. Its nets from 9 on are `i_a`, `i_b`, `o_f`, `d0`, `z0`,
 /// `t0_0`, `f0`.
-pub(crate) fn cell(alloc: Global) -> Result<Circuit, OutOfMemory> {
+pub fn cell(alloc: Global) -> Result<Circuit, OutOfMemory> {
     let pins = [named(alloc, b"i_a")?, named(alloc, b"i_b")?];
     let outs = [named(alloc, b"o_f")?];
     let bare = Circuit::new(
@@ -98,7 +98,7 @@ pub(crate) fn cell(alloc: Global) -> Result<Circuit, OutOfMemory> {
 }
 
 /// A ring of three inverters, held still by `rs`. Its nets from 9 on are `a`, `c`, `u`, `b`.
-pub(crate) fn ring(alloc: Global) -> Result<Circuit, OutOfMemory> {
+pub fn ring(alloc: Global) -> Result<Circuit, OutOfMemory> {
     let bare = Circuit::new(alloc, named(alloc, b"ring")?, Vec::new(alloc), 1, &[], &[])?;
     with_devices(
         alloc,
@@ -117,7 +117,7 @@ pub(crate) fn ring(alloc: Global) -> Result<Circuit, OutOfMemory> {
 }
 
 /// Two nets that are charged apart and meet at `ck1`: `o_a` and `o_b`, at 9 and 10.
-pub(crate) fn charges(alloc: Global) -> Result<Circuit, OutOfMemory> {
+pub fn charges(alloc: Global) -> Result<Circuit, OutOfMemory> {
     let outs = [named(alloc, b"o_a")?, named(alloc, b"o_b")?];
     let bare = Circuit::new(
         alloc,
@@ -139,7 +139,7 @@ pub(crate) fn charges(alloc: Global) -> Result<Circuit, OutOfMemory> {
 }
 
 /// A circuit without ports.
-pub(crate) fn bare(alloc: Global) -> Result<Circuit, OutOfMemory> {
+pub fn bare(alloc: Global) -> Result<Circuit, OutOfMemory> {
     Ok(Circuit {
         name: named(alloc, b"bare")?,
         phases: Vec::new(alloc),

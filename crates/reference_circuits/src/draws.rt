@@ -3,7 +3,7 @@ use dom_base::Tri;
 
 /// A linear congruence.
 #[derive(Drop)]
-pub(crate) struct Draws {
+pub struct Draws {
     state: u64,
 }
 

@@ -6,14 +6,14 @@ use std::alloc::{AllocError, Global};
 /// Sources that change together, after which the circuit goes to rest. Power is period 0, and cycle C is
 /// period C + 1. After some moves the outputs are read.
 #[derive(Drop)]
-pub(crate) struct Move {
+pub struct Move {
     pub period: usize,
     pub changes: Vec<(usize, Tri)>,
     pub read: bool,
 }
 
 /// All moves of power and of these cycles, in order.
-pub(crate) fn all_moves(
+pub fn all_moves(
     alloc: Global,
     sample: &Sample,
     cycles: &[Vec<bool>],

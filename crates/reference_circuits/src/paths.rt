@@ -13,7 +13,7 @@ struct Path {
 }
 
 /// The value of a net.
-pub(crate) fn value_of(values: &[Tri], net: usize) -> Tri {
+pub fn value_of(values: &[Tri], net: usize) -> Tri {
     match values.get(net) {
         Some(value) => *value,
         None => Tri::Unknown,
@@ -21,7 +21,7 @@ pub(crate) fn value_of(values: &[Tri], net: usize) -> Tri {
 }
 
 /// The value that a net, which is no source, takes next.
-pub(crate) fn target(
+pub fn target(
     alloc: Global,
     sample: &Sample,
     values: &[Tri],

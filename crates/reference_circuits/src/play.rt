@@ -8,7 +8,7 @@ use trace_tool::Order;
 
 /// A net takes its target in a period.
 #[derive(Clone, Copy)]
-pub(crate) struct Taken {
+pub struct Taken {
     pub period: usize,
     pub net: usize,
     pub before: Tri,
@@ -17,14 +17,14 @@ pub(crate) struct Taken {
 
 /// A going to rest that ended without rest, in a period and after so many events.
 #[derive(Clone, Copy)]
-pub(crate) struct Unsettled {
+pub struct Unsettled {
     pub period: usize,
     pub events: usize,
 }
 
 /// A whole run: its events, the outputs that were read, cycle by cycle, and whether it ended unsettled.
 #[derive(Drop)]
-pub(crate) struct Run {
+pub struct Run {
     pub events: Vec<Taken>,
     pub reads: Vec<Vec<Tri>>,
     pub unsettled: Option<Unsettled>,
@@ -32,7 +32,7 @@ pub(crate) struct Run {
 
 /// An order of events, with its seed.
 #[derive(Clone, Copy)]
-pub(crate) struct Picks {
+pub struct Picks {
     pub order: Order,
     pub seed: u64,
 }
@@ -56,7 +56,7 @@ impl Picks {
 }
 
 /// The run over these moves, from the power state up to one that ends without rest.
-pub(crate) fn played(
+pub fn played(
     alloc: Global,
     sample: &Sample,
     moves: &[Move],

@@ -5,7 +5,7 @@ use dom_base::Tri;
 use std::alloc::{AllocError, Global};
 
 /// The text of a run over these cycles, with a line for each event where they are asked for.
-pub(crate) fn report(
+pub fn report(
     alloc: Global,
     sample: &Sample,
     cycles: &[Vec<bool>],
@@ -84,7 +84,7 @@ fn add_cycle(
 }
 
 /// Adds a letter for each pin, or `-` where there is none.
-pub(crate) fn add_pins(text: &mut String, pins: &[bool]) -> Result<(), AllocError> {
+pub fn add_pins(text: &mut String, pins: &[bool]) -> Result<(), AllocError> {
     if pins.is_empty() {
         text.push_str("-")?;
     }

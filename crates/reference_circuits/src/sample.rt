@@ -6,7 +6,7 @@ use std::alloc::{AllocError, Global};
 
 /// A transistor between two nets, switched by a third.
 #[derive(Clone, Copy)]
-pub(crate) struct Transistor {
+pub struct Transistor {
     pub kind: Kind,
     pub drain: usize,
     pub gate: usize,
@@ -38,7 +38,7 @@ impl Transistor {
 /// A circuit: the names of its nets by number, the counts of its clocks, pins and outputs, and its
 /// transistors. The ports come first, and the other nets in order of first appearance.
 #[derive(Drop)]
-pub(crate) struct Sample {
+pub struct Sample {
     pub names: Vec<String>,
     pub clocks: usize,
     pub pins: usize,
@@ -81,11 +81,7 @@ impl Sample {
 
 /// A generated circuit: a known part, and then other transistors. The nets that only the part has are
 /// gates of the others, but no ends of their channels.
-pub(crate) fn sampled(
-    alloc: Global,
-    draws: &mut Draws,
-    start: Start,
-) -> Result<Sample, AllocError> {
+pub fn sampled(alloc: Global, draws: &mut Draws, start: Start) -> Result<Sample, AllocError> {
     let clocks = draws.below(2).saturating_add(1);
     let pins = draws.below(3);
     let outs = draws.below(3);
@@ -208,7 +204,7 @@ fn port_names(
 }
 
 /// The circuit as a deck.
-pub(crate) fn deck_text(alloc: Global, sample: &Sample) -> Result<String, AllocError> {
+pub fn deck_text(alloc: Global, sample: &Sample) -> Result<String, AllocError> {
     let mut text = String::from_str(alloc, ".subckt t")?;
     for port in 0..sample.ports() {
         let name = sample.name(port);
@@ -231,7 +227,7 @@ pub(crate) fn deck_text(alloc: Global, sample: &Sample) -> Result<String, AllocE
 }
 
 /// Generated values of all nets.
-pub(crate) fn drawn_values(
+pub fn drawn_values(
     alloc: Global,
     sample: &Sample,
     draws: &mut Draws,

@@ -5,11 +5,11 @@ use dom_base::Kind;
 use std::alloc::{AllocError, Global};
 
 /// How many nets of its own a part may have.
-pub(crate) const MOST_NETS: usize = 3;
+pub const MOST_NETS: usize = 3;
 
 /// The parts: a ring of one gate that is held still for a time, a domino cell, and one half of a latch.
 #[derive(Clone, Copy)]
-pub(crate) enum Start {
+pub enum Start {
     Nothing,
     Ring,
     Cell,
@@ -17,7 +17,7 @@ pub(crate) enum Start {
 }
 
 /// The transistors of a part whose own nets have numbers from this one on.
-pub(crate) fn started(
+pub fn started(
     alloc: Global,
     sample: &Sample,
     draws: &mut Draws,

@@ -19,7 +19,7 @@ const ROUNDS: u64 = 4;
 /// What a comparison of targets comes to: their number where all are alike, else the first circuit with
 /// one that differs.
 #[derive(Clone, Copy)]
-pub(crate) enum Outcome {
+pub enum Outcome {
     Alike(u64),
     Differ(u64),
 }
@@ -32,7 +32,7 @@ struct Next {
 }
 
 /// Compares the targets of so many generated circuits.
-pub(crate) fn targets(alloc: Global, circuits: u64) -> Result<Outcome, Trouble> {
+pub fn targets(alloc: Global, circuits: u64) -> Result<Outcome, Trouble> {
     let mut count = 0u64;
     for case in 0..circuits {
         let mut draws = Draws::new(case);

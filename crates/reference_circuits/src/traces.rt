@@ -12,7 +12,7 @@ use trace_tool::{Order, Trace, TraceOptions, sim};
 /// What a comparison of traces comes to: how many decks end unsettled in some order, where all are alike,
 /// else the first deck with a trace that differs.
 #[derive(Clone, Copy)]
-pub(crate) enum Traced {
+pub enum Traced {
     Alike(u64),
     Differ(u64),
 }
@@ -28,7 +28,7 @@ struct Case {
 }
 
 /// Compares the traces of so many generated decks.
-pub(crate) fn traces(alloc: Global, decks: u64) -> Result<Traced, Trouble> {
+pub fn traces(alloc: Global, decks: u64) -> Result<Traced, Trouble> {
     let mut unsettled = 0u64;
     for deck in 0..decks {
         let case = drawn_case(alloc, deck)?;

@@ -7,7 +7,7 @@ use trace_tool::TraceFault;
 
 /// Why a circuit isn't compared: memory doesn't suffice, its deck is refused, or a line isn't printed.
 #[derive(Clone, Copy, Debug, PartialEq, Eq)]
-pub(crate) enum Trouble {
+pub enum Trouble {
     Memory,
     Refused,
     NotPrinted,

@@ -8,7 +8,7 @@ use std::marker::Model;
 
 /// A card: the number of its first line, from 1, and its words, which are parts of the text.
 #[derive(Drop)]
-pub(crate) struct Card<'a> {
+pub struct Card<'a> {
     pub number: u64,
     pub words: Vec<&'a [u8]>,
 }

@@ -17,7 +17,7 @@ use std::alloc::Global;
 
 /// The cards of a text in lower case that aren't read yet, and the phases of the lines that are.
 #[derive(Drop)]
-pub(crate) struct Cards<'a> {
+pub struct Cards<'a> {
     pub lines: Lines<'a>,
     pub phases: Vec<Phase>,
 }

@@ -18,7 +18,7 @@ const MOST_DEVICES: u32 = 16_777_216;
 const MOST_PORTS: usize = 1_048_576;
 
 /// The fault of a card with the smallest number, where it has one.
-pub(crate) fn fault_of(
+pub fn fault_of(
     alloc: Global,
     stage: &Stage,
     card: &Card<'_>,

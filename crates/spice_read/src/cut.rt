@@ -15,7 +15,7 @@ fn is_blank(byte: u8) -> bool
 }
 
 /// The line without the blanks and tabs at its start.
-pub(crate) fn unindent(line: &[u8]) -> &[u8]
+pub fn unindent(line: &[u8]) -> &[u8]
     ensures { result.now ≡ unindented line.now }
 {
     let mut rest = line;
@@ -39,7 +39,7 @@ fn front_word(line: &[u8]) -> &[u8]
 }
 
 /// Whether the line begins the card `.end`.
-pub(crate) fn is_end(line: &[u8]) -> bool
+pub fn is_end(line: &[u8]) -> bool
     requires { unindented line.now ≡ line.now }
     ensures { result ≡ is_end line.now }
 {
@@ -47,7 +47,7 @@ pub(crate) fn is_end(line: &[u8]) -> bool
 }
 
 /// Whether a card begins with the line: it isn't empty, and its first byte is neither `*` nor `+`.
-pub(crate) fn begins_card(line: &[u8]) -> bool
+pub fn begins_card(line: &[u8]) -> bool
     ensures { result ≡ begins_card line.now }
 {
     match line {
@@ -57,7 +57,7 @@ pub(crate) fn begins_card(line: &[u8]) -> bool
 }
 
 /// What stands behind the `+` of a line that continues the card before it.
-pub(crate) fn strip_plus(line: &[u8]) -> Option<&[u8]>
+pub fn strip_plus(line: &[u8]) -> Option<&[u8]>
     ensures { MatchOption result (continues line.now ≡ false) (λ rest. line.now ≡ 43 ∷ rest.now) }
 {
     match line {

@@ -10,7 +10,7 @@ use dom_base::cut_line;
 /// The lines of a text in lower case that aren't read yet, and the number of the first of them. Once
 /// the line `.end` is read nothing is left, and the number is that of this line.
 #[derive(Clone, Copy)]
-pub(crate) struct Lines<'a> {
+pub struct Lines<'a> {
     pub rest: &'a [u8],
     pub number: u64,
 }

@@ -6,7 +6,7 @@ use dom_base::{NetName, OutOfMemory};
 use std::alloc::Global;
 
 /// The word as the name of a net.
-pub(crate) fn net_name(alloc: Global, word: &[u8]) -> Result<NetName, OutOfMemory>
+pub fn net_name(alloc: Global, word: &[u8]) -> Result<NetName, OutOfMemory>
     requires { IsNetName word.now }
     ensures { IfOk result (λ name. name ≡ word.now) }
 {

@@ -58,11 +58,7 @@ fn phase_of(alloc: Global, words: &[&[u8]]) -> Result<Option<Phase>, OutOfMemory
 }
 
 /// Appends the phase of a line, where it gives one.
-pub(crate) fn push_phase(
-    alloc: Global,
-    phases: &mut Vec<Phase>,
-    line: &[u8],
-) -> Result<(), OutOfMemory>
+pub fn push_phase(alloc: Global, phases: &mut Vec<Phase>, line: &[u8]) -> Result<(), OutOfMemory>
     requires { IsLowerText line.now }
     ensures { OnOk result (phases.new.items ≡ phases.old.items ++ option_to_list (phase_of (words line.now))) }
 {

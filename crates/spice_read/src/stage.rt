@@ -16,14 +16,14 @@ use std::alloc::Global;
 
 /// What was read so far: nothing of a subcircuit, an open one, or a closed one.
 #[derive(Drop)]
-pub(crate) enum Stage {
+pub enum Stage {
     Before,
     Open(Circuit),
     Closed(Circuit),
 }
 
 /// The kind of device of its word.
-pub(crate) fn kind_of(word: &[u8]) -> Option<Kind>
+pub fn kind_of(word: &[u8]) -> Option<Kind>
     ensures { result ≡ known_kind word.now }
 {
     if same_word(word, b"nch") {

@@ -8,7 +8,7 @@ use dom_base::strip_comment;
 use std::alloc::{AllocError, Global};
 
 /// The bytes of a line outside its comment, without blanks and tabs.
-pub(crate) fn letters_of(alloc: Global, line: &[u8]) -> Result<Vec<u8>, AllocError>
+pub fn letters_of(alloc: Global, line: &[u8]) -> Result<Vec<u8>, AllocError>
     ensures { IfOk result (λ v. v.items ≡ letters_of line.now) }
 {
     strip_comment(line)
@@ -19,7 +19,7 @@ pub(crate) fn letters_of(alloc: Global, line: &[u8]) -> Result<Vec<u8>, AllocErr
 }
 
 /// The fault of letters for this number of pins, if they have one.
-pub(crate) fn fault_of(letters: &[u8], width: u32) -> Option<StimKind>
+pub fn fault_of(letters: &[u8], width: u32) -> Option<StimKind>
     ensures { MatchOption result (is_good width letters.now ≡ true) (λ kind. has_fault width kind letters.now ≡ true) }
 {
     if !are_letters(letters, width) {
@@ -65,7 +65,7 @@ fn is_dash(letters: &[u8]) -> bool
 }
 
 /// The bits of letters that have no fault.
-pub(crate) fn pins_of(alloc: Global, letters: &[u8], width: u32) -> Result<Pins, AllocError>
+pub fn pins_of(alloc: Global, letters: &[u8], width: u32) -> Result<Pins, AllocError>
     requires { is_good width letters.now ≡ true }
     ensures { IfOk result (λ pins. IsPinsOf width letters.now pins) }
 {

@@ -17,7 +17,7 @@ use stim_text::{CycleRow, Pins, write_cycle};
 
 /// A simulation, and the text of its trace so far.
 #[derive(Drop)]
-pub(crate) struct Bench<F: Fn(u64, u64) -> u64> {
+pub struct Bench<F: Fn(u64, u64) -> u64> {
     pub sim: Sim<F>,
     pub text: Vec<u8>,
 }

@@ -7,11 +7,7 @@ use dom_base::{OutOfMemory, put, put_number};
 use event_sim::Event;
 
 /// Appends the line of an event.
-pub(crate) fn put_event(
-    text: &mut Vec<u8>,
-    circuit: &Circuit,
-    event: Event,
-) -> Result<(), OutOfMemory>
+pub fn put_event(text: &mut Vec<u8>, circuit: &Circuit, event: Event) -> Result<(), OutOfMemory>
     requires { event.net < length circuit.now.nets }
     ensures { OnOk result (text.new.items ≡ text.old.items ++ event_line circuit.now.nets event) }
 {
@@ -36,7 +32,7 @@ fn name_of(circuit: &Circuit, net: u32) -> &[u8]
 }
 
 /// Appends the line of power, with the number of its events.
-pub(crate) fn put_power(text: &mut Vec<u8>, events: u64) -> Result<(), OutOfMemory>
+pub fn put_power(text: &mut Vec<u8>, events: u64) -> Result<(), OutOfMemory>
     ensures { OnOk result (text.new.items ≡ text.old.items ++ power_line events) }
 {
     put(text, b"power events ")?;
@@ -46,7 +42,7 @@ pub(crate) fn put_power(text: &mut Vec<u8>, events: u64) -> Result<(), OutOfMemo
 }
 
 /// Appends the line of a going to rest in a cycle that ended without rest after so many events.
-pub(crate) fn put_unsettled(text: &mut Vec<u8>, cycle: u64, events: u64) -> Result<(), OutOfMemory>
+pub fn put_unsettled(text: &mut Vec<u8>, cycle: u64, events: u64) -> Result<(), OutOfMemory>
     ensures { OnOk result (text.new.items ≡ text.old.items ++ unsettled_line cycle events) }
 {
     put(text, b"unsettled cycle ")?;

@@ -13,7 +13,7 @@ use std::alloc::Global;
 use stim_text::Pins;
 
 /// The trace over these cycles, in an order with a seed.
-pub(crate) fn traced_by(
+pub fn traced_by(
     alloc: Global,
     rig: &Rig,
     cycles: &[Pins],

@@ -8,7 +8,7 @@ use event_sim::Sim;
 use std::alloc::Global;
 
 /// Gives the ports from a place on these values, one each, with no event between them.
-pub(crate) fn set_ports<F: Fn(u64, u64) -> u64>(sim: &mut Sim<F>, place: u32, values: &[Tri])
+pub fn set_ports<F: Fn(u64, u64) -> u64>(sim: &mut Sim<F>, place: u32, values: &[Tri])
     requires no_supply { 2 ≤ place }
     requires sources { place + length values.now ≤ sim.old.links.sources }
     requires few { place + length values.now < 2 ^ 32 }
@@ -20,7 +20,7 @@ pub(crate) fn set_ports<F: Fn(u64, u64) -> u64>(sim: &mut Sim<F>, place: u32, va
 }
 
 /// The values of bits.
-pub(crate) fn values_of(alloc: Global, bits: &[bool]) -> Result<Vec<Tri>, OutOfMemory>
+pub fn values_of(alloc: Global, bits: &[bool]) -> Result<Vec<Tri>, OutOfMemory>
     ensures { IfOk result (λ values. values.items ≡ map value_of_bit bits.now) }
 {
     let mut values = Vec::new(alloc);
@@ -31,7 +31,7 @@ pub(crate) fn values_of(alloc: Global, bits: &[bool]) -> Result<Vec<Tri>, OutOfM
 }
 
 /// The values of so many nets from a place on.
-pub(crate) fn read_ports<F: Fn(u64, u64) -> u64>(
+pub fn read_ports<F: Fn(u64, u64) -> u64>(
     alloc: Global,
     sim: &Sim<F>,
     place: u32,

@@ -9,11 +9,11 @@ ghost use Rattle.trace_tool.specs.Moves.{first_pin, master_pair, reset_pair, sla
 use deck::{Circuit, Roles};
 
 /// The place of the first clock among the ports.
-pub(crate) const FIRST_CLOCK: u32 = 2;
+pub const FIRST_CLOCK: u32 = 2;
 
 /// A circuit with the roles of its ports, and whether every event is told.
 #[derive(Drop)]
-pub(crate) struct Rig {
+pub struct Rig {
     pub circuit: Circuit,
     pub roles: Roles,
     pub events: bool,

@@ -17,7 +17,7 @@ use std::alloc::Global;
 use stim_text::Pins;
 
 /// The trace of power and of these cycles.
-pub(crate) fn traced<F: Fn(u64, u64) -> u64>(
+pub fn traced<F: Fn(u64, u64) -> u64>(
     alloc: Global,
     rig: &Rig,
     cycles: &[Pins],

@@ -8,7 +8,7 @@ use std::alloc::AllocError;
 /// Why a run stops before its end: a going to rest that ended without rest, after so many events, or
 /// want of memory.
 #[derive(Clone, Copy, Debug, PartialEq, Eq)]
-pub(crate) enum Stop {
+pub enum Stop {
     Unsettled(u64),
     Memory,
 }
