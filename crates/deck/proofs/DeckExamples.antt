@@ -6,7 +6,8 @@ use Rattle.std.proofs.lemmas.Map.Made.{IsDistinct-from_count}
 use Rattle.dom_base.specs.Lines.{is_control}
 use Rattle.dom_base.specs.declared.kind.Kind.TheVariants.{N as nch, P as pch, Keep}
 use Rattle.deck.specs.CircuitData.{CircuitData}
-use Rattle.deck.specs.DeckText.{is_skipped, deck_cards, deck_phases, card_lines, BeginsACard, NamedDevice, bare_circuit, with_devices, HasNoEquals, IsDeckOf}
+use Rattle.deck.specs.DeckText.{is_skipped, deck_cards, deck_phases, card_lines, BeginsACard, bare_circuit, HasNoEquals, IsDeckOf}
+use Rattle.deck.specs.NamedDevices.{NamedDevice, with_devices}
 use Rattle.deck.specs.Worked.{and_devices}
 use Rattle.deck.proofs.Distinct.{names_equal}
 
@@ -38,7 +39,7 @@ and_text = text_of (
 and_ports : List (List ℕ)
 and_ports = codes "vdd" ∷ codes "vss" ∷ codes "ck1" ∷ codes "lm" ∷ codes "lmb" ∷ codes "ls" ∷ codes "lsb" ∷ codes "rs" ∷ codes "rsb" ∷ codes "i_a" ∷ codes "i_b" ∷ codes "o_f" ∷ []
 
-and_named_devices : List NamedDevice
+and_named_devices : List (NamedDevice (List ℕ))
 and_named_devices =
     record { kind = pch; drain = codes "d0"; gate = codes "ck1"; source = codes "vdd" }
     ∷ record { kind = Keep; drain = codes "d0"; gate = codes "z0"; source = codes "vdd" }

@@ -10,7 +10,8 @@ use Rattle.dom_base.proofs.Each.{AllByRecursion-append, AllByRecursion-left, All
 use Rattle.dom_base.proofs.WordBytes.{IsLower, IsLowerWord, lower_bytes, lower_words, IsNetName-word}
 use Rattle.deck.specs.declared.phase.Phase.{Phase}
 use Rattle.deck.specs.CircuitData.{CircuitData}
-use Rattle.deck.specs.DeckText.{read_line, is_end, through_end, deck_lines, is_of_card, continues, card_lines, added_words, cards_of, deck_cards, is_skipped, signed_phase, phase_of, deck_phases, NamedDevice, IsDeviceCard, bare_circuit, with_devices, IsDeckOf, HasNetNames}
+use Rattle.deck.specs.DeckText.{read_line, is_end, through_end, deck_lines, is_of_card, continues, card_lines, added_words, cards_of, deck_cards, is_skipped, signed_phase, phase_of, deck_phases, IsDeviceCard, bare_circuit, IsDeckOf, HasNetNames}
+use Rattle.deck.specs.NamedDevices.{NamedDevice, with_devices}
 use Rattle.deck.specs.Nets.{with_net}
 use Rattle.deck.specs.Pushes.{pushed}
 use Rattle.deck.proofs.DeckCircuits.{IsDeckOf-phases}
@@ -116,13 +117,13 @@ phases-plain (line ∷ all) h = by (phase_of (words line)) (phase-plain (words l
     by (Some phase) p rest = (p, rest)
 
 -- the nets of a device
-abbrev HasPlainNets : NamedDevice → Type 0
+abbrev HasPlainNets : NamedDevice (List ℕ) → Type 0
 HasPlainNets d = IsNetName d.drain × IsNetName d.gate × IsNetName d.source
 
-device-plain : (card : List (List ℕ)) (d : NamedDevice) → IsDeviceCard card d → AllByRecursion IsNetName card → HasPlainNets d
+device-plain : (card : List (List ℕ)) (d : NamedDevice (List ℕ)) → IsDeviceCard card d → AllByRecursion IsNetName card → HasPlainNets d
 device-plain card d is h = let all = subst (AllByRecursion IsNetName) is.words_are h in (all.1.0, all.1.1.0, all.1.1.1.0)
 
-devices-plain : (cards : List (List (List ℕ))) (ds : List NamedDevice) → AllZip IsDeviceCard cards ds → AllByRecursion (AllByRecursion IsNetName) cards → AllByRecursion HasPlainNets ds
+devices-plain : (cards : List (List (List ℕ))) (ds : List (NamedDevice (List ℕ))) → AllZip IsDeviceCard cards ds → AllByRecursion (AllByRecursion IsNetName) cards → AllByRecursion HasPlainNets ds
 devices-plain [] [] z h = tt
 devices-plain [] (d ∷ ds) z h = absurd z
 devices-plain (card ∷ cards) [] z h = absurd z
@@ -135,14 +136,14 @@ with_net-plain nets name h n = by (list_any (pointwise nat_eq name) nets)
     by true = h
     by false = AllByRecursion-append IsNetName nets (name ∷ []) h (n, tt)
 
-with_devices-plain : (c : CircuitData) (ds : List NamedDevice) → AllByRecursion IsNetName c.nets → AllByRecursion HasPlainNets ds → AllByRecursion IsNetName (with_devices c ds).nets
+with_devices-plain : (c : CircuitData) (ds : List (NamedDevice (List ℕ))) → AllByRecursion IsNetName c.nets → AllByRecursion HasPlainNets ds → AllByRecursion IsNetName (with_devices c ds).nets
 with_devices-plain c [] h p = h
 with_devices-plain c (d ∷ ds) h p =
     with_devices-plain (pushed c d.kind d.drain d.gate d.source) ds
     (with_net-plain (with_net (with_net c.nets d.drain) d.gate) d.source
     (with_net-plain (with_net c.nets d.drain) d.gate (with_net-plain c.nets d.drain h p.0.0) p.0.1) p.0.2) p.1
 
-with_devices-name : (c : CircuitData) (ds : List NamedDevice) → (with_devices c ds).name ≡ c.name
+with_devices-name : (c : CircuitData) (ds : List (NamedDevice (List ℕ))) → (with_devices c ds).name ≡ c.name
 with_devices-name c [] = refl
 with_devices-name c (d ∷ ds) = with_devices-name (pushed c d.kind d.drain d.gate d.source) ds
 

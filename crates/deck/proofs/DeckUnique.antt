@@ -6,7 +6,8 @@ use Rattle.std.proofs.lemmas.List.{same_from_push}
 use Rattle.dom_base.specs.declared.kind.Kind.{Kind}
 use Rattle.dom_base.specs.declared.kind.Kind.TheVariants.{N as nch, P as pch, Keep}
 use Rattle.deck.specs.CircuitData.{CircuitData}
-use Rattle.deck.specs.DeckText.{deck_phases, model_word, NamedDevice, IsDeviceCard, bare_circuit, with_devices, IsDeckOf}
+use Rattle.deck.specs.DeckText.{deck_phases, model_word, IsDeviceCard, bare_circuit, IsDeckOf}
+use Rattle.deck.specs.NamedDevices.{NamedDevice, with_devices}
 
 -- of two equal words both pass a test or none
 tell_apart : (test : List ℕ → Bool) (a b : List ℕ) → test a ≡ true → test b ≡ false → a ≡ b → ⊥
@@ -32,7 +33,7 @@ model_word-injective Keep pch e = absurd (tell_apart is_pch (codes "pch") (codes
 model_word-injective Keep Keep e = refl
 
 -- a card is that of one device
-pub IsDeviceCard-unique : (card : List (List ℕ)) (a b : NamedDevice) → IsDeviceCard card a → IsDeviceCard card b → a ≡ b
+pub IsDeviceCard-unique : (card : List (List ℕ)) (a b : NamedDevice (List ℕ)) → IsDeviceCard card a → IsDeviceCard card b → a ≡ b
 IsDeviceCard-unique card a b x y =
     let same : (109 ∷ x.name) ∷ a.drain ∷ a.gate ∷ a.source ∷ x.bulk ∷ model_word a.kind ∷ x.more ≡ (109 ∷ y.name) ∷ b.drain ∷ b.gate ∷ b.source ∷ y.bulk ∷ model_word b.kind ∷ y.more = sym x.words_are ∙ y.words_are in
     let drain : a.drain ≡ b.drain = cc in
@@ -43,7 +44,7 @@ IsDeviceCard-unique card a b x y =
     λ i. record { kind = kind i; drain = drain i; gate = gate i; source = source i }
 
 -- cards are those of one list of devices
-pub device_cards-unique : (cards : List (List (List ℕ))) (ds es : List NamedDevice) → AllZip IsDeviceCard cards ds → AllZip IsDeviceCard cards es → ds ≡ es
+pub device_cards-unique : (cards : List (List (List ℕ))) (ds es : List (NamedDevice (List ℕ))) → AllZip IsDeviceCard cards ds → AllZip IsDeviceCard cards es → ds ≡ es
 device_cards-unique [] [] [] x y = refl
 device_cards-unique [] [] (e ∷ es) x y = absurd y
 device_cards-unique [] (d ∷ ds) es x y = absurd x

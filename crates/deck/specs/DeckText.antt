@@ -8,7 +8,7 @@ use Rattle.dom_base.specs.declared.kind.Kind.{Kind}
 use Rattle.dom_base.specs.declared.kind.Kind.TheVariants.{N as nch, P as pch, Keep}
 use Rattle.deck.specs.declared.phase.Phase.{Phase}
 use Rattle.deck.specs.CircuitData.{CircuitData}
-use Rattle.deck.specs.Pushes.{pushed}
+use Rattle.deck.specs.NamedDevices.{NamedDevice, with_devices}
 
 -- a line as it is read: without blanks and tabs at its start, and with upper-case ASCII letters as lower-case
 abbrev pub read_line : List ℕ → List ℕ
@@ -91,15 +91,8 @@ model_word nch = codes "nch"
 model_word pch = codes "pch"
 model_word Keep = codes "pkeep"
 
--- a device, with the names of its nets
-pub record NamedDevice : Type 0 where
-  pub kind : Kind
-  pub drain : List ℕ
-  pub gate : List ℕ
-  pub source : List ℕ
-
 -- the card of a device: a name that begins with `m`, the drain, the gate, the source, the bulk, the model, and more words, which are skipped
-pub record IsDeviceCard (card : List (List ℕ)) (device : NamedDevice) : Type 0 where
+pub record IsDeviceCard (card : List (List ℕ)) (device : NamedDevice (List ℕ)) : Type 0 where
   pub name : List ℕ
   pub bulk : List ℕ
   pub more : List (List ℕ)
@@ -108,11 +101,6 @@ pub record IsDeviceCard (card : List (List ℕ)) (device : NamedDevice) : Type 0
 -- a circuit without devices: its nets are its ports
 abbrev pub bare_circuit : List ℕ → List Phase → List (List ℕ) → CircuitData
 bare_circuit name phases ports = record { name = name; phases = phases; ports = length ports; nets = ports; devices = [] }
-
--- the circuit with these devices in turn: nets are numbered in order of first appearance
-abbrev pub with_devices : CircuitData → List NamedDevice → CircuitData
-with_devices c [] = c
-with_devices c (d ∷ ds) = with_devices (pushed c d.kind d.drain d.gate d.source) ds
 
 -- a word without the byte `=`
 abbrev pub HasNoEquals : List ℕ → Type 0
@@ -123,7 +111,7 @@ pub record IsDeckOf (text : List ℕ) (circuit : CircuitData) : Type 0 where
   pub name : List ℕ
   pub ports : List (List ℕ)
   pub device_cards : List (List (List ℕ))
-  pub devices : List NamedDevice
+  pub devices : List (NamedDevice (List ℕ))
   -- the words behind `.ends`
   pub closing : List (List ℕ)
   -- no line with `+` stands before the first card

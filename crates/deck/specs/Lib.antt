@@ -3,6 +3,7 @@ pub mod DeckCards
 pub mod DeckFaults
 pub mod DeckText
 pub mod Escapes
+pub mod NamedDevices
 pub mod Nets
 pub mod Numbers
 pub mod Paths

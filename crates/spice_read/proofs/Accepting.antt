@@ -11,7 +11,8 @@ use Rattle.dom_base.proofs.WordBytes.{IsLowerWord, IsNetName-word}
 use Rattle.deck.specs.declared.phase.Phase.{Phase}
 use Rattle.deck.specs.declared.fault.DeckKind.TheVariants.{ControlByte}
 use Rattle.deck.specs.CircuitData.{CircuitData}
-use Rattle.deck.specs.DeckText.{IsDeckOf, NamedDevice, bare_circuit, deck_cards, deck_phases, is_skipped, with_devices}
+use Rattle.deck.specs.DeckText.{IsDeckOf, bare_circuit, deck_cards, deck_phases, is_skipped}
+use Rattle.deck.specs.NamedDevices.{NamedDevice, with_devices}
 use Rattle.deck.specs.Pushes.{pushed}
 use Rattle.deck.specs.DeckCards.{NumberedCard, numbered_cards, numbered_lines}
 use Rattle.spice_read.specs.declared.stage.Stage.TheVariants.{Closed}
@@ -67,7 +68,7 @@ visible-map [] h = tt
 visible-map (card ∷ cards) h = (h.0, visible-map cards h.1)
 
 -- phases change nothing else
-with_phases : (c : CircuitData) (phases : List Phase) (ds : List NamedDevice) → record (with_devices c ds) { phases = phases } ≡ with_devices (record c { phases = phases }) ds
+with_phases : (c : CircuitData) (phases : List Phase) (ds : List (NamedDevice (List ℕ))) → record (with_devices c ds) { phases = phases } ≡ with_devices (record c { phases = phases }) ds
 with_phases c phases [] = refl
 with_phases c phases (d ∷ ds) = with_phases (pushed c d.kind d.drain d.gate d.source) phases ds
 

@@ -10,7 +10,8 @@ use Rattle.dom_base.specs.declared.kind.Kind.TheVariants.{N as nch, P as pch, Ke
 use Rattle.deck.specs.declared.fault.DeckKind.{DeckKind}
 use Rattle.deck.specs.declared.fault.DeckKind.TheVariants.{ControlByte, UnknownCard, BadCard, UnknownDevice, NoSubckt, SecondSubckt, TooMany}
 use Rattle.deck.specs.CircuitData.{CircuitData}
-use Rattle.deck.specs.DeckText.{first_word, model_word, HasNoEquals, IsDeviceCard, NamedDevice}
+use Rattle.deck.specs.DeckText.{first_word, model_word, HasNoEquals, IsDeviceCard}
+use Rattle.deck.specs.NamedDevices.{NamedDevice}
 use Rattle.deck.specs.DeckCards.{NumberedCard, begins, subckt_card, ends_card, end_card, model_card, is_device, is_model_word, has_equals, port_names, most_devices}
 use Rattle.spice_read.specs.declared.stage.Stage.{Stage}
 use Rattle.spice_read.specs.declared.stage.Stage.TheVariants.{Before, Open, Closed}
@@ -107,7 +108,7 @@ model_word-kind word is = by (pointwise nat_eq word (codes "nch")) (pointwise na
     by false false false x y z h = absurd (true≢false (sym h))
 
 -- the device of a card
-abbrev pub device_of : NumberedCard → NamedDevice
+abbrev pub device_of : NumberedCard → NamedDevice (List ℕ)
 device_of card = record { kind = kind_of (word_at card 5); drain = word_at card 1; gate = word_at card 2; source = word_at card 3 }
 
 pub device_card : (card : NumberedCard) → is_device card ≡ true → 5 < length card.words → is_model_word (word_at card 5) ≡ true → IsDeviceCard card.words (device_of card)

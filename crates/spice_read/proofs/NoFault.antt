@@ -11,7 +11,8 @@ use Rattle.dom_base.specs.declared.kind.Kind.TheVariants.{N as nch, P as pch, Ke
 use Rattle.dom_base.proofs.PlainWords.{list_any-none}
 use Rattle.deck.specs.declared.fault.DeckKind.{DeckKind}
 use Rattle.deck.specs.CircuitData.{CircuitData}
-use Rattle.deck.specs.DeckText.{HasNoEquals, IsDeckOf, IsDeviceCard, NamedDevice, deck_cards, first_word, is_skipped, model_word}
+use Rattle.deck.specs.DeckText.{HasNoEquals, IsDeckOf, IsDeviceCard, deck_cards, first_word, is_skipped, model_word}
+use Rattle.deck.specs.NamedDevices.{NamedDevice}
 use Rattle.deck.specs.DeckCards.{NumberedCard, begins, end_card, ends_card, has_equals, is_device, is_model_word, model_card, most_ports, names_twice, numbered_cards, port_names, subckt_card}
 use Rattle.deck.specs.DeckFaults.{IsDeckFault}
 use Rattle.deck.proofs.Distinct.{names_equal}
@@ -87,7 +88,7 @@ model_known nch = refl
 model_known pch = refl
 model_known Keep = refl
 
-device_card : (c : CircuitData) (card : NumberedCard) (d : NamedDevice) → IsDeviceCard card.words d → length c.devices < 2 ^ 24 → CleanCard (Open c) card
+device_card : (c : CircuitData) (card : NumberedCard) (d : NamedDevice (List ℕ)) → IsDeviceCard card.words d → length c.devices < 2 ^ 24 → CleanCard (Open c) card
 device_card c card d is room =
     device (ap (λ ws. slice_index (first_word ws) 0 == 109) is.words_are) (omega (arith, ap length is.words_are))
     (ap (λ ws. is_model_word (slice_index_or ws 5 [])) is.words_are ∙ model_known d.kind)
@@ -135,7 +136,7 @@ left-same card rest e = ap (λ t. cond (not t) (card.words ∷ left rest) (left 
 -- devices that are left of a deck whose `.ends` has these words behind it
 record DevicesLeft (closing : List (List ℕ)) (c : CircuitData) (rest : List NumberedCard) : Type 0 where
   cards : List (List (List ℕ))
-  devices : List NamedDevice
+  devices : List (NamedDevice (List ℕ))
   order : left rest ≡ cards ++ (codes ".ends" ∷ closing) ∷ []
   cards_are : AllZip IsDeviceCard cards devices
   few : length c.devices + length devices ≤ 2 ^ 24
@@ -177,7 +178,7 @@ after_opening h card rest e l =
           (record { cards = h.device_cards; devices = h.devices; order = more; cards_are = h.cards_are; few = omega (arith, h.few_devices) });
     }
 
-after_open : {text : List ℕ} {circuit : CircuitData} (h : IsDeckOf text circuit) (c : CircuitData) (card : NumberedCard) (rest : List NumberedCard) (cards : List (List (List ℕ))) (devices : List NamedDevice)
+after_open : {text : List ℕ} {circuit : CircuitData} (h : IsDeckOf text circuit) (c : CircuitData) (card : NumberedCard) (rest : List NumberedCard) (cards : List (List (List ℕ))) (devices : List (NamedDevice (List ℕ)))
     → card.words ∷ left rest ≡ cards ++ (codes ".ends" ∷ h.closing) ∷ [] → AllZip IsDeviceCard cards devices → length c.devices + length devices ≤ 2 ^ 24 → IsTaken h (Open c) card rest
 after_open h c card rest [] devices all zip few =
     let words : card.words ≡ codes ".ends" ∷ h.closing = cc in

@@ -5,7 +5,8 @@ use Rattle.std.proofs.lemmas.Bool.Decides.{nat_tests}
 use Rattle.std.proofs.lemmas.List.{map-append, reverse-append}
 use Rattle.std.proofs.lemmas.List.Elements.{filter-append}
 use Rattle.deck.specs.CircuitData.{CircuitData}
-use Rattle.deck.specs.DeckText.{HasNoEquals, IsDeviceCard, NamedDevice, bare_circuit, is_skipped, with_devices}
+use Rattle.deck.specs.DeckText.{HasNoEquals, IsDeviceCard, bare_circuit, is_skipped}
+use Rattle.deck.specs.NamedDevices.{NamedDevice, with_devices}
 use Rattle.deck.specs.DeckCards.{NumberedCard, begins, subckt_card, ends_card, end_card, model_card, is_device, begins_some, is_open, has_subckt, device_count, most_devices, port_names}
 use Rattle.deck.proofs.DeckCircuits.{with_devices-push}
 use Rattle.spice_read.specs.declared.stage.Stage.{Stage}
@@ -36,7 +37,7 @@ pub record HasParts (before : List NumberedCard) (tail : List (List (List ℕ)))
   pub name : List ℕ
   pub ports : List (List ℕ)
   pub device_cards : List (List (List ℕ))
-  pub devices : List NamedDevice
+  pub devices : List (NamedDevice (List ℕ))
   pub order : kept before ≡ (codes ".subckt" ∷ name ∷ ports) ∷ device_cards ++ tail
   pub no_equals : All HasNoEquals (name ∷ ports)
   pub good : HasGoodPorts ports
@@ -77,7 +78,7 @@ count-cons card before = by (is_device card)
     by true = omega arith
     by false = refl
 
-AllZip-push : (cards : List (List (List ℕ))) (ds : List NamedDevice) (card : List (List ℕ)) (d : NamedDevice) → AllZip IsDeviceCard cards ds → IsDeviceCard card d → AllZip IsDeviceCard (cards ++ card ∷ []) (ds ++ d ∷ [])
+AllZip-push : (cards : List (List (List ℕ))) (ds : List (NamedDevice (List ℕ))) (card : List (List ℕ)) (d : NamedDevice (List ℕ)) → AllZip IsDeviceCard cards ds → IsDeviceCard card d → AllZip IsDeviceCard (cards ++ card ∷ []) (ds ++ d ∷ [])
 AllZip-push [] [] card d h k = (k, tt)
 AllZip-push [] (e ∷ ds) card d h k = absurd h
 AllZip-push (one ∷ cards) [] card d h k = absurd h

@@ -6,14 +6,14 @@ use Rattle.dom_base.proofs.Each.{AllByRecursion-take}
 use Rattle.deck.specs.declared.device.Device.{Device}
 use Rattle.deck.specs.declared.phase.Phase.{Phase}
 use Rattle.deck.specs.CircuitData.{CircuitData}
-use Rattle.deck.specs.DeckText.{NamedDevice, with_devices}
+use Rattle.deck.specs.NamedDevices.{NamedDevice, with_devices}
 use Rattle.deck.specs.Nets.{place_of, with_net, ends, IsNumbered, used}
 use Rattle.deck.specs.Pushes.{pushed}
 use Rattle.deck.proofs.Order.{used-ge}
 use Rattle.spice_text.specs.Text.{name_of}
 
 -- a device with the names of its nets
-abbrev pub named : List (List ℕ) → Device → NamedDevice
+abbrev pub named : List (List ℕ) → Device → NamedDevice (List ℕ)
 named nets d = record { kind = d.kind; drain = name_of nets d.drain; gate = name_of nets d.gate; source = name_of nets d.source }
 
 same_name : (x : List ℕ) → pointwise nat_eq x x ≡ true

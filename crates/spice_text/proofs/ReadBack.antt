@@ -11,7 +11,8 @@ use Rattle.dom_base.proofs.PlainWords.{IsNetName-from_test, no_control-name, no_
 use Rattle.deck.specs.declared.device.Device.{Device}
 use Rattle.deck.specs.declared.phase.Phase.{Phase}
 use Rattle.deck.specs.CircuitData.{CircuitData}
-use Rattle.deck.specs.DeckText.{deck_cards, deck_phases, card_lines, cards_of, is_skipped, phase_of, bare_circuit, with_devices, BeginsACard, HasNoEquals, IsDeckOf, IsGoodCircuit, HasNetNames}
+use Rattle.deck.specs.DeckText.{deck_cards, deck_phases, card_lines, cards_of, is_skipped, phase_of, bare_circuit, BeginsACard, HasNoEquals, IsDeckOf, IsGoodCircuit, HasNetNames}
+use Rattle.deck.specs.NamedDevices.{with_devices}
 use Rattle.deck.specs.Nets.{ends, used, IsCircuit}
 use Rattle.deck.specs.Ports.{leading_ports, HasRoles}
 use Rattle.deck.proofs.DeckCircuits.{IsDeckOf-circuit, IsDeckOf-good}
