@@ -4,7 +4,7 @@ use Rattle.std.specs.Cmp.Lexicographic.{pointwise, bytes_decides}
 use Rattle.dom_base.specs.declared.kind.Kind.{Kind}
 use Rattle.deck.specs.declared.device.Device.{Device}
 use Rattle.deck.specs.CircuitData.{CircuitData}
-use Rattle.deck.specs.Nets.{place_of, with_net}
+use Rattle.deck.specs.Nets.{net_number, with_net}
 use Rattle.deck.specs.Pushes.{pushed}
 
 -- a later state of a circuit that only grew
@@ -58,7 +58,7 @@ slice_get-append (y ∷ xs) ys zero x at = at
 slice_get-append (y ∷ xs) ys (suc i) x at = slice_get-append xs ys i x at
 
 -- a net stands at its number once it is added
-pub slice_get-with_net : (nets : List (List ℕ)) (name : List ℕ) → slice_get (with_net nets name) (place_of nets name) ≡ Some name
+pub slice_get-with_net : (nets : List (List ℕ)) (name : List ℕ) → slice_get (with_net nets name) (net_number nets name) ≡ Some name
 slice_get-with_net [] name = refl
 slice_get-with_net (x ∷ xs) name = by (pointwise nat_eq name x) refl (slice_get-with_net xs name)
   where
@@ -66,10 +66,10 @@ slice_get-with_net (x ∷ xs) name = by (pointwise nat_eq name x) refl (slice_ge
     tail_case true = refl
     tail_case false = refl
 
-    by : (b : Bool) → pointwise nat_eq name x ≡ b → slice_get (with_net xs name) (place_of xs name) ≡ Some name → slice_get (with_net (x ∷ xs) name) (place_of (x ∷ xs) name) ≡ Some name
+    by : (b : Bool) → pointwise nat_eq name x ≡ b → slice_get (with_net xs name) (net_number xs name) ≡ Some name → slice_get (with_net (x ∷ xs) name) (net_number (x ∷ xs) name) ≡ Some name
     by true e rest = rw e (ap Some (sym ((bytes_decides name x).0 e)))
     by false e rest = rw e (
-        let next : 1 + place_of xs name ≡ suc (place_of xs name) = omega arith in
+        let next : 1 + net_number xs name ≡ suc (net_number xs name) = omega arith in
         ap (λ (n : ℕ). slice_get (if list_any (pointwise nat_eq name) xs then x ∷ xs else (x ∷ xs) ++ name ∷ []) n) next
-        ∙ ap (λ l. slice_get l (suc (place_of xs name))) (tail_case (list_any (pointwise nat_eq name) xs)) ∙ rest
+        ∙ ap (λ l. slice_get l (suc (net_number xs name))) (tail_case (list_any (pointwise nat_eq name) xs)) ∙ rest
         )

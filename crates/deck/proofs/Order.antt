@@ -4,7 +4,7 @@ use Rattle.std.specs.Cmp.Lexicographic.{pointwise}
 use Rattle.deck.specs.declared.device.Device.{Device}
 use Rattle.dom_base.specs.declared.kind.Kind.{Kind}
 use Rattle.deck.specs.CircuitData.{CircuitData}
-use Rattle.deck.specs.Nets.{place_of, with_net, with_nets, ends, IsNumbered, used, IsCircuit}
+use Rattle.deck.specs.Nets.{net_number, with_net, with_nets, ends, IsNumbered, used, IsCircuit}
 use Rattle.deck.specs.Numbers.{PlacesOf}
 use Rattle.deck.specs.Pushes.{pushed}
 use Rattle.deck.proofs.Distinct.{IsDistinct-with_net}
@@ -16,13 +16,13 @@ place_cases p (x ∷ xs) = grind (arith, place_cases p xs)
 
 -- a net has a place among the nets or the next one, and then they are long enough for it
 pub record HasPlace (nets : List (List ℕ)) (name : List ℕ) : Type 0 where
-  pub within : place_of nets name ≤ length nets
-  pub length_then : length (with_net nets name) ≡ max (length nets) (place_of nets name + 1)
+  pub within : net_number nets name ≤ length nets
+  pub length_then : length (with_net nets name) ≡ max (length nets) (net_number nets name + 1)
 
 pub has_place : (nets : List (List ℕ)) (name : List ℕ) → HasPlace nets name
 has_place nets name = by (place_cases (pointwise nat_eq name) nets)
   where
-    by : ((list_any (pointwise nat_eq name) nets ≡ true) × (place_of nets name < length nets)) ⊎ ((list_any (pointwise nat_eq name) nets ≡ false) × (place_of nets name ≡ length nets)) → HasPlace nets name
+    by : ((list_any (pointwise nat_eq name) nets ≡ true) × (net_number nets name < length nets)) ⊎ ((list_any (pointwise nat_eq name) nets ≡ false) × (net_number nets name ≡ length nets)) → HasPlace nets name
     by (inl h) = record { within = omega (arith, h.1); length_then = rw h.0 (omega (arith, h.1)) }
     by (inr h) = record { within = omega (arith, h.1); length_then = rw h.0 (omega (arith, h.1, length-append nets (name ∷ []))) }
 
@@ -49,7 +49,7 @@ used-le n (d ∷ ds) a = omega (arith, used-le (max (max (max n (d.drain + 1)) (
 -- one more device, at the end
 pub IsCircuit-pushed : (ports : ℕ) (nets : List (List ℕ)) (devices : List Device) (d g s : List ℕ) (device : Device)
     → IsCircuit ports nets devices → length devices < 2 ^ 24
-    → device.drain ≡ place_of nets d → device.gate ≡ place_of (with_net nets d) g → device.source ≡ place_of (with_net (with_net nets d) g) s
+    → device.drain ≡ net_number nets d → device.gate ≡ net_number (with_net nets d) g → device.source ≡ net_number (with_net (with_net nets d) g) s
     → IsCircuit ports (with_nets nets d g s) (devices ++ device ∷ [])
 IsCircuit-pushed ports nets devices d g s device is room ed eg es =
     let a = has_place nets d in

@@ -5,8 +5,8 @@ use Rattle.indexmap.specs.IndexSet.{insert_key}
 use Rattle.deck.specs.declared.device.Device.{Device}
 
 -- the number of a net, or the number of nets where the name is new
-abbrev pub place_of : List (List ℕ) → List ℕ → ℕ
-place_of nets name = position_or_len (pointwise nat_eq name) nets
+abbrev pub net_number : List (List ℕ) → List ℕ → ℕ
+net_number nets name = position_or_len (pointwise nat_eq name) nets
 
 -- the nets, with this one at the end where it is new
 abbrev pub with_net : List (List ℕ) → List ℕ → List (List ℕ)

@@ -2,7 +2,7 @@ use Rattle.std.specs.Prelude.{ℕ, List, [], ◌∷◌, ◌++◌, length}
 use Rattle.dom_base.specs.declared.kind.Kind.{Kind}
 use Rattle.deck.specs.declared.phase.Phase.{Phase}
 use Rattle.deck.specs.CircuitData.{CircuitData}
-use Rattle.deck.specs.Nets.{place_of, with_net, with_nets}
+use Rattle.deck.specs.Nets.{net_number, with_net, with_nets}
 use Rattle.deck.specs.Ports.{leading_ports}
 
 -- a circuit without devices: its nets are its ports
@@ -19,5 +19,5 @@ new_circuit name phases clocks pins outs = record {
 abbrev pub pushed : CircuitData → Kind → List ℕ → List ℕ → List ℕ → CircuitData
 pushed c kind d g s = record c {
   nets = with_nets c.nets d g s;
-  devices = c.devices ++ (record { kind = kind; drain = place_of c.nets d; gate = place_of (with_net c.nets d) g; source = place_of (with_net (with_net c.nets d) g) s }) ∷ [];
+  devices = c.devices ++ (record { kind = kind; drain = net_number c.nets d; gate = net_number (with_net c.nets d) g; source = net_number (with_net (with_net c.nets d) g) s }) ∷ [];
 }

@@ -1,6 +1,6 @@
 //! Numbers of nets.
 ghost use Rattle.std.specs.Prelude.{◌≡◌, IfOk, OnOk, is_ok, if◌then◌else◌, length, take};
-ghost use Rattle.deck.specs.Nets.{place_of, with_net, with_nets};
+ghost use Rattle.deck.specs.Nets.{net_number, with_net, with_nets};
 ghost use Rattle.deck.specs.Numbers.{PlacesOf, with_all};
 
 use dom_base::{NetName, OutOfMemory};
@@ -8,7 +8,7 @@ use indexmap::IndexSet;
 
 /// The number of a net, which is added at the end where it is new. A refusal adds nothing.
 pub fn number(nets: &mut IndexSet<NetName>, name: &NetName) -> Result<usize, OutOfMemory>
-    ensures place { IfOk result (λ i. i ≡ place_of nets.old.keys name.now) }
+    ensures place { IfOk result (λ i. i ≡ net_number nets.old.keys name.now) }
     ensures keys { nets.new.keys ≡ (if is_ok result then with_net nets.old.keys name.now else nets.old.keys) }
 {
     if let Some(place) = nets.get_index_of(name) {

@@ -4,7 +4,7 @@ use Rattle.std.specs.Prelude.{All, codes, option_map}
 use Rattle.std.proofs.lemmas.Option.{slice_get-map}
 use Rattle.std.proofs.lemmas.List.{length-map, take_at}
 use Rattle.deck.specs.CircuitData.{CircuitData}
-use Rattle.deck.specs.Nets.{place_of}
+use Rattle.deck.specs.Nets.{net_number}
 use Rattle.deck.specs.Ports.{leading_ports}
 use Rattle.deck.specs.Escapes.{escaped}
 use Rattle.deck.specs.Pushes.{new_circuit}
@@ -44,8 +44,8 @@ deck_names t is = cell_names (map pin_name t.inputs) t.output (table_tree [] t.r
 
 -- the circuit of a table holds the cell of its tree
 pub holds_cell : (t : OneTableData) → IsOneTable t
-    → IsCell (circuit_of t).devices (is_source (circuit_of t)) (map_nets (place_of (circuit_of t).nets) cell_nets)
-    (map_tree (place_of (circuit_of t).nets) (table_tree [] t.rows (map pin_name t.inputs)))
+    → IsCell (circuit_of t).devices (is_source (circuit_of t)) (map_nets (net_number (circuit_of t).nets) cell_nets)
+    (map_tree (net_number (circuit_of t).nets) (table_tree [] t.rows (map pin_name t.inputs)))
 holds_cell t is =
     IsCell-named (deck_ports t) (circuit_of t) cell_nets (table_tree [] t.rows (map pin_name t.inputs)) (output_name t.output) (deck_names t is) (is_built t)
 
@@ -67,13 +67,13 @@ pub cell_numbered : (t : OneTableData) → IsNumberedCell (circuit_of t).nets ce
 cell_numbered t =
     IsNumberedCell-from_cards (circuit_of t).nets cell_nets (table_tree [] t.rows (map pin_name t.inputs)) (output_name t.output) (is_built t).stand
 
-pub vss_numbered : (t : OneTableData) → slice_get (circuit_of t).nets (place_of (circuit_of t).nets (codes "vss")) ≡ Some (codes "vss")
+pub vss_numbered : (t : OneTableData) → slice_get (circuit_of t).nets (net_number (circuit_of t).nets (codes "vss")) ≡ Some (codes "vss")
 vss_numbered t = (cell_numbered t).vss
 
-pub clock_numbered : (t : OneTableData) → slice_get (circuit_of t).nets (place_of (circuit_of t).nets (codes "ck1")) ≡ Some (codes "ck1")
+pub clock_numbered : (t : OneTableData) → slice_get (circuit_of t).nets (net_number (circuit_of t).nets (codes "ck1")) ≡ Some (codes "ck1")
 clock_numbered t = (cell_numbered t).clock
 
-pub dynamic_numbered : (t : OneTableData) → slice_get (circuit_of t).nets (place_of (circuit_of t).nets (codes "d0")) ≡ Some (codes "d0")
+pub dynamic_numbered : (t : OneTableData) → slice_get (circuit_of t).nets (net_number (circuit_of t).nets (codes "d0")) ≡ Some (codes "d0")
 dynamic_numbered t = (cell_numbered t).dynamic
 
 slice_get-behind : {X : Type 0} (xs ys : List X) (k n : ℕ) → k ≡ length xs + n → slice_get (xs ++ ys) k ≡ slice_get ys n
@@ -90,5 +90,5 @@ pin_at t k input at =
 
 -- the pin of each input stands at its number
 pub pin_numbered : (t : OneTableData) (k : ℕ) (input : List ℕ) → slice_get t.inputs k ≡ Some input
-    → slice_get (circuit_of t).nets (place_of (circuit_of t).nets (pin_name input)) ≡ Some (pin_name input)
+    → slice_get (circuit_of t).nets (net_number (circuit_of t).nets (pin_name input)) ≡ Some (pin_name input)
 pin_numbered t k input at = HasNumber-from (circuit_of t).nets (9 + k) (pin_name input) (port_stands t (9 + k) (pin_name input) (pin_at t k input at))

@@ -7,7 +7,7 @@ use Rattle.dom_base.specs.declared.kind.Kind.TheVariants.{N as nch}
 use Rattle.dom_base.specs.declared.tri.Tri.{Tri}
 use Rattle.deck.specs.CircuitData.{CircuitData}
 use Rattle.deck.specs.DeckText.{IsDeckOf}
-use Rattle.deck.specs.Nets.{place_of}
+use Rattle.deck.specs.Nets.{net_number}
 use Rattle.deck.specs.Sources.{is_source}
 use Rattle.deck.specs.Switches.{value_of}
 use Rattle.stage.specs.Cell.{CellNets, map_nets}
@@ -30,19 +30,19 @@ use Rattle.domsyn.proofs.TableValues.{table_tree-one, table_tree-zero}
 -- each pin of a list has the bit of its input
 pins_have_bits : (t : OneTableData) (values : List Tri) (bits : List Bool) → HasBits (circuit_of t) t.inputs bits values
     → (k : ℕ) (pin : List ℕ) (bit : Bool) → slice_get (map pin_name t.inputs) k ≡ Some pin → slice_get bits k ≡ Some bit
-    → value_of values (place_of (circuit_of t).nets pin) ≡ tri_of bit
+    → value_of values (net_number (circuit_of t).nets pin) ≡ tri_of bit
 pins_have_bits t values bits has k pin bit at is = by (slice_get t.inputs k) refl
   where
-    by : (o : Option (List ℕ)) → slice_get t.inputs k ≡ o → value_of values (place_of (circuit_of t).nets pin) ≡ tri_of bit
+    by : (o : Option (List ℕ)) → slice_get t.inputs k ≡ o → value_of values (net_number (circuit_of t).nets pin) ≡ tri_of bit
     by None none = let e = sym at ∙ slice_get-map pin_name t.inputs k ∙ ap (option_map pin_name) none in absurd (cc)
     by (Some input) found =
         let same : pin_name input ≡ pin = same_Some (pin_name input) pin (sym (slice_get-map pin_name t.inputs k ∙ ap (option_map pin_name) found) ∙ at) in
-        ap (λ name. value_of values (place_of (circuit_of t).nets name)) (sym same)
-        ∙ has k input bit (place_of (circuit_of t).nets (pin_name input)) found is (pin_numbered t k input found)
+        ap (λ name. value_of values (net_number (circuit_of t).nets name)) (sym same)
+        ∙ has k input bit (net_number (circuit_of t).nets (pin_name input)) found is (pin_numbered t k input found)
 
 -- the number of a name in the circuit
 number : OneTableData → List ℕ → ℕ
-number t name = place_of (circuit_of t).nets name
+number t name = net_number (circuit_of t).nets name
 
 pub pulls_down : (t : OneTableData) → IsOneTable t → PullsDown (circuit_of t) t
 unfolding number

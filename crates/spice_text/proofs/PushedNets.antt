@@ -7,7 +7,7 @@ use Rattle.deck.specs.declared.device.Device.{Device}
 use Rattle.deck.specs.declared.phase.Phase.{Phase}
 use Rattle.deck.specs.CircuitData.{CircuitData}
 use Rattle.deck.specs.NamedDevices.{NamedDevice, with_devices}
-use Rattle.deck.specs.Nets.{place_of, with_net, ends, IsNumbered, used}
+use Rattle.deck.specs.Nets.{net_number, with_net, ends, IsNumbered, used}
 use Rattle.deck.specs.Pushes.{pushed}
 use Rattle.deck.proofs.Order.{used-ge}
 use Rattle.spice_text.specs.Text.{name_of}
@@ -35,15 +35,15 @@ differs_from_first x (y ∷ xs) zero apart lt = by (pointwise nat_eq y x) refl
 differs_from_first x (y ∷ xs) (suc e) apart lt = differs_from_first x xs e apart.1 (omega arith)
 
 -- where some of the first nets stand, the next one or an earlier one has its own number
-pub place_of-take : (nets : List (List ℕ)) → IsDistinct (pointwise nat_eq) nets → (n e : ℕ) → e ≤ n → e < length nets
-    → place_of (take n nets) (name_of nets e) ≡ e
+pub net_number-take : (nets : List (List ℕ)) → IsDistinct (pointwise nat_eq) nets → (n e : ℕ) → e ≤ n → e < length nets
+    → net_number (take n nets) (name_of nets e) ≡ e
 unfolding IsDistinct
-place_of-take [] d n e le lt = absurd (omega arith)
-place_of-take (x ∷ xs) d zero zero le lt = refl
-place_of-take (x ∷ xs) d zero (suc e) le lt = absurd (omega arith)
-place_of-take (x ∷ xs) d (suc n) zero le lt = rw (same_name x) refl
-place_of-take (x ∷ xs) d (suc n) (suc e) le lt =
-    let rest = place_of-take xs d.1 n e (omega arith) (omega arith) in
+net_number-take [] d n e le lt = absurd (omega arith)
+net_number-take (x ∷ xs) d zero zero le lt = refl
+net_number-take (x ∷ xs) d zero (suc e) le lt = absurd (omega arith)
+net_number-take (x ∷ xs) d (suc n) zero le lt = rw (same_name x) refl
+net_number-take (x ∷ xs) d (suc n) (suc e) le lt =
+    let rest = net_number-take xs d.1 n e (omega arith) (omega arith) in
     rw (differs_from_first x xs e d.0 (omega arith)) (omega (arith, rest))
 
 -- and it is added where it is the next one
@@ -102,9 +102,9 @@ pushed-named name phases ports nets before n d apart low a b c =
     let first = with_net-take nets apart n d.drain a low.drain_low in
     let second = with_net-take nets apart (max n (d.drain + 1)) d.gate b low.gate_low in
     let third = with_net-take nets apart (max (max n (d.drain + 1)) (d.gate + 1)) d.source c low.source_low in
-    let drain = place_of-take nets apart n d.drain a low.drain_low in
-    let gate = place_of-take nets apart (max n (d.drain + 1)) d.gate b low.gate_low in
-    let source = place_of-take nets apart (max (max n (d.drain + 1)) (d.gate + 1)) d.source c low.source_low in
+    let drain = net_number-take nets apart n d.drain a low.drain_low in
+    let gate = net_number-take nets apart (max n (d.drain + 1)) d.gate b low.gate_low in
+    let source = net_number-take nets apart (max (max n (d.drain + 1)) (d.gate + 1)) d.source c low.source_low in
     rw (first, second, third, drain, gate, source) refl
 
 -- all devices, by the names of their nets

@@ -11,13 +11,13 @@ use Rattle.dom_base.specs.declared.kind.Kind.{Kind}
 use Rattle.dom_base.specs.declared.kind.Kind.TheVariants.{N as nch, P as pch}
 use Rattle.deck.specs.declared.device.Device.{Device}
 use Rattle.deck.specs.CircuitData.{CircuitData}
-use Rattle.deck.specs.Nets.{place_of}
+use Rattle.deck.specs.Nets.{net_number}
 use Rattle.deck.specs.Sources.{is_source}
 use Rattle.stage.specs.Card.{Card, device_of, map_card, with_cards}
 use Rattle.stage.specs.Cell.{CellNets, IsCell, IsStageNet, cell, dynamic_stage, inverter, map_nets}
 use Rattle.stage.specs.Tree.{Tree, Leaf, Series, Parallel, inner_count, map_tree, spell}
 use Rattle.dom_base.proofs.Each.{AllByRecursion-contains, AllByRecursion-left, AllByRecursion-right, AllByRecursion-weaker, Contains-first, Contains-later}
-use Rattle.stage.proofs.Numbering.{HasNumber, IsNumberedCard, numbered, place_of-append, place_of-behind, same_number, with_cards-devices, with_cards-grew, with_cards-numbered}
+use Rattle.stage.proofs.Numbering.{HasNumber, IsNumberedCard, numbered, net_number-append, net_number-behind, same_number, with_cards-devices, with_cards-grew, with_cards-numbered}
 use Rattle.stage.proofs.Spellings.{cell-map_tree, inner_count-map_tree}
 
 -- the devices of a tree end at its bottom
@@ -144,7 +144,7 @@ is_source-port e n name lt at begins_not = rw (lt-ltb n e.ports lt, get_or_from_
 pub is_source-inside : (e : CircuitData) (n : ℕ) → e.ports ≤ n → is_source e n ≡ false
 is_source-inside e n le = rw (le-ltb n e.ports le) refl
 
-map_numbered : (all : List (List ℕ)) (cards : List (Card (List ℕ))) → map (numbered all) cards ≡ map device_of (map (map_card (place_of all)) cards)
+map_numbered : (all : List (List ℕ)) (cards : List (Card (List ℕ))) → map (numbered all) cards ≡ map device_of (map (map_card (net_number all)) cards)
 map_numbered all [] = refl
 map_numbered all (card ∷ cards) = ap (λ ds. numbered all card ∷ ds) (map_numbered all cards)
 
@@ -160,72 +160,72 @@ each_there (x ∷ xs) ys = (
 pub devices_named : (ports : List (List ℕ)) (e : CircuitData) (nets : CellNets (List ℕ)) (tree : Tree (List ℕ)) (out : List ℕ)
     → IsBuilt ports e (cell nets tree ++ inverter nets.vdd nets.vss nets.dynamic out)
     → e.devices
-    ≡ map device_of (cell (map_nets (place_of e.nets) nets) (map_tree (place_of e.nets) tree)
-    ++ inverter (place_of e.nets nets.vdd) (place_of e.nets nets.vss) (place_of e.nets nets.dynamic) (place_of e.nets out))
+    ≡ map device_of (cell (map_nets (net_number e.nets) nets) (map_tree (net_number e.nets) tree)
+    ++ inverter (net_number e.nets nets.vdd) (net_number e.nets nets.vss) (net_number e.nets nets.dynamic) (net_number e.nets out))
 devices_named ports e nets tree out built =
     let cards = cell nets tree in
     let inv = inverter nets.vdd nets.vss nets.dynamic out in
-    let image = inverter (place_of e.nets nets.vdd) (place_of e.nets nets.vss) (place_of e.nets nets.dynamic) (place_of e.nets out) in
+    let image = inverter (net_number e.nets nets.vdd) (net_number e.nets nets.vss) (net_number e.nets nets.dynamic) (net_number e.nets out) in
     built.devices
     ∙ map_numbered e.nets (cards ++ inv)
-    ∙ ap (map device_of) (map-append (map_card (place_of e.nets)) cards inv ∙ ap (λ cs. cs ++ image) (cell-map_tree (place_of e.nets) nets tree))
+    ∙ ap (map device_of) (map-append (map_card (net_number e.nets)) cards inv ∙ ap (λ cs. cs ++ image) (cell-map_tree (net_number e.nets) nets tree))
 
 module _ (ports : List (List ℕ)) (e : CircuitData) (nets : CellNets (List ℕ)) (tree : Tree (List ℕ)) (out : List ℕ) (names : HasCellNames ports nets tree out) (built : IsBuilt ports e (cell nets tree ++ inverter nets.vdd nets.vss nets.dynamic out)) where
   abbrev image_nets : CellNets ℕ
-  image_nets = map_nets (place_of e.nets) nets
+  image_nets = map_nets (net_number e.nets) nets
 
   abbrev image_tree : Tree ℕ
-  image_tree = map_tree (place_of e.nets) tree
+  image_tree = map_tree (net_number e.nets) tree
 
   abbrev last : List (Card ℕ)
-  last = inverter image_nets.vdd image_nets.vss image_nets.dynamic (place_of e.nets out)
+  last = inverter image_nets.vdd image_nets.vss image_nets.dynamic (net_number e.nets out)
 
   have : IsNumberedCell e.nets nets tree out
   have = IsNumberedCell-from_cards e.nets nets tree out built.stand
 
   -- a port has one of the first numbers
-  port_below : (name : List ℕ) → HasNumber ports name → place_of e.nets name < e.ports
+  port_below : (name : List ℕ) → HasNumber ports name → net_number e.nets name < e.ports
   port_below name at =
-      let same : place_of e.nets name ≡ place_of ports name = ap (λ l. place_of l name) built.nets ∙ place_of-append ports built.more name at in
-      omega (arith, same, slice_get_within ports (place_of ports name) name at, built.port_count)
+      let same : net_number e.nets name ≡ net_number ports name = ap (λ l. net_number l name) built.nets ∙ net_number-append ports built.more name at in
+      omega (arith, same, slice_get_within ports (net_number ports name) name at, built.port_count)
 
-  inside_behind : (name : List ℕ) → IsStageName nets tree name → e.ports ≤ place_of e.nets name
+  inside_behind : (name : List ℕ) → IsStageName nets tree name → e.ports ≤ net_number e.nets name
   inside_behind name is =
-      let same : place_of e.nets name ≡ place_of (ports ++ built.more) name = ap (λ l. place_of l name) built.nets in
-      omega (arith, same, place_of-behind ports built.more name (names.inside name is), built.port_count)
+      let same : net_number e.nets name ≡ net_number (ports ++ built.more) name = ap (λ l. net_number l name) built.nets in
+      omega (arith, same, net_number-behind ports built.more name (names.inside name is), built.port_count)
 
   -- a net of the dynamic stage is the number of one of its names
   record OfStage (n : ℕ) : Type 0 where
     name : List ℕ
     is : IsStageName nets tree name
     at : HasNumber e.nets name
-    number_is : n ≡ place_of e.nets name
+    number_is : n ≡ net_number e.nets name
 
   of_stage : (n : ℕ) → IsStageNet image_nets image_tree n → OfStage n
   of_stage n (inl z) = record { name = nets.dynamic; is = inl refl; at = have.dynamic; number_is = z }
   of_stage n (inr (inl z)) = record { name = nets.foot; is = inr (inl refl); at = have.foot; number_is = z }
   of_stage n (inr (inr (j, lt, z))) =
-      let lt' : j < inner_count tree = omega (arith, lt, inner_count-map_tree (place_of e.nets) tree) in
+      let lt' : j < inner_count tree = omega (arith, lt, inner_count-map_tree (net_number e.nets) tree) in
       record { name = nets.inner j; is = inr (inr (j, lt', refl)); at = have.inner j lt'; number_is = z }
 
   below_count : (j : ℕ) → j < inner_count image_tree → j < inner_count tree
-  below_count j lt = omega (arith, lt, inner_count-map_tree (place_of e.nets) tree)
+  below_count j lt = omega (arith, lt, inner_count-map_tree (net_number e.nets) tree)
 
   not_stage : (name : List ℕ) → HasNumber e.nets name → ((s : List ℕ) → IsStageName nets tree s → name ≢ s)
-      → (n : ℕ) → IsStageNet image_nets image_tree n → place_of e.nets name ≡ n → ⊥
+      → (n : ℕ) → IsStageNet image_nets image_tree n → net_number e.nets name ≡ n → ⊥
   not_stage name at apart n is z =
       let s = of_stage n is in
       apart s.name s.is (same_number e.nets name s.name at s.at (z ∙ s.number_is))
 
   port_apart : (name : List ℕ) → HasNumber ports name → (s : List ℕ) → IsStageName nets tree s → name ≢ s
-  port_apart name at s is z = let same = ap (place_of e.nets) z in omega (arith, same, port_below name at, inside_behind s is)
+  port_apart name at s is z = let same = ap (net_number e.nets) z in omega (arith, same, port_below name at, inside_behind s is)
 
   -- a device that does not end at a net of the dynamic stage
   IsAway : Device → Type 0
   IsAway d = (n : ℕ) → IsStageNet image_nets image_tree n → (d.drain ≡ n) ⊎ (d.source ≡ n) → ⊥
 
   away : (kind : Kind) (gate : ℕ) (drain source : List ℕ) → HasNumber e.nets drain → ((s : List ℕ) → IsStageName nets tree s → drain ≢ s)
-      → HasNumber e.nets source → HasNumber ports source → IsAway (record { kind = kind; drain = place_of e.nets drain; gate = gate; source = place_of e.nets source })
+      → HasNumber e.nets source → HasNumber ports source → IsAway (record { kind = kind; drain = net_number e.nets drain; gate = gate; source = net_number e.nets source })
   unfolding IsAway
   away kind gate drain source drain_at apart source_at port n is (inl z) = not_stage drain drain_at apart n is z
   away kind gate drain source drain_at apart source_at port n is (inr z) = not_stage source source_at (port_apart source port) n is z
@@ -265,8 +265,8 @@ module _ (ports : List (List ℕ)) (e : CircuitData) (nets : CellNets (List ℕ)
   -- a cell that is built by names stands in the circuit
   pub IsCell-named : IsCell e.devices (is_source e) image_nets image_tree
   IsCell-named = record {
-    vdd_is = is_source-port e (place_of e.nets nets.vdd) nets.vdd (port_below nets.vdd names.vdd_port) have.vdd names.vdd_in;
-    vss_is = is_source-port e (place_of e.nets nets.vss) nets.vss (port_below nets.vss names.vss_port) have.vss names.vss_in;
+    vdd_is = is_source-port e (net_number e.nets nets.vdd) nets.vdd (port_below nets.vdd names.vdd_port) have.vdd names.vdd_in;
+    vss_is = is_source-port e (net_number e.nets nets.vss) nets.vss (port_below nets.vss names.vss_port) have.vss names.vss_in;
     supplies = λ z. names.supplies (same_number e.nets nets.vdd nets.vss have.vdd have.vss z);
     free = λ n is. let s = of_stage n is in is_source-inside e n (omega (arith, s.number_is, inside_behind s.name s.is));
     foot_apart = λ z. names.foot_apart (same_number e.nets nets.dynamic nets.foot have.dynamic have.foot z);

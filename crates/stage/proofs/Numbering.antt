@@ -5,7 +5,7 @@ use Rattle.std.specs.List.{list_any, AllByRecursion, IsDistinct}
 use Rattle.std.specs.Cmp.Lexicographic.{pointwise, bytes_decides}
 use Rattle.deck.specs.declared.device.Device.{Device}
 use Rattle.deck.specs.CircuitData.{CircuitData}
-use Rattle.deck.specs.Nets.{place_of, with_net, with_nets}
+use Rattle.deck.specs.Nets.{net_number, with_net, with_nets}
 use Rattle.deck.specs.Pushes.{pushed}
 use Rattle.deck.proofs.Order.{place_cases}
 use Rattle.deck.proofs.Growth.{Grew, Grew-trans, pushed-grew, slice_get-append, slice_get-with_net, with_net-grows}
@@ -14,7 +14,7 @@ use Rattle.stage.specs.Card.{Card, device_of, map_card, with_cards}
 
 -- the name stands among the nets, at its number
 abbrev pub HasNumber : List (List ℕ) → List ℕ → Type 0
-HasNumber nets name = slice_get nets (place_of nets name) ≡ Some name
+HasNumber nets name = slice_get nets (net_number nets name) ≡ Some name
 
 -- the nets with more behind them
 abbrev pub Longer : List (List ℕ) → List (List ℕ) → Type 0
@@ -30,20 +30,20 @@ neither false b h = (refl, h)
 next : (n : ℕ) → 1 + n ≡ suc n
 next n = omega arith
 
-place_of-first : (x : List ℕ) (xs : List (List ℕ)) (name : List ℕ) → pointwise nat_eq name x ≡ true → place_of (x ∷ xs) name ≡ 0
-place_of-first x xs name e = rw e refl
+net_number-first : (x : List ℕ) (xs : List (List ℕ)) (name : List ℕ) → pointwise nat_eq name x ≡ true → net_number (x ∷ xs) name ≡ 0
+net_number-first x xs name e = rw e refl
 
-place_of-later : (x : List ℕ) (xs : List (List ℕ)) (name : List ℕ) → pointwise nat_eq name x ≡ false → place_of (x ∷ xs) name ≡ suc (place_of xs name)
-place_of-later x xs name e = rw e (next (place_of xs name))
+net_number-later : (x : List ℕ) (xs : List (List ℕ)) (name : List ℕ) → pointwise nat_eq name x ≡ false → net_number (x ∷ xs) name ≡ suc (net_number xs name)
+net_number-later x xs name e = rw e (next (net_number xs name))
 
 HasNumber-head : (x : List ℕ) (xs : List (List ℕ)) (name : List ℕ) → pointwise nat_eq name x ≡ true → HasNumber (x ∷ xs) name
-HasNumber-head x xs name e = ap (slice_get (x ∷ xs)) (place_of-first x xs name e) ∙ ap Some (sym ((bytes_decides name x).0 e))
+HasNumber-head x xs name e = ap (slice_get (x ∷ xs)) (net_number-first x xs name e) ∙ ap Some (sym ((bytes_decides name x).0 e))
 
 HasNumber-cons : (x : List ℕ) (xs : List (List ℕ)) (name : List ℕ) → pointwise nat_eq name x ≡ false → HasNumber xs name → HasNumber (x ∷ xs) name
-HasNumber-cons x xs name e at = ap (slice_get (x ∷ xs)) (place_of-later x xs name e) ∙ at
+HasNumber-cons x xs name e at = ap (slice_get (x ∷ xs)) (net_number-later x xs name e) ∙ at
 
 HasNumber-tail : (x : List ℕ) (xs : List (List ℕ)) (name : List ℕ) → pointwise nat_eq name x ≡ false → HasNumber (x ∷ xs) name → HasNumber xs name
-HasNumber-tail x xs name e at = ap (slice_get (x ∷ xs)) (sym (place_of-later x xs name e)) ∙ at
+HasNumber-tail x xs name e at = ap (slice_get (x ∷ xs)) (sym (net_number-later x xs name e)) ∙ at
 
 -- a name that stands somewhere stands at its number
 pub HasNumber-from : (nets : List (List ℕ)) (i : ℕ) (name : List ℕ) → slice_get nets i ≡ Some name → HasNumber nets name
@@ -56,45 +56,45 @@ HasNumber-from (x ∷ xs) (suc i) name at = by (pointwise nat_eq name x) refl (H
     by false e rest = HasNumber-cons x xs name e rest
 
 -- it keeps its number in longer nets
-pub place_of-append : (nets more : List (List ℕ)) (name : List ℕ) → HasNumber nets name → place_of (nets ++ more) name ≡ place_of nets name
-place_of-append [] more name at = absurd (cc)
-place_of-append (x ∷ xs) more name at = by (pointwise nat_eq name x) refl (place_of-append xs more name)
+pub net_number-append : (nets more : List (List ℕ)) (name : List ℕ) → HasNumber nets name → net_number (nets ++ more) name ≡ net_number nets name
+net_number-append [] more name at = absurd (cc)
+net_number-append (x ∷ xs) more name at = by (pointwise nat_eq name x) refl (net_number-append xs more name)
   where
-    by : (b : Bool) → pointwise nat_eq name x ≡ b → (HasNumber xs name → place_of (xs ++ more) name ≡ place_of xs name)
-        → place_of (x ∷ xs ++ more) name ≡ place_of (x ∷ xs) name
-    by true e rest = place_of-first x (xs ++ more) name e ∙ sym (place_of-first x xs name e)
+    by : (b : Bool) → pointwise nat_eq name x ≡ b → (HasNumber xs name → net_number (xs ++ more) name ≡ net_number xs name)
+        → net_number (x ∷ xs ++ more) name ≡ net_number (x ∷ xs) name
+    by true e rest = net_number-first x (xs ++ more) name e ∙ sym (net_number-first x xs name e)
     by false e rest =
-        place_of-later x (xs ++ more) name e ∙ ap suc (rest (HasNumber-tail x xs name e at)) ∙ sym (place_of-later x xs name e)
+        net_number-later x (xs ++ more) name e ∙ ap suc (rest (HasNumber-tail x xs name e at)) ∙ sym (net_number-later x xs name e)
 
 pub HasNumber-append : (nets more : List (List ℕ)) (name : List ℕ) → HasNumber nets name → HasNumber (nets ++ more) name
-HasNumber-append nets more name at = HasNumber-from (nets ++ more) (place_of nets name) name (slice_get-append nets more (place_of nets name) name at)
+HasNumber-append nets more name at = HasNumber-from (nets ++ more) (net_number nets name) name (slice_get-append nets more (net_number nets name) name at)
 
 -- a name that is new stands behind the others
-place_of-new : (nets more : List (List ℕ)) (name : List ℕ) → list_any (pointwise nat_eq name) nets ≡ false → place_of (nets ++ name ∷ more) name ≡ length nets
-place_of-new [] more name none = place_of-first name more name ((bytes_decides name name).1 refl)
-place_of-new (x ∷ xs) more name none =
+net_number-new : (nets more : List (List ℕ)) (name : List ℕ) → list_any (pointwise nat_eq name) nets ≡ false → net_number (nets ++ name ∷ more) name ≡ length nets
+net_number-new [] more name none = net_number-first name more name ((bytes_decides name name).1 refl)
+net_number-new (x ∷ xs) more name none =
     let other = neither (pointwise nat_eq name x) (list_any (pointwise nat_eq name) xs) none in
-    place_of-later x (xs ++ name ∷ more) name other.0 ∙ ap suc (place_of-new xs more name other.1)
+    net_number-later x (xs ++ name ∷ more) name other.0 ∙ ap suc (net_number-new xs more name other.1)
 
 -- the number of a net is the same before and after it is added
-pub place_of-with_net : (nets : List (List ℕ)) (name : List ℕ) → place_of (with_net nets name) name ≡ place_of nets name
-place_of-with_net nets name = by (place_cases (pointwise nat_eq name) nets)
+pub net_number-with_net : (nets : List (List ℕ)) (name : List ℕ) → net_number (with_net nets name) name ≡ net_number nets name
+net_number-with_net nets name = by (place_cases (pointwise nat_eq name) nets)
   where
-    by : ((list_any (pointwise nat_eq name) nets ≡ true) × (place_of nets name < length nets)) ⊎ ((list_any (pointwise nat_eq name) nets ≡ false) × (place_of nets name ≡ length nets))
-        → place_of (with_net nets name) name ≡ place_of nets name
+    by : ((list_any (pointwise nat_eq name) nets ≡ true) × (net_number nets name < length nets)) ⊎ ((list_any (pointwise nat_eq name) nets ≡ false) × (net_number nets name ≡ length nets))
+        → net_number (with_net nets name) name ≡ net_number nets name
     by (inl h) = rw h.0 refl
-    by (inr h) = rw h.0 (place_of-new nets [] name h.0 ∙ sym h.1)
+    by (inr h) = rw h.0 (net_number-new nets [] name h.0 ∙ sym h.1)
 
 -- two names with one number are one
-pub same_number : (nets : List (List ℕ)) (a b : List ℕ) → HasNumber nets a → HasNumber nets b → place_of nets a ≡ place_of nets b → a ≡ b
+pub same_number : (nets : List (List ℕ)) (a b : List ℕ) → HasNumber nets a → HasNumber nets b → net_number nets a ≡ net_number nets b → a ≡ b
 same_number nets a b at at' e = let same : Some a ≡ Some b = sym at ∙ ap (slice_get nets) e ∙ at' in cc
 
 -- a name that does not stand among the first nets has a number behind them
-pub place_of-behind : (nets more : List (List ℕ)) (name : List ℕ) → list_any (pointwise nat_eq name) nets ≡ false → length nets ≤ place_of (nets ++ more) name
-place_of-behind [] more name none = omega arith
-place_of-behind (x ∷ xs) more name none =
+pub net_number-behind : (nets more : List (List ℕ)) (name : List ℕ) → list_any (pointwise nat_eq name) nets ≡ false → length nets ≤ net_number (nets ++ more) name
+net_number-behind [] more name none = omega arith
+net_number-behind (x ∷ xs) more name none =
     let other = neither (pointwise nat_eq name x) (list_any (pointwise nat_eq name) xs) none in
-    omega (arith, place_of-later x (xs ++ more) name other.0, place_of-behind xs more name other.1)
+    omega (arith, net_number-later x (xs ++ more) name other.0, net_number-behind xs more name other.1)
 
 -- what holds of the circuit with more devices
 pub with_cards-grew : (c : CircuitData) (cards : List (Card (List ℕ))) → Grew c (with_cards c cards)
@@ -118,16 +118,16 @@ with_cards-distinct c (card ∷ cards) d =
     (IsDistinct-with_net (with_net (with_net c.nets card.drain) card.gate) card.source (IsDistinct-with_net (with_net c.nets card.drain) card.gate (IsDistinct-with_net c.nets card.drain d)))
 
 -- the number that a net gets is its number in the end
-place_of-kept : (old new : List (List ℕ)) (name : List ℕ) → Longer (with_net old name) new → (place_of old name ≡ place_of new name) × HasNumber new name
-place_of-kept old new name (more, is) =
-    let at : HasNumber (with_net old name) name = HasNumber-from (with_net old name) (place_of old name) name (slice_get-with_net old name) in (
-      sym (ap (λ l. place_of l name) is ∙ place_of-append (with_net old name) more name at ∙ place_of-with_net old name),
+net_number-kept : (old new : List (List ℕ)) (name : List ℕ) → Longer (with_net old name) new → (net_number old name ≡ net_number new name) × HasNumber new name
+net_number-kept old new name (more, is) =
+    let at : HasNumber (with_net old name) name = HasNumber-from (with_net old name) (net_number old name) name (slice_get-with_net old name) in (
+      sym (ap (λ l. net_number l name) is ∙ net_number-append (with_net old name) more name at ∙ net_number-with_net old name),
       subst (λ l. HasNumber l name) (sym is) (HasNumber-append (with_net old name) more name at),
     )
 
 -- the device of a card over these nets
 abbrev pub numbered : List (List ℕ) → Card (List ℕ) → Device
-numbered nets card = device_of (map_card (place_of nets) card)
+numbered nets card = device_of (map_card (net_number nets) card)
 
 -- each net of the card has a number
 abbrev pub IsNumberedCard : List (List ℕ) → Card (List ℕ) → Type 0
@@ -135,7 +135,7 @@ IsNumberedCard nets card = HasNumber nets card.drain × HasNumber nets card.gate
 
 -- the device that a card adds is its device in the end
 record IsKept (old new : List (List ℕ)) (card : Card (List ℕ)) : Type 0 where
-  numbers : record { kind = card.kind; drain = place_of old card.drain; gate = place_of (with_net old card.drain) card.gate; source = place_of (with_net (with_net old card.drain) card.gate) card.source } ≡ numbered new card
+  numbers : record { kind = card.kind; drain = net_number old card.drain; gate = net_number (with_net old card.drain) card.gate; source = net_number (with_net (with_net old card.drain) card.gate) card.source } ≡ numbered new card
   stand : IsNumberedCard new card
 
 is_kept : (old new : List (List ℕ)) (card : Card (List ℕ)) → Longer (with_nets old card.drain card.gate card.source) new → IsKept old new card
@@ -145,9 +145,9 @@ is_kept old new card longer =
     let c = with_net b card.source in
     let from_b : Longer b new = Longer-trans b c new (with_net-grows b card.source) longer in
     let from_a : Longer a new = Longer-trans a b new (with_net-grows a card.gate) from_b in
-    let drain = place_of-kept old new card.drain from_a in
-    let gate = place_of-kept a new card.gate from_b in
-    let source = place_of-kept b new card.source longer in
+    let drain = net_number-kept old new card.drain from_a in
+    let gate = net_number-kept a new card.gate from_b in
+    let source = net_number-kept b new card.source longer in
     record {
       numbers = λ i. record { kind = card.kind; drain = drain.0 i; gate = gate.0 i; source = source.0 i };
       stand = (drain.1, gate.1, source.1);
@@ -162,7 +162,7 @@ with_cards-devices c (card ∷ cards) =
     let new = (with_cards p cards).nets in
     let kept = is_kept c.nets new card (grew.more_nets, grew.nets) in
     with_cards-devices p cards
-    ∙ append_assoc c.devices (record { kind = card.kind; drain = place_of c.nets card.drain; gate = place_of (with_net c.nets card.drain) card.gate; source = place_of (with_net (with_net c.nets card.drain) card.gate) card.source } ∷ []) (map (numbered new) cards)
+    ∙ append_assoc c.devices (record { kind = card.kind; drain = net_number c.nets card.drain; gate = net_number (with_net c.nets card.drain) card.gate; source = net_number (with_net (with_net c.nets card.drain) card.gate) card.source } ∷ []) (map (numbered new) cards)
     ∙ ap (λ d. c.devices ++ d ∷ map (numbered new) cards) kept.numbers
 
 pub with_cards-numbered : (c : CircuitData) (cards : List (Card (List ℕ))) → AllByRecursion (IsNumberedCard (with_cards c cards).nets) cards
