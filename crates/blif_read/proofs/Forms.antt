@@ -2,7 +2,7 @@ use Rattle.std.proofs.Common.{◌≡◌, ℕ, ◌+◌, ◌-◌, List, map, [], l
 use Rattle.std.proofs.lemmas.List.{drop_all, take_all, take_rest, length-map, take-map, drop-map}
 use Rattle.memchr.specs.Find.{IsFirstByte, is_byte}
 use Rattle.blif_ast.specs.Cards.{formal_of, actual_of, table_inputs}
-use Rattle.dom_base.proofs.Cutting.{place_of_first, place_of_none}
+use Rattle.dom_base.proofs.Texts.{place_of_first, place_of_none}
 
 -- what stands before and behind the first `=`
 pub formal_at : (word : List ℕ) (place : ℕ) → IsFirstByte (is_byte 61) word (Some place) → take place word ≡ formal_of word

@@ -2,7 +2,7 @@
 use Rattle.std.proofs.Common.{◌≡◌, ℕ, ◌≤◌, ◌+◌, Bool, true, false, cond, List, [], ◌∷◌, ◌++◌, map, filter, refl, sym, ◌∙◌, subst, arith, nat_eq, eqb-true}
 use Rattle.std.specs.List.{AllByRecursion, IsDistinct}
 use Rattle.std.proofs.lemmas.Bool.{false_from_ne_true}
-use Rattle.dom_base.proofs.Each.{AllByRecursion-append, AllByRecursion-weaker}
+use Rattle.dom_base.proofs.Lists.{AllByRecursion-append, AllByRecursion-weaker}
 use Rattle.blif_ast.specs.LogicalLines.{LogicalLine}
 use Rattle.blif_read.proofs.GoodNumbers.{Rises, Rises-lower}
 

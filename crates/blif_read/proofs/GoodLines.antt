@@ -6,7 +6,7 @@ use Rattle.std.proofs.lemmas.Bool.{false_from_ne_true}
 use Rattle.std.proofs.lemmas.Bool.Decides.{nat_tests}
 use Rattle.std.proofs.lemmas.List.Elements.{All-from_recursion}
 use Rattle.dom_base.specs.Lines.{is_blank, is_control, is_word}
-use Rattle.dom_base.proofs.Each.{AllByRecursion-filter, AllByRecursion-weaker}
+use Rattle.dom_base.proofs.Lists.{AllByRecursion-filter, AllByRecursion-weaker}
 use Rattle.blif_ast.specs.Good.{IsNameByte, IsGoodName}
 use Rattle.blif_ast.specs.declared.kind.BlifKind.{BlifKind}
 use Rattle.blif_ast.specs.declared.kind.BlifKind.TheVariants.{ControlByte, BadCard}

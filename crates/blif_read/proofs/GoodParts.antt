@@ -4,7 +4,7 @@ use Rattle.std.specs.List.{AllByRecursion, filter_map, cons_option, list_all, po
 use Rattle.std.specs.Cmp.Lexicographic.{other_text}
 use Rattle.std.proofs.lemmas.Bool.{eqb-false}
 use Rattle.std.proofs.lemmas.List.Elements.{All-from_recursion, recursion_from_All}
-use Rattle.dom_base.proofs.Each.{AllByRecursion-take, AllByRecursion-weaker}
+use Rattle.dom_base.proofs.Lists.{AllByRecursion-take, AllByRecursion-weaker}
 use Rattle.blif_ast.specs.declared.latch.Latch.{Latch}
 use Rattle.blif_ast.specs.Good.{IsNameByte, IsGoodName, IsGoodSignal, IsGoodLatch, IsGoodBinding, IsGoodInstance}
 use Rattle.blif_ast.specs.LogicalLines.{LogicalLine}

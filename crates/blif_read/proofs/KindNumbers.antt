@@ -1,7 +1,7 @@
 -- Kinds of faults by their numbers.
 use Rattle.std.proofs.Common.{◌≡◌, Bool, refl, arith, inl, inr}
 use Rattle.std.specs.List.{find}
-use Rattle.dom_base.proofs.Smallest.{IsAmong, IsSmallest, Rises, number_of-injective, smallest_found}
+use Rattle.dom_base.proofs.Faults.{IsAmong, IsSmallest, Rises, number_of-injective, smallest_found}
 use Rattle.blif_ast.specs.declared.kind.BlifKind.{BlifKind}
 use Rattle.blif_ast.specs.declared.kind.BlifKind.TheVariants.{ControlByte, UnknownCard, BadCard, RowOutsideTable, BadRow, MixedCover, TooWide, NoModel, LatchKind}
 use Rattle.blif_ast.specs.Faults.{kind_number}

@@ -2,7 +2,7 @@
 use Rattle.std.proofs.Common.{◌≡◌, ℕ, ◌≤◌, ◌+◌, ◌⊎◌, inl, inr, List, [], ◌∷◌, length, refl, sym, ◌∙◌, subst, arith}
 use Rattle.dom_base.specs.Answers.{HasOneAnswer}
 use Rattle.dom_base.specs.Lines.{lines}
-use Rattle.dom_base.proofs.OneAnswer.{only_refusal}
+use Rattle.dom_base.proofs.Faults.{only_refusal}
 use Rattle.blif_ast.specs.declared.kind.BlifKind.{BlifKind}
 use Rattle.blif_ast.specs.declared.kind.BlifKind.TheVariants.{NoModel}
 use Rattle.blif_ast.specs.LogicalLines.{LogicalLine, logical_lines}

@@ -4,7 +4,7 @@ use Rattle.std.specs.Prelude.{Option}
 use Rattle.std.specs.List.{find}
 use Rattle.std.proofs.lemmas.List.{append_assoc}
 use Rattle.std.proofs.lemmas.Grind.{reverse_onto}
-use Rattle.dom_base.proofs.Smallest.{IsSmallest}
+use Rattle.dom_base.proofs.Faults.{IsSmallest}
 use Rattle.blif_ast.specs.declared.kind.BlifKind.{BlifKind}
 use Rattle.blif_ast.specs.LogicalLines.{LogicalLine}
 use Rattle.blif_ast.specs.Faults.{has_fault, kind_number}

@@ -4,8 +4,7 @@ use Rattle.std.specs.List.{AllByRecursion, list_any, list_all}
 use Rattle.std.proofs.lemmas.Bool.Decides.{nat_tests}
 use Rattle.std.proofs.lemmas.List.Elements.{recursion_from_All}
 use Rattle.dom_base.specs.Lines.{is_control}
-use Rattle.dom_base.proofs.Each.{AllByRecursion-weaker}
-use Rattle.dom_base.proofs.PlainWords.{list_any-none}
+use Rattle.dom_base.proofs.Lists.{AllByRecursion-weaker, list_any-none}
 use Rattle.blif_ast.specs.declared.latch.Latch.{Latch}
 use Rattle.blif_ast.specs.declared.latch.Control.{Control}
 use Rattle.blif_ast.specs.declared.latch.Edge2.{Edge2}

@@ -2,7 +2,8 @@
 use Rattle.std.proofs.Common.{◌≡◌, ℕ, ◌+◌, true, nat_lt, if◌then◌else◌, List, [], ◌∷◌, ◌++◌, length, map, filter, refl, ap, ◌∙◌, append_assoc, arith}
 use Rattle.std.proofs.lemmas.Bool.Decides.{nat_tests}
 use Rattle.std.specs.List.{AllByRecursion, flat_map}
-use Rattle.dom_base.proofs.LineLemmas.{ended, IsClean, lines-ended}
+use Rattle.dom_base.specs.Joined.{ended, IsClean}
+use Rattle.dom_base.proofs.Texts.{lines-ended}
 use Rattle.blif_ast.specs.Printed.{line}
 use Rattle.dom_base.specs.Lines.{without_comment}
 use Rattle.blif_ast.specs.LogicalLines.{LogicalLine, in_words, has_words, joined_lines, with_line, with_next, with_blank, logical_lines, logical_lines_from}

@@ -2,7 +2,7 @@
 use Rattle.std.proofs.Common.{◌≡◌, ℕ, Bool, true, false, if◌then◌else◌, List, [], ◌∷◌, ◌++◌, drop, map, filter, refl, ap, sym, ◌∙◌, append_assoc, append-nil}
 use Rattle.std.specs.List.{AllByRecursion, flat_map, filter_map, cons_option, take_while}
 use Rattle.std.proofs.lemmas.List.Elements.{filter-append, recursion_from_All}
-use Rattle.dom_base.proofs.Each.{AllByRecursion-append, filter_all}
+use Rattle.dom_base.proofs.Lists.{AllByRecursion-append, filter_all}
 use Rattle.blif_ast.specs.declared.letter.Letter.{Letter}
 use Rattle.blif_ast.specs.declared.latch.Latch.{Latch}
 use Rattle.blif_ast.specs.TableData.{TableData}

@@ -4,7 +4,7 @@ use Rattle.std.specs.List.{AllByRecursion, flat_map, list_all}
 use Rattle.std.proofs.lemmas.Bool.Decides.{nat_tests}
 use Rattle.std.proofs.lemmas.List.Elements.{All-from_recursion, recursion_from_All}
 use Rattle.dom_base.specs.Lines.{is_word}
-use Rattle.dom_base.proofs.Each.{AllByRecursion-append}
+use Rattle.dom_base.proofs.Lists.{AllByRecursion-append}
 use Rattle.blif_ast.specs.declared.letter.Letter.{Letter}
 use Rattle.blif_ast.specs.declared.letter.Letter.TheVariants.{Zero, One, Any}
 use Rattle.blif_ast.specs.declared.latch.Latch.{Latch}

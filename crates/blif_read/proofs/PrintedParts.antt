@@ -1,7 +1,7 @@
 -- The lines of a printed model between its first and its last: what holds of each of them.
 use Rattle.std.proofs.Common.{◌≡◌, ℕ, Bool, true, false, List, [], ◌∷◌, ◌++◌, map, ap, append_assoc}
 use Rattle.std.specs.List.{AllByRecursion, flat_map}
-use Rattle.dom_base.proofs.Each.{AllByRecursion-append}
+use Rattle.dom_base.proofs.Lists.{AllByRecursion-append}
 use Rattle.blif_ast.specs.declared.letter.Letter.{Letter}
 use Rattle.blif_ast.specs.declared.letter.Letter.TheVariants.{Zero, One, Any}
 use Rattle.blif_ast.specs.declared.latch.Latch.{Latch}

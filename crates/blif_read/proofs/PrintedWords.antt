@@ -6,8 +6,9 @@ use Rattle.std.proofs.lemmas.Bool.Decides.{nat_tests}
 use Rattle.std.proofs.lemmas.List.Elements.{All-weaker, All-from_recursion, recursion_from_All, filter-append}
 use Rattle.std.proofs.lemmas.List.Splits.{slice_split_at}
 use Rattle.dom_base.specs.Lines.{is_line_feed, is_blank, is_word, words, without_comment}
-use Rattle.dom_base.proofs.Each.{AllByRecursion-append, AllByRecursion-weaker, filter_all}
-use Rattle.dom_base.proofs.LineLemmas.{after_blanks, joined, IsClean, IsSolid, words-joined}
+use Rattle.dom_base.proofs.Lists.{AllByRecursion-append, AllByRecursion-weaker, filter_all}
+use Rattle.dom_base.specs.Joined.{after_blanks, joined, IsClean, IsSolid}
+use Rattle.dom_base.proofs.Texts.{words-joined}
 use Rattle.blif_ast.specs.Good.{IsNameByte, IsGoodName}
 use Rattle.blif_ast.specs.Cards.{last_word}
 use Rattle.blif_ast.specs.Printed.{guard}

@@ -6,7 +6,7 @@ use Rattle.blif_read.specs.declared.fault.BlifFault.TheVariants.{At}
 use Rattle.std.proofs.lemmas.Bool.{true≢false}
 use Rattle.std.proofs.lemmas.List.{append_assoc, reverse-append}
 use Rattle.dom_base.specs.Lines.{lines}
-use Rattle.dom_base.proofs.Smallest.{IsSmallest}
+use Rattle.dom_base.proofs.Faults.{IsSmallest}
 use Rattle.blif_ast.specs.BlifFileData.{BlifFileData}
 use Rattle.blif_ast.specs.declared.kind.BlifKind.{BlifKind}
 use Rattle.blif_ast.specs.declared.kind.BlifKind.TheVariants.{NoModel}

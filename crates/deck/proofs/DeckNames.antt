@@ -4,10 +4,11 @@ use Rattle.std.specs.Cmp.Lexicographic.{pointwise}
 use Rattle.std.specs.List.{AllByRecursion, AllZip, filter_map, cons_option, list_any}
 use Rattle.std.specs.Option.{IfSome}
 use Rattle.std.proofs.lemmas.List.Elements.{All-from_recursion, recursion_from_All}
-use Rattle.dom_base.specs.Lines.{is_control, lines, words, unindented}
+use Rattle.dom_base.specs.Lines.{is_control, lines, words, unindented, IsLower, IsLowerWord}
 use Rattle.dom_base.specs.Names.{IsNetName}
-use Rattle.dom_base.proofs.Each.{AllByRecursion-append, AllByRecursion-left, AllByRecursion-filter, AllByRecursion-weaker}
-use Rattle.dom_base.proofs.WordBytes.{IsLower, IsLowerWord, lower_bytes, lower_words, IsNetName-word}
+use Rattle.dom_base.proofs.Lists.{AllByRecursion-append, AllByRecursion-left, AllByRecursion-filter, AllByRecursion-weaker}
+use Rattle.dom_base.proofs.WordBytes.{lower_bytes, lower_words}
+use Rattle.dom_base.proofs.Names.{IsNetName-word}
 use Rattle.deck.specs.declared.phase.Phase.{Phase}
 use Rattle.deck.specs.CircuitData.{CircuitData}
 use Rattle.deck.specs.DeckText.{read_line, is_end, through_end, deck_lines, is_of_card, continues, card_lines, added_words, cards_of, deck_cards, is_skipped, signed_phase, phase_of, deck_phases, IsDeviceCard, bare_circuit, IsDeckOf, HasNetNames}

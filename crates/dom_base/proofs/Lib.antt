@@ -1,7 +1,8 @@
-pub mod Cutting
-pub mod Each
-pub mod LineLemmas
-pub mod OneAnswer
-pub mod PlainWords
-pub mod Smallest
+pub mod Bools
+pub mod Decimals
+pub mod Faults
+pub mod Lists
+pub mod Names
+pub mod Options
+pub mod Texts
 pub mod WordBytes

@@ -1,5 +1,6 @@
-use Rattle.std.specs.Prelude.{ℕ, Bool, true, false, ◌==◌, ◌||◌, ◌&&◌, not, nat_lt, if◌then◌else◌, List, [], ◌∷◌, map, filter}
-use Rattle.std.specs.List.{before_first, slice_split}
+-- The lines of a text, the words of a line, and their bytes.
+use Rattle.std.specs.Prelude.{ℕ, ◌≡◌, ◌<◌, ◌⊎◌, Bool, true, false, ◌==◌, ◌||◌, ◌&&◌, not, nat_lt, if◌then◌else◌, List, [], ◌∷◌, map, filter}
+use Rattle.std.specs.List.{AllByRecursion, before_first, slice_split}
 
 -- a byte that ends a line: LF
 abbrev pub is_line_feed : ℕ → Bool
@@ -51,3 +52,11 @@ words line = filter is_word (slice_split is_blank line)
 abbrev pub unindented : List ℕ → List ℕ
 unindented [] = []
 unindented (b ∷ bs) = if is_blank b then unindented bs else b ∷ bs
+
+-- a byte that is no upper-case ASCII letter
+abbrev pub IsLower : ℕ → Type 0
+IsLower b = (b < 65) ⊎ (90 < b)
+
+-- a word of a line without upper-case letters: it has a byte, and no blank
+abbrev pub IsLowerWord : List ℕ → Type 0
+IsLowerWord word = (is_word word ≡ true) × AllByRecursion (λ b. IsLower b × (is_blank b ≡ false)) word

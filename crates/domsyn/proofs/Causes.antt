@@ -1,6 +1,6 @@
 -- A file is refused for one cause alone.
 use Rattle.std.proofs.Common.{◌≡◌, ℕ, List, refl, sym, ◌∙◌, subst, arith}
-use Rattle.dom_base.proofs.OneAnswer.{refusal_same}
+use Rattle.dom_base.proofs.Faults.{refusal_same}
 use Rattle.blif_ast.specs.declared.kind.BlifKind.{BlifKind}
 use Rattle.blif_ast.specs.Reading.{IsFault, IsFaultAt, IsFileOf}
 use Rattle.blif_read.proofs.OneAnswer.{one_answer}

@@ -3,12 +3,12 @@ use Rattle.std.specs.Prelude.{All, codes, if◌then◌else◌}
 use Rattle.std.specs.List.{list_any, list_all, AllByRecursion}
 use Rattle.std.proofs.lemmas.List.{length-map}
 use Rattle.std.proofs.lemmas.List.Sums.{AllPass-from_list_all}
-use Rattle.dom_base.proofs.PlainWords.{is_net_name, IsNetName-from_test}
+use Rattle.dom_base.proofs.Names.{is_net_name, IsNetName-from_test}
 use Rattle.std.specs.Cmp.Lexicographic.{pointwise}
 use Rattle.dom_base.specs.Names.{IsNetByte, IsNetName}
 use Rattle.dom_base.specs.declared.kind.Kind.{Kind}
 use Rattle.dom_base.specs.declared.kind.Kind.TheVariants.{N as nch}
-use Rattle.dom_base.proofs.Each.{AllByRecursion-append}
+use Rattle.dom_base.proofs.Lists.{AllByRecursion-append}
 use Rattle.deck.specs.CircuitData.{CircuitData}
 use Rattle.deck.specs.Escapes.{escaped}
 use Rattle.deck.specs.Nets.{with_net}

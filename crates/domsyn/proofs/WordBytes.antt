@@ -3,7 +3,7 @@ use Rattle.std.proofs.Common.{◌≡◌, ◌==◌, ℕ, ◌<◌, ◌+◌, ◌-�
 use Rattle.std.specs.Prelude.{if◌then◌else◌, slice_index_or}
 use Rattle.std.specs.List.{AllByRecursion, slice_split, onto_first, flat_map, prefix_len, take_while}
 use Rattle.dom_base.specs.Lines.{is_blank, is_line_feed, is_word, words, lines, some_piece, without_comment, without_empty_last, without_return}
-use Rattle.dom_base.proofs.Each.{AllByRecursion-filter, AllByRecursion-append, AllByRecursion-take}
+use Rattle.dom_base.proofs.Lists.{AllByRecursion-filter, AllByRecursion-append, AllByRecursion-take}
 use Rattle.blif_ast.specs.LogicalLines.{LogicalLine, NumberedBytes, in_words, has_words, is_joined, but_last, with_blank, joined_lines, with_line, with_next, logical_lines}
 use Rattle.blif_ast.specs.Cards.{begins, model_card, inputs_card, outputs_card}
 use Rattle.blif_ast.specs.Models.{is_inside, model_of, models_of, names_on}

@@ -4,10 +4,10 @@ use Rattle.std.specs.List.{AllByRecursion, list_any}
 use Rattle.std.proofs.lemmas.Bool.{true≢false}
 use Rattle.std.proofs.lemmas.List.{reverse-append}
 use Rattle.std.proofs.lemmas.List.Elements.{All-from_recursion}
-use Rattle.dom_base.specs.Lines.{is_control}
+use Rattle.dom_base.specs.Lines.{is_control, IsLowerWord}
 use Rattle.dom_base.specs.Names.{IsNetName}
-use Rattle.dom_base.proofs.Each.{AllByRecursion-append}
-use Rattle.dom_base.proofs.WordBytes.{IsLowerWord, IsNetName-word}
+use Rattle.dom_base.proofs.Lists.{AllByRecursion-append}
+use Rattle.dom_base.proofs.Names.{IsNetName-word}
 use Rattle.deck.specs.declared.phase.Phase.{Phase}
 use Rattle.deck.specs.declared.fault.DeckKind.TheVariants.{ControlByte}
 use Rattle.deck.specs.CircuitData.{CircuitData}

@@ -1,7 +1,7 @@
 -- Kinds of faults by their numbers, and the fault of a card with the smallest number.
 use Rattle.std.proofs.Common.{◌≡◌, List, [], ◌∷◌, refl, arith, Option, inl, inr}
 use Rattle.std.specs.List.{find}
-use Rattle.dom_base.proofs.Smallest.{IsAmong, IsSmallest, Rises, number_of-injective, smallest_found}
+use Rattle.dom_base.proofs.Faults.{IsAmong, IsSmallest, Rises, number_of-injective, smallest_found}
 use Rattle.deck.specs.declared.fault.DeckKind.{DeckKind}
 use Rattle.deck.specs.declared.fault.DeckKind.TheVariants.{ControlByte, UnknownCard, BadCard, UnknownDevice, NoSubckt, SecondSubckt, NotClosed, DuplicatePort, TooMany}
 use Rattle.deck.specs.DeckCards.{NumberedCard}

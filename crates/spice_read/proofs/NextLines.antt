@@ -4,9 +4,8 @@ use Rattle.std.proofs.Math.Seq.{drop-length}
 use Rattle.std.proofs.lemmas.List.{take_rest}
 use Rattle.std.specs.List.{AllByRecursion, enumerate_from}
 use Rattle.dom_base.specs.Cuts.{IsCut}
-use Rattle.dom_base.specs.Lines.{unindented}
-use Rattle.dom_base.proofs.Each.{AllByRecursion-left, AllByRecursion-right}
-use Rattle.dom_base.proofs.WordBytes.{IsLower}
+use Rattle.dom_base.specs.Lines.{unindented, IsLower}
+use Rattle.dom_base.proofs.Lists.{AllByRecursion-left, AllByRecursion-right}
 use Rattle.deck.specs.DeckText.{through_end, is_end}
 use Rattle.spice_read.specs.Rests.{rest_lines, end_from, IsNextLine, IsReady}
 use Rattle.spice_read.proofs.Lowers.{all_unindented}

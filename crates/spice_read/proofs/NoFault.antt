@@ -8,7 +8,7 @@ use Rattle.std.proofs.lemmas.Map.Made.{distinct_count-from_IsDistinct}
 use Rattle.dom_base.specs.Lines.{is_control}
 use Rattle.dom_base.specs.declared.kind.Kind.{Kind}
 use Rattle.dom_base.specs.declared.kind.Kind.TheVariants.{N as nch, P as pch, Keep}
-use Rattle.dom_base.proofs.PlainWords.{list_any-none}
+use Rattle.dom_base.proofs.Lists.{list_any-none}
 use Rattle.deck.specs.declared.fault.DeckKind.{DeckKind}
 use Rattle.deck.specs.CircuitData.{CircuitData}
 use Rattle.deck.specs.DeckText.{HasNoEquals, IsDeckOf, IsDeviceCard, deck_cards, first_word, is_skipped, model_word}

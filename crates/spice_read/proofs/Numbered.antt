@@ -1,9 +1,9 @@
 -- Numbered lines and cards, and the lines and cards that they number.
 use Rattle.std.proofs.Common.{◌≡◌, ℕ, ◌+◌, Bool, true, false, cond, if◌then◌else◌, List, [], ◌∷◌, ◌++◌, map, filter, drop, refl, sym, ap, ◌∙◌, subst}
 use Rattle.std.specs.List.{AllByRecursion}
-use Rattle.dom_base.specs.Lines.{lines, unindented, words}
-use Rattle.dom_base.proofs.Each.{AllByRecursion-append}
-use Rattle.dom_base.proofs.WordBytes.{IsLower, IsLowerWord, lower_bytes, lower_words}
+use Rattle.dom_base.specs.Lines.{lines, unindented, words, IsLower, IsLowerWord}
+use Rattle.dom_base.proofs.Lists.{AllByRecursion-append}
+use Rattle.dom_base.proofs.WordBytes.{lower_bytes, lower_words}
 use Rattle.deck.specs.DeckText.{BeginsACard, added_words, card_lines, cards_of, continues, deck_cards, deck_lines, is_end, is_of_card, read_line, through_end}
 use Rattle.deck.specs.DeckCards.{NumberedCard, numbered_cards, numbered_cards_of, numbered_lines, numbered_lines_from}
 use Rattle.spice_read.specs.Scans.{BeginsNumbered}

@@ -1,7 +1,7 @@
 -- A text is accepted with one circuit or refused for one fault.
 use Rattle.std.proofs.Common.{◌≡◌, ℕ, ◌⊎◌, inl, inr, Bool, true, false, List, [], ◌∷◌, refl, sym, ◌∙◌, subst, Some, None, Option}
 use Rattle.dom_base.specs.Answers.{HasOneAnswer, IsOnlyAnswer}
-use Rattle.dom_base.proofs.OneAnswer.{only_refusal}
+use Rattle.dom_base.proofs.Faults.{only_refusal}
 use Rattle.deck.specs.CircuitData.{CircuitData}
 use Rattle.deck.specs.declared.fault.DeckKind.{DeckKind}
 use Rattle.deck.specs.declared.fault.DeckKind.TheVariants.{BadCard, NoSubckt, NotClosed}

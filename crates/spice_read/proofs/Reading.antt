@@ -3,8 +3,9 @@ use Rattle.std.proofs.Common.{◌≡◌, ℕ, ◌<◌, ◌-◌, ◌^◌, Bool, t
 use Rattle.std.specs.Prelude.{MatchOption}
 use Rattle.std.specs.List.{AllByRecursion}
 use Rattle.std.specs.Str.{str_to_ascii_lowercase}
-use Rattle.dom_base.proofs.Each.{AllByRecursion-right}
-use Rattle.dom_base.proofs.WordBytes.{IsLower, lower_bytes}
+use Rattle.dom_base.proofs.Lists.{AllByRecursion-right}
+use Rattle.dom_base.specs.Lines.{IsLower}
+use Rattle.dom_base.proofs.WordBytes.{lower_bytes}
 use Rattle.deck.specs.declared.phase.Phase.{Phase}
 use Rattle.deck.specs.declared.fault.DeckKind.{DeckKind}
 use Rattle.deck.specs.declared.fault.DeckKind.TheVariants.{BadCard, ControlByte, NoSubckt}

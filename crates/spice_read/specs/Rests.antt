@@ -2,11 +2,10 @@ use Rattle.std.specs.Prelude.{ℕ, ◌≡◌, ◌<◌, ◌+◌, Bool, true, fals
 use Rattle.std.specs.Cmp.Lexicographic.{pointwise}
 use Rattle.std.specs.List.{AllByRecursion, enumerate_from, filter_map}
 use Rattle.dom_base.specs.Cuts.{NumbersFit}
-use Rattle.dom_base.specs.Lines.{lines, unindented, words}
+use Rattle.dom_base.specs.Lines.{lines, unindented, words, IsLower}
 use Rattle.deck.specs.declared.phase.Phase.{Phase}
 use Rattle.deck.specs.DeckText.{through_end, is_of_card, continues, is_end, phase_of}
 use Rattle.deck.specs.DeckCards.{NumberedCard, numbered_lines_from, numbered_cards_of}
-use Rattle.dom_base.proofs.WordBytes.{IsLower}
 
 -- A text in lower case, from one of its lines on.
 

@@ -5,7 +5,7 @@ ghost use Rattle.std.specs.List.{AllByRecursion};
 ghost use Rattle.dom_base.specs.Lines.{words};
 ghost use Rattle.deck.specs.DeckText.{phase_of, signed_phase};
 ghost use Rattle.dom_base.specs.Names.{IsNetName};
-ghost use Rattle.dom_base.proofs.WordBytes.{IsLowerWord};
+ghost use Rattle.dom_base.specs.Lines.{IsLowerWord};
 ghost use Rattle.spice_read.specs.Rests.{IsLowerText};
 ghost use Rattle.spice_read.specs.Rests.{sign_of};
 

@@ -7,7 +7,7 @@ use Rattle.std.proofs.lemmas.List.Elements.{All-nil, All-cons, All-append, All-g
 use Rattle.dom_base.specs.Names.{IsNetByte, IsNetName}
 use Rattle.dom_base.specs.declared.kind.Kind.{Kind}
 use Rattle.dom_base.specs.declared.kind.Kind.TheVariants.{N as nch, P as pch, Keep}
-use Rattle.dom_base.proofs.PlainWords.{IsNetName-from_test}
+use Rattle.dom_base.proofs.Names.{IsNetName-from_test}
 use Rattle.deck.specs.declared.device.Device.{Device}
 use Rattle.deck.specs.DeckText.{model_word, IsDeviceCard}
 use Rattle.spice_text.specs.Text.{model_of, bulk_of, name_of}

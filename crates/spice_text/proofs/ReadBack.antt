@@ -6,8 +6,8 @@ use Rattle.std.proofs.lemmas.List.{take_all, length-take-le, length-map}
 use Rattle.std.proofs.lemmas.List.Elements.{All-take, All-cons, All-weaker, All-from_recursion, recursion_from_All, filter_map-append}
 use Rattle.dom_base.specs.Lines.{is_control}
 use Rattle.dom_base.specs.Names.{IsNetName}
-use Rattle.dom_base.proofs.Each.{AllByRecursion-append, AllByRecursion-left, AllByRecursion-right, AllByRecursion-groups, AllByRecursion-every, AllByRecursion-map, filter_all}
-use Rattle.dom_base.proofs.PlainWords.{IsNetName-from_test, no_control-name, no_control_in-name}
+use Rattle.dom_base.proofs.Lists.{AllByRecursion-append, AllByRecursion-left, AllByRecursion-right, AllByRecursion-groups, AllByRecursion-every, AllByRecursion-map, filter_all}
+use Rattle.dom_base.proofs.Names.{IsNetName-from_test, no_control-name, no_control_in-name}
 use Rattle.deck.specs.declared.device.Device.{Device}
 use Rattle.deck.specs.declared.phase.Phase.{Phase}
 use Rattle.deck.specs.CircuitData.{CircuitData}

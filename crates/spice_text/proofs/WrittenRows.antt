@@ -7,7 +7,7 @@ use Rattle.std.proofs.lemmas.List.Concat.{flat_map-append}
 use Rattle.deck.specs.declared.device.Device.{Device}
 use Rattle.deck.specs.declared.phase.Phase.{Phase}
 use Rattle.deck.specs.CircuitData.{CircuitData}
-use Rattle.dom_base.proofs.LineLemmas.{ended}
+use Rattle.dom_base.specs.Joined.{ended}
 use Rattle.spice_text.specs.Text.{line, sign_of, phase_line, eights, port_lines, model_of, bulk_of, name_of, card, cards, text_with}
 use Rattle.spice_text.proofs.ReadRows.{row_line, text_of_rows, plus_rows}
 

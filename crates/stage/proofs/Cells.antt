@@ -15,7 +15,7 @@ use Rattle.stage.specs.Card.{Card, device_of}
 use Rattle.stage.specs.Cell.{CellNets, IsCell, IsStageNet, dynamic_stage, inverter}
 use Rattle.stage.specs.Stage.{Spot, Top, Inside, IsSpot, Branch, stage, IsStage}
 use Rattle.stage.specs.Tree.{Tree, Leaf, Series, inner_count, joins, spell, tree_conduction}
-use Rattle.dom_base.proofs.Each.{AllByRecursion-append, AllByRecursion-both, AllByRecursion-contains, AllByRecursion-left, AllByRecursion-map, AllByRecursion-weaker}
+use Rattle.dom_base.proofs.Lists.{AllByRecursion-append, AllByRecursion-both, AllByRecursion-contains, AllByRecursion-left, AllByRecursion-map, AllByRecursion-weaker}
 use Rattle.deck.proofs.Reach.{Reach, Reach-kept}
 use Rattle.stage.proofs.Spellings.{spell-same}
 use Rattle.stage.proofs.Stages.{goes, through}

@@ -16,7 +16,7 @@ use Rattle.deck.specs.Sources.{is_source}
 use Rattle.stage.specs.Card.{Card, device_of, map_card, with_cards}
 use Rattle.stage.specs.Cell.{CellNets, IsCell, IsStageNet, cell, dynamic_stage, inverter, map_nets}
 use Rattle.stage.specs.Tree.{Tree, Leaf, Series, Parallel, inner_count, map_tree, spell}
-use Rattle.dom_base.proofs.Each.{AllByRecursion-contains, AllByRecursion-left, AllByRecursion-right, AllByRecursion-weaker, Contains-first, Contains-later}
+use Rattle.dom_base.proofs.Lists.{AllByRecursion-contains, AllByRecursion-left, AllByRecursion-right, AllByRecursion-weaker, Contains-first, Contains-later}
 use Rattle.stage.proofs.Numbering.{HasNumber, IsNumberedCard, numbered, net_number-append, net_number-behind, same_number, with_cards-devices, with_cards-grew, with_cards-numbered}
 use Rattle.stage.proofs.Spellings.{cell-map_tree, inner_count-map_tree}
 

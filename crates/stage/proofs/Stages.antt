@@ -9,7 +9,7 @@ use Rattle.deck.specs.Paths.{Ends}
 use Rattle.stage.specs.Card.{Card, device_of}
 use Rattle.stage.specs.Stage.{Spot, Top, Inside, IsSpot, Branch, stage, IsStage}
 use Rattle.stage.specs.Tree.{inner_count, joins, spell}
-use Rattle.dom_base.proofs.Each.{AllByRecursion-append, AllByRecursion-left, AllByRecursion-right, AllByRecursion-weaker, AllByRecursion-both, AllByRecursion-map, AllByRecursion-contains, Contains-slice_get}
+use Rattle.dom_base.proofs.Lists.{AllByRecursion-append, AllByRecursion-left, AllByRecursion-right, AllByRecursion-weaker, AllByRecursion-both, AllByRecursion-map, AllByRecursion-contains, Contains-slice_get}
 use Rattle.deck.proofs.Reach.{Reach, Reach-kept}
 use Rattle.stage.proofs.Trees.{IsApart, IsIn, IsOutside, Paints, Paints-painting, Reach-spell, painting, spell-ends, spell-kind}
 

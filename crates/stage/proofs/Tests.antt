@@ -12,7 +12,7 @@ use Rattle.deck.specs.Paths.{IsStrong, DefiniteStrong, Possible, PossibleStrong}
 use Rattle.deck.specs.Switches.{IsOn, IsNotOff, value_of}
 use Rattle.stage.specs.Known.{is_one}
 use Rattle.stage.specs.Tree.{Tree, Leaf, Series, Parallel, both, either, joins, tree_conduction}
-use Rattle.dom_base.proofs.Each.{AllByRecursion-both, AllByRecursion-weaker}
+use Rattle.dom_base.proofs.Lists.{AllByRecursion-both, AllByRecursion-weaker}
 use Rattle.deck.proofs.Reach.{Reach, Reach-from_path, path_from_Reach}
 
 -- whether the value is One or Unknown

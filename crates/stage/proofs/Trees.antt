@@ -7,7 +7,7 @@ use Rattle.dom_base.specs.declared.kind.Kind.{Kind}
 use Rattle.deck.specs.declared.device.Device.{Device}
 use Rattle.stage.specs.Card.{Card, device_of}
 use Rattle.stage.specs.Tree.{Tree, Leaf, Series, Parallel, joins, inner_count, spell}
-use Rattle.dom_base.proofs.Each.{AllByRecursion-append, AllByRecursion-left, AllByRecursion-right, AllByRecursion-weaker}
+use Rattle.dom_base.proofs.Lists.{AllByRecursion-append, AllByRecursion-left, AllByRecursion-right, AllByRecursion-weaker}
 use Rattle.deck.proofs.Reach.{Reach, last, Reach-trans}
 
 -- all devices of a tree have its kind

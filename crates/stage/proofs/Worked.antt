@@ -9,7 +9,7 @@ use Rattle.dom_base.specs.declared.kind.Kind.TheVariants.{N as nch, P as pch, Ke
 use Rattle.stage.specs.Cell.{IsStageNet, cell, dynamic_stage}
 use Rattle.stage.specs.Worked.{AndHoldsCell, AndIsSpelled, ThreeInSeries, and_nets, and_tree}
 use Rattle.stage.specs.Tree.{inner_count}
-use Rattle.dom_base.proofs.Each.{AllByRecursion-contains}
+use Rattle.dom_base.proofs.Lists.{AllByRecursion-contains}
 
 pub and_is_spelled : AndIsSpelled
 and_is_spelled = refl

@@ -7,7 +7,7 @@ use Rattle.dom_base.specs.declared.kind.Kind.{Kind}
 use Rattle.dom_base.specs.declared.kind.Kind.TheVariants.{N as nch, P as pch, Keep}
 use Rattle.dom_base.specs.declared.tri.Tri.{Tri}
 use Rattle.dom_base.specs.declared.tri.Tri.TheVariants.{Zero, One, Unknown}
-use Rattle.dom_base.proofs.Each.{AllByRecursion-contains, Contains-first, Contains-later}
+use Rattle.dom_base.proofs.Lists.{AllByRecursion-contains, Contains-first, Contains-later}
 
 abbrev pub Dec : Type 0 → Type 0
 Dec A = A ⊎ (A → ⊥)

@@ -7,7 +7,7 @@ use Rattle.dom_base.specs.declared.kind.Kind.TheVariants.{Keep}
 use Rattle.deck.specs.Paths.{Ends, Path, one, more, IsWeak}
 use Rattle.deck.proofs.Reach.{Reach, last, step, Reach-trans, Reach-weaker, Reach-from_path, path_from_Reach}
 use Rattle.switch_model.proofs.Decided.{Dec, dec_and, dec_or, dec_map, dec_nat, dec_bool, dec_any, dec_keeper}
-use Rattle.dom_base.proofs.Each.{AllByRecursion-append, AllByRecursion-contains, AllByRecursion-weaker, Contains-first, Contains-later}
+use Rattle.dom_base.proofs.Lists.{AllByRecursion-append, AllByRecursion-contains, AllByRecursion-weaker, Contains-first, Contains-later}
 
 pub Path-append : {is_source : ℕ → Bool} {a m b : ℕ} {p q : List Device} → Path is_source a p m → is_source m ≡ false → Path is_source m q b → Path is_source a (p ++ q) b
 Path-append (one e) n r = more e n r

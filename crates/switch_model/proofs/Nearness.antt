@@ -9,7 +9,7 @@ use Rattle.deck.specs.Switches.{IsOn, IsNotOff, value_of}
 use Rattle.switch_model.specs.Laws.{AgreeAround, IsNear}
 use Rattle.switch_model.specs.Targets.{Pulls, Disputes, Else, IsTarget}
 use Rattle.switch_model.proofs.Joined.{Path-append}
-use Rattle.dom_base.proofs.Each.{AllByRecursion-append, AllByRecursion-both, AllByRecursion-weaker}
+use Rattle.dom_base.proofs.Lists.{AllByRecursion-append, AllByRecursion-both, AllByRecursion-weaker}
 use Rattle.switch_model.proofs.Targets.{on-not_off, definite-possible_strong, definite-possible_weak}
 use Rattle.switch_model.proofs.Visits.{ends_at}
 

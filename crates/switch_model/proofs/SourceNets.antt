@@ -17,7 +17,7 @@ use Rattle.deck.proofs.PortRoles.{joined, length-leading, pin-no_output}
 use Rattle.switch_model.specs.LinksData.{is_first, source_count}
 use Rattle.switch_model.specs.Targets.{IsTarget}
 use Rattle.switch_model.proofs.Decided.{lt_or_ge}
-use Rattle.dom_base.proofs.Each.{AllByRecursion-append}
+use Rattle.dom_base.proofs.Lists.{AllByRecursion-append}
 
 -- a circuit has at least as many nets as ports
 pub ports-few : (c : CircuitData) → IsCircuit c.ports c.nets c.devices → c.ports ≤ length c.nets

@@ -11,7 +11,7 @@ use Rattle.deck.specs.Paths.{Path, IsWeak, IsStrong, DefiniteStrong, PossibleStr
 use Rattle.deck.specs.Switches.{IsOn, IsNotOff, value_of}
 use Rattle.switch_model.specs.Targets.{Pulls, Disputes, Else, Holds, IsTarget}
 use Rattle.deck.proofs.Reach.{Reach-from_path, path_from_Reach, strong_each, strong_from_each}
-use Rattle.dom_base.proofs.Each.{AllByRecursion-both, AllByRecursion-weaker}
+use Rattle.dom_base.proofs.Lists.{AllByRecursion-both, AllByRecursion-weaker}
 use Rattle.switch_model.proofs.Decided.{Dec, dec_and, dec_not, dec_map, dec_bool, dec_keeper, dec_tri}
 use Rattle.switch_model.proofs.Joined.{dec_reaches, dec_weak, Reaches, WeakPath}
 

@@ -12,7 +12,7 @@ use Rattle.switch_model.specs.declared.crossing.Paths.{Paths}
 use Rattle.switch_model.specs.declared.crossing.Paths.TheVariants.{Definite, Possible as possible}
 use Rattle.switch_model.specs.Search.{IsCrossed, Walk, stay, go, is_keeper}
 use Rattle.switch_model.proofs.Joined.{Path-append}
-use Rattle.dom_base.proofs.Each.{AllByRecursion-append, AllByRecursion-both, AllByRecursion-weaker}
+use Rattle.dom_base.proofs.Lists.{AllByRecursion-append, AllByRecursion-both, AllByRecursion-weaker}
 use Rattle.switch_model.proofs.Searches.{clash}
 
 -- whether a device of the list is a keeper

@@ -1,6 +1,6 @@
 -- A deck and a stimulus have one trace in each order, or are refused for one cause.
 use Rattle.std.proofs.Common.{◌≡◌, ◌≢◌, ℕ, Bool, List, refl, ap, ◌∙◌, subst}
-use Rattle.dom_base.proofs.OneAnswer.{answer_or_refusal, answer_same, refusal_same}
+use Rattle.dom_base.proofs.Faults.{answer_or_refusal, answer_same, refusal_same}
 use Rattle.deck.specs.CircuitData.{CircuitData}
 use Rattle.deck.specs.DeckFaults.{IsDeckFault, IsDeckFaultAt}
 use Rattle.deck.specs.DeckText.{IsDeckOf}

@@ -2,7 +2,7 @@ use Rattle.std.proofs.Common.{rules, tests, ◌∙◌, sym}
 use Rattle.std.proofs.lemmas.Iterator.{YieldsList-from_slice}
 use Rattle.std.proofs.lemmas.Iterator.Search.{all_from_yields_List}
 use Rattle.blif_ast.specs.Cards.{is_binding}
-use Rattle.dom_base.proofs.Each.{list_all-map}
+use Rattle.dom_base.proofs.Lists.{list_all-map}
 use Rattle.blif_read.proofs.form.are_bindings.Goals as goal
 
 pub returns : goal.returns

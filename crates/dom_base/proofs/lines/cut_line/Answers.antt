@@ -1,5 +1,5 @@
 use Rattle.std.proofs.Common.{rules}
-use Rattle.dom_base.proofs.Cutting.{IsCut-at, IsCut-whole}
+use Rattle.dom_base.proofs.Texts.{IsCut-at, IsCut-whole}
 use Rattle.dom_base.proofs.lines.cut_line.Goals as goal
 
 pub returns-in-Some : goal.returns-in-Some

@@ -1,4 +1,4 @@
-use Rattle.dom_base.proofs.Cutting.{comment_at, no_comment}
+use Rattle.dom_base.proofs.Texts.{comment_at, no_comment}
 use Rattle.dom_base.proofs.lines.strip_comment.Goals as goal
 
 pub returns-in-Some : goal.returns-in-Some

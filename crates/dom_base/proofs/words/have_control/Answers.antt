@@ -3,7 +3,7 @@ use Rattle.std.specs.List.{list_any}
 use Rattle.std.proofs.lemmas.Iterator.{YieldsList-from_slice}
 use Rattle.std.proofs.lemmas.Iterator.Search.{any_from_yields_List}
 use Rattle.dom_base.specs.Lines.{is_control}
-use Rattle.dom_base.proofs.Each.{list_any-map}
+use Rattle.dom_base.proofs.Lists.{list_any-map}
 use Rattle.dom_base.proofs.words.have_control.Goals as goal
 
 pub returns : goal.returns

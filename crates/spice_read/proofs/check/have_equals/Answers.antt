@@ -2,7 +2,7 @@ use Rattle.std.proofs.Common.{rules, tests, ◌∙◌, sym}
 use Rattle.std.proofs.lemmas.Iterator.{YieldsList-from_slice}
 use Rattle.std.proofs.lemmas.Iterator.Search.{any_from_yields_List}
 use Rattle.deck.specs.DeckCards.{has_equals}
-use Rattle.dom_base.proofs.Each.{list_any-map}
+use Rattle.dom_base.proofs.Lists.{list_any-map}
 use Rattle.spice_read.proofs.check.have_equals.Goals as goal
 
 pub returns : goal.returns

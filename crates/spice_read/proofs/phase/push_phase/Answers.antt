@@ -1,6 +1,7 @@
 use Rattle.std.proofs.Common.{◌∙◌, ap, sym, map, subst}
 use Rattle.std.specs.List.{AllByRecursion}
-use Rattle.dom_base.proofs.WordBytes.{IsLowerWord, lower_words}
+use Rattle.dom_base.specs.Lines.{IsLowerWord}
+use Rattle.dom_base.proofs.WordBytes.{lower_words}
 use Rattle.spice_read.proofs.phase.push_phase.Goals as goal
 
 pub phase_of-requires : goal.phase_of-requires

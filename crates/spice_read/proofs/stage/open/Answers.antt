@@ -3,7 +3,7 @@ use Rattle.std.specs.List.{AllByRecursion}
 use Rattle.dom_base.specs.Names.{IsNetName}
 use Rattle.deck.specs.DeckCards.{port_names}
 use Rattle.deck.specs.Numbers.{with_all}
-use Rattle.dom_base.proofs.Each.{AllByRecursion-drop}
+use Rattle.dom_base.proofs.Lists.{AllByRecursion-drop}
 use Rattle.spice_read.proofs.Ports.{All-unmapped, empty_circuit, good_ports, opened-parts, port_set}
 use Rattle.spice_read.proofs.stage.open.Goals as goal
 

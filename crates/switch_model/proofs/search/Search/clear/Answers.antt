@@ -3,7 +3,7 @@ use Rattle.std.specs.Prelude.{Some, slice_get}
 use Rattle.std.proofs.lemmas.Option.{slice_get_read}
 use Rattle.switch_model.specs.Search.{SearchData}
 use Rattle.switch_model.specs.declared.search.Stop.{Stop}
-use Rattle.dom_base.proofs.Each.{Contains-slice_get}
+use Rattle.dom_base.proofs.Lists.{Contains-slice_get}
 use Rattle.switch_model.proofs.Marks.{clearing-none, clearing-more, clearing-done}
 use Rattle.switch_model.proofs.search.Search.clear.Goals as goal
 
