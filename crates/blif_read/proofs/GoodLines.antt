@@ -12,19 +12,19 @@ use Rattle.blif_ast.specs.declared.kind.BlifKind.{BlifKind}
 use Rattle.blif_ast.specs.declared.kind.BlifKind.TheVariants.{ControlByte, BadCard}
 use Rattle.blif_ast.specs.LogicalLines.{LogicalLine}
 use Rattle.blif_ast.specs.Cards.{same, begins, is_one_of, first_word, is_known, is_form, is_latch_form, is_subckt_form, model_card, inputs_card, outputs_card, names_card, latch_card, subckt_card, clock_card, end_card}
-use Rattle.blif_ast.specs.Faults.{has_fault}
+use Rattle.blif_ast.specs.Faults.{has_blif_fault}
 use Rattle.blif_read.proofs.GoodWords.{IsNoMark, IsPlainWord, IsPlainLine}
 use Rattle.blif_read.proofs.Positions.{FaultIn}
 
 -- lines without faults, where these lines stand before them, the nearest first
 abbrev pub Free : List LogicalLine → List LogicalLine → Type 0
 Free before [] = Unit {0}
-Free before (line ∷ more) = ((kind : BlifKind) → has_fault kind before line ≡ false) × Free (line ∷ before) more
+Free before (line ∷ more) = ((kind : BlifKind) → has_blif_fault kind before line ≡ false) × Free (line ∷ before) more
 
 pub Free-from : (before all : List LogicalLine) → ((number : ℕ) (kind : BlifKind) → FaultIn before all number kind → ⊥) → Free before all
 Free-from before [] none = tt
 Free-from before (line ∷ more) none =
-    (λ kind. false_from_ne_true (has_fault kind before line) (λ e. none line.number kind (inl (refl, e))), Free-from (line ∷ before) more (λ number kind h. none number kind (inr h)))
+    (λ kind. false_from_ne_true (has_blif_fault kind before line) (λ e. none line.number kind (inl (refl, e))), Free-from (line ∷ before) more (λ number kind h. none number kind (inr h)))
 
 pub Free-take : (n : ℕ) (before all : List LogicalLine) → Free before all → Free before (take n all)
 Free-take zero before all h = tt
@@ -96,7 +96,7 @@ in_form false form k h = absurd (cc)
 
 -- a card without faults is in its form
 pub card_form : (card : List ℕ) (before : List LogicalLine) (line : LogicalLine) → begins card line ≡ true → known_of card ≡ true
-    → ((kind : BlifKind) → has_fault kind before line ≡ false) → form_of card line.words ≡ true
+    → ((kind : BlifKind) → has_blif_fault kind before line ≡ false) → form_of card line.words ≡ true
 card_form card before line is known free =
     let first : first_word line.words ≡ card = same-true (first_word line.words) card is in
     ap (λ f. form_of f line.words) (sym first)

@@ -9,7 +9,7 @@ use Rattle.blif_ast.specs.declared.kind.BlifKind.{BlifKind}
 use Rattle.blif_ast.specs.declared.kind.BlifKind.TheVariants.{RowOutsideTable, NoModel}
 use Rattle.blif_ast.specs.LogicalLines.{LogicalLine, logical_lines}
 use Rattle.blif_ast.specs.Cards.{begins, first_word, is_card, model_card, inputs_card, outputs_card, names_card, latch_card, subckt_card, same}
-use Rattle.blif_ast.specs.Faults.{has_fault}
+use Rattle.blif_ast.specs.Faults.{has_blif_fault}
 use Rattle.blif_ast.specs.Models.{names_on, tables_of, latches_of, instance_of, instances_of, model_of, is_inside, models_of}
 use Rattle.blif_read.specs.Laws.{AcceptedFileIsGood}
 use Rattle.blif_read.proofs.GoodPrefix.{AllByRecursion-drop}
@@ -63,7 +63,7 @@ lines_apart n all rises =
     (apart_numbers n (begins latch_card) (begins subckt_card) (one_card latch_card subckt_card refl) all rises))
 
 -- the model of a card `.model` and of the lines behind it that belong to it
-good_model : (n : ℕ) (before : List LogicalLine) (line : LogicalLine) (all : List LogicalLine) → begins model_card line ≡ true → ((kind : BlifKind) → has_fault kind before line ≡ false)
+good_model : (n : ℕ) (before : List LogicalLine) (line : LogicalLine) (all : List LogicalLine) → begins model_card line ≡ true → ((kind : BlifKind) → has_blif_fault kind before line ≡ false)
     → IsGoodLine line → Free (line ∷ before) all → AllByRecursion IsGoodLine all → Rises n all → IsGoodModel (model_of line all)
 good_model n before line all is free good rest goods rises =
     let latches = good_latches (line ∷ before) all rest goods in

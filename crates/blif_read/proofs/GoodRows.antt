@@ -11,7 +11,7 @@ use Rattle.blif_ast.specs.declared.kind.BlifKind.TheVariants.{BadRow, TooWide}
 use Rattle.blif_ast.specs.LogicalLines.{LogicalLine}
 use Rattle.blif_ast.specs.Cards.{same, begins, first_word, is_card, is_row, is_letter, is_value, is_row_form, table_inputs, names_card}
 use Rattle.blif_ast.specs.Context.{words_of}
-use Rattle.blif_ast.specs.Faults.{has_fault}
+use Rattle.blif_ast.specs.Faults.{has_blif_fault}
 use Rattle.blif_ast.specs.Models.{letter_of, row_letters, rows_are_on, table_of, tables_of}
 use Rattle.blif_read.proofs.GoodPrefix.{take_while-keep, take_while-stop, not_true, AllByRecursion-drop}
 use Rattle.blif_read.proofs.GoodLines.{Free, IsGoodLine, good_word-at, same-true}
@@ -24,7 +24,7 @@ and_last false b c p q h = absurd (cc)
 
 -- a row behind a card `.names`, with rows alone between them
 row_form : (card : LogicalLine) (before : List LogicalLine) (row : LogicalLine) → find is_card before ≡ Some card → begins names_card card ≡ true → is_row row ≡ true
-    → has_fault BadRow before row ≡ false → is_row_form (length (table_inputs card.words)) row.words ≡ true
+    → has_blif_fault BadRow before row ≡ false → is_row_form (length (table_inputs card.words)) row.words ≡ true
 row_form card before row found names is free =
     and_last (is_row row) (begins names_card card) (is_row_form (length (table_inputs card.words)) row.words) is names
     (ap (λ o. is_row row && same (first_word (words_of o)) names_card && not (is_row_form (length (table_inputs (words_of o))) row.words)) (sym found) ∙ free)
@@ -77,7 +77,7 @@ few false m n e h = absurd (cc)
 pub card_is_card : (card : List ℕ) (line : LogicalLine) → begins card line ≡ true → (slice_index card 0 == 46) ≡ true → is_card line ≡ true
 card_is_card card line is e = ap (λ f. slice_index f 0 == 46) (same-true (first_word line.words) card is) ∙ e
 
-good_table : (before : List LogicalLine) (line : LogicalLine) (more : List LogicalLine) → begins names_card line ≡ true → ((kind : BlifKind) → has_fault kind before line ≡ false)
+good_table : (before : List LogicalLine) (line : LogicalLine) (more : List LogicalLine) → begins names_card line ≡ true → ((kind : BlifKind) → has_blif_fault kind before line ≡ false)
     → Free (line ∷ before) more → IsGoodLine line → IsGoodTable (table_of line (take_while is_row more))
 good_table before line more is free rest good = record {
   inputs = All-from_recursion IsGoodName (table_inputs line.words) (AllByRecursion-take IsGoodName (length line.words - 2) (drop 1 line.words) (AllByRecursion-drop IsGoodName 1 line.words good.1));

@@ -4,7 +4,7 @@ use Rattle.std.specs.List.{find}
 use Rattle.dom_base.proofs.Faults.{IsAmong, IsSmallest, Rises, number_of-injective, smallest_found}
 use Rattle.blif_ast.specs.declared.kind.BlifKind.{BlifKind}
 use Rattle.blif_ast.specs.declared.kind.BlifKind.TheVariants.{ControlByte, UnknownCard, BadCard, RowOutsideTable, BadRow, MixedCover, TooWide, NoModel, LatchKind}
-use Rattle.blif_ast.specs.Faults.{kind_number}
+use Rattle.blif_ast.specs.Faults.{blif_kind_number}
 use Rattle.blif_read.specs.Steps.{kinds}
 
 is_kind : (kind : BlifKind) → IsAmong kind kinds
@@ -18,13 +18,13 @@ is_kind TooWide = inr (inr (inr (inr (inr (inr (inl refl))))))
 is_kind NoModel = inr (inr (inr (inr (inr (inr (inr (inl refl)))))))
 is_kind LatchKind = inr (inr (inr (inr (inr (inr (inr (inr (inl refl))))))))
 
-kinds_rise : Rises kind_number 0 kinds
+kinds_rise : Rises blif_kind_number 0 kinds
 kinds_rise = (omega arith, (omega arith, (omega arith, (omega arith, (omega arith, (omega arith, (omega arith, (omega arith, (omega arith, tt)))))))))
 
 -- the smallest kind that passes a test, if one does
-pub smallest_kind : (test : BlifKind → Bool) → IsSmallest kind_number test (find test kinds)
-smallest_kind test = smallest_found kind_number 0 kinds kinds_rise is_kind test
+pub smallest_kind : (test : BlifKind → Bool) → IsSmallest blif_kind_number test (find test kinds)
+smallest_kind test = smallest_found blif_kind_number 0 kinds kinds_rise is_kind test
 
 -- kinds of one number are the same
-pub kind_number-injective : (a b : BlifKind) → kind_number a ≡ kind_number b → a ≡ b
-kind_number-injective a b e = number_of-injective kind_number 0 kinds a b kinds_rise (is_kind a) (is_kind b) e
+pub blif_kind_number-injective : (a b : BlifKind) → blif_kind_number a ≡ blif_kind_number b → a ≡ b
+blif_kind_number-injective a b e = number_of-injective blif_kind_number 0 kinds a b kinds_rise (is_kind a) (is_kind b) e

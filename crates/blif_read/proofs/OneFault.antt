@@ -7,7 +7,7 @@ use Rattle.std.proofs.lemmas.Grind.{reverse_onto}
 use Rattle.dom_base.proofs.Faults.{IsSmallest}
 use Rattle.blif_ast.specs.declared.kind.BlifKind.{BlifKind}
 use Rattle.blif_ast.specs.LogicalLines.{LogicalLine}
-use Rattle.blif_ast.specs.Faults.{has_fault, kind_number}
+use Rattle.blif_ast.specs.Faults.{has_blif_fault, blif_kind_number}
 use Rattle.blif_ast.specs.Reading.{IsFaultOfLine}
 use Rattle.blif_read.specs.Steps.{kinds}
 use Rattle.blif_read.proofs.GoodNumbers.{Rises}
@@ -18,12 +18,12 @@ use Rattle.blif_read.proofs.Positions.{FaultIn, rising-fault}
 pub record IsSmallestKind (test : BlifKind → Bool) : Type 0 where
   pub kind : BlifKind
   pub passes : test kind ≡ true
-  pub smallest : (other : BlifKind) → test other ≡ true → kind_number kind ≤ kind_number other
+  pub smallest : (other : BlifKind) → test other ≡ true → blif_kind_number kind ≤ blif_kind_number other
 
 none_or_smallest : (test : BlifKind → Bool) → ((kind : BlifKind) → test kind ≡ false) ⊎ IsSmallestKind test
 none_or_smallest test = by (find test kinds) (smallest_kind test)
   where
-    by : (found : Option BlifKind) → IsSmallest kind_number test found → ((kind : BlifKind) → test kind ≡ false) ⊎ IsSmallestKind test
+    by : (found : Option BlifKind) → IsSmallest blif_kind_number test found → ((kind : BlifKind) → test kind ≡ false) ⊎ IsSmallestKind test
     by None none = inl none
     by (Some kind) least = inr (record { kind = kind; passes = least.0; smallest = least.1 })
 
@@ -43,37 +43,37 @@ pub record IsFirstIn (before all : List LogicalLine) : Type 0 where
   pub kind : BlifKind
   pub fault : FaultIn before all number kind
   pub first : (other : ℕ) (any : BlifKind) → FaultIn before all other any → number ≤ other
-  pub smallest : (other : BlifKind) → FaultIn before all number other → kind_number kind ≤ kind_number other
+  pub smallest : (other : BlifKind) → FaultIn before all number other → blif_kind_number kind ≤ blif_kind_number other
 
 -- some lines have no fault, or a first one
 pub first_in : (n : ℕ) (before all : List LogicalLine) → Rises n all → ((number : ℕ) (kind : BlifKind) → FaultIn before all number kind → ⊥) ⊎ IsFirstIn before all
 first_in n before [] rises = inl (λ number kind h. h)
-first_in n before (line ∷ more) rises = by (none_or_smallest (λ kind. has_fault kind before line)) (first_in (line.number + 1) (line ∷ before) more rises.1)
+first_in n before (line ∷ more) rises = by (none_or_smallest (λ kind. has_blif_fault kind before line)) (first_in (line.number + 1) (line ∷ before) more rises.1)
   where
     here_first : (other : ℕ) (any : BlifKind) → FaultIn before (line ∷ more) other any → line.number ≤ other
     here_first other any (inl here) = omega (arith, here.0)
     here_first other any (inr later) = omega (arith, rising-fault (line.number + 1) (line ∷ before) more other any rises.1 later)
 
-    here_smallest : (least : IsSmallestKind (λ kind. has_fault kind before line)) (other : BlifKind) → FaultIn before (line ∷ more) line.number other → kind_number least.kind ≤ kind_number other
+    here_smallest : (least : IsSmallestKind (λ kind. has_blif_fault kind before line)) (other : BlifKind) → FaultIn before (line ∷ more) line.number other → blif_kind_number least.kind ≤ blif_kind_number other
     here_smallest least other (inl here) = least.smallest other here.1
     here_smallest least other (inr later) = absurd (omega (arith, rising-fault (line.number + 1) (line ∷ before) more line.number other rises.1 later))
 
-    no_fault : ((kind : BlifKind) → has_fault kind before line ≡ false) → ((number : ℕ) (kind : BlifKind) → FaultIn (line ∷ before) more number kind → ⊥)
+    no_fault : ((kind : BlifKind) → has_blif_fault kind before line ≡ false) → ((number : ℕ) (kind : BlifKind) → FaultIn (line ∷ before) more number kind → ⊥)
         → (number : ℕ) (kind : BlifKind) → FaultIn before (line ∷ more) number kind → ⊥
     no_fault none rest number kind (inl here) = let never : true ≡ false = sym here.1 ∙ none kind in cc
     no_fault none rest number kind (inr later) = rest number kind later
 
-    later_first : ((kind : BlifKind) → has_fault kind before line ≡ false) → (found : IsFirstIn (line ∷ before) more) (other : ℕ) (any : BlifKind)
+    later_first : ((kind : BlifKind) → has_blif_fault kind before line ≡ false) → (found : IsFirstIn (line ∷ before) more) (other : ℕ) (any : BlifKind)
         → FaultIn before (line ∷ more) other any → found.number ≤ other
     later_first none found other any (inl here) = let never : true ≡ false = sym here.1 ∙ none any in absurd cc
     later_first none found other any (inr later) = found.first other any later
 
-    later_smallest : ((kind : BlifKind) → has_fault kind before line ≡ false) → (found : IsFirstIn (line ∷ before) more) (other : BlifKind)
-        → FaultIn before (line ∷ more) found.number other → kind_number found.kind ≤ kind_number other
+    later_smallest : ((kind : BlifKind) → has_blif_fault kind before line ≡ false) → (found : IsFirstIn (line ∷ before) more) (other : BlifKind)
+        → FaultIn before (line ∷ more) found.number other → blif_kind_number found.kind ≤ blif_kind_number other
     later_smallest none found other (inl here) = let never : true ≡ false = sym here.1 ∙ none other in absurd cc
     later_smallest none found other (inr later) = found.smallest other later
 
-    by : ((kind : BlifKind) → has_fault kind before line ≡ false) ⊎ IsSmallestKind (λ kind. has_fault kind before line)
+    by : ((kind : BlifKind) → has_blif_fault kind before line ≡ false) ⊎ IsSmallestKind (λ kind. has_blif_fault kind before line)
         → ((number : ℕ) (kind : BlifKind) → FaultIn (line ∷ before) more number kind → ⊥) ⊎ IsFirstIn (line ∷ before) more
         → ((number : ℕ) (kind : BlifKind) → FaultIn before (line ∷ more) number kind → ⊥) ⊎ IsFirstIn before (line ∷ more)
     by (inr least) rest = inr (record {

@@ -5,14 +5,14 @@ use Rattle.std.proofs.lemmas.Bool.{true≢false}
 use Rattle.std.proofs.lemmas.List.{append_assoc, append-nil, reverse-append, reverse-reverse}
 use Rattle.blif_ast.specs.declared.kind.BlifKind.{BlifKind}
 use Rattle.blif_ast.specs.LogicalLines.{LogicalLine}
-use Rattle.blif_ast.specs.Faults.{has_fault}
+use Rattle.blif_ast.specs.Faults.{has_blif_fault}
 use Rattle.blif_ast.specs.Reading.{IsFaultOfLine}
 use Rattle.blif_read.proofs.GoodNumbers.{Rises}
 
 -- a fault in some lines, behind these, the nearest first
 abbrev pub FaultIn : List LogicalLine → List LogicalLine → ℕ → BlifKind → Type 0
 FaultIn before [] n kind = ⊥
-FaultIn before (line ∷ more) n kind = ((line.number ≡ n) × (has_fault kind before line ≡ true)) ⊎ FaultIn (line ∷ before) more n kind
+FaultIn before (line ∷ more) n kind = ((line.number ≡ n) × (has_blif_fault kind before line ≡ true)) ⊎ FaultIn (line ∷ before) more n kind
 
 reverse-onto : (x : LogicalLine) (xs before : List LogicalLine) → reverse (x ∷ xs) ++ before ≡ reverse xs ++ x ∷ before
 reverse-onto x xs before = ap (λ l. l ++ before) (reverse-append (x ∷ []) xs) ∙ append_assoc (reverse xs) (x ∷ []) before
@@ -34,7 +34,7 @@ rising-fault m before (line ∷ more) n kind rising (inl here) = omega (arith, r
 rising-fault m before (line ∷ more) n kind rising (inr later) = omega (arith, rising.0, rising-fault (line.number + 1) (line ∷ before) more n kind rising.1 later)
 
 -- a line without a fault is passed
-pub passed : (before : List LogicalLine) (line : LogicalLine) (more : List LogicalLine) → ((kind : BlifKind) → has_fault kind before line ≡ false) → (n : ℕ) (kind : BlifKind)
+pub passed : (before : List LogicalLine) (line : LogicalLine) (more : List LogicalLine) → ((kind : BlifKind) → has_blif_fault kind before line ≡ false) → (n : ℕ) (kind : BlifKind)
     → FaultIn before (line ∷ more) n kind → FaultIn (line ∷ before) more n kind
 passed before line more clean n kind (inl here) = absurd (true≢false (sym here.1 ∙ clean kind))
 passed before line more clean n kind (inr later) = later

@@ -8,7 +8,7 @@ use Rattle.blif_ast.specs.Printed.{model_lines, printed}
 use Rattle.blif_ast.specs.declared.kind.BlifKind.{BlifKind}
 use Rattle.blif_ast.specs.LogicalLines.{LogicalLine, logical_lines}
 use Rattle.blif_ast.specs.Models.{models_of}
-use Rattle.blif_ast.specs.Reading.{IsFault}
+use Rattle.blif_ast.specs.Reading.{IsBlifFault}
 use Rattle.blif_read.specs.ReadsBack.{model_unlined, PrintedReadsBack}
 use Rattle.blif_read.proofs.GoodLines.{Free}
 use Rattle.blif_read.proofs.Positions.{FaultIn, fault_in}
@@ -42,6 +42,6 @@ reads_back file good =
     )
   where
     no_fault : Free [] (logical_lines (printed file)) → logical_lines (printed file) ≡ numbered 1 (flat_map model_lines file.models)
-        → (number : ℕ) (kind : BlifKind) → IsFault (printed file) number kind → ⊥
+        → (number : ℕ) (kind : BlifKind) → IsBlifFault (printed file) number kind → ⊥
     no_fault free is number kind (inl f) = Free-none [] (logical_lines (printed file)) number kind free (fault_in (logical_lines (printed file)) number kind f)
     no_fault free is number kind (inr e) = some_lines file.models good.some (sym is ∙ e.empty)

@@ -19,7 +19,7 @@ use Rattle.blif_ast.specs.declared.kind.BlifKind.TheVariants.{ControlByte, Unkno
 use Rattle.blif_ast.specs.LogicalLines.{LogicalLine}
 use Rattle.blif_ast.specs.Cards.{is_init, is_type, is_level, is_latch_form, is_binding, model_card, inputs_card, outputs_card, end_card}
 use Rattle.blif_ast.specs.Context.{is_model_open}
-use Rattle.blif_ast.specs.Faults.{has_fault}
+use Rattle.blif_ast.specs.Faults.{has_blif_fault}
 use Rattle.blif_read.proofs.PrintedWords.{IsNamesLine}
 use Rattle.blif_read.proofs.PrintedLines.{line_at}
 use Rattle.blif_read.proofs.PrintedCards.{names_inputs, binding_back}
@@ -38,7 +38,7 @@ no_control (first ∷ others) h =
 
 -- a line without faults, where these lines stand before it, the nearest first
 abbrev pub IsFree : List LogicalLine → ℕ → List (List ℕ) → Type 0
-IsFree before n words = (kind : BlifKind) → has_fault kind before (line_at n words) ≡ false
+IsFree before n words = (kind : BlifKind) → has_blif_fault kind before (line_at n words) ≡ false
 
 pub model_free : (before : List LogicalLine) (n : ℕ) (name : List ℕ) → IsNamesLine (model_card ∷ name ∷ []) → IsFree before n (model_card ∷ name ∷ [])
 model_free before n name h ControlByte = no_control (model_card ∷ name ∷ []) h

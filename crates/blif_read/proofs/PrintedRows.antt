@@ -16,7 +16,7 @@ use Rattle.blif_ast.specs.declared.kind.BlifKind.TheVariants.{ControlByte, Unkno
 use Rattle.blif_ast.specs.LogicalLines.{LogicalLine}
 use Rattle.blif_ast.specs.Cards.{is_card, is_row, is_letter, is_value, is_row_form, last_letter, model_card, inputs_card, outputs_card, end_card}
 use Rattle.blif_ast.specs.Context.{is_model_open, is_table_open, open_width, open_rows, differs_from_first}
-use Rattle.blif_ast.specs.Faults.{has_fault, is_row_inside}
+use Rattle.blif_ast.specs.Faults.{has_blif_fault, is_row_inside}
 use Rattle.blif_read.proofs.GoodPrefix.{take_while-keep}
 use Rattle.blif_read.proofs.GoodLines.{Free}
 use Rattle.blif_read.proofs.PrintedLines.{line_at, numbered}
@@ -57,8 +57,8 @@ IsInTable on width before = (is_table_open before ≡ true) × (open_width befor
 
 row_free : (before : List LogicalLine) (n : ℕ) (on : Bool) (row : List Letter) → IsInTable on (length row) before → IsFree before n (row_words on row)
 row_free before n on row s ControlByte = no_control (row_words on row) (row_names on row)
-row_free before n on row s UnknownCard = by_rows (λ w. has_fault UnknownCard before (line_at n w) ≡ false) (λ _ _. refl) (λ _ _. refl) (λ _ _. refl) on row
-row_free before n on row s BadCard = by_rows (λ w. has_fault BadCard before (line_at n w) ≡ false) (λ _ _. refl) (λ _ _. refl) (λ _ _. refl) on row
+row_free before n on row s UnknownCard = by_rows (λ w. has_blif_fault UnknownCard before (line_at n w) ≡ false) (λ _ _. refl) (λ _ _. refl) (λ _ _. refl) on row
+row_free before n on row s BadCard = by_rows (λ w. has_blif_fault BadCard before (line_at n w) ≡ false) (λ _ _. refl) (λ _ _. refl) (λ _ _. refl) on row
 row_free before n on row s RowOutsideTable = and_false (is_row (line_at n (row_words on row))) (not (is_table_open before)) (ap not s.0)
 row_free before n on row s BadRow =
     and_false (is_row_inside before (line_at n (row_words on row))) (not (is_row_form (open_width before) (row_words on row)))
@@ -66,9 +66,9 @@ row_free before n on row s BadRow =
 row_free before n on row s MixedCover =
     and_false (is_row_inside before (line_at n (row_words on row)) && is_row_form (open_width before) (row_words on row)) (differs_from_first (last_letter (row_words on row)) (open_rows before))
     (ap (λ letter. differs_from_first letter (open_rows before)) (row_last on row) ∙ s.2)
-row_free before n on row s TooWide = by_rows (λ w. has_fault TooWide before (line_at n w) ≡ false) (λ _ _. refl) (λ _ _. refl) (λ _ _. refl) on row
-row_free before n on row s NoModel = by_rows (λ w. has_fault NoModel before (line_at n w) ≡ false) (λ _ _. refl) (λ _ _. refl) (λ _ _. refl) on row
-row_free before n on row s LatchKind = by_rows (λ w. has_fault LatchKind before (line_at n w) ≡ false) (λ _ _. refl) (λ _ _. refl) (λ _ _. refl) on row
+row_free before n on row s TooWide = by_rows (λ w. has_blif_fault TooWide before (line_at n w) ≡ false) (λ _ _. refl) (λ _ _. refl) (λ _ _. refl) on row
+row_free before n on row s NoModel = by_rows (λ w. has_blif_fault NoModel before (line_at n w) ≡ false) (λ _ _. refl) (λ _ _. refl) (λ _ _. refl) on row
+row_free before n on row s LatchKind = by_rows (λ w. has_blif_fault LatchKind before (line_at n w) ≡ false) (λ _ _. refl) (λ _ _. refl) (λ _ _. refl) on row
 
 differs-push : (on : Bool) (rows : List LogicalLine) (line : LogicalLine) → differs_from_first (if on then 49 else 48) rows ≡ false → last_letter line.words ≡ (if on then 49 else 48)
     → differs_from_first (if on then 49 else 48) (rows ++ line ∷ []) ≡ false

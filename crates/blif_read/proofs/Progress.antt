@@ -13,10 +13,10 @@ use Rattle.blif_ast.specs.declared.kind.BlifKind.TheVariants.{NoModel}
 use Rattle.blif_read.specs.declared.context.Context.{Context}
 use Rattle.blif_ast.specs.LogicalLines.{LogicalLine, logical_lines, logical_lines_from}
 use Rattle.dom_base.specs.Cuts.{NumbersFit}
-use Rattle.blif_ast.specs.Faults.{has_fault, kind_number}
+use Rattle.blif_ast.specs.Faults.{has_blif_fault, blif_kind_number}
 use Rattle.blif_ast.specs.Models.{models_of}
 use Rattle.blif_read.specs.Build.{Built, built_after, finished, closed_models}
-use Rattle.blif_ast.specs.Reading.{IsFaultAt, IsFaultOfLine, IsFileOf}
+use Rattle.blif_ast.specs.Reading.{IsBlifFaultAt, IsFaultOfLine, IsFileOf}
 use Rattle.blif_read.specs.Steps.{context_of, fault_in as fault_by}
 use Rattle.blif_read.proofs.Building.{finished-line, finished-none}
 use Rattle.blif_read.proofs.GoodNumbers.{Rises, logical_lines_from-rise}
@@ -38,9 +38,9 @@ pub record Reads (text : List ℕ) (context : Context) (built : Built) (some : B
 
 -- the fault that the context gives, and no fault where it gives none
 smallest_is : (before : List LogicalLine) (line : LogicalLine) (context : Context) (found : Option BlifKind) → context ≡ context_of before → found ≡ fault_by context line
-    → IsSmallest kind_number (λ kind. has_fault kind before line) found
+    → IsSmallest blif_kind_number (λ kind. has_blif_fault kind before line) found
 smallest_is before line context found is by =
-    subst (IsSmallest kind_number (λ kind. has_fault kind before line)) (sym (by ∙ ap (λ c. fault_by c line) is ∙ fault_in-smallest before line)) (smallest_kind (λ kind. has_fault kind before line))
+    subst (IsSmallest blif_kind_number (λ kind. has_blif_fault kind before line)) (sym (by ∙ ap (λ c. fault_by c line) is ∙ fault_in-smallest before line)) (smallest_kind (λ kind. has_blif_fault kind before line))
 
 pub starts : (text : List ℕ) (context : Context) (built : Built) → context ≡ context_of [] → built ≡ record { models = []; model = None; table = None } → NumbersFit 1 text
     → Reads text context built false 1 text
@@ -85,7 +85,7 @@ step text context after built next_built some number next rest more line r is fi
 -- a line with a fault
 pub fault : (text : List ℕ) (context : Context) (built : Built) (some : Bool) (number next : ℕ) (rest more : List ℕ) (line : LogicalLine) (kind : BlifKind)
     → Reads text context built some number rest → logical_lines_from number (lines rest) ≡ line ∷ logical_lines_from next (lines more)
-    → Some kind ≡ fault_by context line → IsFaultAt text line.number kind
+    → Some kind ≡ fault_by context line → IsBlifFaultAt text line.number kind
 fault text context built some number next rest more line kind r is by =
     let least = smallest_is r.before line context (Some kind) r.context_is by in
     let whole : logical_lines text ≡ reverse r.before ++ line ∷ logical_lines_from next (lines more) = r.split ∙ ap (λ l. reverse r.before ++ l) is in
@@ -95,8 +95,8 @@ fault text context built some number next rest more line kind r is by =
     record {
       fault = inl (record { before = r.before; line = line; after = logical_lines_from next (lines more); lines_are = whole; number_is = refl; fault = least.0 });
       first = λ other any f. elim f as (λ _. line.number ≤ other) [ inl g ↦ rising-fault line.number r.before (line ∷ logical_lines_from next (lines more)) other any (omega arith, rising.1) (all other any (fault_in (logical_lines text) other any g)) | inr e ↦ absurd (no_end e.empty) ];
-      smallest = λ other f. elim f as (λ _. kind_number kind ≤ kind_number other) [
-        | inl g ↦ elim (all line.number other (fault_in (logical_lines text) line.number other g)) as (λ _. kind_number kind ≤ kind_number other)
+      smallest = λ other f. elim f as (λ _. blif_kind_number kind ≤ blif_kind_number other) [
+        | inl g ↦ elim (all line.number other (fault_in (logical_lines text) line.number other g)) as (λ _. blif_kind_number kind ≤ blif_kind_number other)
             [ inl here ↦ least.1 other here.1 | inr later ↦ absurd (omega (arith, rising-fault (line.number + 1) (line ∷ r.before) (logical_lines_from next (lines more)) line.number other rising.1 later)) ]
         | inr e ↦ absurd (no_end e.empty)
       ];
@@ -114,7 +114,7 @@ accepted text context built some number rest file r none some_is is = record {
 -- the end of a text without lines
 pub ended : (text : List ℕ) (context : Context) (built : Built) (some : Bool) (number next : ℕ) (rest more : List ℕ)
     → Reads text context built some number rest → logical_lines_from number (lines rest) ≡ [] → next + length (lines more) ≡ number + length (lines rest) → more ≡ [] → some ≡ false
-    → IsFaultAt text next NoModel
+    → IsBlifFaultAt text next NoModel
 ended text context built some number next rest more r none count no_more some_is =
     let whole : logical_lines text ≡ [] = r.no_line some_is ∙ none in
     let place : next ≡ length (lines text) + 1 = omega (arith, count, r.count, ap (λ m. length (lines m)) no_more) in
@@ -122,15 +122,15 @@ ended text context built some number next rest more r none count no_more some_is
     record {
       fault = inr (record { empty = whole; number_is = place; kind_is = refl });
       first = λ other any f. elim f as (λ _. next ≤ other) [ inl g ↦ absurd (no_fault other any g) | inr e ↦ omega (arith, place, e.number_is) ];
-      smallest = λ other f. elim f as (λ _. 8 ≤ kind_number other) [ inl g ↦ absurd (no_fault next other g) | inr e ↦ omega (arith, ap kind_number e.kind_is) ];
+      smallest = λ other f. elim f as (λ _. 8 ≤ blif_kind_number other) [ inl g ↦ absurd (no_fault next other g) | inr e ↦ omega (arith, ap blif_kind_number e.kind_is) ];
     }
 
 pub no_lines : (number : ℕ) (rest : List ℕ) → rest ≡ [] → logical_lines_from number (lines rest) ≡ []
 no_lines number rest is = ap (λ r. logical_lines_from number (lines r)) is
 
 -- a fault by another name of its line and its kind
-pub told : (text : List ℕ) (n m : ℕ) (kind other : BlifKind) → n ≡ m → kind ≡ other → IsFaultAt text m other → IsFaultAt text n kind
-told text n m kind other place is fault = subst (λ l. IsFaultAt text l kind) (sym place) (subst (λ k. IsFaultAt text m k) (sym is) fault)
+pub told : (text : List ℕ) (n m : ℕ) (kind other : BlifKind) → n ≡ m → kind ≡ other → IsBlifFaultAt text m other → IsBlifFaultAt text n kind
+told text n m kind other place is fault = subst (λ l. IsBlifFaultAt text l kind) (sym place) (subst (λ k. IsBlifFaultAt text m k) (sym is) fault)
 
 pub none_case : {X : Type 0} (P : Type 0) (Q : X → Type 0) (o : Option X) → o ≡ None → MatchOption o P Q → P
 none_case P Q o is m = subst (λ v. MatchOption v P Q) is m

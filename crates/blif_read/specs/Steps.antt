@@ -8,7 +8,7 @@ use Rattle.blif_read.specs.declared.context.OpenTable.{OpenTable}
 use Rattle.blif_ast.specs.LogicalLines.{LogicalLine}
 use Rattle.blif_ast.specs.Cards.{begins, is_card, is_known, is_form, is_row_form, is_too_wide, is_level_latch, last_letter, model_card}
 use Rattle.blif_ast.specs.Context.{is_model_open, is_table_open, open_width, open_rows}
-use Rattle.blif_ast.specs.Faults.{has_fault}
+use Rattle.blif_ast.specs.Faults.{has_blif_fault}
 
 -- the kinds by rising number
 abbrev pub kinds : List BlifKind
@@ -16,7 +16,7 @@ kinds = ControlByte ∷ UnknownCard ∷ BadCard ∷ RowOutsideTable ∷ BadRow �
 
 -- the fault of a line with the smallest number, where the lines before it, the nearest first, are these
 abbrev pub smallest_fault : List LogicalLine → LogicalLine → Option BlifKind
-smallest_fault before line = find (λ kind. has_fault kind before line) kinds
+smallest_fault before line = find (λ kind. has_blif_fault kind before line) kinds
 
 -- the last letter of the first of some rows
 abbrev pub first_letter : List LogicalLine → Option ℕ

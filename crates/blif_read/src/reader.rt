@@ -1,6 +1,6 @@
 //! The reader.
 ghost use Rattle.std.specs.Prelude.{ℕ, ◌≡◌, IfOk, IsErrOf, true, false};
-ghost use Rattle.blif_ast.specs.Reading.{IsFaultAt, IsFileOf};
+ghost use Rattle.blif_ast.specs.Reading.{IsBlifFaultAt, IsFileOf};
 ghost use Rattle.blif_read.specs.Build.{closed_models};
 ghost use Rattle.blif_ast.specs.declared.kind.BlifKind.TheVariants.{NoModel};
 
@@ -16,7 +16,7 @@ use std::alloc::Global;
 /// first line with a fault and the fault of the smallest number there.
 pub fn read(alloc: Global, text: &[u8]) -> Result<BlifFile, BlifFault>
     ensures file { IfOk result (λ file. IsFileOf text.now file) }
-    ensures fault { (line : ℕ) (kind : _) → IsErrOf result (BlifFault.At line kind) → IsFaultAt text.now line kind }
+    ensures fault { (line : ℕ) (kind : _) → IsErrOf result (BlifFault.At line kind) → IsBlifFaultAt text.now line kind }
 {
     let mut lines = Lines {
         rest: text,

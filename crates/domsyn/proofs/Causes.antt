@@ -2,7 +2,7 @@
 use Rattle.std.proofs.Common.{◌≡◌, ℕ, List, refl, sym, ◌∙◌, subst, arith}
 use Rattle.dom_base.proofs.Faults.{refusal_same}
 use Rattle.blif_ast.specs.declared.kind.BlifKind.{BlifKind}
-use Rattle.blif_ast.specs.Reading.{IsFault, IsFaultAt, IsFileOf}
+use Rattle.blif_ast.specs.Reading.{IsBlifFault, IsBlifFaultAt, IsFileOf}
 use Rattle.blif_read.proofs.OneAnswer.{one_answer}
 use Rattle.domsyn.specs.declared.refusal.Refusal.{Refusal}
 use Rattle.domsyn.specs.declared.refusal.Refusal.TheVariants.{TooLong, Blif, NotBuilt, Deck, Ports, Stim}
@@ -11,8 +11,8 @@ use Rattle.domsyn.specs.Decks.{IsBuildable}
 use Rattle.domsyn.specs.Refusals.{IsRefusedFor}
 
 -- a text is refused at one line for one kind
-faults_alike : (text : List ℕ) (m n : ℕ) (a b : BlifKind) → IsFaultAt text m a → IsFaultAt text n b → (m ≡ n) × (a ≡ b)
-faults_alike text m n a b x y = refusal_same (IsFileOf text) (IsFault text) (IsFaultAt text) (λ l k f. f.fault) (one_answer text) m n a b x y
+faults_alike : (text : List ℕ) (m n : ℕ) (a b : BlifKind) → IsBlifFaultAt text m a → IsBlifFaultAt text n b → (m ≡ n) × (a ≡ b)
+faults_alike text m n a b x y = refusal_same (IsFileOf text) (IsBlifFault text) (IsBlifFaultAt text) (λ l k f. f.fault) (one_answer text) m n a b x y
 
 -- the causes of bytes are one
 pub causes_alike : (bytes : List ℕ) (a b : Refusal) → IsRefusedFor bytes a → IsRefusedFor bytes b → a ≡ b

@@ -1,23 +1,10 @@
 use Rattle.std.specs.Prelude.{ℕ, List, codes}
-use Rattle.blif_ast.specs.declared.kind.BlifKind.{BlifKind}
-use Rattle.blif_ast.specs.declared.kind.BlifKind.TheVariants as blif
 use Rattle.deck.specs.declared.fault.DeckKind.{DeckKind}
 use Rattle.deck.specs.declared.fault.DeckKind.TheVariants as deck
 use Rattle.stim_text.specs.declared.fault.StimKind.{StimKind}
 use Rattle.stim_text.specs.declared.fault.StimKind.TheVariants as stim
 
 -- the names of kinds of faults, as they are told
-abbrev pub blif_name : BlifKind → List ℕ
-blif_name blif.ControlByte = codes "ControlByte"
-blif_name blif.UnknownCard = codes "UnknownCard"
-blif_name blif.BadCard = codes "BadCard"
-blif_name blif.RowOutsideTable = codes "RowOutsideTable"
-blif_name blif.BadRow = codes "BadRow"
-blif_name blif.MixedCover = codes "MixedCover"
-blif_name blif.TooWide = codes "TooWide"
-blif_name blif.NoModel = codes "NoModel"
-blif_name blif.LatchKind = codes "LatchKind"
-
 abbrev pub deck_name : DeckKind → List ℕ
 deck_name deck.ControlByte = codes "ControlByte"
 deck_name deck.UnknownCard = codes "UnknownCard"

@@ -3,19 +3,19 @@ use Rattle.std.specs.Fmt.{decimal}
 use Rattle.dom_io.specs.Held.{file_limit}
 use Rattle.blif_ast.specs.BlifFileData.{BlifFileData}
 use Rattle.blif_ast.specs.declared.kind.BlifKind.{BlifKind}
-use Rattle.blif_ast.specs.Faults.{kind_number as blif_number}
-use Rattle.blif_ast.specs.Reading.{IsFaultAt, IsFileOf}
+use Rattle.blif_ast.specs.Faults.{blif_kind_number, blif_kind_word}
+use Rattle.blif_ast.specs.Reading.{IsBlifFaultAt, IsFileOf}
 use Rattle.deck.specs.DeckFaults.{kind_number as deck_number}
 use Rattle.domsyn.specs.declared.refusal.Refusal.{Refusal}
 use Rattle.domsyn.specs.declared.refusal.Refusal.TheVariants.{TooLong, Blif, NotBuilt, Deck, Ports, Stim}
-use Rattle.domsyn.specs.KindNames.{blif_name, deck_name, stim_name}
+use Rattle.domsyn.specs.KindNames.{deck_name, stim_name}
 use Rattle.domsyn.specs.OneTable.{IsOneTable, IsFileOfTable}
 use Rattle.domsyn.specs.OneTableData.{OneTableData}
 
 -- no more bytes than a file may have, with a fault of this kind at this line: the first line with a fault, and its smallest kind
 pub record IsFaultyAt (bytes : List ℕ) (line : ℕ) (kind : BlifKind) : Type 0 where
   pub within : length bytes ≤ file_limit
-  pub fault : IsFaultAt bytes line kind
+  pub fault : IsBlifFaultAt bytes line kind
 
 -- no more bytes than a file may have, which are accepted, but whose file is no network that is built
 pub record IsNotBuilt (bytes : List ℕ) : Type 0 where
@@ -36,7 +36,7 @@ IsRefusedFor bytes (Stim line kind) = ⊥
 -- what the line for a cause says behind the file's name
 abbrev pub refusal_text : Refusal → List ℕ
 refusal_text TooLong = codes ": too long\n"
-refusal_text (Blif line kind) = codes ":" ++ decimal line ++ codes ": blif " ++ decimal (blif_number kind) ++ codes " " ++ blif_name kind ++ codes "\n"
+refusal_text (Blif line kind) = codes ":" ++ decimal line ++ codes ": blif " ++ decimal (blif_kind_number kind) ++ codes " " ++ blif_kind_word kind ++ codes "\n"
 refusal_text NotBuilt = codes ": not built\n"
 refusal_text (Deck line kind) = codes ":" ++ decimal line ++ codes ": deck " ++ decimal (deck_number kind) ++ codes " " ++ deck_name kind ++ codes "\n"
 refusal_text (Ports place) = codes ": deck port " ++ decimal place ++ codes "\n"

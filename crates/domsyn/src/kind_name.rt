@@ -1,8 +1,8 @@
 //! The names and numbers of kinds of faults, as they are told.
 ghost use Rattle.std.specs.Prelude.{◌≡◌};
-ghost use Rattle.blif_ast.specs.Faults.{kind_number as blif_kind_number};
+ghost use Rattle.blif_ast.specs.Faults.{blif_kind_number, blif_kind_word};
 ghost use Rattle.deck.specs.DeckFaults.{kind_number as deck_kind_number};
-ghost use Rattle.domsyn.specs.KindNames.{blif_name as blif_kind_name, deck_name as deck_kind_name, stim_name as stim_kind_name};
+ghost use Rattle.domsyn.specs.KindNames.{deck_name as deck_kind_name, stim_name as stim_kind_name};
 
 use blif_read::BlifKind;
 use deck::DeckKind;
@@ -41,7 +41,7 @@ pub fn deck_number(kind: DeckKind) -> u64
 }
 
 pub fn blif_name(kind: BlifKind) -> &'static [u8]
-    ensures { result.now ≡ blif_kind_name kind }
+    ensures { result.now ≡ blif_kind_word kind }
 {
     match kind {
         BlifKind::ControlByte => b"ControlByte",
