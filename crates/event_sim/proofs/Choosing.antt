@@ -6,8 +6,8 @@ use Rattle.dom_base.specs.declared.tri.Tri.TheVariants.{Unknown}
 use Rattle.switch_model.specs.LinksData.{LinksData, is_first}
 use Rattle.switch_model.specs.Targets.{EventAt, IsPending, IsTarget}
 use Rattle.event_sim.specs.declared.event.Event.{Event}
-use Rattle.event_sim.specs.declared.settled.Settled.{Settled}
-use Rattle.event_sim.specs.declared.settled.Settled.TheVariants.{Rest, Unsettled}
+use Rattle.event_sim.specs.declared.event.Settled.{Settled}
+use Rattle.event_sim.specs.declared.event.Settled.TheVariants.{Rest, Unsettled}
 use Rattle.event_sim.specs.Chains.{IsChain, IsChosen, changed, next_step, values_after}
 use Rattle.event_sim.specs.Orders.{By}
 use Rattle.event_sim.specs.Pending.{ArePending, IsPendingNet, IsResting}

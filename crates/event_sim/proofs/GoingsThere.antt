@@ -8,8 +8,8 @@ use Rattle.switch_model.proofs.Decided.{Dec, dec_bool, dec_tri}
 use Rattle.switch_model.proofs.Targets.{target_exists}
 use Rattle.switch_model.specs.LinksData.{LinksData, is_first}
 use Rattle.event_sim.specs.declared.event.Event.{Event}
-use Rattle.event_sim.specs.declared.settled.Settled.{Settled}
-use Rattle.event_sim.specs.declared.settled.Settled.TheVariants.{Rest, Unsettled}
+use Rattle.event_sim.specs.declared.event.Settled.{Settled}
+use Rattle.event_sim.specs.declared.event.Settled.TheVariants.{Rest, Unsettled}
 use Rattle.event_sim.specs.Chains.{IsChain, IsChosen, changed, next_step, values_after}
 use Rattle.event_sim.specs.Laws.{IsBelow, SettlingIsThere}
 use Rattle.event_sim.specs.Orders.{By}

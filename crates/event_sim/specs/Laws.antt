@@ -2,7 +2,7 @@ use Rattle.std.specs.Prelude.{ℕ, ◌≡◌, ◌≤◌, ◌<◌, ◌+◌, ◌%�
 use Rattle.dom_base.specs.declared.tri.Tri.{Tri}
 use Rattle.switch_model.specs.LinksData.{LinksData}
 use Rattle.event_sim.specs.declared.event.Event.{Event}
-use Rattle.event_sim.specs.declared.settled.Settled.{Settled}
+use Rattle.event_sim.specs.declared.event.Settled.{Settled}
 use Rattle.event_sim.specs.Chains.{IsChain, step_after, values_after}
 use Rattle.event_sim.specs.Orders.{By, Follows, first_place, last_place, seeded_place}
 use Rattle.event_sim.specs.Pending.{ArePending}

@@ -5,26 +5,22 @@
 mod chooser;
 #[cfg(test)]
 mod decks;
-mod edge;
 mod event;
 mod fault;
-mod law;
+mod laws;
 mod order;
 mod pending;
 mod power;
-mod settled;
 mod sim;
 #[cfg(test)]
 mod tests;
 
 pub use chooser::Chooser;
-pub use edge::Edge;
-pub use event::Event;
+pub use event::{Edge, Event, Settled};
 pub use fault::SimFault;
-pub use law::{
+pub use laws::{
     chain_is_one, events_count, following_is_by, orders_are_below, pending_is_one, settling_is_one,
     settling_is_there,
 };
 pub use order::{first, last, seeded};
-pub use settled::Settled;
 pub use sim::Sim;

@@ -17,9 +17,8 @@ fn is_pending(links: &mut Links, values: &[Tri], net: u32) -> bool
 }
 
 /// Lists the pending nets by rising number, in room for all nets.
-pub fn list_pending(links: &mut Links, values: &[Tri], sources: u32, pending: &mut Vec<u32>)
-    requires first { sources ≡ links.old.sources }
-    requires within { sources ≤ links.old.nets }
+pub fn list_pending(links: &mut Links, values: &[Tri], pending: &mut Vec<u32>)
+    requires within { links.old.sources ≤ links.old.nets }
     requires whole { length values.now ≡ links.old.nets }
     requires few { links.old.nets ≤ 2 ^ 26 }
     requires room { links.old.nets ≤ vec_capacity pending.old }
@@ -28,6 +27,7 @@ pub fn list_pending(links: &mut Links, values: &[Tri], sources: u32, pending: &m
     ensures room { links.old.nets ≤ vec_capacity pending.new }
 {
     pending.clear();
+    let sources = links.sources();
     for net in sources..values.len() as u32 {
         if is_pending(links, values, net) {
             pending.push(net).unwrap();

@@ -1,5 +1,5 @@
 //! Simulation, one event at a time.
-ghost use Rattle.std.specs.Prelude.{◌≡◌, ◌<◌, ◌≤◌, ◌↔◌, ◌-◌, List, [], ◌∷◌, IfOk, IfSome, IsErrOf, IsNone, length, vec_capacity};
+ghost use Rattle.std.specs.Prelude.{◌≡◌, ◌<◌, ◌≤◌, ◌↔◌, ◌-◌, ◌^◌, List, [], ◌∷◌, IfOk, IfSome, IsErrOf, IsNone, IsTrue, length, vec_capacity};
 ghost use Rattle.deck.specs.Roles.{AreRoles, LeavesRolesAt, ports_of};
 ghost use Rattle.deck.specs.Switches.{value_of};
 ghost use Rattle.deck.specs.declared.role.Roles.{Roles as RolesData};
@@ -17,8 +17,8 @@ ghost use Rattle.event_sim.specs.declared.fault.SimFault.TheVariants.{Ports as p
 use crate::pending::list_pending;
 use crate::power::power_values;
 use crate::{Chooser, Event, Settled, SimFault};
-use deck::{Circuit, roles};
-use dom_base::Tri;
+use deck::{Circuit, Roles, roles};
+use dom_base::{OutOfMemory, Tri};
 use std::alloc::Global;
 use std::marker::Model;
 use switch_model::Links;
@@ -28,7 +28,6 @@ use switch_model::Links;
 pub struct Sim<F: Fn(u64, u64) -> u64> {
     chooser: Chooser<F>,
     links: Links,
-    sources: u32,
     values: Vec<Tri>,
     step: u64,
     // Room for the pending nets.
@@ -44,7 +43,7 @@ impl<F: Fn(u64, u64) -> u64> Model for Sim<F> {
 
     ghost view = { λ s. record { pick = s.chooser.pick; links = s.links; values = s.values.items; step = s.step } };
 
-    ghost invariant = { λ s. IsSim s.links s.sources s.values.items (vec_capacity s.pending) };
+    ghost invariant = { λ s. IsSim s.links s.values.items (vec_capacity s.pending) };
 }
 
 impl<F: Fn(u64, u64) -> u64> Sim<F> {
@@ -59,6 +58,22 @@ impl<F: Fn(u64, u64) -> u64> Sim<F> {
         ensures ports { (fault : PortFaultData) → IsErrOf result (ports fault) → LeavesRolesAt (ports_of circuit.now) fault.place }
     {
         let roles = roles(circuit)?;
+        let sim = Sim::with_roles(alloc, circuit, roles, chooser)?;
+        Ok(sim)
+    }
+
+    /// The power state of a circuit whose ports have these roles, as by `new`. The one error is out of
+    /// memory.
+    pub fn with_roles(
+        alloc: Global,
+        circuit: &Circuit,
+        roles: Roles,
+        chooser: Chooser<F>,
+    ) -> Result<Sim<F>, OutOfMemory>
+        requires { AreRoles (ports_of circuit.now) roles }
+        ensures power { IfOk result (λ sim. sim ≡ power_sim chooser.pick circuit.now roles) }
+        ensures whole { IfOk result (λ sim. (length sim.values ≡ length circuit.now.nets) × (length sim.values ≡ sim.links.nets)) }
+    {
         let links = Links::new(alloc, circuit, roles)?;
         let nets = circuit.nets.len();
         let values = power_values(alloc, roles, nets)?;
@@ -66,7 +81,6 @@ impl<F: Fn(u64, u64) -> u64> Sim<F> {
         Ok(Sim {
             chooser,
             links,
-            sources: roles.clocks as u32 + 8 + roles.pins,
             values,
             step: 0,
             pending,
@@ -104,12 +118,7 @@ impl<F: Fn(u64, u64) -> u64> Sim<F> {
         ensures whole { length self.new.values ≡ length self.old.values }
         ensures moved { IfSome result (λ event. self.new ≡ ran self.old (event ∷ [])) }
     {
-        list_pending(
-            &mut self.links,
-            self.values.as_slice(),
-            self.sources,
-            &mut self.pending,
-        );
+        list_pending(&mut self.links, self.values.as_slice(), &mut self.pending);
         if self.pending.is_empty() {
             return None;
         }
@@ -142,18 +151,28 @@ impl<F: Fn(u64, u64) -> u64> Sim<F> {
             };
             count += 1;
         }
-        if self.links.at_rest(self.values.as_slice()) {
+        if self.at_rest() {
             Settled::Rest(count)
         } else {
             Settled::Unsettled(count)
         }
     }
 
-    /// How many events a going to rest may have.
-    fn most_events(&self) -> u64
-        ensures { result ≡ most_of self.now.links }
+    /// Whether no net is pending. Takes no memory, and leaves the simulation as it was.
+    pub fn at_rest(&mut self) -> bool
+        ensures rest { IsTrue result ↔ IsResting self.old.links self.old.values }
+        ensures same { self.new ≡ self.old }
     {
-        let more = self.values.len() as u64 - self.sources as u64 + 1;
+        self.links.at_rest(self.values.as_slice())
+    }
+
+    /// The most events of one settling: the square of one more than the number of nets that are no
+    /// sources. Takes no memory.
+    pub fn most_events(&self) -> u64
+        ensures most { result ≡ most_of self.now.links }
+        ensures few { result ≤ 2 ^ 53 }
+    {
+        let more = self.values.len() as u64 - self.links.sources() as u64 + 1;
         more * more
     }
 }

@@ -44,6 +44,13 @@ impl Links {
         Ok(Links { wiring, search })
     }
 
+    /// The number of sources, which are the first nets. Takes no memory.
+    pub fn sources(&self) -> u32
+        ensures { result ≡ self.now.sources }
+    {
+        self.wiring.sources
+    }
+
     /// The value that a net, which is no source, takes next, at one value per net. A definite strong
     /// path to sources of one value alone gives that value, then such a weak one; where possible
     /// paths lead to other sources as well the target is `Unknown`. A net that no source is joined to

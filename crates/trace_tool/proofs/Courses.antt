@@ -2,8 +2,8 @@
 use Rattle.std.proofs.Common.{ℕ, ◌⊎◌, inl, inr, List, [], ◌∷◌, ◌++◌, refl, sym, ap, ◌∙◌, append_assoc}
 use Rattle.switch_model.specs.LinksData.{LinksData}
 use Rattle.event_sim.specs.declared.event.Event.{Event}
-use Rattle.event_sim.specs.declared.settled.Settled.{Settled}
-use Rattle.event_sim.specs.declared.settled.Settled.TheVariants.{Rest, Unsettled}
+use Rattle.event_sim.specs.declared.event.Settled.{Settled}
+use Rattle.event_sim.specs.declared.event.Settled.TheVariants.{Rest, Unsettled}
 use Rattle.event_sim.specs.Laws.{IsBelow}
 use Rattle.event_sim.specs.Orders.{By}
 use Rattle.event_sim.specs.Settling.{EndsAtRest, IsSettling}

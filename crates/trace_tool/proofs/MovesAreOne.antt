@@ -4,7 +4,7 @@ use Rattle.std.proofs.lemmas.List.{append_assoc}
 use Rattle.dom_base.specs.declared.tri.Tri.{Tri}
 use Rattle.switch_model.specs.LinksData.{LinksData}
 use Rattle.event_sim.specs.declared.event.Event.{Event}
-use Rattle.event_sim.specs.declared.settled.Settled.TheVariants.{Rest, Unsettled}
+use Rattle.event_sim.specs.declared.event.Settled.TheVariants.{Rest, Unsettled}
 use Rattle.event_sim.specs.Orders.{By}
 use Rattle.event_sim.specs.Settling.{EndsAtRest, EndsUnsettled}
 use Rattle.event_sim.proofs.Choosing.{settling_has_one_chain}

@@ -3,7 +3,7 @@ use Rattle.std.proofs.lemmas.Grind.{flat_map-append}
 use Rattle.std.proofs.lemmas.List.{length_push}
 use Rattle.switch_model.specs.LinksData.{LinksData, links_of}
 use Rattle.event_sim.specs.declared.event.Event.{Event}
-use Rattle.event_sim.specs.declared.settled.Settled.TheVariants.{Rest, Unsettled}
+use Rattle.event_sim.specs.declared.event.Settled.TheVariants.{Rest, Unsettled}
 use Rattle.event_sim.specs.Chains.{IsChain, IsChosen}
 use Rattle.event_sim.specs.Pending.{IsResting}
 use Rattle.event_sim.specs.Settling.{EndsAtRest, EndsUnsettled, IsSettling, most_events}

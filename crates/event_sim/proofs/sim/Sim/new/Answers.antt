@@ -1,62 +1,12 @@
-use Rattle.std.proofs.Common.{◌≡◌, ℕ, ◌-◌, ◌≤◌, ◌++◌, List, length, replicate, arith, rules, ap, sym, subst, ◌∙◌}
-use Rattle.dom_base.specs.declared.tri.Tri.{Tri}
-use Rattle.dom_base.specs.declared.tri.Tri.TheVariants.{Unknown}
-use Rattle.deck.specs.CircuitData.{CircuitData}
-use Rattle.deck.specs.Nets.{IsCircuit}
-use Rattle.deck.specs.Roles.{AreRoles, ports_of}
-use Rattle.switch_model.specs.LinksData.{LinksData, links_of, source_count}
-use Rattle.switch_model.specs.Power.{source_values}
+use Rattle.std.proofs.Common.{ap, ◌∙◌}
 use Rattle.deck.specs.declared.role.Roles.{Roles}
+use Rattle.deck.specs.Roles.{ports_of}
 use Rattle.deck.proofs.PortRoles.{AreRoles-same}
 use Rattle.event_sim.specs.SimData.{power_sim}
-use Rattle.event_sim.proofs.Made.{few_nets, power-length, sources_within}
 use Rattle.event_sim.proofs.sim.Sim.new.Goals as goal
 
-pub power_values-requires : goal.power_values-requires
-power_values-requires g c =
-    let nets : c.len-nets.result ≡ length c.args.circuit.now.nets = search rules in
-    omega (arith, nets, sources_within c.args.circuit.now c.in_ok-roles.roles c.in_ok-roles.ensures.roles)
-
-pub invariant_of-result : goal.invariant_of-result
-invariant_of-result g c =
-    let circuit = c.args.circuit.now in
-    let roles = c.in_ok-roles.roles in
-    let links : c.in_ok-links.links ≡ links_of circuit roles = c.in_ok-links.ensures in
-    let are : AreRoles (ports_of circuit) roles = c.in_ok-roles.ensures.roles in
-    let is : IsCircuit circuit.ports circuit.nets circuit.devices = subst (λ (v : CircuitData). IsCircuit v.ports v.nets v.devices) c.circuit.view_is c.circuit.invariant in
-    let within : source_count roles ≤ length circuit.nets = sources_within circuit roles are in
-    let nets : c.len-nets.result ≡ length circuit.nets = search rules in
-    let values : c.in_ok-values.values.items ≡ source_values roles ++ replicate (c.len-nets.result - source_count roles) Unknown = c.in_ok-values.ensures in
-    let linked : c.in_ok-links.links.nets ≡ length circuit.nets = ap (λ (l : LinksData). l.nets) links in
-    record {
-      first = sym (ap (λ (l : LinksData). l.sources) links);
-      within = omega (arith, within, linked);
-      whole = ap (λ (v : List Tri). length v) values ∙ power-length roles c.len-nets.result (omega (arith, within, nets)) ∙ nets ∙ sym linked;
-      few = omega (arith, few_nets circuit is, linked);
-      roomy = omega (arith, c.in_ok-pending.ensures.capacity, nets, linked);
-    }
-
-pub returns-clause-whole : goal.returns-clause-whole
-returns-clause-whole g c =
-    let circuit = c.args.circuit.now in
-    let roles = c.in_ok-roles.roles in
-    let links : c.in_ok-links.links ≡ links_of circuit roles = c.in_ok-links.ensures in
-    let within : source_count roles ≤ length circuit.nets = sources_within circuit roles c.in_ok-roles.ensures.roles in
-    let nets : c.len-nets.result ≡ length circuit.nets = search rules in
-    let values : c.in_ok-values.values.items ≡ source_values roles ++ replicate (c.len-nets.result - source_count roles) Unknown = c.in_ok-values.ensures in
-    let linked : c.in_ok-links.links.nets ≡ length circuit.nets = ap (λ (l : LinksData). l.nets) links in
-    let whole = ap (λ (v : List Tri). length v) values ∙ power-length roles c.len-nets.result (omega (arith, within, nets)) ∙ nets in
-    (whole, whole ∙ sym linked)
-
 pub returns-clause-each : goal.returns-clause-each
-returns-clause-each g c =
-    let circuit = c.args.circuit.now in
-    let first = c.in_ok-roles.roles in
-    let links : c.in_ok-links.links ≡ links_of circuit first = c.in_ok-links.ensures in
-    let nets : c.len-nets.result ≡ length circuit.nets = search rules in
-    let values : c.in_ok-values.values.items ≡ source_values first ++ replicate (c.len-nets.result - source_count first) Unknown = c.in_ok-values.ensures in
-    let all = values ∙ ap (λ (n : ℕ). source_values first ++ replicate (n - source_count first) Unknown) nets in
-    λ roles are.
-    let same = AreRoles-same (ports_of circuit) first roles c.in_ok-roles.ensures.roles are in
-    (λ i. record { pick = c.args.chooser.pick; links = links i; values = all i; step = 0 })
-    ∙ ap (λ (r : Roles). power_sim c.args.chooser.pick circuit r) same
+returns-clause-each g c = λ roles are.
+    c.in_ok-sim.ensures.power
+    ∙ ap (λ (r : Roles). power_sim c.args.chooser.pick c.args.circuit.now r)
+    (AreRoles-same (ports_of c.args.circuit.now) c.in_ok-roles.roles roles c.in_ok-roles.ensures.roles are)

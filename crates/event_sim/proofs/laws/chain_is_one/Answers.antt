@@ -1,5 +1,5 @@
 use Rattle.event_sim.proofs.Choosing.{chain_is_one}
-use Rattle.event_sim.proofs.law.chain_is_one.Goals as goal
+use Rattle.event_sim.proofs.laws.chain_is_one.Goals as goal
 
 pub returns : goal.returns
 returns c = chain_is_one

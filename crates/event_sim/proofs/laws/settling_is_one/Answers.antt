@@ -1,5 +1,5 @@
 use Rattle.event_sim.proofs.Choosing.{settling_is_one}
-use Rattle.event_sim.proofs.law.settling_is_one.Goals as goal
+use Rattle.event_sim.proofs.laws.settling_is_one.Goals as goal
 
 pub returns : goal.returns
 returns c = settling_is_one

@@ -1,5 +1,5 @@
 use Rattle.event_sim.proofs.Ordering.{orders_are_below}
-use Rattle.event_sim.proofs.law.orders_are_below.Goals as goal
+use Rattle.event_sim.proofs.laws.orders_are_below.Goals as goal
 
 pub returns : goal.returns
 returns c = orders_are_below

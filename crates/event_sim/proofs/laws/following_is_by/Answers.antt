@@ -1,5 +1,5 @@
 use Rattle.event_sim.proofs.Following.{following_is_by}
-use Rattle.event_sim.proofs.law.following_is_by.Goals as goal
+use Rattle.event_sim.proofs.laws.following_is_by.Goals as goal
 
 pub returns : goal.returns
 returns g c = following_is_by _

@@ -1,5 +1,5 @@
 use Rattle.event_sim.proofs.Choosing.{pending_are_one}
-use Rattle.event_sim.proofs.law.pending_is_one.Goals as goal
+use Rattle.event_sim.proofs.laws.pending_is_one.Goals as goal
 
 pub returns : goal.returns
 returns c = pending_are_one

@@ -1,5 +1,5 @@
 use Rattle.event_sim.proofs.GoingsThere.{settling_there}
-use Rattle.event_sim.proofs.law.settling_is_there.Goals as goal
+use Rattle.event_sim.proofs.laws.settling_is_there.Goals as goal
 
 pub returns : goal.returns
 returns c = settling_there

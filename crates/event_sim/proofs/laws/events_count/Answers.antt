@@ -1,5 +1,5 @@
 use Rattle.event_sim.proofs.Chaining.{length-values_after, step_after-count}
-use Rattle.event_sim.proofs.law.events_count.Goals as goal
+use Rattle.event_sim.proofs.laws.events_count.Goals as goal
 
 pub returns : goal.returns
 returns c = record { nets = length-values_after; steps = step_after-count }
