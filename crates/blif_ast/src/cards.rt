@@ -5,7 +5,7 @@ ghost use Rattle.blif_ast.specs.Printed.{line, letter_byte, row_words, names_wor
 
 use crate::line::{end_line, put_words};
 use crate::{Binding, Control, Edge2, Instance, Latch, Letter, Row, Table};
-use dom_base::{Name, OutOfMemory, put, put_word};
+use dom_base::{Name, OutOfMemory, append, append_word};
 
 /// Appends a card with the names of ports, if there are any.
 pub fn put_ports(text: &mut Vec<u8>, card: &[u8], names: &[Name]) -> Result<(), OutOfMemory>
@@ -14,9 +14,9 @@ pub fn put_ports(text: &mut Vec<u8>, card: &[u8], names: &[Name]) -> Result<(), 
     match names.split_last() {
         None => Ok(()),
         Some((last, others)) => {
-            put(text, card)?;
+            append(text, card)?;
             put_words(text, others)?;
-            put_word(text, last.as_bytes())?;
+            append_word(text, last.as_bytes())?;
             end_line(text, last.as_bytes())
         }
     }
@@ -33,9 +33,9 @@ pub fn put_table(text: &mut Vec<u8>, table: &Table) -> Result<(), OutOfMemory>
 fn put_names(text: &mut Vec<u8>, table: &Table) -> Result<(), OutOfMemory>
     ensures { OnOk result (text.new.items ≡ text.old.items ++ line (names_words table.now)) }
 {
-    put(text, b".names")?;
+    append(text, b".names")?;
     put_words(text, &table.inputs)?;
-    put_word(text, table.output.as_bytes())?;
+    append_word(text, table.output.as_bytes())?;
     end_line(text, table.output.as_bytes())
 }
 
@@ -53,9 +53,9 @@ fn put_row(text: &mut Vec<u8>, on: bool, row: &Row) -> Result<(), OutOfMemory>
 {
     put_letters(text, &row.letters)?;
     if !row.letters.is_empty() {
-        put(text, b" ")?;
+        append(text, b" ")?;
     }
-    put(text, if on { b"1\n" } else { b"0\n" })
+    append(text, if on { b"1\n" } else { b"0\n" })
 }
 
 fn put_letters(text: &mut Vec<u8>, letters: &[Letter]) -> Result<(), OutOfMemory>
@@ -82,11 +82,11 @@ pub fn put_latch(text: &mut Vec<u8>, latch: &Latch) -> Result<(), OutOfMemory>
     requires { latch.now.init ≤ 3 }
     ensures { OnOk result (text.new.items ≡ text.old.items ++ line (latch_words latch.now)) }
 {
-    put(text, b".latch")?;
-    put_word(text, latch.input.as_bytes())?;
-    put_word(text, latch.output.as_bytes())?;
+    append(text, b".latch")?;
+    append_word(text, latch.input.as_bytes())?;
+    append_word(text, latch.output.as_bytes())?;
     put_control(text, &latch.control)?;
-    put(text, &[b' ', b'0' + latch.init, b'\n'])
+    append(text, &[b' ', b'0' + latch.init, b'\n'])
 }
 
 fn put_control(text: &mut Vec<u8>, control: &Option<Control>) -> Result<(), OutOfMemory>
@@ -95,8 +95,8 @@ fn put_control(text: &mut Vec<u8>, control: &Option<Control>) -> Result<(), OutO
     match control {
         None => Ok(()),
         Some(control) => {
-            put_word(text, edge(control.edge))?;
-            put_word(text, signal(control))
+            append_word(text, edge(control.edge))?;
+            append_word(text, signal(control))
         }
     }
 }
@@ -123,8 +123,8 @@ fn signal(control: &Control) -> &[u8]
 pub fn put_instance(text: &mut Vec<u8>, instance: &Instance) -> Result<(), OutOfMemory>
     ensures { OnOk result (text.new.items ≡ text.old.items ++ line (instance_words instance.now)) }
 {
-    put(text, b".subckt")?;
-    put_word(text, instance.unit.as_bytes())?;
+    append(text, b".subckt")?;
+    append_word(text, instance.unit.as_bytes())?;
     match instance.bindings.split_last() {
         None => end_line(text, instance.unit.as_bytes()),
         Some((last, others)) => {
@@ -147,7 +147,7 @@ fn put_bindings(text: &mut Vec<u8>, bindings: &[Binding]) -> Result<(), OutOfMem
 fn put_binding(text: &mut Vec<u8>, binding: &Binding) -> Result<(), OutOfMemory>
     ensures { OnOk result (text.new.items ≡ text.old.items ++ 32 ∷ binding_word binding.now) }
 {
-    put_word(text, binding.formal.as_bytes())?;
-    put(text, b"=")?;
-    put(text, binding.actual.as_bytes())
+    append_word(text, binding.formal.as_bytes())?;
+    append(text, b"=")?;
+    append(text, binding.actual.as_bytes())
 }

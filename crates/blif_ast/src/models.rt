@@ -7,7 +7,7 @@ ghost use Rattle.blif_ast.specs.Printed.{line, table_lines, latch_words, instanc
 use crate::cards::{put_instance, put_latch, put_ports, put_table};
 use crate::line::end_line;
 use crate::{BlifModel, Instance, Latch, Table};
-use dom_base::{OutOfMemory, put, put_word};
+use dom_base::{OutOfMemory, append, append_word};
 
 /// Appends the lines of each model.
 pub fn put_models(text: &mut Vec<u8>, models: &[BlifModel]) -> Result<(), OutOfMemory>
@@ -30,14 +30,14 @@ fn put_model(text: &mut Vec<u8>, model: &BlifModel) -> Result<(), OutOfMemory>
     put_tables(text, &model.tables)?;
     put_latches(text, &model.latches)?;
     put_instances(text, &model.instances)?;
-    put(text, b".end\n")
+    append(text, b".end\n")
 }
 
 fn put_head(text: &mut Vec<u8>, name: &[u8]) -> Result<(), OutOfMemory>
     ensures { OnOk result (text.new.items ≡ text.old.items ++ line (codes ".model" ∷ name.now ∷ [])) }
 {
-    put(text, b".model")?;
-    put_word(text, name)?;
+    append(text, b".model")?;
+    append_word(text, name)?;
     end_line(text, name)
 }
 

@@ -4,5 +4,4 @@ pub mod Cuts
 pub mod Joined
 pub mod Lines
 pub mod Names
-pub mod Texts
 pub mod Tri

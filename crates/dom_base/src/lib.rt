@@ -14,6 +14,6 @@ pub use kind::Kind;
 pub use lines::{cut_line, strip_comment, strip_last};
 pub use memory::OutOfMemory;
 pub use name::{Name, NetName};
-pub use text::{put, put_number, put_word};
+pub use text::{append, append_number, append_word};
 pub use tri::Tri;
 pub use words::{cut_words, has_control, have_control, same_word};

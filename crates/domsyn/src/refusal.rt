@@ -5,7 +5,7 @@ ghost use Rattle.domsyn.specs.Refusals.{refusal_text};
 use crate::kind_name::{blif_name, blif_number, deck_name, deck_number, stim_name};
 use blif_read::BlifKind;
 use deck::DeckKind;
-use dom_base::{OutOfMemory, put, put_number};
+use dom_base::{OutOfMemory, append, append_number};
 use std::alloc::Global;
 use stim_text::StimKind;
 
@@ -32,32 +32,32 @@ pub fn text_of(alloc: Global, why: Refusal) -> Result<Vec<u8>, OutOfMemory>
 {
     let mut text = Vec::from_slice(alloc, b":")?;
     match why {
-        Refusal::TooLong => put(&mut text, b" too long")?,
+        Refusal::TooLong => append(&mut text, b" too long")?,
         Refusal::Blif { line, kind } => {
-            put_number(&mut text, line)?;
-            put(&mut text, b": blif ")?;
-            put_number(&mut text, blif_number(kind))?;
-            put(&mut text, b" ")?;
-            put(&mut text, blif_name(kind))?;
+            append_number(&mut text, line)?;
+            append(&mut text, b": blif ")?;
+            append_number(&mut text, blif_number(kind))?;
+            append(&mut text, b" ")?;
+            append(&mut text, blif_name(kind))?;
         }
-        Refusal::NotBuilt => put(&mut text, b" not built")?,
+        Refusal::NotBuilt => append(&mut text, b" not built")?,
         Refusal::Deck { line, kind } => {
-            put_number(&mut text, line)?;
-            put(&mut text, b": deck ")?;
-            put_number(&mut text, deck_number(kind))?;
-            put(&mut text, b" ")?;
-            put(&mut text, deck_name(kind))?;
+            append_number(&mut text, line)?;
+            append(&mut text, b": deck ")?;
+            append_number(&mut text, deck_number(kind))?;
+            append(&mut text, b" ")?;
+            append(&mut text, deck_name(kind))?;
         }
         Refusal::Ports { place } => {
-            put(&mut text, b" deck port ")?;
-            put_number(&mut text, place as u64)?;
+            append(&mut text, b" deck port ")?;
+            append_number(&mut text, place as u64)?;
         }
         Refusal::Stim { line, kind } => {
-            put_number(&mut text, line)?;
-            put(&mut text, b": stim ")?;
-            put(&mut text, stim_name(kind))?;
+            append_number(&mut text, line)?;
+            append(&mut text, b": stim ")?;
+            append(&mut text, stim_name(kind))?;
         }
     }
-    put(&mut text, b"\n")?;
+    append(&mut text, b"\n")?;
     Ok(text)
 }

@@ -5,7 +5,7 @@ ghost use Rattle.spice_text.specs.Text.{phase_line, card, cards, name_of, model_
 ghost use Rattle.spice_text.specs.Parts.{IsWithin};
 
 use deck::{Device, Phase};
-use dom_base::{Kind, NetName, OutOfMemory, put, put_number, put_word};
+use dom_base::{Kind, NetName, OutOfMemory, append, append_number, append_word};
 
 /// Appends a line for each phase.
 pub fn put_phases(text: &mut Vec<u8>, phases: &[Phase]) -> Result<(), OutOfMemory>
@@ -20,9 +20,9 @@ pub fn put_phases(text: &mut Vec<u8>, phases: &[Phase]) -> Result<(), OutOfMemor
 fn put_phase(text: &mut Vec<u8>, phase: &Phase) -> Result<(), OutOfMemory>
     ensures { OnOk result (text.new.items ≡ text.old.items ++ phase_line phase.now) }
 {
-    put(text, b"* phase")?;
-    put_word(text, phase.net.as_bytes())?;
-    put(text, if phase.plus { b" +\n" } else { b" -\n" })
+    append(text, b"* phase")?;
+    append_word(text, phase.net.as_bytes())?;
+    append(text, if phase.plus { b" +\n" } else { b" -\n" })
 }
 
 /// Appends a card for each device, numbered from 0.
@@ -49,14 +49,14 @@ fn put_card(
     requires { IsWithin (length nets.now) device }
     ensures { OnOk result (text.new.items ≡ text.old.items ++ card nets.now (place, device)) }
 {
-    put(text, b"m")?;
-    put_number(text, place as u64)?;
-    put_word(text, net_name(nets, device.drain))?;
-    put_word(text, net_name(nets, device.gate))?;
-    put_word(text, net_name(nets, device.source))?;
-    put_word(text, bulk(device.kind))?;
-    put_word(text, model(device.kind))?;
-    put(text, b"\n")?;
+    append(text, b"m")?;
+    append_number(text, place as u64)?;
+    append_word(text, net_name(nets, device.drain))?;
+    append_word(text, net_name(nets, device.gate))?;
+    append_word(text, net_name(nets, device.source))?;
+    append_word(text, bulk(device.kind))?;
+    append_word(text, model(device.kind))?;
+    append(text, b"\n")?;
     Ok(())
 }
 

@@ -13,7 +13,7 @@ mod tests;
 
 use cards::{put_cards, put_phases};
 use deck::{Circuit, roles};
-use dom_base::{OutOfMemory, put, put_word};
+use dom_base::{OutOfMemory, append, append_word};
 pub use law::written_reads_back;
 use ports::put_subckt;
 use std::alloc::Global;
@@ -30,7 +30,7 @@ pub fn write(alloc: Global, circuit: &Circuit) -> Result<Vec<u8>, OutOfMemory>
     ensures { IfOk result (λ v. IsWritten circuit.now v.items) }
 {
     let mut text = Vec::new(alloc);
-    put(&mut text, b"* domsyn deck 1\n")?;
+    append(&mut text, b"* domsyn deck 1\n")?;
     put_phases(&mut text, circuit.phases.as_slice())?;
     let nets = circuit.nets.as_slice();
     put_subckt(
@@ -40,8 +40,8 @@ pub fn write(alloc: Global, circuit: &Circuit) -> Result<Vec<u8>, OutOfMemory>
         roles(circuit),
     )?;
     put_cards(&mut text, nets, circuit.devices.as_slice())?;
-    put(&mut text, b".ends")?;
-    put_word(&mut text, circuit.name.as_bytes())?;
-    put(&mut text, b"\n")?;
+    append(&mut text, b".ends")?;
+    append_word(&mut text, circuit.name.as_bytes())?;
+    append(&mut text, b"\n")?;
     Ok(text)
 }

@@ -3,14 +3,14 @@ ghost use Rattle.std.specs.Prelude.{◌≡◌, ◌++◌, ◌∷◌, OnOk};
 ghost use Rattle.std.specs.List.{flat_map};
 ghost use Rattle.spice_text.specs.Text.{line};
 
-use dom_base::{NetName, OutOfMemory, put, put_word};
+use dom_base::{NetName, OutOfMemory, append, append_word};
 
 /// Appends a blank before each word, and the word.
 pub fn put_words(text: &mut Vec<u8>, words: &[NetName]) -> Result<(), OutOfMemory>
     ensures { OnOk result (text.new.items ≡ text.old.items ++ flat_map (λ word. 32 ∷ word) words.now) }
 {
     for word in words {
-        put_word(text, word.as_bytes())?;
+        append_word(text, word.as_bytes())?;
     }
     Ok(())
 }
@@ -19,7 +19,7 @@ pub fn put_words(text: &mut Vec<u8>, words: &[NetName]) -> Result<(), OutOfMemor
 pub fn put_line(text: &mut Vec<u8>, first: &[u8], others: &[NetName]) -> Result<(), OutOfMemory>
     ensures { OnOk result (text.new.items ≡ text.old.items ++ line first.now others.now) }
 {
-    put(text, first)?;
+    append(text, first)?;
     put_words(text, others)?;
-    put(text, b"\n")
+    append(text, b"\n")
 }

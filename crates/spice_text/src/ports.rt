@@ -6,7 +6,7 @@ ghost use Rattle.spice_text.specs.Parts.{IsCut, IsSubckt};
 
 use crate::line::{put_line, put_words};
 use deck::{PortFault, Roles};
-use dom_base::{NetName, OutOfMemory, put, put_word};
+use dom_base::{NetName, OutOfMemory, append, append_word};
 
 /// The greatest number of names on a line that begins with `+`.
 const NAMES_ON_A_LINE: usize = 8;
@@ -48,19 +48,19 @@ pub fn put_subckt(
     requires { MatchResult roles (λ roles. AreRoles ports.now roles) (λ fault. LeavesRolesAt ports.now fault.place) }
     ensures { OnOk result (IsSubckt text.old.items name.now ports.now text.new.items) }
 {
-    put(text, b".subckt")?;
-    put_word(text, name)?;
+    append(text, b".subckt")?;
+    append_word(text, name)?;
     match roles {
         Ok(roles) => {
             let groups = cut_ports(ports, roles);
             put_words(text, groups.leading)?;
-            put(text, b"\n")?;
+            append(text, b"\n")?;
             put_port_lines(text, groups.pins)?;
             put_port_lines(text, groups.outs)?;
             Ok(())
         }
         Err(_) => {
-            put(text, b"\n")?;
+            append(text, b"\n")?;
             put_port_lines(text, ports)?;
             Ok(())
         }

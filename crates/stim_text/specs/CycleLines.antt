@@ -1,3 +1,4 @@
+-- The line that is printed of a cycle.
 use Rattle.std.specs.Prelude.{ℕ, Bool, true, false, List, [], ◌∷◌, ◌++◌, map, codes, Option, Some, None}
 use Rattle.std.specs.Fmt.{decimal}
 use Rattle.dom_base.specs.Tri.{letter_of}
@@ -22,7 +23,7 @@ pin_letters pins = or_dash (map bit_letter pins)
 abbrev pub out_letters : List Tri → List ℕ
 out_letters outs = or_dash (map letter_of outs)
 
--- the events, where they are told
+-- the events, where they are printed
 abbrev pub events_part : Option ℕ → List ℕ
 events_part None = []
 events_part (Some events) = codes " events " ++ decimal events

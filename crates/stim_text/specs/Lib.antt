@@ -1,5 +1,6 @@
 pub mod CycleLines
 pub mod CycleRowData
+pub mod Fronts
 pub mod Laws
 pub mod LinesRead
 pub mod Stimuli

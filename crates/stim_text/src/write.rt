@@ -1,14 +1,14 @@
 //! The line of a cycle.
 ghost use Rattle.std.specs.Prelude.{◌≡◌, ◌++◌, OnOk, OnErr};
 ghost use Rattle.stim_text.specs.CycleLines.{cycle_line, pin_letters, out_letters, events_part};
-ghost use Rattle.dom_base.specs.Texts.{KeepsFront};
+ghost use Rattle.stim_text.specs.Fronts.{KeepsFront, cycle_front, cycle_rest};
 
 use crate::CycleRow;
-use dom_base::{OutOfMemory, Tri, put, put_number};
+use dom_base::{OutOfMemory, Tri, append, append_number};
 
 /// Appends the line `cycle C in PINS out OUTS`, and before its LF ` events E` where the row has
 /// events. PINS and OUTS have a letter `0`, `1` or `X` for each value; of none they are `-`. It fails
-/// only for want of memory, and then the text is as it was.
+/// only where it runs out of memory, and then the text is as it was.
 pub fn write_cycle(text: &mut Vec<u8>, row: &CycleRow) -> Result<(), OutOfMemory>
     ensures line { OnOk result (text.new.items ≡ text.old.items ++ cycle_line row.now) }
     ensures unchanged { OnErr result (text.new.items ≡ text.old.items) }
@@ -27,14 +27,30 @@ fn put_row(text: &mut Vec<u8>, row: &CycleRow) -> Result<(), OutOfMemory>
     ensures line { OnOk result (text.new.items ≡ text.old.items ++ cycle_line row.now) }
     ensures front { KeepsFront text.old.items text.new.items }
 {
-    put(text, b"cycle ")?;
-    put_number(text, row.cycle)?;
-    put(text, b" in ")?;
-    put_pins(text, &row.pins)?;
-    put(text, b" out ")?;
+    put_front(text, row)?;
+    put_rest(text, row)
+}
+
+/// Appends `cycle C in PINS`.
+fn put_front(text: &mut Vec<u8>, row: &CycleRow) -> Result<(), OutOfMemory>
+    ensures line { OnOk result (text.new.items ≡ text.old.items ++ cycle_front row.now) }
+    ensures front { KeepsFront text.old.items text.new.items }
+{
+    append(text, b"cycle ")?;
+    append_number(text, row.cycle)?;
+    append(text, b" in ")?;
+    put_pins(text, &row.pins)
+}
+
+/// Appends ` out OUTS`, ` events E` where the row has events, and LF.
+fn put_rest(text: &mut Vec<u8>, row: &CycleRow) -> Result<(), OutOfMemory>
+    ensures line { OnOk result (text.new.items ≡ text.old.items ++ cycle_rest row.now) }
+    ensures front { KeepsFront text.old.items text.new.items }
+{
+    append(text, b" out ")?;
     put_outs(text, &row.outs)?;
     put_events(text, row.events)?;
-    put(text, b"\n")
+    append(text, b"\n")
 }
 
 fn put_pins(text: &mut Vec<u8>, pins: &[bool]) -> Result<(), OutOfMemory>
@@ -42,7 +58,7 @@ fn put_pins(text: &mut Vec<u8>, pins: &[bool]) -> Result<(), OutOfMemory>
     ensures front { KeepsFront text.old.items text.new.items }
 {
     if pins.is_empty() {
-        return put(text, b"-");
+        return append(text, b"-");
     }
     for pin in pins {
         text.push(if *pin { b'1' } else { b'0' })?;
@@ -55,7 +71,7 @@ fn put_outs(text: &mut Vec<u8>, outs: &[Tri]) -> Result<(), OutOfMemory>
     ensures front { KeepsFront text.old.items text.new.items }
 {
     if outs.is_empty() {
-        return put(text, b"-");
+        return append(text, b"-");
     }
     for out in outs {
         text.push(out.letter())?;
@@ -70,8 +86,8 @@ fn put_events(text: &mut Vec<u8>, events: Option<u64>) -> Result<(), OutOfMemory
     match events {
         None => Ok(()),
         Some(events) => {
-            put(text, b" events ")?;
-            put_number(text, events)
+            append(text, b" events ")?;
+            append_number(text, events)
         }
     }
 }

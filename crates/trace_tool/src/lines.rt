@@ -3,7 +3,7 @@ ghost use Rattle.std.specs.Prelude.{◌≡◌, ◌<◌, ◌++◌, OnOk, [], leng
 ghost use Rattle.trace_tool.specs.TraceLines.{event_line, power_line, unsettled_line};
 
 use deck::Circuit;
-use dom_base::{OutOfMemory, put, put_number};
+use dom_base::{OutOfMemory, append, append_number};
 use event_sim::Event;
 
 /// Appends the line of an event.
@@ -11,12 +11,12 @@ pub fn put_event(text: &mut Vec<u8>, circuit: &Circuit, event: Event) -> Result<
     requires { event.net < length circuit.now.nets }
     ensures { OnOk result (text.new.items ≡ text.old.items ++ event_line circuit.now.nets event) }
 {
-    put(text, b"event ")?;
-    put_number(text, event.step)?;
-    put(text, b" ")?;
-    put(text, name_of(circuit, event.net))?;
-    put(text, b" ")?;
-    put(
+    append(text, b"event ")?;
+    append_number(text, event.step)?;
+    append(text, b" ")?;
+    append(text, name_of(circuit, event.net))?;
+    append(text, b" ")?;
+    append(
         text,
         &[event.before.letter(), b' ', event.after.letter(), b'\n'],
     )?;
@@ -35,9 +35,9 @@ fn name_of(circuit: &Circuit, net: u32) -> &[u8]
 pub fn put_power(text: &mut Vec<u8>, events: u64) -> Result<(), OutOfMemory>
     ensures { OnOk result (text.new.items ≡ text.old.items ++ power_line events) }
 {
-    put(text, b"power events ")?;
-    put_number(text, events)?;
-    put(text, b"\n")?;
+    append(text, b"power events ")?;
+    append_number(text, events)?;
+    append(text, b"\n")?;
     Ok(())
 }
 
@@ -45,10 +45,10 @@ pub fn put_power(text: &mut Vec<u8>, events: u64) -> Result<(), OutOfMemory>
 pub fn put_unsettled(text: &mut Vec<u8>, cycle: u64, events: u64) -> Result<(), OutOfMemory>
     ensures { OnOk result (text.new.items ≡ text.old.items ++ unsettled_line cycle events) }
 {
-    put(text, b"unsettled cycle ")?;
-    put_number(text, cycle)?;
-    put(text, b" events ")?;
-    put_number(text, events)?;
-    put(text, b"\n")?;
+    append(text, b"unsettled cycle ")?;
+    append_number(text, cycle)?;
+    append(text, b" events ")?;
+    append_number(text, events)?;
+    append(text, b"\n")?;
     Ok(())
 }

@@ -9,7 +9,7 @@ pub loop-place-preserved : goal.loop-place-preserved
 loop-place-preserved c =
     let lt : c.loop-place.place < length c.args.devices.now = omega arith in
     let none : Device = record { kind = N; drain = 0; gate = 0; source = 0 } in
-    let put = c.in_ok-put_card.ensures {u = tt} in
+    let append = c.in_ok-put_card.ensures {u = tt} in
     let more = cards-more c.args.nets.now c.args.devices.now c.loop-place.place none lt in
-    put ∙ ap (λ (t : List ℕ). t ++ card c.args.nets.now (c.loop-place.place, get_or c.args.devices.now c.loop-place.place none)) c.loop-place.invariant
+    append ∙ ap (λ (t : List ℕ). t ++ card c.args.nets.now (c.loop-place.place, get_or c.args.devices.now c.loop-place.place none)) c.loop-place.invariant
     ∙ append_assoc c.args.text.now.items _ _ ∙ ap (λ (t : List ℕ). c.args.text.now.items ++ t) (sym more)

@@ -8,7 +8,7 @@ pub groups-preserved : goal.groups-preserved
 groups-preserved c =
     let some : 0 < length c.groups.rest.now = search rules in
     let count = c.min-group.ensures in
-    let put = c.in_ok-put_line.ensures {u = tt} in
+    let append = c.in_ok-put_line.ensures {u = tt} in
     let step = port_lines-step c.groups.rest.now c.min-group.result some count in
-    simp take_rest (ap (λ (t : List ℕ). t ++ port_lines (drop c.min-group.result c.groups.rest.now)) put
+    simp take_rest (ap (λ (t : List ℕ). t ++ port_lines (drop c.min-group.result c.groups.rest.now)) append
     ∙ append_assoc c.groups.text.items _ _ ∙ ap (λ (t : List ℕ). c.groups.text.items ++ t) step ∙ c.groups.invariant)

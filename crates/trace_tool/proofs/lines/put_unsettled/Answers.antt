@@ -8,5 +8,5 @@ returns c =
     piece _ _ _ (codes "unsettled cycle " ++ decimal c.args.cycle ++ codes " events " ++ decimal c.args.events) (codes "\n")
     (piece _ _ _ (codes "unsettled cycle " ++ decimal c.args.cycle ++ codes " events ") (decimal c.args.events)
     (piece _ _ _ (codes "unsettled cycle " ++ decimal c.args.cycle) (codes " events ")
-    (piece _ _ _ (codes "unsettled cycle ") (decimal c.args.cycle) c.in_ok-put.ensures.bytes c.in_ok-put_number.ensures.digits)
-    c.in_ok-put-2.ensures.bytes) c.in_ok-put_number-2.ensures.digits) c.in_ok-put-3.ensures.bytes
+    (piece _ _ _ (codes "unsettled cycle ") (decimal c.args.cycle) c.in_ok-append.ensures.bytes c.in_ok-append_number.ensures.digits)
+    c.in_ok-append-2.ensures.bytes) c.in_ok-append_number-2.ensures.digits) c.in_ok-append-3.ensures.bytes
