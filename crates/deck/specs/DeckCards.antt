@@ -1,4 +1,4 @@
-use Rattle.std.specs.Prelude.{ℕ, ◌^◌, Bool, true, false, ◌==◌, ◌||◌, ◌&&◌, not, nat_eq, nat_lt, if◌then◌else◌, List, [], ◌∷◌, ◌++◌, map, filter, length, drop, slice_index, Option, Some, None, codes}
+use Rattle.std.specs.Prelude.{ℕ, Bool, true, false, ◌==◌, ◌||◌, ◌&&◌, not, nat_eq, nat_lt, if◌then◌else◌, List, [], ◌∷◌, ◌++◌, map, filter, length, drop, slice_index, Option, Some, None, codes}
 use Rattle.std.specs.List.{list_any, find, enumerate_from}
 use Rattle.std.specs.Set.{distinct_count}
 use Rattle.std.specs.Cmp.Lexicographic.{pointwise}
@@ -97,10 +97,3 @@ has_subckt before = list_any (begins subckt_card) before
 -- how many devices stand before
 abbrev pub device_count : List NumberedCard → ℕ
 device_count before = length (filter is_device before)
-
--- the limits on devices and on ports
-abbrev pub most_devices : ℕ
-most_devices = 2 ^ 24
-
-abbrev pub most_ports : ℕ
-most_ports = 2 ^ 20

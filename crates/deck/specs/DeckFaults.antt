@@ -4,20 +4,10 @@ use Rattle.dom_base.specs.Answers.{IsFirstFault}
 use Rattle.dom_base.specs.Lines.{is_control}
 use Rattle.deck.specs.declared.fault.DeckKind.{DeckKind}
 use Rattle.deck.specs.declared.fault.DeckKind.TheVariants.{ControlByte, UnknownCard, BadCard, UnknownDevice, NoSubckt, SecondSubckt, NotClosed, DuplicatePort, TooMany}
+use Rattle.deck.specs.DeckKinds.{deck_kind_number}
 use Rattle.deck.specs.DeckText.{deck_lines, is_end, continues}
-use Rattle.deck.specs.DeckCards.{NumberedCard, numbered_lines, numbered_cards_of, numbered_cards, begins, subckt_card, ends_card, is_device, is_known, is_form, is_model_word, port_names, names_twice, is_open, has_subckt, device_count, most_devices, most_ports}
-
--- the number of a kind: of two faults of a line the smaller one is told
-abbrev pub kind_number : DeckKind → ℕ
-kind_number ControlByte = 1
-kind_number UnknownCard = 2
-kind_number BadCard = 3
-kind_number UnknownDevice = 4
-kind_number NoSubckt = 5
-kind_number SecondSubckt = 6
-kind_number NotClosed = 7
-kind_number DuplicatePort = 8
-kind_number TooMany = 9
+use Rattle.deck.specs.DeckCards.{NumberedCard, numbered_lines, numbered_cards_of, numbered_cards, begins, subckt_card, ends_card, is_device, is_known, is_form, is_model_word, port_names, names_twice, is_open, has_subckt, device_count}
+use Rattle.deck.specs.Limits.{most_devices, most_ports}
 
 -- a card has a fault of this kind, where the cards before it, the nearest first, are these
 abbrev pub has_fault : DeckKind → List NumberedCard → NumberedCard → Bool
@@ -73,4 +63,4 @@ IsDeckFault text number kind = IsFaultOfCard text number kind ⊎ IsLooseLine te
 
 -- the text is refused at this line for this kind: the first line with a fault, and the smallest kind of it there
 abbrev pub IsDeckFaultAt : List ℕ → ℕ → DeckKind → Type 0
-IsDeckFaultAt text number kind = IsFirstFault kind_number (IsDeckFault text) number kind
+IsDeckFaultAt text number kind = IsFirstFault deck_kind_number (IsDeckFault text) number kind

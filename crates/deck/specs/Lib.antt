@@ -1,12 +1,15 @@
 pub mod CircuitData
 pub mod DeckCards
 pub mod DeckFaults
+pub mod DeckKinds
 pub mod DeckText
 pub mod Escapes
+pub mod Limits
 pub mod NamedDevices
 pub mod Nets
 pub mod Numbers
 pub mod Paths
+pub mod PortLayout
 pub mod Ports
 pub mod Pushes
 pub mod Roles

@@ -1,8 +1,10 @@
-use Rattle.std.specs.Prelude.{ℕ, ◌+◌, ◌≤◌, ◌≡◌, ◌^◌, max, List, [], ◌∷◌, length, nat_eq}
+-- The numbers of nets, and what holds of every circuit.
+use Rattle.std.specs.Prelude.{ℕ, ◌+◌, ◌<◌, ◌≤◌, ◌≡◌, max, List, [], ◌∷◌, length, nat_eq}
 use Rattle.std.specs.Cmp.Lexicographic.{pointwise}
 use Rattle.std.specs.List.{position_or_len, IsDistinct}
 use Rattle.indexmap.specs.IndexSet.{insert_key}
 use Rattle.deck.specs.declared.device.Device.{Device}
+use Rattle.deck.specs.Limits.{most_devices, most_ports}
 
 -- the number of a net, or the number of nets where the name is new
 abbrev pub net_number : List (List ℕ) → List ℕ → ℕ
@@ -21,6 +23,12 @@ abbrev pub ends : List Device → List ℕ
 ends [] = []
 ends (d ∷ ds) = d.drain ∷ d.gate ∷ d.source ∷ ends ds
 
+-- the nets of a device are among so many nets
+pub record IsInRange (nets : ℕ) (device : Device) : Type 0 where
+  pub drain : device.drain < nets
+  pub gate : device.gate < nets
+  pub source : device.source < nets
+
 -- where the numbers below n stand already, each further number is at most the next new one:
 -- nets are numbered in order of first appearance
 abbrev pub IsNumbered : ℕ → List ℕ → Type 0
@@ -35,8 +43,8 @@ used n (e ∷ es) = used (max n (e + 1)) es
 -- what holds of every circuit: the limits, no net twice, the ports first, and the other nets
 -- in order of first appearance over the devices
 pub record IsCircuit (ports : ℕ) (nets : List (List ℕ)) (devices : List Device) : Type 0 where
-  pub few_ports : ports ≤ 2 ^ 20
-  pub few_devices : length devices ≤ 2 ^ 24
+  pub few_ports : ports ≤ most_ports
+  pub few_devices : length devices ≤ most_devices
   pub distinct : IsDistinct (pointwise nat_eq) nets
   pub in_order : IsNumbered ports (ends devices)
   pub all_used : length nets ≡ used ports (ends devices)

@@ -1,4 +1,6 @@
 //! Kinds of faults of deck text.
+ghost use Rattle.std.specs.Prelude.{◌≡◌};
+ghost use Rattle.deck.specs.DeckKinds.{deck_kind_number, deck_kind_word};
 
 /// The kind of a fault of a deck. A card may go on over several lines; a subcircuit is open by what
 /// the nearest `.subckt` or `.ends` before the card is.
@@ -22,4 +24,41 @@ pub enum DeckKind {
     DuplicatePort,
     /// 9: a device after 16,777,216 others, or more than 1,048,576 ports.
     TooMany,
+}
+
+impl DeckKind {
+    /// The number of the kind, from 1 to 9. Of two faults of a line the one with the smaller number
+    /// is reported.
+    pub fn number(self) -> u64
+        ensures { result ≡ deck_kind_number self }
+    {
+        match self {
+            DeckKind::ControlByte => 1,
+            DeckKind::UnknownCard => 2,
+            DeckKind::BadCard => 3,
+            DeckKind::UnknownDevice => 4,
+            DeckKind::NoSubckt => 5,
+            DeckKind::SecondSubckt => 6,
+            DeckKind::NotClosed => 7,
+            DeckKind::DuplicatePort => 8,
+            DeckKind::TooMany => 9,
+        }
+    }
+
+    /// The word for the kind, as it is printed.
+    pub fn word(self) -> &'static str
+        ensures { result.now ≡ deck_kind_word self }
+    {
+        match self {
+            DeckKind::ControlByte => "ControlByte",
+            DeckKind::UnknownCard => "UnknownCard",
+            DeckKind::BadCard => "BadCard",
+            DeckKind::UnknownDevice => "UnknownDevice",
+            DeckKind::NoSubckt => "NoSubckt",
+            DeckKind::SecondSubckt => "SecondSubckt",
+            DeckKind::NotClosed => "NotClosed",
+            DeckKind::DuplicatePort => "DuplicatePort",
+            DeckKind::TooMany => "TooMany",
+        }
+    }
 }

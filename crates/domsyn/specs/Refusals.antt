@@ -5,7 +5,7 @@ use Rattle.blif_ast.specs.BlifFileData.{BlifFileData}
 use Rattle.blif_ast.specs.declared.kind.BlifKind.{BlifKind}
 use Rattle.blif_ast.specs.Faults.{blif_kind_number, blif_kind_word}
 use Rattle.blif_ast.specs.Reading.{IsBlifFaultAt, IsFileOf}
-use Rattle.deck.specs.DeckFaults.{kind_number as deck_number}
+use Rattle.deck.specs.DeckKinds.{deck_kind_number as deck_number}
 use Rattle.domsyn.specs.declared.refusal.Refusal.{Refusal}
 use Rattle.domsyn.specs.declared.refusal.Refusal.TheVariants.{TooLong, Blif, NotBuilt, Deck, Ports, Stim}
 use Rattle.domsyn.specs.KindNames.{deck_name, stim_name}

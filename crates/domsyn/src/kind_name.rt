@@ -1,7 +1,7 @@
 //! The names and numbers of kinds of faults, as they are told.
 ghost use Rattle.std.specs.Prelude.{◌≡◌};
 ghost use Rattle.blif_ast.specs.Faults.{blif_kind_number, blif_kind_word};
-ghost use Rattle.deck.specs.DeckFaults.{kind_number as deck_kind_number};
+ghost use Rattle.deck.specs.DeckKinds.{deck_kind_number};
 ghost use Rattle.domsyn.specs.KindNames.{deck_name as deck_kind_name, stim_name as stim_kind_name};
 
 use blif_read::BlifKind;

@@ -12,7 +12,8 @@ use Rattle.deck.specs.declared.fault.DeckKind.TheVariants.{ControlByte, UnknownC
 use Rattle.deck.specs.CircuitData.{CircuitData}
 use Rattle.deck.specs.DeckText.{first_word, model_word, HasNoEquals, IsDeviceCard}
 use Rattle.deck.specs.NamedDevices.{NamedDevice}
-use Rattle.deck.specs.DeckCards.{NumberedCard, begins, subckt_card, ends_card, end_card, model_card, is_device, is_model_word, has_equals, port_names, most_devices}
+use Rattle.deck.specs.DeckCards.{NumberedCard, begins, subckt_card, ends_card, end_card, model_card, is_device, is_model_word, has_equals, port_names}
+use Rattle.deck.specs.Limits.{most_devices}
 use Rattle.spice_read.specs.declared.stage.Stage.{Stage}
 use Rattle.spice_read.specs.declared.stage.Stage.TheVariants.{Before, Open, Closed}
 use Rattle.spice_read.specs.Stages.{fault_in, device_fault, subckt_fault, ends_fault, is_subckt_form, kind_of, ports_fault, room_fault, word_at}

@@ -7,7 +7,8 @@ use Rattle.dom_base.specs.Lines.{is_control}
 use Rattle.deck.specs.declared.fault.DeckKind.{DeckKind}
 use Rattle.deck.specs.declared.fault.DeckKind.TheVariants.{ControlByte, UnknownCard, BadCard, UnknownDevice, NoSubckt, SecondSubckt, NotClosed, DuplicatePort, TooMany}
 use Rattle.deck.specs.DeckText.{first_word}
-use Rattle.deck.specs.DeckCards.{NumberedCard, begins, subckt_card, ends_card, end_card, model_card, is_device, is_form, is_model_word, names_twice, port_names, is_open, has_subckt, device_count, most_devices, most_ports}
+use Rattle.deck.specs.DeckCards.{NumberedCard, begins, subckt_card, ends_card, end_card, model_card, is_device, is_form, is_model_word, names_twice, port_names, is_open, has_subckt, device_count}
+use Rattle.deck.specs.Limits.{most_devices, most_ports}
 use Rattle.spice_read.specs.declared.stage.Stage.{Stage}
 use Rattle.spice_read.specs.declared.stage.Stage.TheVariants.{Before, Open, Closed}
 use Rattle.spice_read.specs.Stages.{fault_in, is_open_stage, has_begun, is_subckt_form, room_fault, word_at}

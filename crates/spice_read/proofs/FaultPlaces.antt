@@ -8,8 +8,10 @@ use Rattle.dom_base.specs.Lines.{is_blank, lines, words}
 use Rattle.deck.specs.declared.fault.DeckKind.{DeckKind}
 use Rattle.deck.specs.declared.fault.DeckKind.TheVariants.{ControlByte, UnknownCard, BadCard, UnknownDevice, NoSubckt, SecondSubckt, NotClosed, DuplicatePort, TooMany}
 use Rattle.deck.specs.DeckText.{added_words, continues, deck_lines, first_word, is_end, is_of_card, read_line, through_end}
-use Rattle.deck.specs.DeckCards.{NumberedCard, begins, end_card, ends_card, model_card, subckt_card, is_device, numbered_cards, numbered_cards_of, numbered_lines, numbered_lines_from, has_equals, has_subckt, is_model_word, is_open, device_count, most_devices, most_ports, names_twice, port_names}
-use Rattle.deck.specs.DeckFaults.{has_fault, has_end_fault, kind_number, end_line, IsDeckFault, IsDeckFaultAt, IsFaultOfCard, IsLooseLine}
+use Rattle.deck.specs.DeckCards.{NumberedCard, begins, end_card, ends_card, model_card, subckt_card, is_device, numbered_cards, numbered_cards_of, numbered_lines, numbered_lines_from, has_equals, has_subckt, is_model_word, is_open, device_count, names_twice, port_names}
+use Rattle.deck.specs.Limits.{most_devices, most_ports}
+use Rattle.deck.specs.DeckFaults.{has_fault, has_end_fault, end_line, IsDeckFault, IsDeckFaultAt, IsFaultOfCard, IsLooseLine}
+use Rattle.deck.specs.DeckKinds.{deck_kind_number}
 use Rattle.deck.specs.CircuitData.{CircuitData}
 use Rattle.spice_read.specs.declared.stage.Stage.{Stage}
 use Rattle.spice_read.specs.declared.stage.Stage.TheVariants.{Before, Open, Closed}
@@ -171,7 +173,7 @@ pub no_loose : (text : List ℕ) → BeginsNumbered (numbered_lines text) → (n
 no_loose text starts n kind l = no_card-continues l.before (n, l.line) l.after l.no_card l.line_continues (subst BeginsNumbered l.lines_are starts)
 
 -- a card `.end` has no fault but a control byte
-end_card_fault : (before : List NumberedCard) (card : NumberedCard) (kind : DeckKind) → begins end_card card ≡ true → has_fault kind before card ≡ true → kind_number kind ≤ 1
+end_card_fault : (before : List NumberedCard) (card : NumberedCard) (kind : DeckKind) → begins end_card card ≡ true → has_fault kind before card ≡ true → deck_kind_number kind ≤ 1
 end_card_fault before card kind n h = of kind h
   where
     d : is_device card ≡ false
@@ -186,7 +188,7 @@ end_card_fault before card kind n h = of kind h
     never : {P : Type 0} (k : DeckKind) → has_fault k before card ≡ true → has_fault k before card ≡ false → P
     never k g none = absurd (true≢false (sym g ∙ none))
 
-    of : (k : DeckKind) → has_fault k before card ≡ true → kind_number k ≤ 1
+    of : (k : DeckKind) → has_fault k before card ≡ true → deck_kind_number k ≤ 1
     of ControlByte g = omega arith
     of UnknownCard g = never UnknownCard g (λ i. not (d i || s i || e i || n i || begins model_card card))
     of BadCard g = never BadCard g (λ i. (d i || s i || e i || n i || begins model_card card) && not (if d i then nat_lt 5 (length card.words) else (if s i then nat_lt 1 (length card.words) && not (list_any has_equals card.words) else (if e i then nat_lt (length card.words) 3 else true))))
@@ -197,7 +199,7 @@ end_card_fault before card kind n h = of kind h
     of DuplicatePort g = never DuplicatePort g (λ i. s i && names_twice card)
     of TooMany g = never TooMany g (λ i. (d i && (device_count before == most_devices)) || (s i && nat_lt most_ports (length (port_names card))))
 
-kind_number-ge : (kind : DeckKind) → 1 ≤ kind_number kind
+kind_number-ge : (kind : DeckKind) → 1 ≤ deck_kind_number kind
 kind_number-ge ControlByte = omega arith
 kind_number-ge UnknownCard = omega arith
 kind_number-ge BadCard = omega arith
@@ -226,15 +228,15 @@ fault_at_card text before card rest kind starts p found = record {
     first other any (inr (inl l)) = absurd (no_loose text starts other any l)
     first other any (inr (inr e)) = omega (arith, e.number_is, before_end p.rise.1)
 
-    here : (other : DeckKind) → FaultIn before (card ∷ rest) card.number other → kind_number kind ≤ kind_number other
+    here : (other : DeckKind) → FaultIn before (card ∷ rest) card.number other → deck_kind_number kind ≤ deck_kind_number other
     here other (inl h) = found.1 other h.1
     here other (inr later) = absurd (omega (arith, rising-fault (card.number + 1) (end_line text) (card ∷ before) rest card.number other p.rise.2 later))
 
-    at_end : (other : DeckKind) → card.number ≡ end_line text → Within card.number (end_line text) (begins end_card card) → kind_number kind ≤ kind_number other
+    at_end : (other : DeckKind) → card.number ≡ end_line text → Within card.number (end_line text) (begins end_card card) → deck_kind_number kind ≤ deck_kind_number other
     at_end other same (inl lt) = absurd (omega (arith, lt, same))
     at_end other same (inr both) = omega (arith, end_card_fault before card kind both.1 found.0, kind_number-ge other)
 
-    smallest : (other : DeckKind) → IsDeckFault text card.number other → kind_number kind ≤ kind_number other
+    smallest : (other : DeckKind) → IsDeckFault text card.number other → deck_kind_number kind ≤ deck_kind_number other
     smallest other (inl f) = here other (p.faults card.number other (fault_in text card.number other f))
     smallest other (inr (inl l)) = absurd (no_loose text starts card.number other l)
     smallest other (inr (inr e)) = at_end other e.number_is p.rise.1
@@ -253,7 +255,7 @@ end_only text before n kind starts p (inr (inr e)) = (e.number_is, subst (λ all
 no_end : {P : Type 0} → false ≡ true → P
 no_end e = absurd (true≢false (sym e))
 
-end_number : (kind : DeckKind) (all : List NumberedCard) → has_end_fault kind all ≡ true → 5 ≤ kind_number kind
+end_number : (kind : DeckKind) (all : List NumberedCard) → has_end_fault kind all ≡ true → 5 ≤ deck_kind_number kind
 end_number ControlByte all h = no_end h
 end_number UnknownCard all h = no_end h
 end_number BadCard all h = no_end h
@@ -264,7 +266,7 @@ end_number NotClosed all h = omega arith
 end_number DuplicatePort all h = no_end h
 end_number TooMany all h = no_end h
 
-open_number : (kind : DeckKind) (all : List NumberedCard) → has_subckt all ≡ true → has_end_fault kind all ≡ true → 7 ≤ kind_number kind
+open_number : (kind : DeckKind) (all : List NumberedCard) → has_subckt all ≡ true → has_end_fault kind all ≡ true → 7 ≤ deck_kind_number kind
 open_number ControlByte all b h = no_end h
 open_number UnknownCard all b h = no_end h
 open_number BadCard all b h = no_end h
@@ -287,7 +289,7 @@ closed_no_fault DuplicatePort all b o h = no_end h
 closed_no_fault TooMany all b o h = no_end h
 
 fault_told : (text : List ℕ) (before : List NumberedCard) (kind : DeckKind) → BeginsNumbered (numbered_lines text) → IsPassed text before [] → has_end_fault kind before ≡ true
-    → ((other : DeckKind) → has_end_fault other before ≡ true → kind_number kind ≤ kind_number other) → IsDeckFaultAt text (end_line text) kind
+    → ((other : DeckKind) → has_end_fault other before ≡ true → deck_kind_number kind ≤ deck_kind_number other) → IsDeckFaultAt text (end_line text) kind
 fault_told text before kind starts p is least = record {
   fault = inr (inr (record { number_is = refl; fault = subst (λ all. has_end_fault kind all ≡ true) (sym (all_passed text before p)) is }));
   first = λ other any f. omega (arith, (end_only text before other any starts p f).0);
@@ -369,7 +371,7 @@ fault_at_loose text n h = record {
     first other any (inr (inl l)) = loose other any l
     first other any (inr (inr e)) = omega (arith, e.number_is, ends_later rise.1)
 
-    smallest : (other : DeckKind) → IsDeckFault text n other → kind_number BadCard ≤ kind_number other
+    smallest : (other : DeckKind) → IsDeckFault text n other → deck_kind_number BadCard ≤ deck_kind_number other
     smallest other (inl f) = absurd (omega (arith, later n other f))
-    smallest other (inr (inl l)) = omega (arith, ap kind_number l.kind_is)
+    smallest other (inr (inl l)) = omega (arith, ap deck_kind_number l.kind_is)
     smallest other (inr (inr e)) = absurd (omega (arith, e.number_is, ends_later rise.1))

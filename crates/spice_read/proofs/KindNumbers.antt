@@ -5,7 +5,8 @@ use Rattle.dom_base.proofs.Faults.{IsAmong, IsSmallest, Rises, number_of-injecti
 use Rattle.deck.specs.declared.fault.DeckKind.{DeckKind}
 use Rattle.deck.specs.declared.fault.DeckKind.TheVariants.{ControlByte, UnknownCard, BadCard, UnknownDevice, NoSubckt, SecondSubckt, NotClosed, DuplicatePort, TooMany}
 use Rattle.deck.specs.DeckCards.{NumberedCard}
-use Rattle.deck.specs.DeckFaults.{has_fault, kind_number}
+use Rattle.deck.specs.DeckFaults.{has_fault}
+use Rattle.deck.specs.DeckKinds.{deck_kind_number}
 
 -- the kinds by rising number
 abbrev kinds : List DeckKind
@@ -22,12 +23,12 @@ is_kind NotClosed = inr (inr (inr (inr (inr (inr (inl refl))))))
 is_kind DuplicatePort = inr (inr (inr (inr (inr (inr (inr (inl refl)))))))
 is_kind TooMany = inr (inr (inr (inr (inr (inr (inr (inr (inl refl))))))))
 
-kinds_rise : Rises kind_number 0 kinds
+kinds_rise : Rises deck_kind_number 0 kinds
 kinds_rise = (omega arith, (omega arith, (omega arith, (omega arith, (omega arith, (omega arith, (omega arith, (omega arith, (omega arith, tt)))))))))
 
 -- kinds of one number are the same
-pub kind_number-injective : (a b : DeckKind) → kind_number a ≡ kind_number b → a ≡ b
-kind_number-injective a b e = number_of-injective kind_number 0 kinds a b kinds_rise (is_kind a) (is_kind b) e
+pub kind_number-injective : (a b : DeckKind) → deck_kind_number a ≡ deck_kind_number b → a ≡ b
+kind_number-injective a b e = number_of-injective deck_kind_number 0 kinds a b kinds_rise (is_kind a) (is_kind b) e
 
 -- the fault of a card with the smallest number, where the cards before it, the nearest first, are these
 abbrev pub smallest_fault : List NumberedCard → NumberedCard → Option DeckKind
@@ -35,7 +36,7 @@ smallest_fault before card = find (λ kind. has_fault kind before card) kinds
 
 -- no kind of fault, or the smallest one
 abbrev pub IsFound : List NumberedCard → NumberedCard → Option DeckKind → Type 0
-IsFound before card found = IsSmallest kind_number (λ kind. has_fault kind before card) found
+IsFound before card found = IsSmallest deck_kind_number (λ kind. has_fault kind before card) found
 
 pub smallest_is : (before : List NumberedCard) (card : NumberedCard) → IsFound before card (smallest_fault before card)
-smallest_is before card = smallest_found kind_number 0 kinds kinds_rise is_kind (λ kind. has_fault kind before card)
+smallest_is before card = smallest_found deck_kind_number 0 kinds kinds_rise is_kind (λ kind. has_fault kind before card)

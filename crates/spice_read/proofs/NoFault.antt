@@ -13,7 +13,8 @@ use Rattle.deck.specs.declared.fault.DeckKind.{DeckKind}
 use Rattle.deck.specs.CircuitData.{CircuitData}
 use Rattle.deck.specs.DeckText.{HasNoEquals, IsDeckOf, IsDeviceCard, deck_cards, first_word, is_skipped, model_word}
 use Rattle.deck.specs.NamedDevices.{NamedDevice}
-use Rattle.deck.specs.DeckCards.{NumberedCard, begins, end_card, ends_card, has_equals, is_device, is_model_word, model_card, most_ports, names_twice, numbered_cards, port_names, subckt_card}
+use Rattle.deck.specs.DeckCards.{NumberedCard, begins, end_card, ends_card, has_equals, is_device, is_model_word, model_card, names_twice, numbered_cards, port_names, subckt_card}
+use Rattle.deck.specs.Limits.{most_ports}
 use Rattle.deck.specs.DeckFaults.{IsDeckFault}
 use Rattle.deck.proofs.Distinct.{names_equal}
 use Rattle.spice_read.specs.declared.stage.Stage.{Stage}

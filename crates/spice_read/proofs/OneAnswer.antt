@@ -7,7 +7,8 @@ use Rattle.deck.specs.declared.fault.DeckKind.{DeckKind}
 use Rattle.deck.specs.declared.fault.DeckKind.TheVariants.{BadCard, NoSubckt, NotClosed}
 use Rattle.deck.specs.DeckText.{IsDeckOf, continues, deck_phases}
 use Rattle.deck.specs.DeckCards.{NumberedCard, numbered_cards, numbered_lines}
-use Rattle.deck.specs.DeckFaults.{IsDeckFault, IsDeckFaultAt, end_line, kind_number}
+use Rattle.deck.specs.DeckFaults.{IsDeckFault, IsDeckFaultAt, end_line}
+use Rattle.deck.specs.DeckKinds.{deck_kind_number}
 use Rattle.deck.proofs.DeckUnique.{IsDeckOf-unique}
 use Rattle.spice_read.specs.declared.stage.Stage.{Stage}
 use Rattle.spice_read.specs.declared.stage.Stage.TheVariants.{Before, Open, Closed}
@@ -82,6 +83,6 @@ one_answer text = by (answer text)
     by (inr f) = inr (
       f.number,
       f.kind,
-      only_refusal kind_number (IsDeckFault text) (IsDeckOf text) kind_number-injective f.number f.kind f.is_fault
+      only_refusal deck_kind_number (IsDeckFault text) (IsDeckOf text) kind_number-injective f.number f.kind f.is_fault
           (λ circuit is. deck_no_fault text circuit is f.number f.kind f.is_fault.fault),
     )

@@ -10,7 +10,8 @@ use Rattle.indexmap.proofs.SetLemmas.{set_all_distinct}
 use Rattle.deck.specs.Nets.{with_net, IsCircuit}
 use Rattle.deck.specs.Numbers.{with_all}
 use Rattle.deck.specs.declared.fault.DeckKind.TheVariants.{DuplicatePort, TooMany}
-use Rattle.deck.specs.DeckCards.{NumberedCard, port_names, names_twice, most_ports}
+use Rattle.deck.specs.DeckCards.{NumberedCard, port_names, names_twice}
+use Rattle.deck.specs.Limits.{most_ports}
 use Rattle.deck.specs.declared.device.Device.{Device}
 use Rattle.deck.specs.declared.phase.Phase.{Phase}
 use Rattle.spice_read.specs.Stages.{opened, ports_fault, word_at}

@@ -11,7 +11,8 @@ use Rattle.deck.specs.declared.phase.Phase.{Phase}
 use Rattle.deck.specs.CircuitData.{CircuitData}
 use Rattle.deck.specs.DeckText.{bare_circuit}
 use Rattle.deck.specs.Pushes.{pushed}
-use Rattle.deck.specs.DeckCards.{NumberedCard, begins, subckt_card, ends_card, end_card, model_card, is_device, has_equals, is_model_word, port_names, names_twice, most_devices, most_ports}
+use Rattle.deck.specs.DeckCards.{NumberedCard, begins, subckt_card, ends_card, end_card, model_card, is_device, has_equals, is_model_word, port_names, names_twice}
+use Rattle.deck.specs.Limits.{most_devices, most_ports}
 use Rattle.spice_read.specs.declared.stage.Stage.{Stage}
 use Rattle.spice_read.specs.declared.stage.Stage.TheVariants.{Before, Open, Closed}
 
