@@ -10,8 +10,6 @@ mod laws;
 mod line;
 mod parts;
 mod reader;
-#[cfg(test)]
-mod tests;
 
 pub use blif_ast::BlifKind;
 pub use fault::BlifFault;

@@ -11,8 +11,6 @@ mod phase;
 mod port_order;
 mod ports;
 mod role;
-#[cfg(test)]
-mod tests;
 
 pub use circuit::Circuit;
 pub use device::Device;

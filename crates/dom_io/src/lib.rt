@@ -19,6 +19,3 @@ pub use put::put_all;
 pub use shelf::{FetchFault, Shelf};
 pub use sink::{Sink, SinkFault};
 pub use stream_sink::StreamSink;
-
-#[cfg(test)]
-mod tests;

@@ -3,8 +3,6 @@
 #![tactic(auto)]
 
 mod chooser;
-#[cfg(test)]
-mod decks;
 mod event;
 mod fault;
 mod laws;
@@ -12,8 +10,6 @@ mod order;
 mod pending;
 mod power;
 mod sim;
-#[cfg(test)]
-mod tests;
 
 pub use chooser::Chooser;
 pub use event::{Edge, Event, Settled};

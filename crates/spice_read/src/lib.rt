@@ -12,8 +12,6 @@ mod name;
 mod phase;
 mod reader;
 mod stage;
-#[cfg(test)]
-mod tests;
 
 pub use deck::DeckKind;
 pub use fault::DeckFault;

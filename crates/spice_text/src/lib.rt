@@ -8,8 +8,6 @@ mod cards;
 mod law;
 mod line;
 mod ports;
-#[cfg(test)]
-mod tests;
 
 use cards::{put_cards, put_phases};
 use deck::{Circuit, roles};

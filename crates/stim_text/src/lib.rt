@@ -7,8 +7,6 @@ mod letters;
 mod pins;
 mod reader;
 mod row;
-#[cfg(test)]
-mod tests;
 mod write;
 
 pub use fault::{StimFault, StimKind};

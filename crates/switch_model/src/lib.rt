@@ -9,8 +9,6 @@ mod links;
 mod places;
 mod search;
 mod switch;
-#[cfg(test)]
-mod tests;
 mod wiring;
 
 pub use law::{depends_on_near_nets, has_one_target, keeps_where_off, sources_stand_first};

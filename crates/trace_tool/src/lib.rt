@@ -12,8 +12,6 @@ mod rig;
 mod run;
 mod simulation;
 mod stop;
-#[cfg(test)]
-mod tests;
 mod trace;
 
 pub use fault::TraceFault;

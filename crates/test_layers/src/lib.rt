@@ -1,0 +1,23 @@
+//! Tests of the layers below the program: each reads or works out something that was worked by hand.
+#![tactic(auto)]
+
+#[cfg(test)]
+mod circuits;
+#[cfg(test)]
+mod events;
+#[cfg(test)]
+mod outside;
+#[cfg(test)]
+mod ports;
+#[cfg(test)]
+mod read_blif;
+#[cfg(test)]
+mod read_decks;
+#[cfg(test)]
+mod stimuli;
+#[cfg(test)]
+mod targets;
+#[cfg(test)]
+mod traces;
+#[cfg(test)]
+mod written_decks;

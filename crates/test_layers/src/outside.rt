@@ -1,0 +1,115 @@
+//! The adapters over a real file and over streams, and the shelf and the sink in memory.
+ghost use Rattle.std.specs.Prelude.{ℕ};
+
+use dom_io::{
+    FetchFault, FileShelf, MemoryShelf, MemorySink, Shelf, Sink, SinkFault, StreamSink, put_all,
+};
+use std::alloc::Global;
+use std::io::Write;
+use std::test::Fail;
+use std::{fs, io};
+
+const PLENTY: usize = 1_048_576;
+
+/// A stream that takes nothing.
+#[derive(Drop)]
+struct Stuck;
+
+impl Write for Stuck {
+    fn write(&mut self, _buf: &[u8]) -> io::Result<usize> {
+        Ok(0)
+    }
+
+    fn flush(&mut self) -> io::Result<()> {
+        Ok(())
+    }
+}
+
+/// Whether a fetch gave these bytes, or failed where none are wanted.
+fn gives<S: Shelf>(shelf: &mut S, alloc: Global, name: &str, want: Option<&[u8]>) -> bool
+    requires { S.may_ask shelf.old name.now }
+{
+    match (shelf.fetch(alloc, name), want) {
+        (Ok(bytes), Some(want)) => bytes.as_slice() == want,
+        (Err(FetchFault::Failed), None) => true,
+        _ => false,
+    }
+}
+
+/// Whether all bytes were put, or the sink failed where that is wanted.
+fn puts<K: Sink>(sink: &mut K, bytes: &[u8], want: Result<(), SinkFault>) -> bool
+    requires { (n : ℕ) → K.has_room sink.old n }
+{
+    put_all(sink, bytes) == want
+}
+
+#[test]
+fn real(rt: HostRuntime) -> Result<(), Fail> {
+    let alloc = rt.alloc();
+    let path = "dom_io-written";
+    let mut sink = StreamSink {
+        stream: fs::create(&rt, path)?,
+        faults: 0,
+    };
+    assert!(rt; puts(&mut sink, b"* phase o_f +\n", Ok(())));
+    assert_eq!(rt; sink.faults, 0);
+    let mut shelf = FileShelf {
+        rt: rt.clone()?,
+        faults: 0,
+    };
+    assert!(rt; gives(&mut shelf, alloc, path, Some(b"* phase o_f +\n")));
+    assert_eq!(rt; shelf.faults, 0);
+    fs::remove_file(&rt, path)?;
+    assert!(rt; gives(&mut shelf, alloc, path, None), "a missing file");
+    assert_eq!(rt; shelf.faults, 1);
+    assert!(rt; gives(&mut shelf, alloc, ".", None), "a folder");
+    assert_eq!(rt; shelf.faults, 2);
+    let mut stuck = StreamSink {
+        stream: Stuck,
+        faults: 0,
+    };
+    assert!(rt; puts(&mut stuck, b"", Ok(())));
+    assert!(rt; puts(&mut stuck, b"a", Err(SinkFault::Failed)));
+    assert_eq!(rt; stuck.faults, 1);
+    Ok(())
+}
+
+#[test]
+fn memory(rt: HostRuntime) -> Result<(), Fail> {
+    let alloc = rt.alloc();
+    let mut files = Vec::new(alloc);
+    for (name, text) in [("a", "first"), ("a", "second"), ("b", "")] {
+        files.push((
+            String::from_str(alloc, name)?,
+            text.as_bytes().to_vec(alloc)?,
+        ))?;
+    }
+    let mut shelf = MemoryShelf {
+        files,
+        fails: vec![in alloc; 3]?,
+        calls: 0,
+        faults: 0,
+    };
+    assert!(rt; gives(&mut shelf, alloc, "a", Some(b"first")));
+    assert!(rt; gives(&mut shelf, alloc, "b", Some(b"")));
+    assert!(rt; gives(&mut shelf, alloc, "a", None), "the third call");
+    assert!(rt;
+        gives(&mut shelf, alloc, "c", None),
+        "a name that is not held"
+    );
+    assert_eq!(rt; (shelf.calls, shelf.faults), (4, 2));
+
+    let mut sink = MemorySink::new(alloc, 16, PLENTY, vec![in alloc; 2]?)?;
+    let text = b"* domsyn deck 1\n* phase o_f +\n";
+    assert!(rt; puts(&mut sink, text, Err(SinkFault::Failed)));
+    assert!(rt; sink.taken.as_slice() == b"* domsyn deck 1\n".as_slice());
+    assert!(rt; puts(&mut sink, b"+ i_a\n", Ok(())));
+    assert!(rt; sink.taken.as_slice() == b"* domsyn deck 1\n+ i_a\n".as_slice());
+    assert_eq!(rt; (sink.calls, sink.faults), (3, 1));
+
+    let mut full = MemorySink::new(alloc, 3, 4, Vec::new(alloc))?;
+    assert!(rt; puts(&mut full, b"abcdef", Err(SinkFault::Failed)));
+    assert!(rt; full.taken.as_slice() == b"abcd".as_slice());
+    assert_eq!(rt; (full.calls, full.faults), (3, 1));
+    Ok(())
+}

@@ -1,0 +1,76 @@
+//! Targets that were worked by hand.
+ghost use Rattle.std.specs.Prelude.{◌≡◌};
+
+use deck::{Circuit, roles};
+use dom_base::{Kind, Tri};
+use spice_read::read;
+use std::alloc::Global;
+use std::process::Abort;
+use std::test::Fail;
+use switch_model::{Links, Switch, conducts};
+use worked_texts::AND_DECK;
+
+fn tri_of(letter: u8) -> Tri {
+    match letter {
+        b'0' => Tri::Zero,
+        b'1' => Tri::One,
+        _ => Tri::Unknown,
+    }
+}
+
+/// The target of each net that is no source, as letters, and `-` behind them where all nets have theirs.
+fn targets(
+    rt: &impl Abort,
+    alloc: Global,
+    circuit: &Circuit,
+    letters: &str,
+) -> Result<Vec<u8>, Fail> {
+    let roles = roles(circuit)?;
+    assert!(rt; roles.pins <= 1_000_000);
+    let mut links = Links::new(alloc, circuit, roles)?;
+    let mut values = Vec::new(alloc);
+    for letter in letters.as_bytes() {
+        values.push(tri_of(*letter))?;
+    }
+    assert!(rt; values.len() == circuit.nets.as_slice().len());
+    assert!(rt; values.len() <= 1_000_000);
+    let mut all = Vec::new(alloc);
+    let sources = u32::from(roles.clocks) + 8 + roles.pins;
+    for net in sources..values.len() as u32 {
+        let target = links.target(values.as_slice(), net);
+        all.push(target.letter())?;
+    }
+    if links.at_rest(values.as_slice()) {
+        all.push(b'-')?;
+    }
+    Ok(all)
+}
+
+/// The smallest cell: an And of two pins, in power, after precharge, before and after a fall of its
+/// dynamic net, with an unknown pin, with a charge that comes from the keeper, and with an unknown keeper.
+#[test]
+fn targets_of_a_cell(rt: HostRuntime) -> Result<(), Fail> {
+    let alloc = rt.alloc();
+    let circuit = read(alloc, AND_DECK)?;
+    for (what, values, want) in [
+        ("power", "10001011000XXXXX", "X1XXX"),
+        ("precharge", "10001010100010XX", "010XX-"),
+        ("before a fall", "10101010111010XX", "00000"),
+        ("after a fall", "101010101X101000", "0X000"),
+        ("a charge", "1010101011001000", "01010"),
+        ("an unknown keeper", "1010101011001X10", "0X0X0"),
+    ] {
+        let found = targets(&rt, alloc, &circuit, values)?;
+        assert!(rt; found.as_slice() == want.as_bytes(), "at {what}");
+    }
+    Ok(())
+}
+
+#[test]
+fn conduction_of_kinds(rt: HostRuntime) {
+    assert!(rt; conducts(Kind::N, Tri::One) == Switch::On);
+    assert!(rt; conducts(Kind::N, Tri::Zero) == Switch::Off);
+    assert!(rt; conducts(Kind::P, Tri::Zero) == Switch::On);
+    assert!(rt; conducts(Kind::Keep, Tri::One) == Switch::Off);
+    assert!(rt; conducts(Kind::Keep, Tri::Unknown) == Switch::Maybe);
+}

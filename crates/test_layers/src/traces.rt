@@ -1,0 +1,97 @@
+//! Traces worked out by hand.
+use deck::DeckKind;
+use std::alloc::Global;
+use std::test::Fail;
+use stim_text::StimKind;
+use trace_tool::{Order, Trace, TraceFault, TraceOptions, sim};
+use worked_texts::{CHARGES, RING};
+
+/// The trace in an order, with the lines of events where they are asked for.
+fn traced(
+    alloc: Global,
+    deck: &[u8],
+    stim: &str,
+    order: Order,
+    events: bool,
+) -> Result<Trace, TraceFault> {
+    let options = TraceOptions {
+        order,
+        seed: 7,
+        probes: Vec::new(alloc),
+        events,
+    };
+    sim(alloc, deck, stim.as_bytes(), &options)
+}
+
+#[test]
+fn ring_never_settles(rt: HostRuntime) -> Result<(), Fail> {
+    let alloc = rt.alloc();
+    for order in [Order::First, Order::Last, Order::Seed] {
+        match traced(alloc, RING, "-\n", order, false) {
+            Ok(trace) => {
+                assert!(rt; !trace.settled);
+                assert_eq!(rt;
+                    trace.text.as_slice(),
+                    b"unsettled cycle 0 events 25\n".as_slice()
+                );
+            }
+            Err(_) => assert!(rt; false),
+        }
+    }
+    Ok(())
+}
+
+#[test]
+fn charges_meet(rt: HostRuntime) -> Result<(), Fail> {
+    let alloc = rt.alloc();
+    for order in [Order::First, Order::Last, Order::Seed] {
+        match traced(alloc, CHARGES, "-\n-\n", order, false) {
+            Ok(trace) => {
+                assert!(rt; trace.settled);
+                assert_eq!(rt;
+                    trace.text.as_slice(),
+                    b"power events 2\ncycle 0 in - out XX events 2\ncycle 1 in - out XX events 0\n".as_slice()
+                );
+            }
+            Err(_) => assert!(rt; false),
+        }
+    }
+    Ok(())
+}
+
+#[test]
+fn events_stand_before_their_lines(rt: HostRuntime) -> Result<(), Fail> {
+    let alloc = rt.alloc();
+    match traced(alloc, CHARGES, "-\n", Order::First, true) {
+        Ok(trace) => {
+            assert_eq!(rt;
+                trace.text.as_slice(),
+                b"event 0 o_a X 0\nevent 1 o_b X 1\npower events 2\nevent 2 o_a 0 X\nevent 3 o_b 1 X\ncycle 0 in - out XX events 2\n".as_slice()
+            );
+        }
+        Err(_) => assert!(rt; false),
+    }
+    Ok(())
+}
+
+/// The cause for which a deck and a stimulus are refused.
+fn refusal(alloc: Global, deck: &[u8], stim: &str) -> Option<TraceFault> {
+    match traced(alloc, deck, stim, Order::First, false) {
+        Ok(_) => None,
+        Err(fault) => Some(fault),
+    }
+}
+
+#[test]
+fn first_fault_is_reported(rt: HostRuntime) {
+    let alloc = rt.alloc();
+    let line = 1;
+    let kind = DeckKind::UnknownCard;
+    assert!(rt; refusal(alloc, b"r0 a b\n", "x\n") == Some(TraceFault::Deck { line, kind }));
+    let place = 1;
+    assert!(rt;
+        refusal(alloc, b".subckt a vdd b\n.ends\n", "x\n") == Some(TraceFault::Ports { place })
+    );
+    let kind = StimKind::BadLetter;
+    assert!(rt; refusal(alloc, RING, "x\n") == Some(TraceFault::Stim { line, kind }));
+}

@@ -1,0 +1,45 @@
+//! What a file is answered.
+
+use spice_read::read;
+use spice_text::write;
+use std::alloc::Global;
+use std::process::Abort;
+use std::test::Fail;
+use test_calls::synth;
+
+/// Asserts that a file of these bytes gives the deck, and that the deck reads back: it is what is
+/// written of its circuit.
+pub fn gives(
+    rt: &impl Abort,
+    alloc: Global,
+    what: &str,
+    text: &[u8],
+    deck: &[u8],
+) -> Result<(), Fail> {
+    let answer = synth(alloc, text)?;
+    assert_eq!(rt; answer.status, 0, "at {what}");
+    assert_eq!(rt; answer.out.as_slice(), deck, "at {what}");
+    assert!(rt; answer.err.is_empty(), "at {what}");
+    let circuit = read(alloc, deck)?;
+    let written = write(alloc, &circuit)?;
+    assert_eq!(rt; written.as_slice(), deck, "at {what}");
+    Ok(())
+}
+
+/// Asserts that a file of these bytes is refused, and what the line says behind the file's name.
+pub fn refuses(
+    rt: &impl Abort,
+    alloc: Global,
+    what: &str,
+    text: &[u8],
+    rest: &str,
+) -> Result<(), Fail> {
+    let mut line = Vec::from_slice(alloc, b"domsyn: t.blif:")?;
+    line.extend_from_slice(rest.as_bytes())?;
+    line.push(b'\n')?;
+    let answer = synth(alloc, text)?;
+    assert_eq!(rt; answer.status, 1, "at {what}");
+    assert!(rt; answer.out.is_empty(), "at {what}");
+    assert_eq!(rt; answer.err.as_slice(), line.as_slice(), "at {what}");
+    Ok(())
+}

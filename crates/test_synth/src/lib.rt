@@ -1,0 +1,17 @@
+//! Tests of the command `synth` and of the statuses on the program's one function.
+#![tactic(auto)]
+
+#[cfg(test)]
+mod answer;
+#[cfg(test)]
+mod decks;
+#[cfg(test)]
+mod forms;
+#[cfg(test)]
+mod not_built;
+#[cfg(test)]
+mod refused;
+#[cfg(test)]
+mod statuses;
+#[cfg(test)]
+mod wide;

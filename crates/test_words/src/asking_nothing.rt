@@ -1,0 +1,122 @@
+//! Words that ask for nothing: the answer is 2, and no file is fetched.
+
+use std::test::Fail;
+use test_calls::asking;
+use worked_texts::{AND, AND_DECK};
+
+/// Lists of words, and what is wrong with them.
+const LISTS: &[(&str, &[&[&str]])] = &[
+    (
+        "synth: files are missing or too many",
+        &[
+            &["synth"],
+            &["synth", "a", "b"],
+            &["synth", "a", "a"],
+            &["synth", ""],
+            &["synth", "-"],
+            &["synth", "--"],
+            &["synth", "-x"],
+            &["synth", "a", "--width", "4"],
+        ],
+    ),
+    (
+        "no command",
+        &[
+            &[],
+            &["a"],
+            &["help"],
+            &["help", "a"],
+            &["-synth", "a"],
+            &["Synth", "a"],
+            &["synth ", "a"],
+            &["", "a"],
+            &["flat", "a"],
+            &["report", "a"],
+            &["run", "a", "a"],
+            &["cosim", "a", "a", "a"],
+            &["bench", "1", "0"],
+        ],
+    ),
+    (
+        "sim: files are missing or too many",
+        &[
+            &["sim"],
+            &["sim", "d"],
+            &["sim", "d", "s", "s"],
+            &["sim", "", "s"],
+            &["sim", "d", ""],
+            &["sim", "-", "s"],
+            &["sim", "d", "--"],
+            &["sim", "-d", "s"],
+            &["sim", "d", "--events"],
+            &["sim", "--events", "d", "s"],
+            &["sim", "d", "--events", "s"],
+            &["sim", "d", "s", ""],
+            &["sim", "d", "s", "-"],
+        ],
+    ),
+    (
+        "sim: options are unknown or twice",
+        &[
+            &["sim", "d", "s", "--event"],
+            &["sim", "d", "s", "--Events"],
+            &["sim", "d", "s", "--events", "--events"],
+            &["sim", "d", "s", "--events", "1"],
+            &["sim", "d", "s", "--events=1"],
+            &["sim", "d", "s", "--order=first"],
+            &["sim", "d", "s", "--width", "4"],
+            &["sim", "d", "s", "--probe", "d0"],
+            &["sim", "d", "s", "--order", "first", "--order", "first"],
+            &[
+                "sim", "d", "s", "--seed", "1", "--order", "seed", "--seed", "1",
+            ],
+            &["sim", "d", "s", "order", "first"],
+        ],
+    ),
+    (
+        "sim: values are missing or wrong",
+        &[
+            &["sim", "d", "s", "--order"],
+            &["sim", "d", "s", "--order", ""],
+            &["sim", "d", "s", "--order", "First"],
+            &["sim", "d", "s", "--order", "1"],
+            &["sim", "d", "s", "--order", "--events"],
+            &["sim", "d", "s", "--seed"],
+            &["sim", "d", "s", "--seed", "--events"],
+            &["sim", "d", "s", "--seed", ""],
+            &["sim", "d", "s", "--seed", "first"],
+        ],
+    ),
+    (
+        "sim: numbers are wrong",
+        &[
+            &["sim", "d", "s", "--seed", "+"],
+            &["sim", "d", "s", "--seed", "++1"],
+            &["sim", "d", "s", "--seed", "-1"],
+            &["sim", "d", "s", "--seed", "1_0"],
+            &["sim", "d", "s", "--seed", "0x1"],
+            &["sim", "d", "s", "--seed", " 1"],
+            &["sim", "d", "s", "--seed", "1 "],
+            &["sim", "d", "s", "--seed", "1.0"],
+            &["sim", "d", "s", "--seed", "18446744073709551616"],
+            &["sim", "d", "s", "--seed", "\u{661}"],
+        ],
+    ),
+];
+
+#[test]
+fn words_that_ask_for_nothing(rt: HostRuntime) -> Result<(), Fail> {
+    let files = [("a", AND), ("d", AND_DECK), ("s", b"11\n".as_slice())];
+    for (what, lists) in LISTS {
+        assert_eq!(rt; asking(rt.alloc(), &files, lists)?, None, "at {what}");
+    }
+    Ok(())
+}
+
+#[test]
+fn a_command_is_found_among_other_words(rt: HostRuntime) -> Result<(), Fail> {
+    let files = [("d", AND_DECK), ("s", b"11\n".as_slice())];
+    let all: [&[&str]; 3] = [&["sim", "d"], &["sim", "d", "s"], &["sim"]];
+    assert_eq!(rt; asking(rt.alloc(), &files, &all)?, Some(1));
+    Ok(())
+}

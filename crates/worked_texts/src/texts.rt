@@ -1,0 +1,45 @@
+//! Worked files and decks.
+
+/// A network of an And of two inputs.
+pub const AND: &[u8] = b".model and2\n\
+    .inputs a b\n\
+    .outputs f\n\
+    .names a b f\n\
+    11 1\n\
+    .end\n";
+
+/// Its deck.
+pub const AND_DECK: &[u8] = b"* domsyn deck 1\n\
+    * phase o_f +\n\
+    .subckt and2 vdd vss ck1 lm lmb ls lsb rs rsb\n\
+    + i_a i_b\n\
+    + o_f\n\
+    m0 d0 ck1 vdd vdd pch\n\
+    m1 d0 z0 vdd vdd pkeep\n\
+    m2 d0 i_a t0_0 vss nch\n\
+    m3 t0_0 i_b f0 vss nch\n\
+    m4 f0 ck1 vss vss nch\n\
+    m5 z0 d0 vdd vdd pch\n\
+    m6 z0 d0 vss vss nch\n\
+    m7 o_f d0 vdd vdd pch\n\
+    m8 o_f d0 vss vss nch\n\
+    .ends and2\n";
+
+/// A ring of three inverters, held still by `rs`. Its nets from 9 on are `a`, `c`, `u`, `b`.
+pub const RING: &[u8] = b".subckt ring vdd vss ck1 lm lmb ls lsb rs rsb\n\
+    m0 a c u vss pch\n\
+    m1 u rs vdd vdd pch\n\
+    m2 a c vss vss nch\n\
+    m3 a rs vss vss nch\n\
+    m4 b a vdd vdd pch\n\
+    m5 b a vss vss nch\n\
+    m6 c b vdd vdd pch\n\
+    m7 c b vss vss nch\n\
+    .ends ring\n";
+
+/// Two nets that are charged apart and meet at `ck1`: `o_a` and `o_b`, at 9 and 10.
+pub const CHARGES: &[u8] = b".subckt charges vdd vss ck1 lm lmb ls lsb rs rsb o_a o_b\n\
+    m0 o_a rs vss vss nch\n\
+    m1 o_b rsb vdd vdd pch\n\
+    m2 o_a ck1 o_b vss nch\n\
+    .ends charges\n";
