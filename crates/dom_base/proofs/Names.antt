@@ -1,10 +1,10 @@
 -- Names by their bytes: their equality, names of which one begins so, and words that are names of nets.
-use Rattle.std.proofs.Common.{◌≡◌, ℕ, Bool, true, false, List, [], ◌∷◌, refl, ap, sym, ◌∙◌, arith, All, ◌==◌, ◌&&◌, ◌||◌, not, nat_lt, suc, nat_eq, rules}
+use Rattle.std.proofs.Common.{inl, inr, ◌≡◌, ℕ, Bool, true, false, List, [], ◌∷◌, refl, ap, sym, ◌∙◌, arith, All, ◌==◌, ◌&&◌, ◌||◌, not, nat_lt, suc, nat_eq, rules, length}
 use Rattle.std.specs.List.{AllByRecursion, list_any, list_all, starts_with}
 use Rattle.std.proofs.lemmas.Bool.Decides.{nat_tests}
 use Rattle.std.proofs.lemmas.List.Elements.{All-from_recursion, recursion_from_All, All-weaker}
 use Rattle.dom_base.specs.Lines.{is_blank, is_control, is_word, IsLower, IsLowerWord}
-use Rattle.dom_base.specs.Names.{IsNetByte, IsNetName}
+use Rattle.dom_base.specs.Names.{IsNetByte, IsNetName, is_net_byte, is_net_name}
 use Rattle.std.proofs.lemmas.List.Folds.{list_any_none}
 use Rattle.std.specs.Cmp.{IsEquivalence}
 use Rattle.std.specs.Cmp.Rules.{comparing}
@@ -81,14 +81,6 @@ visible_words all h =
     AllByRecursion-weaker (λ word. list_any is_control word ≡ false) (All (λ b. is_control b ≡ false))
     (λ word k. All-from_recursion (λ b. is_control b ≡ false) word (visible_word word k)) all (none-list_any (list_any is_control) all h)
 
--- a test of a name's byte, which computes
-abbrev pub is_net_byte : ℕ → Bool
-is_net_byte b = nat_lt 32 b && not (b == 127) && (nat_lt b 65 || nat_lt 90 b)
-
--- the same of a whole name
-abbrev pub is_net_name : List ℕ → Bool
-is_net_name word = is_word word && list_all is_net_byte word
-
 net_byte-from_test : (b : ℕ) → is_net_byte b ≡ true → IsNetByte b
 net_byte-from_test b h = (grind (arith, nat_tests), grind (arith, nat_tests), grind (arith, nat_tests))
 
@@ -107,3 +99,25 @@ IsNetName-from_test (b ∷ bs) h = record {
   some = λ e. cc;
   good = All-from_recursion IsNetByte (b ∷ bs) (net_bytes-from_test (b ∷ bs) h);
 }
+
+-- a name passes the test
+byte_test : (b : ℕ) → IsNetByte b → is_net_byte b ≡ true
+byte_test b (high, no_delete, inl low) = grind (arith, nat_tests, high, no_delete, low)
+byte_test b (high, no_delete, inr above) = grind (arith, nat_tests, high, no_delete, above)
+
+bytes_test : (bs : List ℕ) → AllByRecursion IsNetByte bs → list_all is_net_byte bs ≡ true
+bytes_test [] h = refl
+bytes_test (b ∷ bs) h = rw (byte_test b h.0) (bytes_test bs h.1)
+
+pub is_net_name-from : (word : List ℕ) → IsNetName word → is_net_name word ≡ true
+is_net_name-from [] h = absurd (h.some refl)
+is_net_name-from (b ∷ bs) h = bytes_test (b ∷ bs) (recursion_from_All IsNetByte (b ∷ bs) h.good)
+
+-- the answer of the test
+pub net_name_by_test : (word : List ℕ) → is_net_name word ≡ false → IsNetName word → ⊥
+net_name_by_test word fails h = let never : true ≡ false = sym (is_net_name-from word h) ∙ fails in cc
+
+-- the test of a word that has a byte
+pub net_name_by_bytes : (word : List ℕ) → (length word == 0) ≡ false → list_all is_net_byte word ≡ is_net_name word
+net_name_by_bytes [] e = absurd (let never : true ≡ false = e in cc)
+net_name_by_bytes (b ∷ bs) e = refl

@@ -1,5 +1,5 @@
 -- The lines of a text, the words of a line, and their bytes.
-use Rattle.std.specs.Prelude.{ℕ, ◌≡◌, ◌<◌, ◌⊎◌, Bool, true, false, ◌==◌, ◌||◌, ◌&&◌, not, nat_lt, if◌then◌else◌, List, [], ◌∷◌, map, filter}
+use Rattle.std.specs.Prelude.{ℕ, ◌≡◌, ◌<◌, ◌⊎◌, Bool, true, false, ◌==◌, ◌||◌, ◌&&◌, not, nat_lt, if◌then◌else◌, List, [], ◌∷◌, map, filter, slice_index_or}
 use Rattle.std.specs.List.{AllByRecursion, before_first, slice_split}
 
 -- a byte that ends a line: LF
@@ -47,6 +47,10 @@ is_word (b ∷ bs) = true
 -- the words of a line, which blanks and tabs part
 abbrev pub words : List ℕ → List (List ℕ)
 words line = filter is_word (slice_split is_blank line)
+
+-- the first of some words, or no bytes where there is none
+abbrev pub first_word : List (List ℕ) → List ℕ
+first_word all = slice_index_or all 0 []
 
 -- a line without the blanks and tabs at its start
 abbrev pub unindented : List ℕ → List ℕ

@@ -2,7 +2,7 @@
 ghost use Rattle.std.specs.Prelude.{◌≡◌, IfOk, map, nat_eq};
 ghost use Rattle.std.specs.Cmp.Lexicographic.{pointwise};
 ghost use Rattle.std.specs.List.{list_any};
-ghost use Rattle.dom_base.specs.Lines.{is_control, words};
+ghost use Rattle.dom_base.specs.Lines.{first_word, is_control, words};
 
 use std::alloc::{AllocError, Global};
 
@@ -13,6 +13,16 @@ pub fn cut_words(alloc: Global, line: &[u8]) -> Result<Vec<&[u8]>, AllocError>
     line.split(|b| *b == b' ' || *b == b'\t')
         .filter(|word| !word.is_empty())
         .collect(alloc)
+}
+
+/// The first of some words, or no bytes where there is none.
+pub fn first_word<'a>(words: &[&'a [u8]]) -> &'a [u8]
+    ensures { result.now ≡ first_word (map (λ w. w.now) words.now) }
+{
+    match words.first() {
+        Some(word) => word,
+        None => &[],
+    }
 }
 
 /// Whether these are the same bytes.

@@ -3,7 +3,8 @@ use Rattle.std.specs.Prelude.{All, codes, if◌then◌else◌}
 use Rattle.std.specs.List.{list_any, list_all, AllByRecursion}
 use Rattle.std.proofs.lemmas.List.{length-map}
 use Rattle.std.proofs.lemmas.List.Sums.{AllPass-from_list_all}
-use Rattle.dom_base.proofs.Names.{is_net_name, IsNetName-from_test}
+use Rattle.dom_base.proofs.Names.{IsNetName-from_test}
+use Rattle.dom_base.specs.Names.{is_net_name}
 use Rattle.std.specs.Cmp.Lexicographic.{pointwise}
 use Rattle.dom_base.specs.Names.{IsNetByte, IsNetName}
 use Rattle.dom_base.specs.declared.kind.Kind.{Kind}
