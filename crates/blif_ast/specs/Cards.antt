@@ -2,6 +2,7 @@
 use Rattle.std.specs.Prelude.{ℕ, ◌-◌, Bool, true, false, ◌==◌, ◌||◌, ◌&&◌, not, nat_eq, nat_lt, if◌then◌else◌, List, [], ◌∷◌, length, take, drop, slice_index, slice_index_or, codes}
 use Rattle.std.specs.List.{list_any, list_all, before_first, after_first}
 use Rattle.std.specs.Cmp.Lexicographic.{pointwise}
+use Rattle.dom_base.specs.Lines.{first_word}
 use Rattle.blif_ast.specs.LogicalLines.{LogicalLine}
 
 abbrev pub same : List ℕ → List ℕ → Bool
@@ -11,10 +12,7 @@ same word other = pointwise nat_eq word other
 abbrev pub is_one_of : List (List ℕ) → List ℕ → Bool
 is_one_of all word = list_any (same word) all
 
--- the first and the last of some words, or no bytes where there is none
-abbrev pub first_word : List (List ℕ) → List ℕ
-first_word words = slice_index_or words 0 []
-
+-- the last of some words, or no bytes where there is none
 abbrev pub last_word : List (List ℕ) → List ℕ
 last_word words = slice_index_or words (length words - 1) []
 

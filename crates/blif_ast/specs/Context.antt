@@ -1,8 +1,9 @@
 -- Models and tables that are open at a line of BLIF, the Berkeley Logic Interchange Format.
 use Rattle.std.specs.Prelude.{ℕ, Bool, false, ◌==◌, ◌||◌, not, List, [], ◌∷◌, length, reverse, Option, Some, None}
 use Rattle.std.specs.List.{find, take_while}
+use Rattle.dom_base.specs.Lines.{first_word}
 use Rattle.blif_ast.specs.LogicalLines.{LogicalLine}
-use Rattle.blif_ast.specs.Cards.{same, begins, first_word, last_letter, is_card, is_row, table_inputs, model_card, end_card, names_card}
+use Rattle.blif_ast.specs.Cards.{same, begins, last_letter, is_card, is_row, table_inputs, model_card, end_card, names_card}
 
 -- the words of a line, if there is one
 abbrev pub words_of : Option LogicalLine → List (List ℕ)

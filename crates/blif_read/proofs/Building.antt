@@ -4,11 +4,12 @@ use Rattle.std.specs.List.{flat_map, filter_map, cons_option, take_while}
 use Rattle.std.specs.Option.{option_to_list}
 use Rattle.std.proofs.lemmas.List.{append_assoc, append-nil}
 use Rattle.std.proofs.lemmas.List.Sums.{take_while-cons}
+use Rattle.dom_base.specs.Lines.{first_word}
 use Rattle.blif_ast.specs.declared.letter.Letter.{Letter}
 use Rattle.blif_ast.specs.TableData.{TableData}
 use Rattle.blif_ast.specs.BlifModelData.{BlifModelData}
 use Rattle.blif_ast.specs.LogicalLines.{LogicalLine}
-use Rattle.blif_ast.specs.Cards.{begins, first_word, is_card, is_row, last_letter, model_card, end_card, inputs_card, outputs_card, names_card, latch_card, subckt_card}
+use Rattle.blif_ast.specs.Cards.{begins, is_card, is_row, last_letter, model_card, end_card, inputs_card, outputs_card, names_card, latch_card, subckt_card}
 use Rattle.blif_ast.specs.Models.{row_letters, latch_of, instance_of, names_on, tables_of, table_of, latches_of, instances_of, models_of, model_of, is_inside, rows_are_on}
 use Rattle.blif_read.specs.Build.{Built, on_after, table_with_row, model_with_table, model_with_card, new_table, closed_models, model_after_card, built_after, rows_on, table_with_rows, tables_from, model_with_lines, models_from, finished}
 use Rattle.blif_read.proofs.Contexts.{no_dot}

@@ -4,10 +4,11 @@ use Rattle.std.specs.Cmp.Lexicographic.{pointwise}
 use Rattle.std.proofs.lemmas.List.{reverse-append}
 use Rattle.std.proofs.lemmas.List.Sums.{take_while-cons}
 use Rattle.std.specs.List.{find, take_while}
+use Rattle.dom_base.specs.Lines.{first_word}
 use Rattle.blif_read.specs.declared.context.Context.{Context}
 use Rattle.blif_read.specs.declared.context.OpenTable.{OpenTable}
 use Rattle.blif_ast.specs.LogicalLines.{LogicalLine}
-use Rattle.blif_ast.specs.Cards.{same, first_word, names_card, table_inputs, begins, is_card, is_row, last_letter, model_card, end_card}
+use Rattle.blif_ast.specs.Cards.{same, names_card, table_inputs, begins, is_card, is_row, last_letter, model_card, end_card}
 use Rattle.blif_ast.specs.Context.{is_model_open, is_table_open, open_rows, open_width, words_of}
 use Rattle.blif_read.specs.Steps.{context_of, open_table, first_letter, letter_after, with_letter}
 

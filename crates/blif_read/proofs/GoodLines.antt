@@ -5,13 +5,13 @@ use Rattle.std.specs.Cmp.Lexicographic.{same_text}
 use Rattle.std.proofs.lemmas.Bool.{false_from_ne_true}
 use Rattle.std.proofs.lemmas.Bool.Decides.{nat_tests}
 use Rattle.std.proofs.lemmas.List.Elements.{All-from_recursion}
-use Rattle.dom_base.specs.Lines.{is_blank, is_control, is_word}
+use Rattle.dom_base.specs.Lines.{is_blank, is_control, is_word, first_word}
 use Rattle.dom_base.proofs.Lists.{AllByRecursion-filter, AllByRecursion-weaker}
 use Rattle.blif_ast.specs.Good.{IsNameByte, IsGoodName}
 use Rattle.blif_ast.specs.declared.kind.BlifKind.{BlifKind}
 use Rattle.blif_ast.specs.declared.kind.BlifKind.TheVariants.{ControlByte, BadCard}
 use Rattle.blif_ast.specs.LogicalLines.{LogicalLine}
-use Rattle.blif_ast.specs.Cards.{same, begins, is_one_of, first_word, is_known, is_form, is_latch_form, is_subckt_form, model_card, inputs_card, outputs_card, names_card, latch_card, subckt_card, clock_card, end_card}
+use Rattle.blif_ast.specs.Cards.{same, begins, is_one_of, is_known, is_form, is_latch_form, is_subckt_form, model_card, inputs_card, outputs_card, names_card, latch_card, subckt_card, clock_card, end_card}
 use Rattle.blif_ast.specs.Faults.{has_blif_fault}
 use Rattle.blif_read.proofs.GoodWords.{IsNoMark, IsPlainWord, IsPlainLine}
 use Rattle.blif_read.proofs.Positions.{FaultIn}

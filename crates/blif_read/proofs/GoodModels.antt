@@ -2,13 +2,13 @@
 use Rattle.std.proofs.Common.{◌≡◌, ◌≢◌, ℕ, ◌+◌, Bool, true, false, ◌==◌, ◌&&◌, not, if◌then◌else◌, List, [], ◌∷◌, ◌++◌, length, map, filter, drop, nat_eq, refl, ap, sym, ◌∙◌, subst, arith, eqb-true, inl, inr}
 use Rattle.std.specs.List.{AllByRecursion, IsDistinct, flat_map, take_while, prefix_len}
 use Rattle.std.proofs.lemmas.List.Elements.{All-from_recursion}
-use Rattle.dom_base.specs.Lines.{lines}
+use Rattle.dom_base.specs.Lines.{lines, first_word}
 use Rattle.dom_base.proofs.Lists.{AllByRecursion-append, AllByRecursion-take}
 use Rattle.blif_ast.specs.Good.{IsGoodName, IsGoodTable, IsGoodLatch, IsGoodInstance, IsGoodModel, IsGoodFile, card_lines}
 use Rattle.blif_ast.specs.declared.kind.BlifKind.{BlifKind}
 use Rattle.blif_ast.specs.declared.kind.BlifKind.TheVariants.{RowOutsideTable, NoModel}
 use Rattle.blif_ast.specs.LogicalLines.{LogicalLine, logical_lines}
-use Rattle.blif_ast.specs.Cards.{begins, first_word, is_card, model_card, inputs_card, outputs_card, names_card, latch_card, subckt_card, same}
+use Rattle.blif_ast.specs.Cards.{begins, is_card, model_card, inputs_card, outputs_card, names_card, latch_card, subckt_card, same}
 use Rattle.blif_ast.specs.Faults.{has_blif_fault}
 use Rattle.blif_ast.specs.Models.{names_on, tables_of, latches_of, instance_of, instances_of, model_of, is_inside, models_of}
 use Rattle.blif_read.specs.Laws.{AcceptedFileIsGood}

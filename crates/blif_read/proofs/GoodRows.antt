@@ -4,12 +4,13 @@ use Rattle.std.specs.List.{AllByRecursion, find, take_while, list_all}
 use Rattle.std.proofs.lemmas.Bool.Decides.{nat_tests}
 use Rattle.std.proofs.lemmas.List.{length-map}
 use Rattle.std.proofs.lemmas.List.Elements.{All-from_recursion}
+use Rattle.dom_base.specs.Lines.{first_word}
 use Rattle.dom_base.proofs.Lists.{AllByRecursion-take}
 use Rattle.blif_ast.specs.Good.{IsGoodName, IsGoodTable}
 use Rattle.blif_ast.specs.declared.kind.BlifKind.{BlifKind}
 use Rattle.blif_ast.specs.declared.kind.BlifKind.TheVariants.{BadRow, TooWide}
 use Rattle.blif_ast.specs.LogicalLines.{LogicalLine}
-use Rattle.blif_ast.specs.Cards.{same, begins, first_word, is_card, is_row, is_letter, is_value, is_row_form, table_inputs, names_card}
+use Rattle.blif_ast.specs.Cards.{same, begins, is_card, is_row, is_letter, is_value, is_row_form, table_inputs, names_card}
 use Rattle.blif_ast.specs.Context.{words_of}
 use Rattle.blif_ast.specs.Faults.{has_blif_fault}
 use Rattle.blif_ast.specs.Models.{letter_of, row_letters, rows_are_on, table_of, tables_of}

@@ -2,11 +2,11 @@ use Rattle.std.proofs.Common.{◌≡◌, ℕ, Bool, true, false, cond, List, [],
 use Rattle.std.specs.Prelude.{◌&&◌, ◌||◌, ◌==◌, not, slice_index, codes, if◌then◌else◌}
 use Rattle.std.specs.List.{list_any}
 use Rattle.std.proofs.lemmas.Bool.{true≢false}
-use Rattle.dom_base.specs.Lines.{is_control}
+use Rattle.dom_base.specs.Lines.{is_control, first_word}
 use Rattle.blif_ast.specs.declared.kind.BlifKind.TheVariants.{ControlByte, UnknownCard, BadCard, RowOutsideTable, BadRow, MixedCover, TooWide, NoModel, LatchKind}
 use Rattle.blif_read.specs.declared.context.OpenTable.{OpenTable}
 use Rattle.blif_ast.specs.LogicalLines.{LogicalLine}
-use Rattle.blif_ast.specs.Cards.{same, first_word, begins, is_card, is_known, is_form, is_row_form, is_too_wide, is_level_latch, last_letter, model_card}
+use Rattle.blif_ast.specs.Cards.{same, begins, is_card, is_known, is_form, is_row_form, is_too_wide, is_level_latch, last_letter, model_card}
 use Rattle.blif_ast.specs.Context.{is_model_open, is_table_open, open_rows, open_width, differs_from_first}
 use Rattle.blif_read.specs.Steps.{context_of, open_table, first_letter, fault_in, row_fault, differs, smallest_fault}
 use Rattle.blif_read.proofs.Contexts.{no_dot}

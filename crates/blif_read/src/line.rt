@@ -1,9 +1,9 @@
 //! Logical lines.
 ghost use Rattle.std.specs.Prelude.{◌≡◌, ◌≤◌, ◌<◌, ◌+◌, ◌-◌, ◌∷◌, [], IfOk, IsOk, MatchOption, map, length, slice_index, true, false};
 ghost use Rattle.dom_base.specs.Cuts.{NumbersFit};
-ghost use Rattle.dom_base.specs.Lines.{lines};
+ghost use Rattle.dom_base.specs.Lines.{lines, first_word};
 ghost use Rattle.blif_ast.specs.LogicalLines.{but_last, is_joined, logical_lines_from};
-ghost use Rattle.blif_ast.specs.Cards.{begins, first_word, is_card, last_letter};
+ghost use Rattle.blif_ast.specs.Cards.{begins, is_card, last_letter};
 ghost use Rattle.blif_read.specs.Cuts.{worded_lines, IsPiece};
 
 use dom_base::{OutOfMemory, cut_line, cut_words, same_word, strip_comment, strip_last};

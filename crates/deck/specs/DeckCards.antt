@@ -2,8 +2,8 @@ use Rattle.std.specs.Prelude.{ℕ, Bool, true, false, ◌==◌, ◌||◌, ◌&&�
 use Rattle.std.specs.List.{list_any, find, enumerate_from}
 use Rattle.std.specs.Set.{distinct_count}
 use Rattle.std.specs.Cmp.Lexicographic.{pointwise}
-use Rattle.dom_base.specs.Lines.{words}
-use Rattle.deck.specs.DeckText.{first_word, deck_lines, is_of_card, continues, added_words}
+use Rattle.dom_base.specs.Lines.{words, first_word}
+use Rattle.deck.specs.DeckText.{deck_lines, is_of_card, continues, added_words}
 
 -- a card of a deck: the number of its first line, from 1, and its words
 pub record NumberedCard : Type 0 where

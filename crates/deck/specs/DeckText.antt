@@ -3,7 +3,7 @@ use Rattle.std.specs.List.{AllZip, IsDistinct, filter_map, list_any}
 use Rattle.std.specs.Str.{str_to_ascii_lowercase}
 use Rattle.std.specs.Cmp.Lexicographic.{pointwise}
 use Rattle.dom_base.specs.Names.{IsNetName}
-use Rattle.dom_base.specs.Lines.{is_control, lines, words, unindented}
+use Rattle.dom_base.specs.Lines.{is_control, lines, words, unindented, first_word}
 use Rattle.dom_base.specs.declared.kind.Kind.{Kind}
 use Rattle.dom_base.specs.declared.kind.Kind.TheVariants.{N as nch, P as pch, Keep}
 use Rattle.deck.specs.declared.phase.Phase.{Phase}
@@ -13,10 +13,6 @@ use Rattle.deck.specs.NamedDevices.{NamedDevice, with_devices}
 -- a line as it is read: without blanks and tabs at its start, and with upper-case ASCII letters as lower-case
 abbrev pub read_line : List ℕ → List ℕ
 read_line line = str_to_ascii_lowercase (unindented line)
-
--- the first of some words, or no bytes where there is none
-abbrev pub first_word : List (List ℕ) → List ℕ
-first_word all = slice_index_or all 0 []
 
 -- a line that begins the card `.end`
 abbrev pub is_end : List ℕ → Bool

@@ -63,7 +63,7 @@ module _ {Kind : Type 0} (number_of : Kind → ℕ) where
   smallest_found n ks rises all test = of_all test ks all (find test ks) (finds n test ks rises)
 
 module _ {Kind : Type 0} (number_of : Kind → ℕ) (IsFault : ℕ → Kind → Type 0) where
-  -- faults that are told of one text stand at one line
+  -- faults that are reported of one text stand at one line
   first_fault-line : (line line' : ℕ) (kind kind' : Kind) → IsFirstFault number_of IsFault line kind → IsFirstFault number_of IsFault line' kind' → line' ≡ line
   first_fault-line line line' kind kind' x y = omega (arith, x.first line' kind' y.fault, y.first line kind x.fault)
 
@@ -78,14 +78,14 @@ module _ {Kind : Type 0} (number_of : Kind → ℕ) (IsFault : ℕ → Kind → 
         y.smallest kind (subst (λ n. IsFault n kind) (sym same) x.fault),
       ))
 
-  -- the fault that is told of a text that stands for nothing
+  -- the fault that is reported of a text that stands for nothing
   pub only_refusal : {Answer : Type 0} (IsAnswer : Answer → Type 0) → ((a b : Kind) → number_of a ≡ number_of b → a ≡ b)
       → (line : ℕ) (kind : Kind) → IsFirstFault number_of IsFault line kind → ((answer : Answer) → IsAnswer answer → ⊥)
       → IsOnlyRefusal IsAnswer (IsFirstFault number_of IsFault) line kind
-  only_refusal IsAnswer injective line kind told none = record {
-    is_refused = told;
-    one_line = λ other any it. first_fault-line line other kind any told it;
-    one_kind = λ other any it. first_fault-kind injective line other kind any told it;
+  only_refusal IsAnswer injective line kind reported none = record {
+    is_refused = reported;
+    one_line = λ other any it. first_fault-line line other kind any reported it;
+    one_kind = λ other any it. first_fault-kind injective line other kind any reported it;
     no_answer = none;
   }
 
@@ -166,11 +166,11 @@ module _ {Line Kind : Type 0} (number : Line → ℕ) (has_fault : Kind → List
   -- the first fault in some lines and the smallest kind there
   module _ (kind_number : Kind → ℕ) where
     pub record IsFirstIn (before all : List Line) : Type 0 where
-      pub place : ℕ
+      pub line_number : ℕ
       pub kind : Kind
-      pub fault : FaultIn before all place kind
-      pub first : (other : ℕ) (any : Kind) → FaultIn before all other any → place ≤ other
-      pub smallest : (other : Kind) → FaultIn before all place other → kind_number kind ≤ kind_number other
+      pub fault : FaultIn before all line_number kind
+      pub first : (other : ℕ) (any : Kind) → FaultIn before all other any → line_number ≤ other
+      pub smallest : (other : Kind) → FaultIn before all line_number other → kind_number kind ≤ kind_number other
 
     -- some lines have no fault, or a first one, where of each line's faults the smallest kind is found
     pub first_in : ((before : List Line) (line : Line) → (found : Option Kind) × IsSmallest kind_number (λ kind. has_fault kind before line) found)
@@ -194,7 +194,7 @@ module _ {Line Kind : Type 0} (number : Line → ℕ) (has_fault : Kind → List
             → ((m : ℕ) (kind : Kind) → FaultIn (line ∷ before) more m kind → ⊥) ⊎ IsFirstIn (line ∷ before) more
             → ((m : ℕ) (kind : Kind) → FaultIn before (line ∷ more) m kind → ⊥) ⊎ IsFirstIn before (line ∷ more)
         by (Some kind) least rest = inr (record {
-          place = number line;
+          line_number = number line;
           kind = kind;
           fault = inl (refl, least.0);
           first = here_first;
@@ -202,9 +202,9 @@ module _ {Line Kind : Type 0} (number : Line → ℕ) (has_fault : Kind → List
         })
         by None none (inl rest) = inl (λ m kind f. rest m kind (behind none m kind f))
         by None none (inr found) = inr (record {
-          place = found.place;
+          line_number = found.line_number;
           kind = found.kind;
           fault = inr found.fault;
           first = λ other any f. found.first other any (behind none other any f);
-          smallest = λ other f. found.smallest other (behind none found.place other f);
+          smallest = λ other f. found.smallest other (behind none found.line_number other f);
         })

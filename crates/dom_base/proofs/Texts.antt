@@ -16,7 +16,7 @@ use Rattle.std.proofs.lemmas.Bool.Decides.{nat_tests}
 use Rattle.dom_base.specs.Joined.{ended, after_blanks, joined, IsClean, IsSolid}
 use Rattle.dom_base.proofs.Lists.{length-some}
 
--- the place of the first byte
+-- where a byte first stands, and where it doesn't stand at all
 pub place_of_first : (c : ℕ) (text : List ℕ) (i : ℕ) → IsFirstByte (is_byte c) text (Some i) → position_or_len (λ b. b == c) text ≡ i
 place_of_first c text i first =
     let lt : i < length text = first.0.high in
@@ -46,7 +46,7 @@ return_of (b ∷ []) = by (b == 13)
     by false = ([], refl)
 return_of (b ∷ next ∷ bs) = let r = return_of (next ∷ bs) in (r.0, ap (λ l. b ∷ l) r.1)
 
--- the text before a place, at it and behind it
+-- the text before an index, at it and behind it
 parted : (i : ℕ) (text : List ℕ) → i < length text → (feed : List ℕ) × (text ≡ take i text ++ feed ++ drop (suc i) text)
 parted i [] lt = absurd (omega arith)
 parted zero (b ∷ bs) lt = (b ∷ [], refl)

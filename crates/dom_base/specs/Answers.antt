@@ -1,7 +1,7 @@
 -- The answers of a reader: what a text stands for, or the line and the kind of the fault that it is refused for.
 use Rattle.std.specs.Prelude.{ℕ, ◌≡◌, ◌≤◌, ◌⊎◌}
 
--- the fault that is told: at the first line that has one, and of the kind with the smallest number there
+-- the fault that is reported: at the first line that has one, and of the kind with the smallest number there
 pub record IsFirstFault {Kind : Type 0} (number_of : Kind → ℕ) (IsFault : ℕ → Kind → Type 0) (line : ℕ) (kind : Kind) : Type 0 where
   pub fault : IsFault line kind
   pub first : (other : ℕ) (any : Kind) → IsFault other any → line ≤ other

@@ -1,3 +1,4 @@
+-- When a transistor conducts (Rabaey, Digital Integrated Circuits: a transistor as a switch).
 use Rattle.dom_base.specs.Tri.{opposite}
 use Rattle.dom_base.specs.declared.kind.Kind.{Kind}
 use Rattle.dom_base.specs.declared.kind.Kind.TheVariants.{N as nch, P as pch, Keep}

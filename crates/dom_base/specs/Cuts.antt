@@ -1,3 +1,4 @@
+-- The first line of a text and the text behind it.
 use Rattle.std.specs.Prelude.{ℕ, ◌≡◌, ◌<◌, ◌+◌, ◌^◌, List, ◌∷◌, ◌++◌, length}
 use Rattle.std.specs.List.{after_first}
 use Rattle.dom_base.specs.Lines.{is_line_feed, lines}

@@ -1,3 +1,4 @@
+-- Ternary values of nets, as switch-level simulation has them (Bryant).
 use Rattle.std.specs.Prelude.{ℕ}
 use Rattle.dom_base.specs.declared.tri.Tri.{Tri}
 use Rattle.dom_base.specs.declared.tri.Tri.TheVariants.{Zero, One, Unknown}

@@ -1,4 +1,4 @@
-//! Want of memory.
+//! Out of memory.
 use std::alloc::{AllocError, AllocFailed};
 
 /// The error of a call for which memory did not suffice.

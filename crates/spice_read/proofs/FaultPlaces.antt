@@ -4,10 +4,10 @@ use Rattle.std.specs.List.{before_first, list_any}
 use Rattle.std.specs.Cmp.Lexicographic.{bytes_decides, pointwise}
 use Rattle.std.proofs.lemmas.Bool.{true≢false}
 use Rattle.std.proofs.lemmas.List.{reverse-reverse, reverse-append}
-use Rattle.dom_base.specs.Lines.{is_blank, lines, words}
+use Rattle.dom_base.specs.Lines.{is_blank, lines, words, first_word}
 use Rattle.deck.specs.declared.fault.DeckKind.{DeckKind}
 use Rattle.deck.specs.declared.fault.DeckKind.TheVariants.{ControlByte, UnknownCard, BadCard, UnknownDevice, NoSubckt, SecondSubckt, NotClosed, DuplicatePort, TooMany}
-use Rattle.deck.specs.DeckText.{added_words, continues, deck_lines, first_word, is_end, is_of_card, read_line, through_end}
+use Rattle.deck.specs.DeckText.{added_words, continues, deck_lines, is_end, is_of_card, read_line, through_end}
 use Rattle.deck.specs.DeckCards.{NumberedCard, begins, end_card, ends_card, model_card, subckt_card, is_device, numbered_cards, numbered_cards_of, numbered_lines, numbered_lines_from, has_equals, has_subckt, is_model_word, is_open, device_count, names_twice, port_names}
 use Rattle.deck.specs.Limits.{most_devices, most_ports}
 use Rattle.deck.specs.DeckFaults.{has_fault, has_end_fault, end_line, IsDeckFault, IsDeckFaultAt, IsFaultOfCard, IsLooseLine}

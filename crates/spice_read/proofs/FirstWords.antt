@@ -4,8 +4,7 @@ use Rattle.std.specs.List.{slice_split, onto_first, before_first, position_or_le
 use Rattle.std.proofs.lemmas.Bool.{false_from_ne_true}
 use Rattle.std.proofs.lemmas.List.Sums.{position_or_len_is}
 use Rattle.memchr.specs.Find.{IsFirstByte}
-use Rattle.dom_base.specs.Lines.{is_blank, is_word, unindented, words}
-use Rattle.deck.specs.DeckText.{first_word}
+use Rattle.dom_base.specs.Lines.{is_blank, is_word, unindented, words, first_word}
 
 -- the bytes before the first that passes a test
 pub front_at : (test : ℕ → Bool) (line : List ℕ) (i : ℕ) → IsFirstByte test line (Some i) → take i line ≡ before_first test line

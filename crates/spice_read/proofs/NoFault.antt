@@ -5,13 +5,13 @@ use Rattle.std.specs.Cmp.Lexicographic.{bytes_decides, pointwise}
 use Rattle.std.proofs.lemmas.Bool.Decides.{nat_tests}
 use Rattle.std.proofs.lemmas.List.Elements.{recursion_from_All}
 use Rattle.std.proofs.lemmas.Map.Made.{distinct_count-from_IsDistinct}
-use Rattle.dom_base.specs.Lines.{is_control}
+use Rattle.dom_base.specs.Lines.{is_control, first_word}
 use Rattle.dom_base.specs.declared.kind.Kind.{Kind}
 use Rattle.dom_base.specs.declared.kind.Kind.TheVariants.{N as nch, P as pch, Keep}
 use Rattle.dom_base.proofs.Lists.{list_any-none}
 use Rattle.deck.specs.declared.fault.DeckKind.{DeckKind}
 use Rattle.deck.specs.CircuitData.{CircuitData}
-use Rattle.deck.specs.DeckText.{HasNoEquals, IsDeckOf, IsDeviceCard, deck_cards, first_word, is_skipped, model_word}
+use Rattle.deck.specs.DeckText.{HasNoEquals, IsDeckOf, IsDeviceCard, deck_cards, is_skipped, model_word}
 use Rattle.deck.specs.NamedDevices.{NamedDevice}
 use Rattle.deck.specs.DeckCards.{NumberedCard, begins, end_card, ends_card, has_equals, is_device, is_model_word, model_card, names_twice, numbered_cards, port_names, subckt_card}
 use Rattle.deck.specs.Limits.{most_ports}

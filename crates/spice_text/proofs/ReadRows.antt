@@ -3,13 +3,13 @@ use Rattle.std.proofs.Common.{◌≡◌, ℕ, true, false, nat_eq, if◌then◌e
 use Rattle.std.specs.Cmp.Lexicographic.{pointwise}
 use Rattle.std.specs.List.{AllByRecursion, flat_map, filter_map}
 use Rattle.std.specs.Str.{str_to_ascii_lowercase}
-use Rattle.dom_base.specs.Lines.{is_blank, lines, words, unindented}
+use Rattle.dom_base.specs.Lines.{is_blank, lines, words, unindented, first_word}
 use Rattle.dom_base.specs.Names.{IsNetName}
 use Rattle.dom_base.specs.Joined.{ended, joined, IsClean, IsSolid}
 use Rattle.dom_base.proofs.Texts.{lines-ended, words-joined, words-after_blanks, unindented-none}
 use Rattle.dom_base.proofs.WordBytes.{IsSolid-name, AllSolid-names, IsClean-joined, lowercase-joined}
 use Rattle.std.proofs.lemmas.List.Elements.{All-head}
-use Rattle.deck.specs.DeckText.{read_line, first_word, is_end, through_end, deck_lines, is_of_card, continues, card_lines, added_words, cards_of, phase_of, deck_phases}
+use Rattle.deck.specs.DeckText.{read_line, is_end, through_end, deck_lines, is_of_card, continues, card_lines, added_words, cards_of, phase_of, deck_phases}
 
 -- the line of some words, with one blank between any two
 abbrev pub row_line : List (List ℕ) → List ℕ
