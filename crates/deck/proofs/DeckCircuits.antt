@@ -1,35 +1,13 @@
 -- What holds of the circuit of a deck.
-use Rattle.std.proofs.Common.{◌≡◌, ℕ, ◌≤◌, ◌+◌, ◌^◌, List, [], ◌∷◌, ◌++◌, length, take, refl, ap, sym, ◌∙◌, subst, arith, append-nil, length-append, All}
+use Rattle.std.proofs.Common.{◌≡◌, ℕ, List, [], length, take, refl, ap, sym, ◌∙◌, subst, arith, All}
 use Rattle.std.proofs.lemmas.List.{take_at}
 use Rattle.std.proofs.lemmas.List.Elements.{All-head, All-tail}
 use Rattle.deck.specs.CircuitData.{CircuitData}
 use Rattle.deck.specs.DeckText.{deck_phases, bare_circuit, HasNoEquals, IsDeckOf, IsGoodCircuit}
-use Rattle.deck.specs.NamedDevices.{NamedDevice, with_devices}
+use Rattle.deck.specs.NamedDevices.{with_devices}
 use Rattle.deck.specs.Nets.{IsCircuit}
-use Rattle.deck.specs.Pushes.{pushed}
-use Rattle.deck.proofs.Growth.{Grew, Grew-trans, pushed-grew}
-use Rattle.deck.proofs.Order.{IsCircuit-push}
-
--- one more device, at the end
-pub with_devices-push : (c : CircuitData) (ds : List (NamedDevice (List ℕ))) (d : NamedDevice (List ℕ)) → with_devices c (ds ++ d ∷ []) ≡ pushed (with_devices c ds) d.kind d.drain d.gate d.source
-with_devices-push c [] d = refl
-with_devices-push c (e ∷ ds) d = with_devices-push (pushed c e.kind e.drain e.gate e.source) ds d
-
--- devices only add to a circuit
-pub with_devices-grew : (c : CircuitData) (ds : List (NamedDevice (List ℕ))) → Grew c (with_devices c ds)
-with_devices-grew c [] = record { more_nets = []; more_devices = []; name = refl; phases = refl; ports = refl; nets = sym (append-nil c.nets); devices = sym (append-nil c.devices) }
-with_devices-grew c (d ∷ ds) =
-    Grew-trans c (pushed c d.kind d.drain d.gate d.source) (with_devices c (d ∷ ds))
-    (pushed-grew c d.kind d.drain d.gate d.source) (with_devices-grew (pushed c d.kind d.drain d.gate d.source) ds)
-
--- what holds of every circuit holds with more devices
-pub IsCircuit-with_devices : (c : CircuitData) (ds : List (NamedDevice (List ℕ))) → IsCircuit c.ports c.nets c.devices → length c.devices + length ds ≤ 2 ^ 24
-    → let e = with_devices c ds in IsCircuit e.ports e.nets e.devices
-IsCircuit-with_devices c [] is few = is
-IsCircuit-with_devices c (d ∷ ds) is few =
-    let next = pushed c d.kind d.drain d.gate d.source in
-    let more : length next.devices ≡ length c.devices + 1 = length-append c.devices _ in
-    IsCircuit-with_devices next ds (IsCircuit-push c d.kind d.drain d.gate d.source is (omega arith)) (omega (arith, more))
+use Rattle.deck.proofs.CircuitGrowth.{with_devices-grew}
+use Rattle.deck.proofs.DeviceNumbers.{IsCircuit-with_devices}
 
 -- the circuit of a deck meets what holds of every circuit
 pub IsDeckOf-circuit : (text : List ℕ) (c : CircuitData) → IsDeckOf text c → IsCircuit c.ports c.nets c.devices

@@ -9,7 +9,7 @@ use Rattle.deck.specs.CircuitData.{CircuitData}
 use Rattle.deck.specs.DeckText.{is_skipped, deck_cards, deck_phases, card_lines, BeginsACard, bare_circuit, HasNoEquals, IsDeckOf}
 use Rattle.deck.specs.NamedDevices.{NamedDevice, with_devices}
 use Rattle.deck.specs.Worked.{and_devices}
-use Rattle.deck.proofs.Distinct.{names_equal}
+use Rattle.dom_base.proofs.Names.{names_equal}
 
 -- lines that each end in LF
 abbrev text_of : List (List ℕ) → List ℕ

@@ -1,11 +1,12 @@
+pub mod CircuitGrowth
 pub mod DeckCircuits
 pub mod DeckExamples
 pub mod DeckNames
 pub mod DeckUnique
-pub mod Distinct
+pub mod DeviceNumbers
 pub mod Escaping
-pub mod Growth
-pub mod Order
+pub mod NetNumbers
+pub mod PortDecisions
+pub mod PortLayout
 pub mod PortOrder
-pub mod PortRoles
 pub mod Reach

@@ -6,7 +6,7 @@ use Rattle.std.proofs.lemmas.List.Elements.{All-head, All-tail, All-same}
 use Rattle.deck.specs.Ports.{IsPin, IsOutput, leading_ports, HasRoles}
 use Rattle.deck.specs.declared.role.Roles.{Roles}
 use Rattle.deck.specs.Roles.{AreRoles, BeginsRoles, LeavesRolesAt}
-use Rattle.deck.proofs.PortRoles.{pin-no_output, length-leading, behind-same, joined}
+use Rattle.deck.proofs.PortLayout.{pin-no_output, length-leading, behind-same, joined}
 
 -- the front of names that begin an order begins it too
 pub BeginsRoles-front : (names : List (List ℕ)) (n : ℕ) → BeginsRoles names → BeginsRoles (take n names)

@@ -1,5 +1,5 @@
 -- The numbers of nets, and what holds of every circuit.
-use Rattle.std.specs.Prelude.{ℕ, ◌+◌, ◌<◌, ◌≤◌, ◌≡◌, max, List, [], ◌∷◌, length, nat_eq}
+use Rattle.std.specs.Prelude.{ℕ, ◌+◌, ◌<◌, ◌≤◌, ◌≡◌, max, List, [], ◌∷◌, length, nat_eq, slice_index_or}
 use Rattle.std.specs.Cmp.Lexicographic.{pointwise}
 use Rattle.std.specs.List.{position_or_len, IsDistinct}
 use Rattle.indexmap.specs.IndexSet.{insert_key}
@@ -9,6 +9,10 @@ use Rattle.deck.specs.Limits.{most_devices, most_ports}
 -- the number of a net, or the number of nets where the name is new
 abbrev pub net_number : List (List ℕ) → List ℕ → ℕ
 net_number nets name = position_or_len (pointwise nat_eq name) nets
+
+-- the name of a net by its number
+abbrev pub net_name : List (List ℕ) → ℕ → List ℕ
+net_name nets net = slice_index_or nets net []
 
 -- the nets, with this one at the end where it is new
 abbrev pub with_net : List (List ℕ) → List ℕ → List (List ℕ)

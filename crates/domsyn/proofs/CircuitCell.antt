@@ -9,8 +9,8 @@ use Rattle.deck.specs.Ports.{leading_ports}
 use Rattle.deck.specs.Escapes.{escaped}
 use Rattle.deck.specs.Pushes.{new_circuit}
 use Rattle.deck.specs.Sources.{is_source}
-use Rattle.deck.proofs.Distinct.{length-leading}
-use Rattle.deck.proofs.Growth.{slice_get-append}
+use Rattle.deck.proofs.PortLayout.{length-leading}
+use Rattle.dom_base.proofs.Lists.{slice_get-append}
 use Rattle.stage.specs.Cell.{IsCell, cell, map_nets}
 use Rattle.stage.specs.Tree.{inner_count, map_tree}
 use Rattle.stage.proofs.NamedCells.{HasCellNames, IsBuilt, IsBuilt-with_cards, IsCell-named, IsNumberedCell, IsNumberedCell-from_cards}

@@ -7,8 +7,8 @@ use Rattle.deck.specs.Nets.{IsCircuit}
 use Rattle.deck.specs.Escapes.{escaped}
 use Rattle.deck.specs.Pushes.{pushed, new_circuit}
 use Rattle.deck.specs.Ports.{IsOutput}
-use Rattle.deck.proofs.Order.{IsCircuit-push}
-use Rattle.deck.proofs.Distinct.{ports_differ, length-ports}
+use Rattle.deck.proofs.DeviceNumbers.{IsCircuit-push}
+use Rattle.deck.proofs.PortLayout.{ports_differ, length-ports}
 use Rattle.stage.specs.Card.{Card, with_cards}
 use Rattle.stage.specs.Cell.{cell, dynamic_stage, inverter}
 use Rattle.stage.specs.Tree.{Tree, Leaf, Series, Parallel, spell, leaves, inner_count}

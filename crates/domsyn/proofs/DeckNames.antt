@@ -16,7 +16,7 @@ use Rattle.deck.specs.Nets.{with_net}
 use Rattle.deck.specs.Pushes.{pushed}
 use Rattle.deck.specs.DeckText.{HasNetNames, HasNoEquals, IsGoodCircuit}
 use Rattle.deck.specs.declared.phase.Phase.{Phase}
-use Rattle.deck.proofs.Growth.{Grew}
+use Rattle.deck.proofs.CircuitGrowth.{Grew}
 use Rattle.stage.proofs.Numbering.{with_cards-grew}
 use Rattle.deck.specs.Ports.{leading_ports}
 use Rattle.stage.specs.Cell.{cell, dynamic_stage, inverter}

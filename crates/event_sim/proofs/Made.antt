@@ -6,8 +6,8 @@ use Rattle.deck.specs.Nets.{IsCircuit}
 use Rattle.deck.specs.Ports.{leading_ports}
 use Rattle.deck.specs.Roles.{AreRoles, ports_of}
 use Rattle.deck.specs.declared.role.Roles.{Roles}
-use Rattle.deck.proofs.Order.{used-le}
-use Rattle.deck.proofs.PortRoles.{joined, length-leading}
+use Rattle.deck.proofs.DeviceNumbers.{used-le}
+use Rattle.deck.proofs.PortLayout.{joined, length-leading}
 use Rattle.switch_model.specs.LinksData.{source_count}
 use Rattle.switch_model.specs.Power.{source_values}
 

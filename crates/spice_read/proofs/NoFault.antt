@@ -16,7 +16,7 @@ use Rattle.deck.specs.NamedDevices.{NamedDevice}
 use Rattle.deck.specs.DeckCards.{NumberedCard, begins, end_card, ends_card, has_equals, is_device, is_model_word, model_card, names_twice, numbered_cards, port_names, subckt_card}
 use Rattle.deck.specs.Limits.{most_ports}
 use Rattle.deck.specs.DeckFaults.{IsDeckFault}
-use Rattle.deck.proofs.Distinct.{names_equal}
+use Rattle.dom_base.proofs.Names.{names_equal}
 use Rattle.spice_read.specs.declared.stage.Stage.{Stage}
 use Rattle.spice_read.specs.declared.stage.Stage.TheVariants.{Before, Open, Closed}
 use Rattle.spice_read.specs.Stages.{fault_in, is_subckt_form, opened, ports_fault, stage_after, with_device}

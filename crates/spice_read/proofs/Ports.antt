@@ -15,7 +15,8 @@ use Rattle.deck.specs.Limits.{most_ports}
 use Rattle.deck.specs.declared.device.Device.{Device}
 use Rattle.deck.specs.declared.phase.Phase.{Phase}
 use Rattle.spice_read.specs.Stages.{opened, ports_fault, word_at}
-use Rattle.deck.proofs.Distinct.{names_equal, IsDistinct-with_net}
+use Rattle.dom_base.proofs.Names.{names_equal}
+use Rattle.deck.proofs.NetNumbers.{IsDistinct-with_net}
 
 or_assoc : (a b c : Bool) → ((a || b) || c) ≡ (a || (b || c))
 or_assoc true b c = refl

@@ -9,7 +9,7 @@ use Rattle.deck.specs.DeckText.{HasNoEquals, IsDeviceCard, bare_circuit, is_skip
 use Rattle.deck.specs.NamedDevices.{NamedDevice, with_devices}
 use Rattle.deck.specs.DeckCards.{NumberedCard, begins, subckt_card, ends_card, end_card, model_card, is_device, begins_some, is_open, has_subckt, device_count, port_names}
 use Rattle.deck.specs.Limits.{most_devices}
-use Rattle.deck.proofs.DeckCircuits.{with_devices-push}
+use Rattle.deck.proofs.CircuitGrowth.{with_devices-push}
 use Rattle.spice_read.specs.declared.stage.Stage.{Stage}
 use Rattle.spice_read.specs.declared.stage.Stage.TheVariants.{Before, Open, Closed}
 use Rattle.spice_read.specs.Stages.{fault_in, opened, stage_after, with_device, word_at}

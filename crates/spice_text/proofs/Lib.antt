@@ -1,9 +1,6 @@
 pub mod DeviceRows
 pub mod Lines
-pub mod Order
-pub mod PushedNets
 pub mod ReadBack
 pub mod ReadRows
-pub mod RolePorts
 pub mod Whole
 pub mod WrittenRows

@@ -1,9 +1,10 @@
+-- Lines of ports and cards of devices, appended one after another.
 use Rattle.std.proofs.Common.{◌≡◌, ℕ, ◌+◌, ◌<◌, ◌≤◌, min, List, [], ◌∷◌, ◌++◌, length, take, drop, get_or, codes, refl, sym, ap, ◌∙◌, arith}
 use Rattle.std.proofs.lemmas.List.{take_more, take_min, drop_min, length-take-le, append-nil, append_assoc}
 use Rattle.std.proofs.lemmas.List.Concat.{flat_map-append}
 use Rattle.std.specs.List.{flat_map, enumerate_from}
 use Rattle.deck.specs.declared.device.Device.{Device}
-use Rattle.spice_text.specs.Text.{line, port_lines, eights, card, cards}
+use Rattle.spice_text.specs.Text.{deck_line, plus_lines, eights, card, cards}
 
 -- a list that isn't empty, in its first eight and the rest
 pub eights-step : {X : Type 0} (xs : List X) → 0 < length xs → eights xs ≡ take 8 xs ∷ eights (drop 8 xs)
@@ -21,14 +22,14 @@ min_comm : (a b : ℕ) → min a b ≡ min b a
 min_comm a b = omega arith
 
 -- the lines of names, with the first line apart
-pub port_lines-step : (names : List (List ℕ)) (n : ℕ) → 0 < length names → n ≡ min (length names) 8
-    → line (codes "+") (take n names) ++ port_lines (drop n names) ≡ port_lines names
-port_lines-step names n some count =
+pub plus_lines-step : (names : List (List ℕ)) (n : ℕ) → 0 < length names → n ≡ min (length names) 8
+    → deck_line (codes "+") (take n names) ++ plus_lines (drop n names) ≡ plus_lines names
+plus_lines-step names n some count =
     let front : take n names ≡ take 8 names = ap (λ m. take m names) (count ∙ min_comm (length names) 8) ∙ take_min 8 names in
     let rest : drop n names ≡ drop 8 names = ap (λ m. drop m names) (count ∙ min_comm (length names) 8) ∙ drop_min 8 names in
-    ap (λ l. line (codes "+") l ++ port_lines (drop n names)) front
-    ∙ ap (λ l. line (codes "+") (take 8 names) ++ port_lines l) rest
-    ∙ ap (flat_map (line (codes "+"))) (sym (eights-step names some))
+    ap (λ l. deck_line (codes "+") l ++ plus_lines (drop n names)) front
+    ∙ ap (λ l. deck_line (codes "+") (take 8 names) ++ plus_lines l) rest
+    ∙ ap (flat_map (deck_line (codes "+"))) (sym (eights-step names some))
 
 pub enumerate_from-append : {X : Type 0} (n : ℕ) (xs ys : List X) → enumerate_from n (xs ++ ys) ≡ enumerate_from n xs ++ enumerate_from (n + length xs) ys
 enumerate_from-append n [] ys = ap (λ m. enumerate_from m ys) (omega arith)
@@ -56,7 +57,7 @@ appended z w u ey ex = ex ∙ ap (λ l. l ++ u) ey ∙ append_assoc z w u
 -- a card, where its parts are appended one after another
 pub card_parts : (t m n d g s b k e number drain gate source bulk model : List ℕ)
     → m ≡ t ++ 109 ∷ [] → n ≡ m ++ number → d ≡ n ++ 32 ∷ drain → g ≡ d ++ 32 ∷ gate → s ≡ g ++ 32 ∷ source → b ≡ s ++ 32 ∷ bulk → k ≡ b ++ 32 ∷ model → e ≡ k ++ 10 ∷ []
-    → e ≡ t ++ line (codes "m" ++ number) (drain ∷ gate ∷ source ∷ bulk ∷ model ∷ [])
+    → e ≡ t ++ deck_line (codes "m" ++ number) (drain ∷ gate ∷ source ∷ bulk ∷ model ∷ [])
 card_parts t m n d g s b k e number drain gate source bulk model em en ed eg es eb ek ee =
     let last = ek ∙ ap (λ w. b ++ 32 ∷ w) (sym (append-nil model)) in
     let words = appended n (32 ∷ drain) _ ed (appended d (32 ∷ gate) _ eg (appended g (32 ∷ source) _ es (appended s (32 ∷ bulk) _ eb last))) in

@@ -6,7 +6,7 @@ use Rattle.std.proofs.lemmas.List.{take_all, length-take-le, length-map}
 use Rattle.std.proofs.lemmas.List.Elements.{All-take, All-cons, All-weaker, All-from_recursion, recursion_from_All, filter_map-append}
 use Rattle.dom_base.specs.Lines.{is_control}
 use Rattle.dom_base.specs.Names.{IsNetName}
-use Rattle.dom_base.proofs.Lists.{AllByRecursion-append, AllByRecursion-left, AllByRecursion-right, AllByRecursion-groups, AllByRecursion-every, AllByRecursion-map, filter_all}
+use Rattle.dom_base.proofs.Lists.{AllByRecursion-append, AllByRecursion-left, AllByRecursion-right, AllByRecursion-groups, AllByRecursion-every, AllByRecursion-map, filter_all, filter_map-none}
 use Rattle.dom_base.proofs.Names.{IsNetName-from_test, no_control-name, no_control_in-name}
 use Rattle.deck.specs.declared.device.Device.{Device}
 use Rattle.deck.specs.declared.phase.Phase.{Phase}
@@ -17,12 +17,12 @@ use Rattle.deck.specs.Nets.{ends, used, IsCircuit}
 use Rattle.deck.specs.Ports.{leading_ports, HasRoles}
 use Rattle.deck.proofs.DeckCircuits.{IsDeckOf-circuit, IsDeckOf-good}
 use Rattle.deck.proofs.DeckNames.{IsDeckOf-names}
-use Rattle.deck.proofs.Order.{used-ge}
 use Rattle.spice_text.specs.Text.{sign_of, eights, text_with, IsWritten}
 use Rattle.spice_text.proofs.DeviceRows.{all_cards, cards_plain, cards_are}
-use Rattle.spice_text.proofs.PushedNets.{named, state, devices_below, with_devices-named, IsDistinct-take}
+use Rattle.deck.proofs.DeviceNumbers.{named_device, state, used-ge, devices_in_range, with_devices-named}
+use Rattle.deck.proofs.NetNumbers.{IsDistinct-take}
 use Rattle.spice_text.proofs.ReadRows.{row_line, text_of_rows, IsPlainRow, IsNoEnd, IsComment, IsOfCard, Begins, plus_rows, deck_phases-rows, card_lines-rows, cards_of-rows}
-use Rattle.spice_text.proofs.RolePorts.{HasSomeRoles, has_roles}
+use Rattle.deck.proofs.PortDecisions.{HasSomeRoles, has_roles}
 use Rattle.spice_text.proofs.WrittenRows.{header_row, phase_row, opening_row, card_row, card_rows, ending_row, comment_rows, rows_behind, rows_of_cards, text_with-rows, eights-groups}
 
 -- a row without control bytes
@@ -47,10 +47,6 @@ one_phase net false h = rw (no_control_in-name net h) refl
 phases-rows : (phases : List Phase) → AllByRecursion (λ phase. IsNetName phase.net) phases → filter_map phase_of (map phase_row phases) ≡ phases
 phases-rows [] h = refl
 phases-rows (phase ∷ phases) h = rw (one_phase phase.net phase.plus h.0) (ap (λ l. phase ∷ l) (phases-rows phases h.1))
-
-filter_map-none : {X Y : Type 0} (f : X → Option Y) (xs : List X) → AllByRecursion (λ x. f x ≡ None) xs → filter_map f xs ≡ []
-filter_map-none f [] h = refl
-filter_map-none f (x ∷ xs) h = rw h.0 (filter_map-none f xs h.1)
 
 sign_plain : (plus : Bool) → IsNetName (sign_of plus)
 sign_plain true = IsNetName-from_test (codes "+") refl
@@ -93,7 +89,7 @@ IsDeckOf-writable text c h = record { is = IsDeckOf-circuit text c h; names = Is
 behind_plain : (c : CircuitData) → IsWritable c → AllByRecursion IsPlainRow (rows_behind c)
 behind_plain c w =
     AllByRecursion-append IsPlainRow (card_rows c.nets c.devices) (ending_row c.name ∷ [])
-    (cards_plain c.nets 0 c.devices w.names.nets_are (omega (arith, w.is.few_devices)) (devices_below (length c.nets) c.ports c.devices (omega (arith, w.is.all_used))))
+    (cards_plain c.nets 0 c.devices w.names.nets_are (omega (arith, w.is.few_devices)) (devices_in_range (length c.nets) c.ports c.devices (omega (arith, w.is.all_used))))
     ((IsNetName-from_test (codes ".ends") refl, (w.names.name_is, tt)), tt)
 
 -- the names of ports, as they are written
@@ -172,14 +168,14 @@ written_begins c leading groups text r e =
 
 -- the circuit, from its name, its phases, its ports and its devices
 same_circuit : (c : CircuitData) → IsCircuit c.ports c.nets c.devices → (phases : List Phase) → phases ≡ c.phases
-    → c ≡ with_devices (bare_circuit c.name phases (take c.ports c.nets)) (map (named c.nets) c.devices)
+    → c ≡ with_devices (bare_circuit c.name phases (take c.ports c.nets)) (map (named_device c.nets) c.devices)
 same_circuit c is phases e =
     let within : c.ports ≤ length c.nets = omega (arith, is.all_used, used-ge c.ports (ends c.devices)) in
     let count : length (take c.ports c.nets) ≡ c.ports = length-take-le c.ports c.nets within in
     let all : take (used c.ports (ends c.devices)) c.nets ≡ c.nets = take_all (used c.ports (ends c.devices)) c.nets (omega (arith, is.all_used)) in
-    let low = devices_below (length c.nets) c.ports c.devices (omega (arith, is.all_used)) in
+    let low = devices_in_range (length c.nets) c.ports c.devices (omega (arith, is.all_used)) in
     sym (
-    ap (λ (n : ℕ). with_devices (state c.name phases n (take c.ports c.nets) []) (map (named c.nets) c.devices)) count
+    ap (λ (n : ℕ). with_devices (state c.name phases n (take c.ports c.nets) []) (map (named_device c.nets) c.devices)) count
     ∙ with_devices-named c.name phases c.ports c.nets [] c.ports c.devices is.distinct is.in_order low
     ∙ ap (λ l. state c.name phases c.ports l c.devices) all
     ∙ ap (λ l. state c.name l c.ports c.nets c.devices) e
@@ -204,7 +200,7 @@ read_back_with c w leading groups e text t =
       name = c.name;
       ports = take c.ports c.nets;
       device_cards = card_rows c.nets c.devices;
-      devices = map (named c.nets) c.devices;
+      devices = map (named_device c.nets) c.devices;
       closing = c.name ∷ [];
       begins = written_begins c leading groups text r rows;
       visible = subst (All (All (All (λ b. is_control b ≡ false)))) (sym cards) visible;
@@ -215,7 +211,7 @@ read_back_with c w leading groups e text t =
       no_equals = All-cons HasNoEquals c.name (take c.ports c.nets) w.good.name_good w.good.ports_good;
       ports_differ = IsDistinct-take c.ports c.nets w.is.distinct;
       few_ports = omega (arith, count, w.is.few_ports);
-      few_devices = omega (arith, length-map c.devices (named c.nets), w.is.few_devices);
+      few_devices = omega (arith, length-map c.devices (named_device c.nets), w.is.few_devices);
       cards_are = cards_are c.nets 0 c.devices;
       circuit_is = same_circuit c w.is (deck_phases text) (written_phases c w leading groups text r rows);
     }

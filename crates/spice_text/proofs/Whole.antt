@@ -1,35 +1,34 @@
-use Rattle.std.proofs.Common.{◌≡◌, ◌≤◌, ℕ, ◌+◌, max, List, [], ◌∷◌, ◌++◌, All, codes, length, take, sym, ap, ◌∙◌, subst, arith, append_assoc}
-use Rattle.std.proofs.lemmas.List.Elements.{All-nil, All-cons}
+-- The text of a circuit from its parts.
+use Rattle.std.proofs.Common.{◌≡◌, ℕ, List, [], ◌∷◌, ◌++◌, codes, take, drop, sym, ap, ◌∙◌, append_assoc}
 use Rattle.std.specs.List.{flat_map}
-use Rattle.deck.specs.declared.device.Device.{Device}
+use Rattle.std.proofs.lemmas.List.{take_at, drop_at}
 use Rattle.deck.specs.CircuitData.{CircuitData}
-use Rattle.deck.specs.Nets.{ends, used, IsCircuit}
+use Rattle.deck.specs.PortLayout.{first_pin}
 use Rattle.deck.specs.Ports.{HasRoles, leading_ports}
-use Rattle.spice_text.specs.Text.{phase_line, line, port_lines, cards, IsWritten}
-use Rattle.spice_text.specs.Parts.{IsWithin, IsCut, IsSubckt, subckt_with}
-use Rattle.spice_text.proofs.Order.{HasRoles-same}
+use Rattle.deck.specs.Roles.{AreRoles}
+use Rattle.deck.specs.declared.role.Roles.{Roles}
+use Rattle.spice_text.specs.Text.{phase_line, deck_line, plus_lines, cards, IsWritten}
+use Rattle.spice_text.specs.Parts.{ArePortGroups, IsSubckt, subckt_with}
+use Rattle.deck.proofs.PortLayout.{HasRoles-same, joined, length-leading}
 
-used-ge : (n : ℕ) (es : List ℕ) → n ≤ used n es
-used-ge n [] = omega arith
-used-ge n (e ∷ es) = omega (arith, used-ge (max n (e + 1)) es)
-
-all-within : (n : ℕ) (devices : List Device) → All (IsWithin (used n (ends devices))) devices
-all-within n [] = All-nil (IsWithin n)
-all-within n (d ∷ ds) =
-    let after : ℕ = max (max (max n (d.drain + 1)) (d.gate + 1)) (d.source + 1) in
-    let most = used-ge after (ends ds) in
-    All-cons (IsWithin (used after (ends ds))) d ds record { drain = omega (arith, most); gate = omega (arith, most); source = omega (arith, most) } (all-within after ds)
-
--- the ports of a circuit are among its nets
-pub ports-within : (ports : ℕ) (nets : List (List ℕ)) (devices : List Device) → IsCircuit ports nets devices → ports ≤ length nets
-ports-within ports nets devices is = omega (arith, is.all_used, used-ge ports (ends devices))
-
--- each device's ends are numbers of nets
-pub ends-within : (ports : ℕ) (nets : List (List ℕ)) (devices : List Device) → IsCircuit ports nets devices → All (IsWithin (length nets)) devices
-ends-within ports nets devices is = let P : ℕ → Type 0 = λ n. All (IsWithin n) devices in subst P (sym is.all_used) (all-within ports devices)
+-- ports in order of roles, in groups by their counts
+pub groups-found : (ports : List (List ℕ)) (roles : Roles) → AreRoles ports roles
+    → ArePortGroups ports (take (first_pin roles) ports) (take roles.pins (drop (first_pin roles) ports)) (drop roles.pins (drop (first_pin roles) ports))
+groups-found ports roles h =
+    let few = (h.in_order).few_clocks in
+    let lead = leading_ports roles.clocks in
+    let long = length-leading roles.clocks few in
+    let rest : drop (first_pin roles) ports ≡ h.pins ++ h.outs = ap (drop (first_pin roles)) (joined h.in_order) ∙ drop_at lead (h.pins ++ h.outs) (first_pin roles) long in
+    let pins : take roles.pins (drop (first_pin roles) ports) ≡ h.pins = ap (take roles.pins) rest ∙ take_at h.pins h.outs roles.pins h.pin_count in
+    let outs : drop roles.pins (drop (first_pin roles) ports) ≡ h.outs = ap (drop roles.pins) rest ∙ drop_at h.pins h.outs roles.pins h.pin_count in
+    record {
+      clocks = roles.clocks;
+      leading_are = ap (take (first_pin roles)) (joined h.in_order) ∙ take_at lead (h.pins ++ h.outs) (first_pin roles) long;
+      roles = rw (pins, outs) h.in_order;
+    }
 
 -- the part on ports, where they were cut
-pub subckt-cut : (before name text : List ℕ) (ports leading pins outs : List (List ℕ)) → IsCut ports leading pins outs
+pub subckt-cut : (before name text : List ℕ) (ports leading pins outs : List (List ℕ)) → ArePortGroups ports leading pins outs
     → text ≡ before ++ subckt_with name leading (pins ∷ outs ∷ []) → IsSubckt before name ports text
 subckt-cut before name text ports leading pins outs cut e = record {
   with_roles = λ clocks pins' outs' has.
@@ -51,17 +50,17 @@ subckt-uncut before name text ports none e = record {
 }
 
 pub text-whole : (c : CircuitData) (before middle text : List ℕ) → before ≡ codes "* domsyn deck 1" ++ 10 ∷ [] ++ flat_map phase_line c.phases
-    → IsSubckt before c.name (take c.ports c.nets) middle → text ≡ middle ++ cards c.nets c.devices ++ line (codes ".ends") (c.name ∷ []) → IsWritten c text
+    → IsSubckt before c.name (take c.ports c.nets) middle → text ≡ middle ++ cards c.nets c.devices ++ deck_line (codes ".ends") (c.name ∷ []) → IsWritten c text
 text-whole c before middle text eb part et =
     let head : List ℕ = codes "* domsyn deck 1" ++ 10 ∷ [] ++ flat_map phase_line c.phases in
-    let tail : List ℕ → List ℕ = λ m. m ++ cards c.nets c.devices ++ line (codes ".ends") (c.name ∷ []) in
+    let tail : List ℕ → List ℕ = λ m. m ++ cards c.nets c.devices ++ deck_line (codes ".ends") (c.name ∷ []) in
     record {
       with_roles = λ clocks pins outs has.
           et ∙ ap tail (part.with_roles clocks pins outs has
           ∙ ap (λ b. b ++ subckt_with c.name (leading_ports clocks) (pins ∷ outs ∷ [])) eb
-          ∙ sym (append_assoc head (line (codes ".subckt") (c.name ∷ leading_ports clocks)) (flat_map port_lines (pins ∷ outs ∷ []))));
+          ∙ sym (append_assoc head (deck_line (codes ".subckt") (c.name ∷ leading_ports clocks)) (flat_map plus_lines (pins ∷ outs ∷ []))));
       without_roles = λ none.
           et ∙ ap tail (part.without_roles none
           ∙ ap (λ b. b ++ subckt_with c.name [] (take c.ports c.nets ∷ [])) eb
-          ∙ sym (append_assoc head (line (codes ".subckt") (c.name ∷ [])) (flat_map port_lines (take c.ports c.nets ∷ []))));
+          ∙ sym (append_assoc head (deck_line (codes ".subckt") (c.name ∷ [])) (flat_map plus_lines (take c.ports c.nets ∷ []))));
     }

@@ -8,7 +8,9 @@ use Rattle.deck.specs.declared.device.Device.{Device}
 use Rattle.deck.specs.declared.phase.Phase.{Phase}
 use Rattle.deck.specs.CircuitData.{CircuitData}
 use Rattle.dom_base.specs.Joined.{ended}
-use Rattle.spice_text.specs.Text.{line, sign_of, phase_line, eights, port_lines, model_of, bulk_of, name_of, card, cards, text_with}
+use Rattle.spice_text.specs.Text.{deck_line, sign_of, phase_line, eights, plus_lines, bulk_of, card, cards, text_with}
+use Rattle.deck.specs.DeckText.{model_word}
+use Rattle.deck.specs.Nets.{net_name}
 use Rattle.spice_text.proofs.ReadRows.{row_line, text_of_rows, plus_rows}
 
 -- the words of the first line
@@ -27,7 +29,7 @@ opening_row name leading = codes ".subckt" ∷ name ∷ leading
 abbrev pub card_row : List (List ℕ) → ℕ × Device → List (List ℕ)
 card_row nets p =
     (codes "m" ++ decimal p.0)
-    ∷ name_of nets p.1.drain ∷ name_of nets p.1.gate ∷ name_of nets p.1.source ∷ bulk_of p.1.kind ∷ model_of p.1.kind ∷ []
+    ∷ net_name nets p.1.drain ∷ net_name nets p.1.gate ∷ net_name nets p.1.source ∷ bulk_of p.1.kind ∷ model_word p.1.kind ∷ []
 
 -- the words of the devices' cards
 abbrev pub card_rows : List (List ℕ) → List Device → List (List (List ℕ))
@@ -60,11 +62,11 @@ text_of_rows-append : (xs ys : List (List (List ℕ))) → text_of_rows (xs ++ y
 text_of_rows-append xs ys = flat_map-append (λ row. ended (row_line row)) xs ys
 
 -- the lines with ports
-port_lines-rows : (groups : List (List (List ℕ))) → flat_map port_lines groups ≡ text_of_rows (plus_rows (flat_map eights groups))
-port_lines-rows [] = refl
-port_lines-rows (names ∷ groups) =
-    ap (λ t. t ++ flat_map port_lines groups) (flat_map-rows (line (codes "+")) (λ group. codes "+" ∷ group) (λ _. refl) (eights names))
-    ∙ ap (λ t. text_of_rows (plus_rows (eights names)) ++ t) (port_lines-rows groups)
+plus_lines-rows : (groups : List (List (List ℕ))) → flat_map plus_lines groups ≡ text_of_rows (plus_rows (flat_map eights groups))
+plus_lines-rows [] = refl
+plus_lines-rows (names ∷ groups) =
+    ap (λ t. t ++ flat_map plus_lines groups) (flat_map-rows (deck_line (codes "+")) (λ group. codes "+" ∷ group) (λ _. refl) (eights names))
+    ∙ ap (λ t. text_of_rows (plus_rows (eights names)) ++ t) (plus_lines-rows groups)
     ∙ sym (text_of_rows-append (plus_rows (eights names)) (plus_rows (flat_map eights groups)))
     ∙ ap text_of_rows (sym (map-append (λ group. codes "+" ∷ group) (eights names) (flat_map eights groups)))
 
@@ -99,11 +101,11 @@ pub text_with-rows : (c : CircuitData) (leading : List (List ℕ)) (groups : Lis
 text_with-rows c leading groups =
     from_parts (codes "* domsyn deck 1" ++ 10 ∷ []) (ended (row_line header_row))
     (flat_map phase_line c.phases) (text_of_rows (map phase_row c.phases))
-    (line (codes ".subckt") (c.name ∷ leading))
-    (flat_map port_lines groups) (text_of_rows (plus_rows (flat_map eights groups)))
+    (deck_line (codes ".subckt") (c.name ∷ leading))
+    (flat_map plus_lines groups) (text_of_rows (plus_rows (flat_map eights groups)))
     (cards c.nets c.devices) (text_of_rows (card_rows c.nets c.devices))
-    (line (codes ".ends") (c.name ∷ []))
-    header_is (flat_map-rows phase_line phase_row (λ _. refl) c.phases) (port_lines-rows groups) (flat_map-rows (card c.nets) (card_row c.nets) (λ _. refl) (enumerate_from 0 c.devices))
+    (deck_line (codes ".ends") (c.name ∷ []))
+    header_is (flat_map-rows phase_line phase_row (λ _. refl) c.phases) (plus_lines-rows groups) (flat_map-rows (card c.nets) (card_row c.nets) (λ _. refl) (enumerate_from 0 c.devices))
     ∙ text_of_six header_row (map phase_row c.phases) (opening_row c.name leading) (plus_rows (flat_map eights groups)) (card_rows c.nets c.devices) (ending_row c.name)
 
 -- names in groups of eight, put together again

@@ -1,3 +1,4 @@
+-- What is promised of the text of circuits: it reads back.
 use Rattle.std.specs.Prelude.{◌≡◌, ℕ, List}
 use Rattle.deck.specs.CircuitData.{CircuitData}
 use Rattle.deck.specs.DeckText.{IsDeckOf, IsGoodCircuit, HasNetNames}

@@ -1,4 +1,5 @@
-use Rattle.std.specs.Prelude.{ℕ, ◌≡◌, Bool, true, false, List, [], ◌∷◌, ◌++◌, codes, take, slice_index_or}
+-- The text of a circuit: SPICE subcircuit and M cards, ports by their roles, and the signs of sinks as comments.
+use Rattle.std.specs.Prelude.{ℕ, ◌≡◌, Bool, true, false, List, [], ◌∷◌, ◌++◌, codes, take}
 use Rattle.std.specs.List.{flat_map, enumerate_from}
 use Rattle.std.specs.Fmt.{decimal}
 use Rattle.dom_base.specs.declared.kind.Kind.{Kind}
@@ -6,18 +7,20 @@ use Rattle.dom_base.specs.declared.kind.Kind.TheVariants.{N as nch, P as pch, Ke
 use Rattle.deck.specs.declared.device.Device.{Device}
 use Rattle.deck.specs.declared.phase.Phase.{Phase}
 use Rattle.deck.specs.CircuitData.{CircuitData}
+use Rattle.deck.specs.DeckText.{model_word}
+use Rattle.deck.specs.Nets.{net_name}
 use Rattle.deck.specs.Ports.{leading_ports, HasRoles}
 
 -- a line: its first word, one blank and a word for each of the others, and LF
-abbrev pub line : List ℕ → List (List ℕ) → List ℕ
-line first others = first ++ flat_map (λ word. 32 ∷ word) others ++ 10 ∷ []
+abbrev pub deck_line : List ℕ → List (List ℕ) → List ℕ
+deck_line first others = first ++ flat_map (λ word. 32 ∷ word) others ++ 10 ∷ []
 
 abbrev pub sign_of : Bool → List ℕ
 sign_of true = codes "+"
 sign_of false = codes "-"
 
 abbrev pub phase_line : Phase → List ℕ
-phase_line p = line (codes "*") (codes "phase" ∷ p.net ∷ sign_of p.plus ∷ [])
+phase_line p = deck_line (codes "*") (codes "phase" ∷ p.net ∷ sign_of p.plus ∷ [])
 
 -- eight at a time, the last group may be short
 abbrev pub eights : {X : Type 0} → List X → List (List X)
@@ -26,14 +29,8 @@ eights (a ∷ b ∷ c ∷ d ∷ e ∷ f ∷ g ∷ h ∷ more) = (a ∷ b ∷ c �
 eights few = few ∷ []
 
 -- names on lines that begin with `+`, at most eight on a line
-abbrev pub port_lines : List (List ℕ) → List ℕ
-port_lines names = flat_map (line (codes "+")) (eights names)
-
--- the word for a kind of device
-abbrev pub model_of : Kind → List ℕ
-model_of nch = codes "nch"
-model_of pch = codes "pch"
-model_of Keep = codes "pkeep"
+abbrev pub plus_lines : List (List ℕ) → List ℕ
+plus_lines names = flat_map (deck_line (codes "+")) (eights names)
 
 -- the bulk of a kind of device
 abbrev pub bulk_of : Kind → List ℕ
@@ -41,14 +38,11 @@ bulk_of nch = codes "vss"
 bulk_of pch = codes "vdd"
 bulk_of Keep = codes "vdd"
 
-abbrev pub name_of : List (List ℕ) → ℕ → List ℕ
-name_of nets net = slice_index_or nets net []
-
--- the card of a device that stands at a place
+-- the card of a device, with its number
 abbrev pub card : List (List ℕ) → ℕ × Device → List ℕ
 card nets p =
-    line (codes "m" ++ decimal p.0)
-    (name_of nets p.1.drain ∷ name_of nets p.1.gate ∷ name_of nets p.1.source ∷ bulk_of p.1.kind ∷ model_of p.1.kind ∷ [])
+    deck_line (codes "m" ++ decimal p.0)
+    (net_name nets p.1.drain ∷ net_name nets p.1.gate ∷ net_name nets p.1.source ∷ bulk_of p.1.kind ∷ model_word p.1.kind ∷ [])
 
 abbrev pub cards : List (List ℕ) → List Device → List ℕ
 cards nets devices = flat_map (card nets) (enumerate_from 0 devices)
@@ -58,10 +52,10 @@ abbrev pub text_with : CircuitData → List (List ℕ) → List (List (List ℕ)
 text_with c leading groups =
     codes "* domsyn deck 1" ++ 10 ∷ []
     ++ flat_map phase_line c.phases
-    ++ line (codes ".subckt") (c.name ∷ leading)
-    ++ flat_map port_lines groups
+    ++ deck_line (codes ".subckt") (c.name ∷ leading)
+    ++ flat_map plus_lines groups
     ++ cards c.nets c.devices
-    ++ line (codes ".ends") (c.name ∷ [])
+    ++ deck_line (codes ".ends") (c.name ∷ [])
 
 -- the text of a circuit: where its ports stand in the order of roles, those before the first pin
 -- stand on the line of `.subckt`, and pins and outputs each on lines of their own; else all stand

@@ -1,8 +1,9 @@
 //! The lines of phases and the cards of devices.
 ghost use Rattle.std.specs.Prelude.{◌≡◌, ◌++◌, ◌<◌, All, OnOk, length};
 ghost use Rattle.std.specs.List.{flat_map};
-ghost use Rattle.spice_text.specs.Text.{phase_line, card, cards, name_of, model_of, bulk_of};
-ghost use Rattle.spice_text.specs.Parts.{IsWithin};
+ghost use Rattle.spice_text.specs.Text.{phase_line, card, cards, bulk_of};
+ghost use Rattle.deck.specs.DeckText.{model_word};
+ghost use Rattle.deck.specs.Nets.{IsInRange, net_name};
 
 use deck::{Device, Phase};
 use dom_base::{Kind, NetName, OutOfMemory, append, append_number, append_word};
@@ -31,11 +32,11 @@ pub fn put_cards(
     nets: &[NetName],
     devices: &[Device],
 ) -> Result<(), OutOfMemory>
-    requires { All (IsWithin (length nets.now)) devices.now }
+    requires { All (IsInRange (length nets.now)) devices.now }
     ensures { OnOk result (text.new.items ≡ text.old.items ++ cards nets.now devices.now) }
 {
-    for (place, device) in devices.iter().enumerate() {
-        put_card(text, nets, place, *device)?;
+    for (index, device) in devices.iter().enumerate() {
+        put_card(text, nets, index, *device)?;
     }
     Ok(())
 }
@@ -43,14 +44,14 @@ pub fn put_cards(
 fn put_card(
     text: &mut Vec<u8>,
     nets: &[NetName],
-    place: usize,
+    index: usize,
     device: Device,
 ) -> Result<(), OutOfMemory>
-    requires { IsWithin (length nets.now) device }
-    ensures { OnOk result (text.new.items ≡ text.old.items ++ card nets.now (place, device)) }
+    requires { IsInRange (length nets.now) device }
+    ensures { OnOk result (text.new.items ≡ text.old.items ++ card nets.now (index, device)) }
 {
     append(text, b"m")?;
-    append_number(text, place as u64)?;
+    append_number(text, index as u64)?;
     append_word(text, net_name(nets, device.drain))?;
     append_word(text, net_name(nets, device.gate))?;
     append_word(text, net_name(nets, device.source))?;
@@ -62,7 +63,7 @@ fn put_card(
 
 fn net_name(nets: &[NetName], net: u32) -> &[u8]
     requires { net < length nets.now }
-    ensures { result.now ≡ name_of nets.now net }
+    ensures { result.now ≡ net_name nets.now net }
 {
     nets[net as usize].as_bytes()
 }
@@ -77,7 +78,7 @@ fn bulk(kind: Kind) -> &'static [u8]
 }
 
 fn model(kind: Kind) -> &'static [u8]
-    ensures { result.now ≡ model_of kind }
+    ensures { result.now ≡ model_word kind }
 {
     match kind {
         Kind::N => b"nch",

@@ -5,20 +5,20 @@ ghost use Rattle.std.specs.Prelude.{IfOk};
 ghost use Rattle.spice_text.specs.Text.{IsWritten};
 
 mod cards;
-mod law;
+mod laws;
 mod line;
 mod ports;
 
 use cards::{put_cards, put_phases};
 use deck::{Circuit, roles};
 use dom_base::{OutOfMemory, append, append_word};
-pub use law::written_reads_back;
+pub use laws::written_reads_back;
 use ports::put_subckt;
 use std::alloc::Global;
 
 /// The text of a circuit, in bytes. Each line ends with LF and its words are separated by one
 /// blank. The lines are `* domsyn deck 1`, a line `* phase NET SIGN` for each phase, `.subckt NAME`
-/// with its ports, a card `mPLACE DRAIN GATE SOURCE BULK MODEL` for each device, and `.ends NAME`.
+/// with its ports, a card `mNUMBER DRAIN GATE SOURCE BULK MODEL` for each device, and `.ends NAME`.
 ///
 /// Where the ports stand in the order of roles, those before the first pin stand on the line of
 /// `.subckt`, and pins and outputs each on lines of their own that begin with `+`; else all ports

@@ -1,8 +1,8 @@
 //! The line of `.subckt` and the lines of ports.
 ghost use Rattle.std.specs.Prelude.{◌≡◌, ◌++◌, MatchResult, OnOk};
 ghost use Rattle.deck.specs.Roles.{AreRoles, LeavesRolesAt};
-ghost use Rattle.spice_text.specs.Text.{port_lines};
-ghost use Rattle.spice_text.specs.Parts.{IsCut, IsSubckt};
+ghost use Rattle.spice_text.specs.Text.{plus_lines};
+ghost use Rattle.spice_text.specs.Parts.{ArePortGroups, IsSubckt};
 
 use crate::line::{put_line, put_words};
 use deck::{PortFault, Roles};
@@ -10,9 +10,6 @@ use dom_base::{NetName, OutOfMemory, append, append_word};
 
 /// The greatest number of names on a line that begins with `+`.
 const NAMES_ON_A_LINE: usize = 8;
-
-/// The number of ports before the first pin that aren't clocks.
-const UNCLOCKED: usize = 8;
 
 /// Ports in the order of roles: supplies, clocks and the nets of latches, then pins, then outputs.
 #[derive(Clone, Copy)]
@@ -25,9 +22,9 @@ struct Groups<'a> {
 /// Cuts ports in the order of these roles into groups.
 fn cut_ports(ports: &[NetName], roles: Roles) -> Groups<'_>
     requires { AreRoles ports.now roles }
-    ensures { IsCut ports.now result.leading.now result.pins.now result.outs.now }
+    ensures { ArePortGroups ports.now result.leading.now result.pins.now result.outs.now }
 {
-    let leading = roles.clocks as usize + UNCLOCKED;
+    let leading = roles.first_pin() as usize;
     let names = &ports[leading..];
     let pins = roles.pins as usize;
     Groups {
@@ -69,7 +66,7 @@ pub fn put_subckt(
 
 /// Appends names on lines that begin with `+`.
 fn put_port_lines(text: &mut Vec<u8>, names: &[NetName]) -> Result<(), OutOfMemory>
-    ensures { OnOk result (text.new.items ≡ text.old.items ++ port_lines names.now) }
+    ensures { OnOk result (text.new.items ≡ text.old.items ++ plus_lines names.now) }
 {
     let mut rest = names;
     'groups: while !rest.is_empty() {

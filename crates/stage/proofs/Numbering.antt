@@ -7,9 +7,11 @@ use Rattle.deck.specs.declared.device.Device.{Device}
 use Rattle.deck.specs.CircuitData.{CircuitData}
 use Rattle.deck.specs.Nets.{net_number, with_net, with_nets}
 use Rattle.deck.specs.Pushes.{pushed}
-use Rattle.deck.proofs.Order.{place_cases}
-use Rattle.deck.proofs.Growth.{Grew, Grew-trans, pushed-grew, slice_get-append, slice_get-with_net, with_net-grows}
-use Rattle.deck.proofs.Distinct.{IsDistinct-with_net}
+use Rattle.deck.proofs.NetNumbers.{number_cases}
+use Rattle.deck.proofs.CircuitGrowth.{Grew, Grew-trans, pushed-grew}
+use Rattle.dom_base.proofs.Lists.{slice_get-append}
+use Rattle.deck.proofs.NetNumbers.{slice_get-with_net, with_net-grows}
+use Rattle.deck.proofs.NetNumbers.{IsDistinct-with_net}
 use Rattle.stage.specs.Card.{Card, device_of, map_card, with_cards}
 
 -- the name stands among the nets, at its number
@@ -78,7 +80,7 @@ net_number-new (x ∷ xs) more name none =
 
 -- the number of a net is the same before and after it is added
 pub net_number-with_net : (nets : List (List ℕ)) (name : List ℕ) → net_number (with_net nets name) name ≡ net_number nets name
-net_number-with_net nets name = by (place_cases (pointwise nat_eq name) nets)
+net_number-with_net nets name = by (number_cases (pointwise nat_eq name) nets)
   where
     by : ((list_any (pointwise nat_eq name) nets ≡ true) × (net_number nets name < length nets)) ⊎ ((list_any (pointwise nat_eq name) nets ≡ false) × (net_number nets name ≡ length nets))
         → net_number (with_net nets name) name ≡ net_number nets name

@@ -12,8 +12,8 @@ use Rattle.deck.specs.Ports.{IsOutput, clock_ports, latch_ports, leading_ports, 
 use Rattle.deck.specs.Roles.{AreRoles, ports_of}
 use Rattle.deck.specs.Sources.{is_source}
 use Rattle.deck.specs.declared.role.Roles.{Roles}
-use Rattle.deck.proofs.Order.{used-ge}
-use Rattle.deck.proofs.PortRoles.{joined, length-leading, pin-no_output}
+use Rattle.deck.proofs.DeviceNumbers.{used-ge}
+use Rattle.deck.proofs.PortLayout.{joined, length-leading, pin-no_output}
 use Rattle.switch_model.specs.LinksData.{is_first, source_count}
 use Rattle.switch_model.specs.Targets.{IsTarget}
 use Rattle.switch_model.proofs.Decided.{lt_or_ge}

@@ -8,7 +8,7 @@ use Rattle.std.proofs.lemmas.Option.{slice_get_within}
 use Rattle.deck.specs.declared.device.Device.{Device}
 use Rattle.switch_model.specs.Laws.{EndsAt}
 use Rattle.deck.specs.Nets.{IsCircuit, IsNumbered, ends, used}
-use Rattle.deck.proofs.Order.{used-ge, used-le}
+use Rattle.deck.proofs.DeviceNumbers.{used-ge, used-le}
 use Rattle.switch_model.specs.Wiring.{IsEndPlace, IsInRange, IsTouching}
 use Rattle.switch_model.proofs.Decided.{dec_nat}
 

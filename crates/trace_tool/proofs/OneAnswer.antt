@@ -9,7 +9,7 @@ use Rattle.deck.specs.declared.fault.DeckKind.{DeckKind}
 use Rattle.deck.specs.declared.role.Roles.{Roles}
 use Rattle.deck.proofs.DeckUnique.{IsDeckOf-unique}
 use Rattle.deck.proofs.PortOrder.{LeavesRolesAt-same}
-use Rattle.deck.proofs.PortRoles.{AreRoles-same}
+use Rattle.deck.proofs.PortLayout.{AreRoles-same}
 use Rattle.spice_read.proofs.OneAnswer.{one_answer as deck_answer}
 use Rattle.stim_text.specs.Stimuli.{IsFaultAt, IsStimulusOf}
 use Rattle.stim_text.specs.declared.fault.StimKind.{StimKind}

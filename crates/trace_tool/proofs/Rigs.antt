@@ -6,7 +6,7 @@ use Rattle.deck.specs.CircuitData.{CircuitData}
 use Rattle.deck.specs.Ports.{leading_ports}
 use Rattle.deck.specs.Roles.{AreRoles, ports_of}
 use Rattle.deck.specs.declared.role.Roles.{Roles}
-use Rattle.deck.proofs.PortRoles.{joined, length-leading}
+use Rattle.deck.proofs.PortLayout.{joined, length-leading}
 use Rattle.switch_model.specs.LinksData.{links_of, source_count}
 use Rattle.event_sim.specs.Chains.{next_step, step_after}
 use Rattle.event_sim.specs.Settling.{most_events}

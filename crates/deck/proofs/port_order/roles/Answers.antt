@@ -1,5 +1,5 @@
 use Rattle.std.proofs.Common.{◌≡◌, ◌≤◌, length, length-take, arith, ap}
-use Rattle.deck.proofs.Order.{used-ge}
+use Rattle.deck.proofs.DeviceNumbers.{used-ge}
 use Rattle.deck.specs.Nets.{ends}
 use Rattle.deck.proofs.port_order.roles.Goals as goal
 

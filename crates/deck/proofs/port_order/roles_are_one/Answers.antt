@@ -1,5 +1,5 @@
 use Rattle.deck.proofs.PortOrder.{LeavesRolesAt-same}
-use Rattle.deck.proofs.PortRoles.{AreRoles-same}
+use Rattle.deck.proofs.PortLayout.{AreRoles-same}
 use Rattle.deck.proofs.port_order.roles_are_one.Goals as goal
 
 pub returns : goal.returns

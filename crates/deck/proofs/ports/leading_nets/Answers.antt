@@ -1,6 +1,6 @@
 use Rattle.std.proofs.Common.{rules, []}
 use Rattle.deck.specs.Ports.{leading_ports}
-use Rattle.deck.proofs.Distinct.{with_all-more}
+use Rattle.deck.proofs.NetNumbers.{with_all-more}
 use Rattle.deck.proofs.ports.leading_nets.Goals as goal
 
 pub loop-place-preserved : goal.loop-place-preserved

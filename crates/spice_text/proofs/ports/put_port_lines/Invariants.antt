@@ -1,9 +1,9 @@
 use Rattle.std.proofs.Common.{◌≡◌, ◌++◌, length}
-use Rattle.spice_text.specs.Text.{port_lines}
+use Rattle.spice_text.specs.Text.{plus_lines}
 use Rattle.spice_text.proofs.ports.put_port_lines.Given as goal
 
 abbrev pub invariant-groups : goal.invariant-groups
-invariant-groups l = l.text.items ++ port_lines l.rest ≡ l.fn.text.items ++ port_lines l.names
+invariant-groups l = l.text.items ++ plus_lines l.rest ≡ l.fn.text.items ++ plus_lines l.names
 
 abbrev pub decreases-groups : goal.decreases-groups
 decreases-groups l = length l.rest

@@ -2,7 +2,7 @@ use Rattle.std.proofs.Common.{rules, subst, ◌≡◌, ◌++◌, ◌∷◌, [], 
 use Rattle.std.specs.Prelude.{MatchResult}
 use Rattle.deck.specs.Roles.{AreRoles, LeavesRolesAt}
 use Rattle.spice_text.specs.Parts.{subckt_with}
-use Rattle.spice_text.proofs.Order.{no_order}
+use Rattle.deck.proofs.PortLayout.{no_order}
 use Rattle.spice_text.proofs.Whole.{subckt-cut, subckt-uncut}
 use Rattle.spice_text.proofs.ports.put_subckt.Goals as goal
 

@@ -1,6 +1,6 @@
 use Rattle.std.proofs.Common.{[], ◌∷◌, codes, refl}
 use Rattle.std.proofs.lemmas.Map.Made.{IsDistinct-from_count}
-use Rattle.deck.proofs.Distinct.{names_equal}
+use Rattle.dom_base.proofs.Names.{names_equal}
 use Rattle.test_layers.proofs.circuits.without_devices.Goals as goal
 
 pub new-requires-clause-apart : goal.new-requires-clause-apart

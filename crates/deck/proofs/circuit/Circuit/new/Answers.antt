@@ -1,7 +1,7 @@
 use Rattle.std.proofs.Common.{rules, ◌≡◌, ◌++◌, length, ap, sym, ◌∙◌, arith}
 use Rattle.deck.specs.Numbers.{with_all}
 use Rattle.deck.specs.Ports.{leading_ports}
-use Rattle.deck.proofs.Distinct.{new_nets, ports_differ, length-ports}
+use Rattle.deck.proofs.PortLayout.{new_nets, ports_differ, length-ports}
 use Rattle.deck.proofs.circuit.Circuit.new.Goals as goal
 
 -- the nets are the ports

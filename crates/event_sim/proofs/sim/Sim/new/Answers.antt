@@ -1,7 +1,7 @@
 use Rattle.std.proofs.Common.{ap, ◌∙◌}
 use Rattle.deck.specs.declared.role.Roles.{Roles}
 use Rattle.deck.specs.Roles.{ports_of}
-use Rattle.deck.proofs.PortRoles.{AreRoles-same}
+use Rattle.deck.proofs.PortLayout.{AreRoles-same}
 use Rattle.event_sim.specs.SimData.{power_sim}
 use Rattle.event_sim.proofs.sim.Sim.new.Goals as goal
 

@@ -1,6 +1,6 @@
 use Rattle.deck.proofs.DeckUnique.{IsDeckOf-unique}
 use Rattle.spice_text.proofs.ReadBack.{read_back, IsDeckOf-writable}
-use Rattle.spice_text.proofs.law.written_reads_back.Goals as goal
+use Rattle.spice_text.proofs.laws.written_reads_back.Goals as goal
 
 pub returns-clause-back : goal.returns-clause-back
 returns-clause-back c = λ d text is names good written. read_back d text record { is = is; names = names; good = good } written

@@ -1,0 +1,113 @@
+-- Circuits that grow: devices add nets and devices at the end, and each net keeps its number.
+use Rattle.std.proofs.Common.{◌≡◌, ℕ, List, [], ◌∷◌, ◌++◌, map, refl, sym, ap, ◌∙◌, nat_eq, append_assoc, append-nil}
+use Rattle.std.specs.List.{AllByRecursion, IsDistinct}
+use Rattle.std.specs.Cmp.Lexicographic.{pointwise}
+use Rattle.dom_base.specs.declared.kind.Kind.{Kind}
+use Rattle.deck.specs.declared.device.Device.{Device}
+use Rattle.deck.specs.CircuitData.{CircuitData}
+use Rattle.deck.specs.NamedDevices.{NamedDevice, device_of, map_device, with_devices}
+use Rattle.deck.specs.Nets.{net_number, with_net, with_nets}
+use Rattle.deck.specs.Pushes.{pushed}
+use Rattle.deck.proofs.NetNumbers.{HasNumber, IsDistinct-with_net, Longer, Longer-trans, net_number-kept, with_net-grows}
+
+-- a later state of a circuit that only grew
+pub record Grew (old new : CircuitData) : Type 0 where
+  pub more_nets : List (List ℕ)
+  pub more_devices : List Device
+  pub name : new.name ≡ old.name
+  pub phases : new.phases ≡ old.phases
+  pub ports : new.ports ≡ old.ports
+  pub nets : new.nets ≡ old.nets ++ more_nets
+  pub devices : new.devices ≡ old.devices ++ more_devices
+
+-- a push adds nets and devices at the end and changes nothing else
+pub pushed-grew : (c : CircuitData) (kind : Kind) (d g s : List ℕ) → Grew c (pushed c kind d g s)
+pushed-grew c kind d g s =
+    let a = with_net-grows c.nets d in
+    let b = with_net-grows (with_net c.nets d) g in
+    let e = with_net-grows (with_net (with_net c.nets d) g) s in
+    record {
+      more_nets = a.0 ++ b.0 ++ e.0;
+      more_devices = _;
+      name = refl;
+      phases = refl;
+      ports = refl;
+      nets = e.1 ∙ ap (λ l. l ++ e.0) b.1 ∙ ap (λ l. l ++ b.0 ++ e.0) a.1 ∙ ap (λ l. l ++ e.0) (append_assoc c.nets a.0 b.0) ∙ append_assoc c.nets (a.0 ++ b.0) e.0;
+      devices = refl;
+    }
+
+pub Grew-trans : (a b c : CircuitData) → Grew a b → Grew b c → Grew a c
+Grew-trans a b c x y = record {
+  more_nets = x.more_nets ++ y.more_nets;
+  more_devices = x.more_devices ++ y.more_devices;
+  name = y.name ∙ x.name;
+  phases = y.phases ∙ x.phases;
+  ports = y.ports ∙ x.ports;
+  nets = y.nets ∙ ap (λ l. l ++ y.more_nets) x.nets ∙ append_assoc a.nets x.more_nets y.more_nets;
+  devices = y.devices ∙ ap (λ l. l ++ y.more_devices) x.devices ∙ append_assoc a.devices x.more_devices y.more_devices;
+}
+
+-- one more device, at the end
+pub with_devices-push : (c : CircuitData) (ds : List (NamedDevice (List ℕ))) (d : NamedDevice (List ℕ)) → with_devices c (ds ++ d ∷ []) ≡ pushed (with_devices c ds) d.kind d.drain d.gate d.source
+with_devices-push c [] d = refl
+with_devices-push c (e ∷ ds) d = with_devices-push (pushed c e.kind e.drain e.gate e.source) ds d
+
+-- devices only add to a circuit
+pub with_devices-grew : (c : CircuitData) (ds : List (NamedDevice (List ℕ))) → Grew c (with_devices c ds)
+with_devices-grew c [] = record { more_nets = []; more_devices = []; name = refl; phases = refl; ports = refl; nets = sym (append-nil c.nets); devices = sym (append-nil c.devices) }
+with_devices-grew c (d ∷ ds) =
+    Grew-trans c (pushed c d.kind d.drain d.gate d.source) (with_devices c (d ∷ ds))
+    (pushed-grew c d.kind d.drain d.gate d.source) (with_devices-grew (pushed c d.kind d.drain d.gate d.source) ds)
+
+pub with_devices-distinct : (c : CircuitData) (ds : List (NamedDevice (List ℕ))) → IsDistinct (pointwise nat_eq) c.nets → IsDistinct (pointwise nat_eq) (with_devices c ds).nets
+with_devices-distinct c [] apart = apart
+with_devices-distinct c (d ∷ ds) apart =
+    with_devices-distinct (pushed c d.kind d.drain d.gate d.source) ds
+    (IsDistinct-with_net (with_net (with_net c.nets d.drain) d.gate) d.source (IsDistinct-with_net (with_net c.nets d.drain) d.gate (IsDistinct-with_net c.nets d.drain apart)))
+
+-- the device by the numbers of its nets
+abbrev pub numbered_device : List (List ℕ) → NamedDevice (List ℕ) → Device
+numbered_device nets d = device_of (map_device (net_number nets) d)
+
+-- each net of the device has a number
+abbrev pub IsNumberedDevice : List (List ℕ) → NamedDevice (List ℕ) → Type 0
+IsNumberedDevice nets d = HasNumber nets d.drain × HasNumber nets d.gate × HasNumber nets d.source
+
+-- the device that is added is the device by the numbers in the end
+record IsKept (old new : List (List ℕ)) (d : NamedDevice (List ℕ)) : Type 0 where
+  numbers : record { kind = d.kind; drain = net_number old d.drain; gate = net_number (with_net old d.drain) d.gate; source = net_number (with_net (with_net old d.drain) d.gate) d.source } ≡ numbered_device new d
+  stand : IsNumberedDevice new d
+
+is_kept : (old new : List (List ℕ)) (d : NamedDevice (List ℕ)) → Longer (with_nets old d.drain d.gate d.source) new → IsKept old new d
+is_kept old new d longer =
+    let a = with_net old d.drain in
+    let b = with_net a d.gate in
+    let c = with_net b d.source in
+    let from_b : Longer b new = Longer-trans b c new (with_net-grows b d.source) longer in
+    let from_a : Longer a new = Longer-trans a b new (with_net-grows a d.gate) from_b in
+    let drain = net_number-kept old new d.drain from_a in
+    let gate = net_number-kept a new d.gate from_b in
+    let source = net_number-kept b new d.source longer in
+    record {
+      numbers = λ i. record { kind = d.kind; drain = drain.0 i; gate = gate.0 i; source = source.0 i };
+      stand = (drain.1, gate.1, source.1);
+    }
+
+pub with_devices-devices : (c : CircuitData) (ds : List (NamedDevice (List ℕ)))
+    → (with_devices c ds).devices ≡ c.devices ++ map (numbered_device (with_devices c ds).nets) ds
+with_devices-devices c [] = sym (append-nil c.devices)
+with_devices-devices c (d ∷ ds) =
+    let p = pushed c d.kind d.drain d.gate d.source in
+    let grew = with_devices-grew p ds in
+    let new = (with_devices p ds).nets in
+    let kept = is_kept c.nets new d (grew.more_nets, grew.nets) in
+    with_devices-devices p ds
+    ∙ append_assoc c.devices (record { kind = d.kind; drain = net_number c.nets d.drain; gate = net_number (with_net c.nets d.drain) d.gate; source = net_number (with_net (with_net c.nets d.drain) d.gate) d.source } ∷ []) (map (numbered_device new) ds)
+    ∙ ap (λ e. c.devices ++ e ∷ map (numbered_device new) ds) kept.numbers
+
+pub with_devices-numbered : (c : CircuitData) (ds : List (NamedDevice (List ℕ))) → AllByRecursion (IsNumberedDevice (with_devices c ds).nets) ds
+with_devices-numbered c [] = tt
+with_devices-numbered c (d ∷ ds) =
+    let p = pushed c d.kind d.drain d.gate d.source in
+    let grew = with_devices-grew p ds in
+    ((is_kept c.nets (with_devices p ds).nets d (grew.more_nets, grew.nets)).stand, with_devices-numbered p ds)
