@@ -3,12 +3,12 @@ use Rattle.std.proofs.Common.{◌≡◌, ◌⊎◌, ℕ, List, None, Some, inl, 
 use Rattle.std.specs.Prelude.{IfSome}
 use Rattle.dom_io.specs.Held.{held}
 use Rattle.domsyn.specs.declared.refusal.Refusal.{Refusal}
-use Rattle.domsyn.specs.Commands.{Asks, Command, Synth}
+use Rattle.command_words.specs.Commands.{Asks, Command, Synth}
 use Rattle.domsyn.specs.Decks.{IsBuildable}
 use Rattle.domsyn.specs.Outcomes.{Files, IsOutcome, Outcome, Refused, Told, status_of}
 use Rattle.domsyn.specs.Refusals.{refusal_line}
 use Rattle.domsyn.specs.Top.{Comes, IsPulledDeck}
-use Rattle.domsyn.proofs.AskedOnce.{asks_one}
+use Rattle.command_words.proofs.AskedOnce.{asks_one}
 use Rattle.domsyn.proofs.Causes.{not_both}
 use Rattle.domsyn.proofs.OneOutcome.{one_outcome}
 use Rattle.domsyn.proofs.PulledDown.{pulled_deck}

@@ -5,7 +5,7 @@ use Rattle.domsyn.specs.declared.outcome.Stop.{Stop}
 use Rattle.domsyn.specs.declared.outcome.Stop.TheVariants as stop
 use Rattle.domsyn.specs.declared.refusal.Refusal.{Refusal}
 use Rattle.domsyn.specs.declared.refusal.Refusal.TheVariants.{TooLong, Blif, NotBuilt, Deck, Ports, Stim}
-use Rattle.domsyn.specs.Commands.{Synth, Sim}
+use Rattle.command_words.specs.Commands.{Synth, Sim}
 use Rattle.domsyn.specs.Decks.{IsDeckFor}
 use Rattle.domsyn.specs.Outcomes.{Files, IsDeck, IsFile, IsSimRefusal}
 use Rattle.domsyn.specs.Refusals.{IsRefusedFor}

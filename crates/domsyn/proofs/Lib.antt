@@ -1,5 +1,4 @@
 pub mod Apart
-pub mod AskedOnce
 pub mod BalancedTrees
 pub mod Causes
 pub mod CellNetNames
@@ -12,10 +11,8 @@ pub mod DeckNames
 pub mod EscapedNames
 pub mod FileNames
 pub mod FilesOfTables
-pub mod GivenOptions
 pub mod Literals
 pub mod NetNames
-pub mod NumberWords
 pub mod OneDeck
 pub mod OneOutcome
 pub mod PulledDown

@@ -2,7 +2,7 @@
 use Rattle.std.proofs.Common.{ℕ, List, None, Some, refl, length}
 use Rattle.domsyn.specs.declared.outcome.Stop.{Stop}
 use Rattle.domsyn.specs.declared.outcome.Stop.TheVariants as stop
-use Rattle.domsyn.specs.Commands.{Asks, Command}
+use Rattle.command_words.specs.Commands.{Asks, Command}
 use Rattle.domsyn.specs.Outcomes.{Files}
 use Rattle.domsyn.specs.Stops.{HasRoomForStop, IsStopOf}
 use Rattle.domsyn.specs.Refusals.{refusal_line}

@@ -5,7 +5,7 @@ use Rattle.dom_io.specs.Held.{held}
 use Rattle.domsyn.specs.declared.outcome.Stop.{Stop}
 use Rattle.domsyn.specs.declared.outcome.Stop.TheVariants as stop
 use Rattle.domsyn.specs.declared.refusal.Refusal.{Refusal}
-use Rattle.domsyn.specs.Commands.{Asks, Command, Synth}
+use Rattle.command_words.specs.Commands.{Asks, Command, Synth}
 use Rattle.domsyn.specs.Decks.{IsBuildable}
 use Rattle.domsyn.specs.Outcomes.{Files, Outcome, Refused, status_of}
 use Rattle.domsyn.specs.Refusals.{refusal_line}

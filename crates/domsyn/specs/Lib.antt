@@ -1,15 +1,12 @@
-pub mod Asked
 pub mod Balanced
 pub mod Bits
 pub mod CellNames
-pub mod Commands
 pub mod Deck
 pub mod Decks
 pub mod KindNames
 pub mod Laws
 pub mod OneTable
 pub mod OneTableData
-pub mod OptionWords
 pub mod Outcomes
 pub mod PullDown
 pub mod Refusals

@@ -2,7 +2,7 @@ use Rattle.std.specs.Prelude.{ℕ, ◌<◌, ◌≤◌, ◌≡◌, ◌⊎◌, Boo
 use Rattle.dom_io.specs.Held.{file_limit, held}
 use Rattle.domsyn.specs.declared.refusal.Refusal.{Refusal}
 use Rattle.domsyn.specs.declared.refusal.Refusal.TheVariants.{TooLong, Blif, NotBuilt, Deck, Ports, Stim}
-use Rattle.domsyn.specs.Commands.{Command, Synth, Sim}
+use Rattle.command_words.specs.Commands.{Command, Synth, Sim}
 use Rattle.domsyn.specs.Decks.{IsDeckFor}
 use Rattle.domsyn.specs.Refusals.{IsRefusedFor}
 use Rattle.trace_tool.specs.Refusals.{IsRefused}

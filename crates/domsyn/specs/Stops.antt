@@ -1,7 +1,7 @@
 use Rattle.std.specs.Prelude.{ℕ, ◌≡◌, ◌⊎◌, List, length}
 use Rattle.domsyn.specs.declared.outcome.Stop.{Stop}
 use Rattle.domsyn.specs.declared.outcome.Stop.TheVariants as stop
-use Rattle.domsyn.specs.Commands.{Command}
+use Rattle.command_words.specs.Commands.{Command}
 use Rattle.domsyn.specs.Outcomes.{Files, IsOutcome, IsTooLong, IsUnread, Refused}
 use Rattle.domsyn.specs.Refusals.{IsRefusedFor, refusal_line}
 use Rattle.domsyn.specs.Top.{line_of, unread_line}

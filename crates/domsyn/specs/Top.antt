@@ -3,7 +3,7 @@ use Rattle.std.specs.Io.KnownBytes.{Appends}
 use Rattle.dom_io.specs.Faults.{Rose}
 use Rattle.dom_io.specs.Pieces.{AppendsPrefix}
 use Rattle.domsyn.specs.declared.refusal.Refusal.{Refusal}
-use Rattle.domsyn.specs.Commands.{Asks, Command, Synth}
+use Rattle.command_words.specs.Commands.{Asks, Command, Synth}
 use Rattle.domsyn.specs.Decks.{IsPulledDeckFor}
 use Rattle.domsyn.specs.Outcomes.{Files, IsFile, IsOutcome, IsUnread, Outcome, Told, Refused}
 use Rattle.domsyn.specs.Refusals.{refusal_line}

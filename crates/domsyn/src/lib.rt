@@ -3,7 +3,6 @@
 
 mod cell;
 mod check;
-mod command;
 mod fetch;
 mod kind_name;
 mod laws;
@@ -12,12 +11,11 @@ mod one_table;
 mod outcome;
 mod program;
 mod refusal;
-mod settings;
 mod simulate;
 mod synth;
 mod tell;
-mod words;
 
-pub use laws::{asked_is_one, outcome_is_one};
+pub use command_words::asked_is_one;
+pub use laws::outcome_is_one;
 pub use one_table::OneTable;
 pub use program::top;

@@ -3,16 +3,16 @@ ghost use Rattle.std.specs.Prelude.{◌≡◌, ◌≤◌, ◌↔◌, ℕ, List, 
 ghost use Rattle.dom_io.specs.Faults.{Rose};
 ghost use Rattle.domsyn.specs.declared.outcome.Stop.{Stop as Stopped};
 ghost use Rattle.domsyn.specs.declared.outcome.Stop.TheVariants.{Memory};
-ghost use Rattle.domsyn.specs.Asked.{asked};
-ghost use Rattle.domsyn.specs.Commands.{HasNoProbe, files_of};
+ghost use Rattle.command_words.specs.Asked.{asked};
+ghost use Rattle.command_words.specs.Commands.{HasNoProbe, files_of};
 ghost use Rattle.domsyn.specs.Outcomes.{IsOutcome, Told};
 ghost use Rattle.domsyn.specs.Stops.{IsStopOf};
 
-use crate::command::Command;
 use crate::fetch::fetch;
 use crate::refusal::Refusal;
 use crate::simulate::simulate;
 use crate::synth::synth;
+use command_words::Command;
 use dom_base::OutOfMemory;
 use dom_io::Shelf;
 use std::alloc::Global;

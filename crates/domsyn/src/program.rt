@@ -6,7 +6,7 @@ ghost use Rattle.dom_io.specs.Faults.{Rose};
 ghost use Rattle.dom_io.specs.Held.{held};
 ghost use Rattle.dom_io.specs.Pieces.{AppendsPrefix};
 ghost use Rattle.domsyn.specs.declared.refusal.Refusal.{Refusal};
-ghost use Rattle.domsyn.specs.Commands.{Asks, Command, Synth, files_of};
+ghost use Rattle.command_words.specs.Commands.{Asks, Command, Synth, files_of};
 ghost use Rattle.domsyn.specs.Decks.{IsBuildable};
 ghost use Rattle.domsyn.specs.Outcomes.{Outcome, Refused, Told, status_of};
 ghost use Rattle.domsyn.specs.Refusals.{refusal_line};
@@ -14,7 +14,7 @@ ghost use Rattle.domsyn.specs.Top.{Comes, HasRoomFor, IsPulledDeck, IsRefusalLin
 
 use crate::outcome::outcome_of;
 use crate::tell::{put, tell, tell_stop};
-use crate::words::command_of;
+use command_words::command_of;
 use dom_io::{Shelf, Sink};
 use std::alloc::Global;
 

@@ -2,8 +2,8 @@ use Rattle.std.proofs.Common.{ℕ, List, sym, subst, arith}
 use Rattle.std.proofs.lemmas.Result.{err_from_is_err_and, IfOk-weaker}
 use Rattle.std.specs.Prelude.{if◌then◌else◌}
 use Rattle.dom_io.specs.Faults.{Rose}
-use Rattle.domsyn.specs.Asked.{asked}
-use Rattle.domsyn.specs.declared.command.Command.{Command}
+use Rattle.command_words.specs.Asked.{asked}
+use Rattle.command_words.specs.declared.command.Command.{Command}
 use Rattle.domsyn.specs.Outcomes.{Files, IsFile, IsOutcome, Told}
 use Rattle.domsyn.specs.Stops.{IsStopOf, IsUnbuilt, IsUnfetched}
 use Rattle.domsyn.proofs.CommandEnds.{synth_unfetched, deck_unfetched, stim_unfetched, synth_unbuilt, sim_untraced, synth_told}

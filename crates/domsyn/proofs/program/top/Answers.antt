@@ -1,6 +1,6 @@
 use Rattle.std.proofs.Common.{map, refl, arith}
 use Rattle.std.specs.String.{string_bytes}
-use Rattle.domsyn.specs.Asked.{asked}
+use Rattle.command_words.specs.Asked.{asked}
 use Rattle.domsyn.specs.Top.{IsText}
 use Rattle.domsyn.proofs.Coming.{none_asked, put_built, put_complete, put_other, told_is_pulled}
 use Rattle.domsyn.proofs.Rooms.{room_for_stop, room_of}

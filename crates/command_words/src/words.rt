@@ -1,17 +1,17 @@
 //! The words of the command line.
 ghost use Rattle.std.specs.Prelude.{◌∷◌, MatchOption, IsTrue, ◌↔◌, codes, map};
 ghost use Rattle.std.specs.String.{string_bytes};
-ghost use Rattle.domsyn.specs.Asked.{asked};
-ghost use Rattle.domsyn.specs.Commands.{Asks, IsFileWord, Command as Plain};
+ghost use Rattle.command_words.specs.Asked.{asked};
+ghost use Rattle.command_words.specs.Commands.{Asks, IsFileWord, Command as Plain};
 
 use crate::command::Command;
-use crate::settings::{Given, given_by};
+use crate::options::options_of;
 use std::alloc::Global;
-use trace_tool::{Order, TraceOptions};
 
 /// What the words ask for: the name of a command, its files, then its options.
 pub fn command_of<'a>(alloc: Global, words: &'a [String]) -> Option<Command<'a>>
-    ensures { MatchOption result ((command : Plain) → Asks (map string_bytes words.now) command → ⊥) (λ command. Asks (map string_bytes words.now) (asked command)) }
+    ensures { MatchOption result ((command : Plain) → Asks (map string_bytes words.now) command → ⊥)
+        (λ command. Asks (map string_bytes words.now) (asked command)) }
 {
     let [name, rest @ ..] = words else {
         return None
@@ -25,7 +25,8 @@ pub fn command_of<'a>(alloc: Global, words: &'a [String]) -> Option<Command<'a>>
 
 /// The command `synth FILE` by the words behind its name.
 fn synth_of<'a>(words: &'a [String]) -> Option<Command<'a>>
-    ensures { MatchOption result ((command : Plain) → Asks (codes "synth" ∷ map string_bytes words.now) command → ⊥) (λ command. Asks (codes "synth" ∷ map string_bytes words.now) (asked command)) }
+    ensures { MatchOption result ((command : Plain) → Asks (codes "synth" ∷ map string_bytes words.now) command → ⊥)
+        (λ command. Asks (codes "synth" ∷ map string_bytes words.now) (asked command)) }
 {
     let [file] = words else { return None };
     let file = file.as_str();
@@ -37,7 +38,8 @@ fn synth_of<'a>(words: &'a [String]) -> Option<Command<'a>>
 
 /// The command `sim DECK STIM` with its options by the words behind its name.
 fn sim_of<'a>(alloc: Global, words: &'a [String]) -> Option<Command<'a>>
-    ensures { MatchOption result ((command : Plain) → Asks (codes "sim" ∷ map string_bytes words.now) command → ⊥) (λ command. Asks (codes "sim" ∷ map string_bytes words.now) (asked command)) }
+    ensures { MatchOption result ((command : Plain) → Asks (codes "sim" ∷ map string_bytes words.now) command → ⊥)
+        (λ command. Asks (codes "sim" ∷ map string_bytes words.now) (asked command)) }
 {
     let [deck, stim, rest @ ..] = words else {
         return None
@@ -47,22 +49,7 @@ fn sim_of<'a>(alloc: Global, words: &'a [String]) -> Option<Command<'a>>
     if !is_file(deck) || !is_file(stim) {
         return None;
     }
-    let Some(given) = given_by(
-        rest,
-        Given {
-            order: None,
-            seed: None,
-            events: false,
-        },
-    ) else {
-        return None
-    };
-    let options = TraceOptions {
-        order: given.order.unwrap_or(Order::First),
-        seed: given.seed.unwrap_or(0),
-        probes: Vec::new(alloc),
-        events: given.events,
-    };
+    let options = options_of(alloc, rest)?;
     Some(Command::Sim {
         deck,
         stim,

@@ -6,7 +6,7 @@ use Rattle.std.specs.Result.{result_ok}
 use Rattle.std.specs.Str.Parse.{ParsesUnsigned, IsNumeral, without_leading_plus, digits_value}
 use Rattle.std.proofs.lemmas.List.Elements.{All-from_recursion, recursion_from_All}
 use Rattle.std.proofs.lemmas.Str.Parse.{IsNumeralModel, numerals_by_fold, without_leading_plus_none, without_leading_plus_plus}
-use Rattle.domsyn.specs.Commands.{IsDigit, IsNumberWord, number_behind}
+use Rattle.command_words.specs.OptionWords.{IsDigit, IsNumberWord, number_behind}
 
 by_digits : IsNumeralModel (AllByRecursion IsDigit) (number_behind 0)
 by_digits = numerals_by_fold _ (search rules) number_behind (search rules)

@@ -1,0 +1,41 @@
+-- The commands, and the words of a command line that ask for each: its name, its files, then its options.
+use Rattle.std.specs.Prelude.{ℕ, ◌≡◌, ◌≢◌, false, List, [], ◌∷◌, codes, nat_eq}
+use Rattle.std.specs.List.{starts_with}
+use Rattle.trace_tool.specs.TraceData.{TraceOptionsData}
+use Rattle.command_words.specs.OptionWords.{AreOptions}
+
+-- what the program is asked for: the deck of a file, or the trace of a deck over a stimulus
+pub data Command : Type 0 where
+  Synth : (file : List ℕ) → Command
+  Sim : (deck stim : List ℕ) → (options : TraceOptionsData) → Command
+
+-- the files of a command, in order
+abbrev pub files_of : Command → List (List ℕ)
+files_of (Synth file) = file ∷ []
+files_of (Sim deck stim options) = deck ∷ stim ∷ []
+
+-- a command that prints the changes of no net alone
+abbrev pub HasNoProbe : Command → Type 0
+HasNoProbe (Synth file) = Unit {0}
+HasNoProbe (Sim deck stim options) = options.probes ≡ []
+
+-- a word that names a file: not empty, and not begun with `-`
+pub record IsFileWord (word : List ℕ) : Type 0 where
+  pub some : word ≢ []
+  pub no_dash : starts_with nat_eq word (codes "-") ≡ false
+
+pub record AsksSynth (words : List (List ℕ)) (file : List ℕ) : Type 0 where
+  pub words_are : words ≡ codes "synth" ∷ file ∷ []
+  pub is_file : IsFileWord file
+
+pub record AsksSim (words : List (List ℕ)) (deck stim : List ℕ) (options : TraceOptionsData) : Type 0 where
+  pub more : List (List ℕ)
+  pub words_are : words ≡ codes "sim" ∷ deck ∷ stim ∷ more
+  pub is_deck : IsFileWord deck
+  pub is_stim : IsFileWord stim
+  pub are_options : AreOptions more options
+
+-- the words ask for the command
+abbrev pub Asks : List (List ℕ) → Command → Type 0
+Asks words (Synth file) = AsksSynth words file
+Asks words (Sim deck stim options) = AsksSim words deck stim options

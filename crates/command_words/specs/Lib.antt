@@ -1,0 +1,5 @@
+pub mod Asked
+pub mod Commands
+pub mod GivenOptions
+pub mod Laws
+pub mod OptionWords

@@ -1,0 +1,11 @@
+//! What the words of the command line ask for: a command, its files and its options.
+#![tactic(auto)]
+
+mod command;
+mod laws;
+mod options;
+mod words;
+
+pub use command::Command;
+pub use laws::asked_is_one;
+pub use words::command_of;

@@ -1,8 +1,0 @@
-use Rattle.domsyn.specs.Commands.{Command, Synth, Sim}
-use Rattle.domsyn.specs.declared.command.Command.{Command as Read}
-use Rattle.domsyn.specs.declared.command.Command.TheVariants.{Synth as read_synth, Sim as read_sim}
-
--- a command that was read from the words, as plain data
-abbrev pub asked : Read → Command
-asked (read_synth file) = Synth file.now
-asked (read_sim deck stim options) = Sim deck.now stim.now options
