@@ -1,3 +1,3 @@
 pub mod OneAnswer
 pub mod PinLetters
-pub mod Progress
+pub mod ReadLines

@@ -1,13 +1,11 @@
 -- The letters of pins, and the pins of letters without fault.
 use Rattle.std.proofs.Common.{◌≡◌, ℕ, zero, suc, ◌<◌, Bool, true, false, ◌&&◌, ◌||◌, ◌==◌, List, [], ◌∷◌, length, get_or, drop, map, refl, sym, ap, ◌∙◌, subst, arith, eqb-true, ne_eqb, eq-eqb}
 use Rattle.std.proofs.lemmas.Bool.{false≢true}
+use Rattle.dom_base.proofs.Bools.{and_both}
+use Rattle.dom_base.proofs.Lists.{head_same, map-injective}
 use Rattle.stim_text.specs.CycleLines.{bit_letter, pin_letters}
-use Rattle.stim_text.specs.Stimuli.{is_letter, are_letters, is_dash, has_width}
+use Rattle.stim_text.specs.Stimuli.{is_pin_letter, are_letters, is_dash, has_width}
 use Rattle.stim_text.specs.LinesRead.{IsPinsOf, is_good}
-
-pub both : (a b : Bool) → (a && b) ≡ true → (a ≡ true) × (b ≡ true)
-both true b h = (refl, h)
-both false b h = absurd (false≢true h)
 
 pub positive : (width : ℕ) → 0 < width → (width == 0) ≡ false
 positive width some = ne_eqb width 0 (λ is. omega (arith, is, some))
@@ -21,13 +19,13 @@ bit_back b false other h = by (b == 48) refl h
     by true is k = sym (eqb-true b 48 is)
     by false is k = absurd (false≢true k)
 
-letter_back : (width b : ℕ) → (width == 0) ≡ false → is_letter width b ≡ true → bit_letter (b == 49) ≡ b
+letter_back : (width b : ℕ) → (width == 0) ≡ false → is_pin_letter width b ≡ true → bit_letter (b == 49) ≡ b
 letter_back width b some h = bit_back b (b == 49) refl (sym (ap (λ none. ((b == 48) || (b == 49)) || (none && (b == 45))) some) ∙ h)
 
 letters_back : (width : ℕ) (letters : List ℕ) → (width == 0) ≡ false → are_letters width letters ≡ true → map bit_letter (map (λ b. b == 49) letters) ≡ letters
 letters_back width [] some h = refl
 letters_back width (b ∷ bs) some h =
-    let p = both (is_letter width b) (are_letters width bs) h in
+    let p = and_both (is_pin_letter width b) (are_letters width bs) h in
     let first = letter_back width b some p.0 in
     let rest = letters_back width bs some p.1 in
     cc
@@ -43,15 +41,15 @@ dash_is (b ∷ next ∷ bs) h = absurd (false≢true h)
 
 -- where there are no pins, letters without fault are `-`
 pub no_pins : (letters : List ℕ) → is_good 0 letters ≡ true → IsPinsOf 0 letters []
-no_pins letters good = record { letters_are = sym (dash_is letters (both (are_letters 0 letters) (is_dash letters) good).1); width_is = refl }
+no_pins letters good = record { letters_are = sym (dash_is letters (and_both (are_letters 0 letters) (is_dash letters) good).1); width_is = refl }
 
 -- else there is a letter for each pin
 some_pins : (width : ℕ) (letters : List ℕ) → 0 < width → is_good width letters ≡ true → (width == 0) ≡ false → has_width width letters ≡ (length letters == width) → IsPinsOf width letters (map (λ b. b == 49) letters)
 some_pins width [] some good flag test =
-    let long = eqb-true 0 width (sym test ∙ (both (are_letters width []) (has_width width []) good).1) in
+    let long = eqb-true 0 width (sym test ∙ (and_both (are_letters width []) (has_width width []) good).1) in
     absurd (omega (arith, some, long))
 some_pins width (b ∷ bs) some good flag test =
-    let p = both (are_letters width (b ∷ bs)) (has_width width (b ∷ bs)) good in
+    let p = and_both (are_letters width (b ∷ bs)) (has_width width (b ∷ bs)) good in
     record {
       letters_are = letters_back width (b ∷ bs) flag p.0;
       width_is = length-map_bits (b ∷ bs) ∙ eqb-true (length (b ∷ bs)) width (sym test ∙ p.1);
@@ -96,25 +94,10 @@ no_dash : (x : Bool) → bit_letter x ≡ 45 → ⊥
 no_dash true e = omega (arith, e)
 no_dash false e = omega (arith, e)
 
-pub head_is : {X : Type 0} (x y : X) (xs ys : List X) → x ∷ xs ≡ y ∷ ys → x ≡ y
-head_is x y xs ys e = ap (λ l. get_or l 0 x) e
-
-pub tail_is : {X : Type 0} (x y : X) (xs ys : List X) → x ∷ xs ≡ y ∷ ys → xs ≡ ys
-tail_is x y xs ys e = ap (drop 1) e
-
-map-injective : {X Y : Type 0} (f : X → Y) → ((x y : X) → f x ≡ f y → x ≡ y) → (xs ys : List X) → map f xs ≡ map f ys → xs ≡ ys
-map-injective f one [] [] e = refl
-map-injective f one [] (y ∷ ys) e = absurd (omega (arith, ap length e))
-map-injective f one (x ∷ xs) [] e = absurd (omega (arith, ap length e))
-map-injective f one (x ∷ xs) (y ∷ ys) e =
-    let first = one x y (head_is (f x) (f y) (map f xs) (map f ys) e) in
-    let rest = map-injective f one xs ys (tail_is (f x) (f y) (map f xs) (map f ys) e) in
-    cc
-
 pin_letters-injective : (xs ys : List Bool) → pin_letters xs ≡ pin_letters ys → xs ≡ ys
 pin_letters-injective [] [] e = refl
-pin_letters-injective [] (y ∷ ys) e = absurd (no_dash y (sym (head_is 45 (bit_letter y) [] (map bit_letter ys) e)))
-pin_letters-injective (x ∷ xs) [] e = absurd (no_dash x (head_is (bit_letter x) 45 (map bit_letter xs) [] e))
+pin_letters-injective [] (y ∷ ys) e = absurd (no_dash y (sym (head_same e)))
+pin_letters-injective (x ∷ xs) [] e = absurd (no_dash x (head_same e))
 pin_letters-injective (x ∷ xs) (y ∷ ys) e = map-injective bit_letter bit_letter-injective (x ∷ xs) (y ∷ ys) e
 
 pub cycles-injective : (xs ys : List (List Bool)) → map pin_letters xs ≡ map pin_letters ys → xs ≡ ys

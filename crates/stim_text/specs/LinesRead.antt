@@ -1,8 +1,9 @@
+-- What the reader makes of one line.
 use Rattle.std.specs.Prelude.{ℕ, ◌≡◌, ◌&&◌, Bool, true, List, [], ◌∷◌, ◌++◌, length}
 use Rattle.dom_base.specs.Lines.{is_word}
 use Rattle.stim_text.specs.CycleLines.{pin_letters}
 use Rattle.stim_text.specs.declared.fault.StimKind.{StimKind}
-use Rattle.stim_text.specs.Stimuli.{are_letters, has_width, has_fault}
+use Rattle.stim_text.specs.Stimuli.{are_letters, has_width, has_stim_fault}
 
 -- a line without fault
 abbrev pub is_good : ℕ → List ℕ → Bool
@@ -21,4 +22,4 @@ IsLineRead width (b ∷ bs) before after = (pins : List Bool) × (is_good width 
 -- a line with these letters has letters, and a fault of this kind
 pub record IsLineFault (width : ℕ) (letters : List ℕ) (kind : StimKind) : Type 0 where
   pub some : is_word letters ≡ true
-  pub fault : has_fault width kind letters ≡ true
+  pub fault : has_stim_fault width kind letters ≡ true

@@ -1,5 +1,6 @@
 //! Why a stimulus isn't read.
 ghost use Rattle.std.specs.Prelude.{◌≡◌};
+ghost use Rattle.stim_text.specs.Stimuli.{stim_kind_word};
 ghost use Rattle.stim_text.specs.declared.fault.StimFault.TheVariants.{Memory};
 
 use dom_base::OutOfMemory;
@@ -15,7 +16,19 @@ pub enum StimKind {
     BadLength,
 }
 
-/// Why a text isn't read as a stimulus: the first line with a fault, from 1, and its kind, or want of memory.
+impl StimKind {
+    /// The word for the kind, as it is printed.
+    pub fn word(self) -> &'static str
+        ensures { result.now ≡ stim_kind_word self }
+    {
+        match self {
+            StimKind::BadLetter => "BadLetter",
+            StimKind::BadLength => "BadLength",
+        }
+    }
+}
+
+/// Why a text isn't read as a stimulus: the first line with a fault, from 1, and its kind, or out of memory.
 #[derive(Debug, Drop, Error)]
 pub enum StimFault {
     #[error("a fault in the stimulus")]

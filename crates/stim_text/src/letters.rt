@@ -1,6 +1,6 @@
 //! The letters of a line.
 ghost use Rattle.std.specs.Prelude.{◌≡◌, ◌==◌, ◌++◌, IfOk, OnOk, MatchOption, true, map};
-ghost use Rattle.stim_text.specs.Stimuli.{letters_of, is_letter, are_letters, has_width, has_fault, is_dash};
+ghost use Rattle.stim_text.specs.Stimuli.{letters_of, is_pin_letter, are_letters, has_width, has_stim_fault, is_dash};
 ghost use Rattle.stim_text.specs.LinesRead.{IsPinsOf, is_good};
 
 use crate::{Pins, StimKind};
@@ -20,7 +20,7 @@ pub fn letters_of(alloc: Global, line: &[u8]) -> Result<Vec<u8>, AllocError>
 
 /// The fault of letters for this number of pins, if they have one.
 pub fn fault_of(letters: &[u8], width: u32) -> Option<StimKind>
-    ensures { MatchOption result (is_good width letters.now ≡ true) (λ kind. has_fault width kind letters.now ≡ true) }
+    ensures { MatchOption result (is_good width letters.now ≡ true) (λ kind. has_stim_fault width kind letters.now ≡ true) }
 {
     if !are_letters(letters, width) {
         Some(StimKind::BadLetter)
@@ -35,15 +35,15 @@ fn are_letters(letters: &[u8], width: u32) -> bool
     ensures { result ≡ are_letters width letters.now }
 {
     for letter in letters {
-        if !is_letter(*letter, width) {
+        if !is_pin_letter(*letter, width) {
             return false;
         }
     }
     true
 }
 
-fn is_letter(letter: u8, width: u32) -> bool
-    ensures { result ≡ is_letter width letter }
+fn is_pin_letter(letter: u8, width: u32) -> bool
+    ensures { result ≡ is_pin_letter width letter }
 {
     letter == b'0' || letter == b'1' || (width == 0 && letter == b'-')
 }

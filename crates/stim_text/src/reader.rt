@@ -1,6 +1,6 @@
 //! The reader.
 ghost use Rattle.std.specs.Prelude.{ℕ, ◌≡◌, ◌<◌, ◌+◌, IfOk, IsErrOf, OnOk};
-ghost use Rattle.stim_text.specs.Stimuli.{IsStimulusOf, IsFaultAt, letters_of};
+ghost use Rattle.stim_text.specs.Stimuli.{IsStimulusOf, IsStimFaultAt, letters_of};
 ghost use Rattle.stim_text.specs.LinesRead.{IsLineRead, IsLineFault};
 
 use crate::letters::{fault_of, letters_of, pins_of};
@@ -15,7 +15,7 @@ use std::alloc::Global;
 /// pin, or `-` where there are no pins. Lines are numbered from 1.
 pub fn read_stim(alloc: Global, text: &[u8], width: u32) -> Result<Vec<Pins>, StimFault>
     ensures stimulus { IfOk result (λ cycles. IsStimulusOf width text.now cycles.items) }
-    ensures fault { (line : ℕ) (kind : _) → IsErrOf result (StimFault.At line kind) → IsFaultAt width text.now line kind }
+    ensures fault { (line : ℕ) (kind : _) → IsErrOf result (StimFault.At line kind) → IsStimFaultAt width text.now line kind }
 {
     let mut cycles = Vec::new(alloc);
     let mut rest = text;

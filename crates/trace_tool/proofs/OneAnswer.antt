@@ -11,7 +11,7 @@ use Rattle.deck.proofs.DeckUnique.{IsDeckOf-unique}
 use Rattle.deck.proofs.PortOrder.{LeavesRolesAt-same}
 use Rattle.deck.proofs.PortLayout.{AreRoles-same}
 use Rattle.spice_read.proofs.OneAnswer.{one_answer as deck_answer}
-use Rattle.stim_text.specs.Stimuli.{IsFaultAt, IsStimulusOf}
+use Rattle.stim_text.specs.Stimuli.{IsStimFaultAt, IsStimulusOf}
 use Rattle.stim_text.specs.declared.fault.StimKind.{StimKind}
 use Rattle.stim_text.proofs.OneAnswer.{one_answer as stimulus_answer}
 use Rattle.trace_tool.specs.declared.fault.TraceFault.{TraceFault}
@@ -32,15 +32,15 @@ deck_fault_same text line line' kind kind' x y = refusal_same (IsDeckOf text) (I
 
 -- at each number of pins a text is the stimulus of one list of cycles
 stimulus_same : (width : ℕ) (text : List ℕ) (a b : List (List Bool)) → IsStimulusOf width text a → IsStimulusOf width text b → a ≡ b
-stimulus_same width text a b x y = answer_same (IsStimulusOf width text) (IsFaultAt width text) (IsFaultAt width text) (stimulus_answer width text) a b x y
+stimulus_same width text a b x y = answer_same (IsStimulusOf width text) (IsStimFaultAt width text) (IsStimFaultAt width text) (stimulus_answer width text) a b x y
 
 -- one that is refused is no stimulus
-no_stimulus : (width : ℕ) (text : List ℕ) (line : ℕ) (kind : StimKind) (cycles : List (List Bool)) → IsFaultAt width text line kind → IsStimulusOf width text cycles → ⊥
-no_stimulus width text line kind cycles fault is = answer_or_refusal (IsStimulusOf width text) (IsFaultAt width text) (IsFaultAt width text) (λ l k f. f) (stimulus_answer width text) cycles line kind is fault
+no_stimulus : (width : ℕ) (text : List ℕ) (line : ℕ) (kind : StimKind) (cycles : List (List Bool)) → IsStimFaultAt width text line kind → IsStimulusOf width text cycles → ⊥
+no_stimulus width text line kind cycles fault is = answer_or_refusal (IsStimulusOf width text) (IsStimFaultAt width text) (IsStimFaultAt width text) (λ l k f. f) (stimulus_answer width text) cycles line kind is fault
 
 -- it is refused at one line for one kind
-stim_fault_same : (width : ℕ) (text : List ℕ) (line line' : ℕ) (kind kind' : StimKind) → IsFaultAt width text line kind → IsFaultAt width text line' kind' → (line ≡ line') × (kind ≡ kind')
-stim_fault_same width text line line' kind kind' x y = refusal_same (IsStimulusOf width text) (IsFaultAt width text) (IsFaultAt width text) (λ l k f. f) (stimulus_answer width text) line line' kind kind' x y
+stim_fault_same : (width : ℕ) (text : List ℕ) (line line' : ℕ) (kind kind' : StimKind) → IsStimFaultAt width text line kind → IsStimFaultAt width text line' kind' → (line ≡ line') × (kind ≡ kind')
+stim_fault_same width text line line' kind kind' x y = refusal_same (IsStimulusOf width text) (IsStimFaultAt width text) (IsStimFaultAt width text) (λ l k f. f) (stimulus_answer width text) line line' kind kind' x y
 
 -- a deck has one count of clocks, pins and outputs
 roles_same : (deck : List ℕ) (c d : CircuitData) (r q : Roles) → IsDeckOf deck c → IsDeckOf deck d
@@ -79,7 +79,7 @@ bad_stimulus_same : (deck stim : List ℕ) (line line' : ℕ) (kind kind' : Stim
 bad_stimulus_same deck stim line line' kind kind' x y =
     let roles = roles_same deck y.circuit x.circuit y.roles x.roles y.is_deck x.is_deck y.are_roles x.are_roles in
     stim_fault_same x.roles.pins stim line line' kind kind' x.fault
-    (subst (λ (r : Roles). IsFaultAt r.pins stim line' kind') roles y.fault)
+    (subst (λ (r : Roles). IsStimFaultAt r.pins stim line' kind') roles y.fault)
 
 cause_same : (deck stim : List ℕ) (a b : TraceFault) → a ≢ Memory → b ≢ Memory → IsRefused deck stim a → IsRefused deck stim b → a ≡ b
 cause_same deck stim Memory b p q x y = absurd (p refl)
@@ -106,7 +106,7 @@ trace_or_cause deck stim options a (Deck line kind) q x y = no_circuit deck line
 trace_or_cause deck stim options a (Ports place) q x y = bad_ports_apart deck place x.circuit x.roles y x.is_deck x.are_roles
 trace_or_cause deck stim options a (Stim line kind) q x y =
     let roles = roles_same deck y.circuit x.circuit y.roles x.roles y.is_deck x.is_deck y.are_roles x.are_roles in
-    no_stimulus x.roles.pins stim line kind x.cycles (subst (λ (r : Roles). IsFaultAt r.pins stim line kind) roles y.fault) x.is_stimulus
+    no_stimulus x.roles.pins stim line kind x.cycles (subst (λ (r : Roles). IsStimFaultAt r.pins stim line kind) roles y.fault) x.is_stimulus
 
 pub answer_is_one : AnswerIsOne
 answer_is_one = record { trace = trace_same; cause = cause_same; apart = trace_or_cause }

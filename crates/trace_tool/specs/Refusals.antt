@@ -4,7 +4,7 @@ use Rattle.deck.specs.DeckFaults.{IsDeckFaultAt}
 use Rattle.deck.specs.DeckText.{IsDeckOf}
 use Rattle.deck.specs.Roles.{AreRoles, LeavesRolesAt, ports_of}
 use Rattle.deck.specs.declared.role.Roles.{Roles}
-use Rattle.stim_text.specs.Stimuli.{IsFaultAt}
+use Rattle.stim_text.specs.Stimuli.{IsStimFaultAt}
 use Rattle.stim_text.specs.declared.fault.StimKind.{StimKind}
 use Rattle.trace_tool.specs.declared.fault.TraceFault.{TraceFault}
 use Rattle.trace_tool.specs.declared.fault.TraceFault.TheVariants.{Deck, Ports, Stim, Memory}
@@ -21,7 +21,7 @@ pub record HasBadStimulus (deck stim : List ℕ) (line : ℕ) (kind : StimKind) 
   pub roles : Roles
   pub is_deck : IsDeckOf deck circuit
   pub are_roles : AreRoles (ports_of circuit) roles
-  pub fault : IsFaultAt roles.pins stim line kind
+  pub fault : IsStimFaultAt roles.pins stim line kind
 
 -- a deck and a stimulus are refused for this cause; want of memory comes for none
 abbrev pub IsRefused : List ℕ → List ℕ → TraceFault → Type 0

@@ -1,6 +1,6 @@
 use Rattle.std.proofs.Common.{rules, arith, tests, sym, subst}
-use Rattle.stim_text.specs.Stimuli.{IsFaultAt}
-use Rattle.stim_text.proofs.Progress.{Reads, start, step, accepted, refused, told}
+use Rattle.stim_text.specs.Stimuli.{IsStimFaultAt}
+use Rattle.stim_text.proofs.ReadLines.{Reads, start, step, accepted, refused, same_fault}
 use Rattle.stim_text.specs.declared.fault.StimFault.TheVariants.{At}
 use Rattle.stim_text.proofs.reader.read_stim.Goals as goal
 
@@ -12,8 +12,8 @@ lines-preserved c = step c.args.width c.args.text.now c.lines.number c.lines.res
 
 pub returns-in-Err-clause-fault : goal.returns-in-Err-clause-fault
 returns-in-Err-clause-fault c = λ line kind is.
-    let f = c.in-Err.ensures.fault line kind (told c.in-Err.fault (At line kind) is) in
-    subst (λ n. IsFaultAt c.args.width c.args.text.now n kind) (sym f.0)
+    let f = c.in-Err.ensures.fault line kind (same_fault c.in-Err.fault (At line kind) is) in
+    subst (λ n. IsStimFaultAt c.args.width c.args.text.now n kind) (sym f.0)
     (refused c.args.width c.args.text.now c.lines.number c.lines.rest.now c.in-Some.line.now c.in-Some.more.now c.lines.cycles.items kind c.lines.invariant c.in-Some.ensures f.1)
 
 pub returns-clause-stimulus : goal.returns-clause-stimulus

@@ -1,5 +1,5 @@
 use Rattle.std.proofs.Common.{length}
-use Rattle.stim_text.proofs.Progress.{Reads}
+use Rattle.stim_text.proofs.ReadLines.{Reads}
 use Rattle.stim_text.proofs.reader.read_stim.Given as goal
 
 abbrev pub invariant-lines : goal.invariant-lines

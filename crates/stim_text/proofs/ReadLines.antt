@@ -3,10 +3,11 @@ use Rattle.std.proofs.Common.{◌≡◌, ℕ, ◌+◌, Bool, true, List, [], ◌
 use Rattle.std.proofs.lemmas.List.Elements.{All-nil, All-push}
 use Rattle.dom_base.specs.Cuts.{IsCut, NumbersFit}
 use Rattle.dom_base.specs.Lines.{lines, is_word}
+use Rattle.dom_base.proofs.Lists.{map-push}
 use Rattle.stim_text.specs.declared.fault.StimFault.{StimFault}
 use Rattle.stim_text.specs.declared.fault.StimKind.{StimKind}
 use Rattle.stim_text.specs.CycleLines.{pin_letters}
-use Rattle.stim_text.specs.Stimuli.{letters_of, lettered_from, lettered_lines, IsStimulusOf, IsFaultAt}
+use Rattle.stim_text.specs.Stimuli.{letters_of, lettered_from, lettered_lines, IsStimulusOf, IsStimFaultAt}
 use Rattle.stim_text.proofs.OneAnswer.{none_from_good}
 use Rattle.stim_text.specs.LinesRead.{IsPinsOf, IsLineRead, IsLineFault, is_good}
 
@@ -34,10 +35,6 @@ lettered-none number line all none = rw none refl
 
 lettered-some : (number : ℕ) (line : List ℕ) (all : List (List ℕ)) → is_word (letters_of line) ≡ true → lettered_from number (line ∷ all) ≡ (number, letters_of line) ∷ lettered_from (number + 1) all
 lettered-some number line all some = rw some refl
-
-map-push : {X Y : Type 0} (f : X → Y) (xs : List X) (x : X) → map f (xs ++ x ∷ []) ≡ map f xs ++ f x ∷ []
-map-push f [] x = refl
-map-push f (y ∷ ys) x = ap (λ l. f y ∷ l) (map-push f ys x)
 
 pushed : (width : ℕ) (text : List ℕ) (number : ℕ) (rest line more : List ℕ) (cycles : List (List Bool)) (pins : List Bool)
     → Reads width text number rest cycles → IsCut rest line more → is_word (letters_of line) ≡ true
@@ -88,7 +85,7 @@ accepted width text number rest cycles reads none = record {
 
 -- the line has a fault
 pub refused : (width : ℕ) (text : List ℕ) (number : ℕ) (rest line more : List ℕ) (cycles : List (List Bool)) (kind : StimKind)
-    → Reads width text number rest cycles → IsCut rest line more → IsLineFault width (letters_of line) kind → IsFaultAt width text number kind
+    → Reads width text number rest cycles → IsCut rest line more → IsLineFault width (letters_of line) kind → IsStimFaultAt width text number kind
 refused width text number rest line more cycles kind reads cut fault = record {
   before = reads.before;
   letters = letters_of line;
@@ -103,5 +100,5 @@ error_is other (Ok x) = other
 error_is other (Err e) = e
 
 -- the fault of one result is the fault of the next
-pub told : {T U : Type 0} (one other : StimFault) → IsErrOf {T = T} (Err one) other → IsErrOf {T = U} (Err one) other
-told {T} {U} one other is = ap Err (ap (error_is {T = T} one) is)
+pub same_fault : {T U : Type 0} (one other : StimFault) → IsErrOf {T = T} (Err one) other → IsErrOf {T = U} (Err one) other
+same_fault {T} {U} one other is = ap Err (ap (error_is {T = T} one) is)
