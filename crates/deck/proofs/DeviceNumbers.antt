@@ -54,13 +54,11 @@ IsCircuit-pushed ports nets devices d g s device is room ed eg es =
     }
 
 -- the numbers of its nets
-pub numbers_fit : (ports : ℕ) (nets : List (List ℕ)) (devices : List Device) (d g s : List ℕ) (p : ℕ × ℕ × ℕ)
-    → IsCircuit ports nets devices → length devices < 2 ^ 24 → PlacesOf nets d g s p → (p.0 < 2 ^ 32) × (p.1 < 2 ^ 32) × (p.2 < 2 ^ 32)
-numbers_fit ports nets devices d g s p is room at =
+pub numbers_fit : (nets : List (List ℕ)) (d g s : List ℕ) (p : ℕ × ℕ × ℕ) → length nets + 3 < 2 ^ 32 → PlacesOf nets d g s p → (p.0 < 2 ^ 32) × (p.1 < 2 ^ 32) × (p.2 < 2 ^ 32)
+numbers_fit nets d g s p few at =
     let a = number_fits nets d in
     let b = number_fits (with_net nets d) g in
     let c = number_fits (with_net (with_net nets d) g) s in
-    let most : length nets ≤ 2 ^ 20 + 3 * 2 ^ 24 = omega (arith, is.all_used, used-le ports devices is.in_order, is.few_ports) in
     (omega (arith, a.within, at.0), omega (arith, a.within, a.length_then, b.within, at.1), omega (arith, a.within, a.length_then, b.within, b.length_then, c.within, at.2))
 
 -- what holds of a circuit holds after a push

@@ -15,4 +15,5 @@ pub mod Pushes
 pub mod Roles
 pub mod Sources
 pub mod Switches
+pub mod Whole
 pub mod Worked

@@ -1,5 +1,7 @@
+-- The names of ports, and the order of ports.
 use Rattle.std.specs.Prelude.{ℕ, ◌≤◌, ◌≡◌, true, List, [], ◌∷◌, ◌++◌, nat_eq, take, codes, All}
 use Rattle.std.specs.List.{starts_with}
+use Rattle.deck.specs.Limits.{most_clocks}
 
 -- the name of a pin begins with `i_`
 abbrev pub IsPin : List ℕ → Type 0
@@ -22,7 +24,7 @@ leading_ports clocks = codes "vdd" ∷ codes "vss" ∷ (take clocks clock_ports 
 -- the ports in the order of roles, with 1 to 4 clocks
 pub record HasRoles (ports : List (List ℕ)) (clocks : ℕ) (pins outs : List (List ℕ)) : Type 0 where
   pub some_clock : 1 ≤ clocks
-  pub few_clocks : clocks ≤ 4
+  pub few_clocks : clocks ≤ most_clocks
   pub pins_are : All IsPin pins
   pub outs_are : All IsOutput outs
   pub order : ports ≡ leading_ports clocks ++ pins ++ outs

@@ -1,6 +1,8 @@
+-- Ports in order, with what each is for.
 use Rattle.std.specs.Prelude.{ℕ, ◌<◌, ◌≤◌, ◌+◌, ◌≡◌, List, ◌++◌, length, take}
 use Rattle.deck.specs.CircuitData.{CircuitData}
-use Rattle.deck.specs.Ports.{HasRoles}
+use Rattle.deck.specs.Limits.{most_clocks, unclocked_count}
+use Rattle.deck.specs.Ports.{HasRoles, leading_ports}
 use Rattle.deck.specs.declared.role.Roles.{Roles}
 
 -- the ports of a circuit: the first nets
@@ -14,6 +16,13 @@ pub record AreRoles (ports : List (List ℕ)) (roles : Roles) : Type 0 where
   pub in_order : HasRoles ports roles.clocks pins outs
   pub pin_count : length pins ≡ roles.pins
   pub out_count : length outs ≡ roles.outs
+
+-- the ports begin with the supplies, so many clocks, and the clocks and resets of latches
+pub record HasLeading (ports : List (List ℕ)) (clocks : ℕ) : Type 0 where
+  pub some_clock : 1 ≤ clocks
+  pub few_clocks : clocks ≤ most_clocks
+  pub long : clocks + unclocked_count ≤ length ports
+  pub leading : take (clocks + unclocked_count) ports ≡ leading_ports clocks
 
 -- some ports in the order of roles begin with these names
 pub record BeginsRoles (names : List (List ℕ)) : Type 0 where

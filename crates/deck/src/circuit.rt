@@ -1,10 +1,13 @@
 //! Circuits.
-ghost use Rattle.std.specs.Prelude.{◌≡◌, ◌<◌, ◌≤◌, ◌+◌, ◌^◌, ◌++◌, All, IfOk, OnErr, OnOk, Some, length, nat_eq, slice_get};
+ghost use Rattle.std.specs.Prelude.{◌≡◌, ◌<◌, ◌≤◌, ◌+◌, ◌++◌, ◌∷◌, ◌^◌, [], All, IfOk, OnErr, OnOk, length, nat_eq, take};
 ghost use Rattle.std.specs.Cmp.Lexicographic.{pointwise};
 ghost use Rattle.std.specs.List.{IsDistinct};
-ghost use Rattle.deck.specs.Nets.{IsCircuit};
+ghost use Rattle.dom_base.specs.Names.{IsNetName};
+ghost use Rattle.deck.specs.Limits.{most_clocks, most_devices};
+ghost use Rattle.deck.specs.Nets.{IsCircuit, with_nets};
 ghost use Rattle.deck.specs.Ports.{IsOutput, IsPin};
-ghost use Rattle.deck.specs.Pushes.{new_circuit, pushed};
+ghost use Rattle.deck.specs.Pushes.{added_device, new_circuit, pushed};
+ghost use Rattle.deck.specs.Whole.{IsWhole};
 
 use crate::number::{add_all, number_ends};
 use crate::ports::leading_nets;
@@ -40,7 +43,7 @@ impl Model for Circuit {
 impl Circuit {
     /// A circuit without devices. Its ports are `vdd`, `vss`, the clocks `ck1` to `ckP` with P for
     /// `clocks`, the clocks and resets of latches `lm`, `lmb`, `ls`, `lsb`, `rs`, `rsb`, then `pins`
-    /// and then `outs`. The one error is want of memory.
+    /// and then `outs`. The one error is out of memory.
     pub fn new(
         alloc: Global,
         name: NetName,
@@ -50,7 +53,7 @@ impl Circuit {
         outs: &[NetName],
     ) -> Result<Circuit, OutOfMemory>
         requires some_clock { 1 ≤ clocks }
-        requires few_clocks { clocks ≤ 4 }
+        requires few_clocks { clocks ≤ most_clocks }
         requires pins_begin { All IsPin pins.now }
         requires outs_begin { All IsOutput outs.now }
         requires apart { IsDistinct (pointwise nat_eq) (pins.now ++ outs.now) }
@@ -72,7 +75,7 @@ impl Circuit {
     }
 
     /// Adds a device between the nets of these names at the end. A net that is new takes the next
-    /// number, drain before gate before source. The one error is want of memory, and it leaves the
+    /// number, drain before gate before source. The one error is out of memory, and it leaves the
     /// circuit as it was.
     pub fn push(
         &mut self,
@@ -81,41 +84,18 @@ impl Circuit {
         gate: &NetName,
         source: &NetName,
     ) -> Result<(), OutOfMemory>
-        requires { length self.old.devices < 2 ^ 24 }
+        requires { length self.old.devices < most_devices }
         ensures ok { OnOk result (self.new ≡ pushed self.old kind drain.now gate.now source.now) }
         ensures err { OnErr result (self.new ≡ self.old) }
     {
         let before = self.nets.len();
-        match number_ends(&mut self.nets, drain, gate, source) {
-            Ok((drain, gate, source)) => {
-                let device = Device {
-                    kind,
-                    drain: drain as u32,
-                    gate: gate as u32,
-                    source: source as u32,
-                };
-                match self.devices.push(device) {
-                    Ok(()) => Ok(()),
-                    Err(_) => {
-                        self.nets.truncate(before);
-                        Err(OutOfMemory)
-                    }
-                }
-            }
+        match push_device(&mut self.nets, &mut self.devices, kind, drain, gate, source) {
+            Ok(()) => Ok(()),
             Err(failed) => {
                 self.nets.truncate(before);
                 Err(failed)
             }
         }
-    }
-
-    /// The name of the net with this number, from 0.
-    pub fn net(&self, place: u32) -> &NetName
-        requires { place < length self.now.nets }
-        ensures name { slice_get self.now.nets place ≡ Some result.now }
-        ensures whole { IsCircuit self.now.ports self.now.nets self.now.devices }
-    {
-        self.nets.get_index(place as usize).unwrap()
     }
 
     /// The number of devices, at most 16,777,216.
@@ -124,5 +104,59 @@ impl Circuit {
         ensures whole { IsCircuit self.now.ports self.now.nets self.now.devices }
     {
         self.devices.len() as u32
+    }
+
+    /// The circuit is whole: its nets are numbered in order of first appearance, and its names are
+    /// names of nets. It changes nothing and takes no memory.
+    pub fn whole(&self)
+        ensures whole { IsWhole self.now }
+    {
+        self.name.as_bytes();
+        see_phases(self.phases.as_slice());
+        see_names(self.nets.as_slice());
+    }
+}
+
+/// Adds a device between the nets of these names at the end, and its nets where they are new. After
+/// a refusal some of the nets may stand at the end.
+fn push_device(
+    nets: &mut IndexSet<NetName>,
+    devices: &mut Vec<Device>,
+    kind: Kind,
+    drain: &NetName,
+    gate: &NetName,
+    source: &NetName,
+) -> Result<(), OutOfMemory>
+    requires { length nets.old.keys + 3 < 2 ^ 32 }
+    ensures nets { OnOk result (nets.new.keys ≡ with_nets nets.old.keys drain.now gate.now source.now) }
+    ensures devices { OnOk result (devices.new.items ≡ devices.old.items ++ added_device nets.old.keys kind drain.now gate.now source.now ∷ []) }
+    ensures kept { OnErr result (devices.new.items ≡ devices.old.items) }
+    ensures begins { take (length nets.old.keys) nets.new.keys ≡ nets.old.keys }
+{
+    let (drain, gate, source) = number_ends(nets, drain, gate, source)?;
+    devices.push(Device {
+        kind,
+        drain: drain as u32,
+        gate: gate as u32,
+        source: source as u32,
+    })?;
+    Ok(())
+}
+
+/// The names of phases are names of nets.
+fn see_phases(phases: &[Phase])
+    ensures { All (λ phase. IsNetName phase.net) phases.now }
+{
+    for phase in phases {
+        phase.net.as_bytes();
+    }
+}
+
+/// The names are names of nets.
+fn see_names(names: &[NetName])
+    ensures { All IsNetName names.now }
+{
+    for name in names {
+        name.as_bytes();
     }
 }

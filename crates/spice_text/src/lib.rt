@@ -2,6 +2,7 @@
 #![tactic(auto)]
 
 ghost use Rattle.std.specs.Prelude.{IfOk};
+ghost use Rattle.deck.specs.DeckText.{IsDeckOf, IsGoodCircuit};
 ghost use Rattle.spice_text.specs.Text.{IsWritten};
 
 mod cards;
@@ -22,11 +23,16 @@ use std::alloc::Global;
 ///
 /// Where the ports stand in the order of roles, those before the first pin stand on the line of
 /// `.subckt`, and pins and outputs each on lines of their own that begin with `+`; else all ports
-/// stand on lines that begin with `+`. Such a line has at most eight names. It fails only for want
-/// of memory.
+/// stand on lines that begin with `+`. Such a line has at most eight names. It fails only where it is
+/// out of memory.
+///
+/// Where the name of the circuit and its ports have no byte `=`, the text is a deck, and its circuit
+/// is this one.
 pub fn write(alloc: Global, circuit: &Circuit) -> Result<Vec<u8>, OutOfMemory>
-    ensures { IfOk result (λ v. IsWritten circuit.now v.items) }
+    ensures written { IfOk result (λ v. IsWritten circuit.now v.items) }
+    ensures reads_back { IfOk result (λ v. IsGoodCircuit circuit.now → IsDeckOf v.items circuit.now) }
 {
+    circuit.whole();
     let mut text = Vec::new(alloc);
     append(&mut text, b"* domsyn deck 1\n")?;
     put_phases(&mut text, circuit.phases.as_slice())?;

@@ -7,6 +7,7 @@ use Rattle.spice_text.specs.Text.{phase_line, deck_line, cards, IsWritten}
 use Rattle.deck.specs.Nets.{IsInRange}
 use Rattle.deck.proofs.DeviceNumbers.{IsCircuit-in_range, IsCircuit-ports}
 use Rattle.spice_text.specs.Parts.{IsSubckt}
+use Rattle.spice_text.proofs.ReadBack.{read_back}
 use Rattle.spice_text.proofs.Whole.{text-whole}
 use Rattle.spice_text.proofs.write.Goals as goal
 
@@ -22,8 +23,8 @@ put_cards-requires c =
     let some = subst (λ (devices : List Device). P c.circuit.inside.nets.keys devices) (sym c.as_slice-2.ensures.value) all in
     subst (λ (nets : List (List ℕ)). P nets c.as_slice-2.result.now) (sym c.as_slice-nets.ensures.keys) some
 
-pub returns : goal.returns
-returns c =
+pub returns-clause-written : goal.returns-clause-written
+returns-clause-written c =
     let inside : CircuitData = record {
       name = c.circuit.inside.name;
       phases = c.circuit.inside.phases.items;
@@ -39,3 +40,7 @@ returns c =
     let whole : c.append-3.new.text.items ≡ c.put_subckt.new.text.items ++ cards inside.nets inside.devices ++ deck_line (codes ".ends") (inside.name ∷ []) = search (rules, append_assoc, append-nil) in
     let P : CircuitData → Type 0 = λ v. IsWritten v c.append-3.new.text.items in
     subst P c.circuit.view_is (text-whole inside c.put_phases.new.text.items c.put_subckt.new.text.items c.append-3.new.text.items before part whole)
+
+pub returns-clause-reads_back : goal.returns-clause-reads_back
+returns-clause-reads_back c = λ good.
+    read_back c.args.circuit.now c.append-3.new.text.items record { is = c.whole.ensures.whole.numbered; names = c.whole.ensures.whole.names; good = good } (returns-clause-written c)

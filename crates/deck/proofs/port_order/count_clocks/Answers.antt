@@ -8,17 +8,22 @@ returns-then-count-clocks c =
     let same = c.if-count-clocks.true in
     let few : c.loop-clocks.clocks ≤ 4 = omega arith in
     let long : c.loop-clocks.clocks + 8 ≤ length c.args.ports.now = omega (arith, count.ensures.within, same) in
-    (c.loop-clocks.auto.clocks, few, long, leading_from c.args.ports.now c.loop-clocks.clocks few long (λ k lt. count.ensures.agrees k (omega (arith, lt, same))))
+    record {
+      some_clock = c.loop-clocks.auto.clocks;
+      few_clocks = few;
+      long = long;
+      leading = leading_from c.args.ports.now c.loop-clocks.clocks few long (λ k lt. count.ensures.agrees k (omega (arith, lt, same)));
+    }
 
 pub loop-clocks-preserved : goal.loop-clocks-preserved
 loop-clocks-preserved c =
     let count = c.count_leading-count in
-    let t = further c.args.ports.now c.loop-clocks.place count.result c.loop-clocks.clocks c.max-place.result c.max-place.ensures
+    let t = further c.args.ports.now c.loop-clocks.farthest count.result c.loop-clocks.clocks c.max-farthest.result c.max-farthest.ensures
     c.loop-clocks.auto.clocks (omega arith) count.ensures.few count.ensures.within count.ensures.agrees c.if-count-clocks.false count.ensures.differs
     c.loop-clocks.invariant.begins c.loop-clocks.invariant.leaves in
     record { begins = t.0; leaves = t.1 }
 
 pub returns : goal.returns
 returns c =
-    leaves_leading c.args.ports.now c.loop-clocks.place c.loop-clocks.invariant.begins
+    leaves_leading c.args.ports.now c.loop-clocks.farthest c.loop-clocks.invariant.begins
     (λ clocks some few. c.loop-clocks.invariant.leaves clocks some (omega arith))

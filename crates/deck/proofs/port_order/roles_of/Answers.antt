@@ -14,7 +14,7 @@ returns-then-pins-outs c =
     let lead = c.in_ok-clocks.ensures in
     let names = drop (clocks + 8) c.args.ports.now in
     let groups : BeginsGroups c.args.ports.now clocks p o =
-    record { some_clock = lead.0; few_clocks = lead.1; long = lead.2; leading = lead.3; pins_within = pins.within; outs_within = outs.within; pins_are = pins.each; outs_are = outs.each } in
+    record { some_clock = lead.some_clock; few_clocks = lead.few_clocks; long = lead.long; leading = lead.leading; pins_within = pins.within; outs_within = outs.within; pins_are = pins.each; outs_are = outs.each } in
     let rest = length-drop p names in
     let all = length-drop (clocks + 8) c.args.ports.now in
     leaves_groups c.args.ports.now clocks p o groups (omega (arith, few, all))
@@ -31,5 +31,5 @@ returns c =
     let clocks = c.in_ok-clocks.clocks in
     let lead = c.in_ok-clocks.ensures in
     let groups : BeginsGroups c.args.ports.now clocks p o =
-    record { some_clock = lead.0; few_clocks = lead.1; long = lead.2; leading = lead.3; pins_within = pins.within; outs_within = outs.within; pins_are = pins.each; outs_are = outs.each } in
+    record { some_clock = lead.some_clock; few_clocks = lead.few_clocks; long = lead.long; leading = lead.leading; pins_within = pins.within; outs_within = outs.within; pins_are = pins.each; outs_are = outs.each } in
     groups_found c.args.ports.now clocks p o groups (omega (arith, many, length-drop (clocks + 8) c.args.ports.now))

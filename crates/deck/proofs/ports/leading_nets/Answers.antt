@@ -3,7 +3,7 @@ use Rattle.deck.specs.Ports.{leading_ports}
 use Rattle.deck.proofs.NetNumbers.{with_all-more}
 use Rattle.deck.proofs.ports.leading_nets.Goals as goal
 
-pub loop-place-preserved : goal.loop-place-preserved
-loop-place-preserved c =
-    let more = with_all-more [] (leading_ports c.args.clocks) c.loop-place.place _ c.leading_port.ensures.name in
+pub loop-port-preserved : goal.loop-port-preserved
+loop-port-preserved c =
+    let more = with_all-more [] (leading_ports c.args.clocks) c.loop-port.port _ c.leading_port.ensures.name in
     search (rules, more)
