@@ -21,7 +21,7 @@ returns-clause-deck c =
       record {
         buildable = record { within = c.requires.within; file = c.in-Ok.network; accepted = c.in-Ok.ensures.file; table = c.in-Some.table; is_file = found.1; is_one_table = found.0 };
         names = HasByteNames-read c.args.bytes.now c.in-Ok.network c.in-Some.table (text_bytes c.args.bytes.now (λ k. (c.type_inv.bytes k).fits)) c.in-Ok.ensures.file found.1;
-        written = subst Q c.in_ok-circuit.ensures c.in_ok-text.ensures;
+        written = subst Q c.in_ok-circuit.ensures c.in_ok-text.ensures.written;
       },
       refl,
     )
