@@ -1,10 +1,9 @@
 -- What is so after some lines of a stimulus.
-use Rattle.std.proofs.Common.{◌≡◌, ℕ, ◌+◌, Bool, true, List, [], ◌∷◌, ◌++◌, length, map, All, refl, sym, ap, ◌∙◌, subst, arith, append_assoc, append-nil, Result, Ok, Err, IsErrOf}
+use Rattle.std.proofs.Common.{◌≡◌, ℕ, ◌+◌, Bool, true, List, [], ◌∷◌, ◌++◌, length, map, All, refl, sym, ap, ◌∙◌, subst, arith, append_assoc, append-nil}
 use Rattle.std.proofs.lemmas.List.Elements.{All-nil, All-push}
 use Rattle.dom_base.specs.Cuts.{IsCut, NumbersFit}
 use Rattle.dom_base.specs.Lines.{lines, is_word}
 use Rattle.dom_base.proofs.Lists.{map-push}
-use Rattle.stim_text.specs.declared.fault.StimFault.{StimFault}
 use Rattle.stim_text.specs.declared.fault.StimKind.{StimKind}
 use Rattle.stim_text.specs.CycleLines.{pin_letters}
 use Rattle.stim_text.specs.Stimuli.{letters_of, lettered_from, lettered_lines, IsStimulusOf, IsStimFaultAt}
@@ -94,11 +93,3 @@ refused width text number rest line more cycles kind reads cut fault = record {
   fault = fault.fault;
   none_before = none_from_good width reads.before reads.good;
 }
-
-abbrev error_is : {T : Type 0} → StimFault → Result T StimFault → StimFault
-error_is other (Ok x) = other
-error_is other (Err e) = e
-
--- the fault of one result is the fault of the next
-pub same_fault : {T U : Type 0} (one other : StimFault) → IsErrOf {T = T} (Err one) other → IsErrOf {T = U} (Err one) other
-same_fault {T} {U} one other is = ap Err (ap (error_is {T = T} one) is)

@@ -21,10 +21,7 @@ pub fn read_stim(alloc: Global, text: &[u8], width: u32) -> Result<Vec<Pins>, St
     let mut rest = text;
     let mut number = 1;
     'lines: while let Some((line, more)) = cut_line(rest) {
-        match read_line(alloc, line, number, width, &mut cycles) {
-            Ok(()) => (),
-            Err(fault) => return Err(fault),
-        }
+        read_line(alloc, line, number, width, &mut cycles)?;
         rest = more;
         number += 1;
     }
@@ -40,7 +37,7 @@ fn read_line(
     cycles: &mut Vec<Pins>,
 ) -> Result<(), StimFault>
     ensures cycle { OnOk result (IsLineRead width (letters_of line.now) cycles.old.items cycles.new.items) }
-    ensures fault { (place : ℕ) (kind : _) → IsErrOf result (StimFault.At place kind) → (place ≡ number) × IsLineFault width (letters_of line.now) kind }
+    ensures fault { (at : ℕ) (kind : _) → IsErrOf result (StimFault.At at kind) → (at ≡ number) × IsLineFault width (letters_of line.now) kind }
 {
     let letters = letters_of(alloc, line)?;
     if letters.is_empty() {
