@@ -14,7 +14,8 @@ pub record IsOnlyAnswer {Answer Kind : Type 0} (IsAnswer : Answer → Type 0) (I
   pub no_fault : (line : ℕ) (kind : Kind) → IsFault line kind → ⊥
 
 -- the text is refused at exactly this line for exactly this kind, and stands for nothing
-pub record IsOnlyRefusal {Answer Kind : Type 0} (IsAnswer : Answer → Type 0) (IsRefused : ℕ → Kind → Type 0) (line : ℕ) (kind : Kind) : Type 0 where
+pub record IsOnlyRefusal {Answer Kind : Type 0} (IsAnswer : Answer → Type 0) (IsRefused : ℕ → Kind → Type 0) (line : ℕ) (kind : Kind)
+    : Type 0 where
   pub is_refused : IsRefused line kind
   pub one_line : (other : ℕ) (any : Kind) → IsRefused other any → other ≡ line
   pub one_kind : (other : ℕ) (any : Kind) → IsRefused other any → any ≡ kind

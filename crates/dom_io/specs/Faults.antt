@@ -1,3 +1,4 @@
+-- Counts of faults.
 use Rattle.std.specs.Prelude.{ℕ, ◌+◌, ◌-◌, ◌^◌, ◌≤◌, min}
 
 -- the next value of a count that stops at the last `u64`

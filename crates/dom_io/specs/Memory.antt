@@ -1,4 +1,5 @@
-use Rattle.std.specs.Prelude.{ℕ, ◌≤◌, List}
+-- Shelves and sinks in memory as plain data.
+use Rattle.std.specs.Prelude.{ℕ, ◌≡◌, ◌≢◌, ◌≤◌, List, [], length}
 
 -- a shelf in memory: names with their bytes, the calls that are to fail, and the counts
 pub record ShelfData : Type 0 where
@@ -15,6 +16,10 @@ pub record SinkData : Type 0 where
   pub fails : List ℕ
   pub calls : ℕ
   pub faults : ℕ
+
+-- a piece has bytes, and a sink in memory has no room for any
+abbrev pub IsFullFor : List ℕ → SinkData → Type 0
+IsFullFor piece s = (piece ≢ []) × (length s.taken ≡ s.size)
 
 -- a sink in memory takes something of each piece, and its memory is there
 pub record IsSink (most taken size capacity : ℕ) : Type 0 where

@@ -1,3 +1,4 @@
+-- Pieces of a text that an output stream takes.
 use Rattle.std.specs.Prelude.{ℕ, ◌≤◌, ◌<◌, List, length, take, Option}
 use Rattle.std.specs.Io.KnownBytes.{Appends}
 

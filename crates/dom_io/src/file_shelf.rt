@@ -3,7 +3,8 @@ ghost use Rattle.std.specs.Prelude.{◌≡◌, ◌≤◌, ◌+◌, None, IfOk, I
 ghost use Rattle.dom_io.specs.Faults.{next_count};
 ghost use Rattle.dom_io.specs.Held.{file_limit};
 
-use crate::{FetchFault, Shelf, fetch_limit};
+use crate::limit::fetch_limit;
+use crate::{FetchFault, Shelf};
 use std::alloc::Global;
 use std::fs;
 use std::io::Read;
@@ -29,7 +30,7 @@ impl<R: Files + Clone + Drop> Shelf for FileShelf<R> {
 
     ghost may_ask = { λ _ _. Unit {0} };
 
-    /// Opens the file and reads it to its end, or until `fetch_limit()` bytes came.
+    /// Opens the file and reads it to its end, or until one byte more than `FILE_LIMIT` came.
     fn fetch(&mut self, alloc: Global, name: &str) -> Result<Vec<u8>, FetchFault>
         ensures size { IfOk result (λ v. length v.items ≤ file_limit + 1) }
         ensures later { self.old.faults ≤ self.new.faults }

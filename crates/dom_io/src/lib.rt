@@ -1,4 +1,4 @@
-//! The outside of domsyn: shelves that give files by their names, and sinks that take bytes.
+//! The outside of domsyn: shelves that give files by their names, and sinks, which are output streams.
 //! Each counts its faults, so a caller can tell a fault of the outside from its own.
 #![tactic(auto)]
 
@@ -12,7 +12,7 @@ mod sink;
 mod stream_sink;
 
 pub use file_shelf::FileShelf;
-pub use limit::{FILE_LIMIT, fetch_limit, is_too_long};
+pub use limit::{FILE_LIMIT, is_too_long};
 pub use memory_shelf::MemoryShelf;
 pub use memory_sink::MemorySink;
 pub use put::put_all;

@@ -2,13 +2,14 @@
 ghost use Rattle.std.specs.Prelude.{◌≡◌, ◌≤◌, ◌+◌, ◌↔◌, ◌⊎◌, ℕ, List, Some, None, IfOk, OnOk, IsErrOf, Contains, MatchOption, is_some, length, map, take};
 ghost use Rattle.std.specs.String.{string_bytes};
 ghost use Rattle.dom_io.specs.Faults.{next_count};
-ghost use Rattle.dom_io.specs.Held.{IsHeld, file_limit, held};
+ghost use Rattle.dom_io.specs.Held.{IsAbsent, IsHeld, file_limit, held};
 
-use crate::{FetchFault, Shelf, fetch_limit};
+use crate::limit::fetch_limit;
+use crate::{FetchFault, Shelf};
 use std::alloc::{AllocError, Global};
 use std::marker::Model;
 
-/// Files in memory, and the numbers of the calls that are to fail.
+/// Files in memory, and the numbers of the calls that are to fail. A fetch fails too for a name that isn't held.
 ///
 /// `files` has names with their bytes, and the first pair of a name counts. `calls` is how many
 /// calls of `fetch` there were, the first having the number 1, and `faults` how many of them
@@ -28,7 +29,12 @@ impl Model for MemoryShelf {
 
     ghost Value = { ShelfData };
 
-    ghost view = { λ s. record { files = map (λ p. (string_bytes p.0, p.1.items)) s.files.items; fails = s.fails.items; calls = s.calls; faults = s.faults } };
+    ghost view = { λ s. record {
+      files = map (λ p. (string_bytes p.0, p.1.items)) s.files.items;
+      fails = s.fails.items;
+      calls = s.calls;
+      faults = s.faults;
+    } };
 }
 
 impl Shelf for MemoryShelf {
@@ -43,8 +49,8 @@ impl Shelf for MemoryShelf {
         ensures size { IfOk result (λ v. length v.items ≤ file_limit + 1) }
         ensures bytes { IfOk result (λ v. IsHeld (Some self.old.files) name.now v.items) }
         ensures refused { Contains self.old.fails self.new.calls → IsErrOf result FetchFault.Failed }
-        ensures absent { (held self.old.files name.now ≡ None) → IsErrOf result FetchFault.Failed }
-        ensures failed_only { IsErrOf result FetchFault.Failed → Contains self.old.fails self.new.calls ⊎ (held self.old.files name.now ≡ None) }
+        ensures absent { IsAbsent self.old.files name.now → IsErrOf result FetchFault.Failed }
+        ensures failed_only { IsErrOf result FetchFault.Failed → Contains self.old.fails self.new.calls ⊎ IsAbsent self.old.files name.now }
         ensures same_files { self.new.files ≡ self.old.files }
         ensures same_fails { self.new.fails ≡ self.old.fails }
         ensures calls { self.new.calls ≡ next_count self.old.calls }
@@ -71,7 +77,8 @@ impl Shelf for MemoryShelf {
 /// The bytes of the first pair of this name.
 fn find<'a>(files: &'a [(String, Vec<u8>)], name: &str) -> Option<&'a [u8]>
     ensures found { is_some result ≡ is_some (held (map (λ p. (string_bytes p.0, p.1.items)) files.now) name.now) }
-    ensures bytes { let under = held (map (λ p. (string_bytes p.0, p.1.items)) files.now) name.now in MatchOption result (under ≡ None) (λ b. under ≡ Some b.now) }
+    ensures bytes { let under = held (map (λ p. (string_bytes p.0, p.1.items)) files.now) name.now in
+        MatchOption result (under ≡ None) (λ b. under ≡ Some b.now) }
 {
     for (key, bytes) in files {
         if key.as_str() == name {

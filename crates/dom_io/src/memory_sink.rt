@@ -2,6 +2,7 @@
 ghost use Rattle.std.specs.Prelude.{◌≡◌, ◌≢◌, ◌≤◌, ◌<◌, ◌-◌, ◌↔◌, ◌++◌, ◌⊎◌, ℕ, [], Some, IfOk, OnOk, OnErr, IsErr, Contains, length, min, take};
 ghost use Rattle.std.specs.Io.KnownBytes.{WriteAppends};
 ghost use Rattle.dom_io.specs.Faults.{next_count};
+ghost use Rattle.dom_io.specs.Memory.{IsFullFor};
 ghost use Rattle.dom_io.specs.Pieces.{TakesSome};
 
 use crate::{Sink, SinkFault};
@@ -9,7 +10,8 @@ use dom_base::OutOfMemory;
 use std::alloc::Global;
 use std::marker::Model;
 
-/// A sink in memory for `size` bytes, which takes at most `most` of them in a call.
+/// A sink in memory for `size` bytes, which takes at most `most` of them in a call. A write of some bytes fails too
+/// where it is full.
 ///
 /// `taken` has the bytes taken, and `fails` the numbers of the calls that are to fail. `calls` is
 /// how many calls of `write` there were, the first having the number 1, and `faults` how many of
@@ -30,7 +32,14 @@ impl Model for MemorySink {
 
     ghost Value = { SinkData };
 
-    ghost view = { λ s. record { taken = s.taken.items; most = s.most; size = s.size; fails = s.fails.items; calls = s.calls; faults = s.faults } };
+    ghost view = { λ s. record {
+      taken = s.taken.items;
+      most = s.most;
+      size = s.size;
+      fails = s.fails.items;
+      calls = s.calls;
+      faults = s.faults;
+    } };
 
     ghost invariant = { λ s. IsSink s.most (length s.taken.items) s.size (vec_capacity s.taken) };
 }
@@ -74,7 +83,7 @@ impl Sink for MemorySink {
         ensures amount { IfOk result (λ n. n ≡ min (min (length piece.now) (self.old.size - length self.old.taken)) self.old.most) }
         ensures refused { Contains self.old.fails self.new.calls → IsErr result }
         ensures full { piece.now ≢ [] → length self.old.taken ≡ self.old.size → IsErr result }
-        ensures failed_only { OnErr result (Contains self.old.fails self.new.calls ⊎ ((piece.now ≢ []) × (length self.old.taken ≡ self.old.size))) }
+        ensures failed_only { OnErr result (Contains self.old.fails self.new.calls ⊎ IsFullFor piece.now self.old) }
         ensures same_most { self.new.most ≡ self.old.most }
         ensures same_size { self.new.size ≡ self.old.size }
         ensures same_fails { self.new.fails ≡ self.old.fails }

@@ -6,7 +6,7 @@ ghost use Rattle.dom_io.specs.declared.shelf.FetchFault.TheVariants.{Memory};
 
 use std::alloc::{AllocError, Global};
 
-/// Why a fetch gave no bytes: the shelf failed, or memory did not suffice.
+/// Why a fetch gave no bytes: the shelf failed, or ran out of memory.
 #[derive(Clone, Copy, Debug, PartialEq, Eq)]
 pub enum FetchFault {
     Failed,
@@ -23,8 +23,7 @@ impl From<AllocError> for FetchFault {
 
 /// What gives files by their names.
 pub trait Shelf {
-    /// The files as pairs of name and bytes, where the shelf tells them. The first pair of a name
-    /// counts.
+    /// The files as pairs of name and bytes, where they are known. The first pair of a name counts.
     ghost files: { Self → Option (List (List ℕ × List ℕ)) };
 
     /// How often the shelf has failed. The count stops at the last `u64`.
@@ -33,9 +32,8 @@ pub trait Shelf {
     /// The names that may be asked for.
     ghost may_ask: { Self → List ℕ → Type 0 };
 
-    /// The bytes of the file of this name, or the first `fetch_limit()` of them where there are
-    /// more. The error is `Failed` where the shelf failed, which it counts, and `Memory` where
-    /// memory did not suffice.
+    /// The bytes of the file of this name, or the first `FILE_LIMIT + 1` of them where there are more. The error is
+    /// `Failed` where the shelf failed, which it counts, and `Memory` where it ran out of memory.
     fn fetch(&mut self, alloc: Global, name: &str) -> Result<Vec<u8>, FetchFault>
         requires { may_ask self.old name.now }
         ensures size { IfOk result (λ v. length v.items ≤ file_limit + 1) }

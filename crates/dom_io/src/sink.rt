@@ -1,4 +1,4 @@
-//! Sinks: what takes bytes.
+//! Sinks: output streams.
 ghost use Rattle.std.specs.Prelude.{◌≤◌, ◌-◌, ◌↔◌, ℕ, List, Option, IfOk, OnErr, length};
 ghost use Rattle.std.specs.Io.KnownBytes.{WriteAppends};
 ghost use Rattle.dom_io.specs.Faults.{Rose};
@@ -10,9 +10,9 @@ pub enum SinkFault {
     Failed,
 }
 
-/// What takes bytes.
+/// An output stream: what takes bytes.
 pub trait Sink {
-    /// The bytes that were taken, where the sink tells them.
+    /// The bytes that were taken, where they are known.
     ghost taken: { Self → Option (List ℕ) };
 
     /// How often the sink has failed. The count stops at the last `u64`.

@@ -17,7 +17,8 @@ pub record IsPinsOf (width : ℕ) (letters : List ℕ) (pins : List Bool) : Type
 -- a line with these letters was read: where it has letters they are good, and its cycle is appended
 abbrev pub IsLineRead : ℕ → List ℕ → List (List Bool) → List (List Bool) → Type 0
 IsLineRead width [] before after = after ≡ before
-IsLineRead width (b ∷ bs) before after = (pins : List Bool) × (is_good width (b ∷ bs) ≡ true) × IsPinsOf width (b ∷ bs) pins × (after ≡ before ++ pins ∷ [])
+IsLineRead width (b ∷ bs) before after =
+    (pins : List Bool) × (is_good width (b ∷ bs) ≡ true) × IsPinsOf width (b ∷ bs) pins × (after ≡ before ++ pins ∷ [])
 
 -- a line with these letters has letters, and a fault of this kind
 pub record IsLineFault (width : ℕ) (letters : List ℕ) (kind : StimKind) : Type 0 where

@@ -37,7 +37,7 @@ fn read_line(
     cycles: &mut Vec<Pins>,
 ) -> Result<(), StimFault>
     ensures cycle { OnOk result (IsLineRead width (letters_of line.now) cycles.old.items cycles.new.items) }
-    ensures fault { (at : ℕ) (kind : _) → IsErrOf result (StimFault.At at kind) → (at ≡ number) × IsLineFault width (letters_of line.now) kind }
+    ensures fault { (n : ℕ) (k : _) → IsErrOf result (StimFault.At n k) → (n ≡ number) × IsLineFault width (letters_of line.now) k }
 {
     let letters = letters_of(alloc, line)?;
     if letters.is_empty() {
