@@ -1,0 +1,76 @@
+//! Compares the targets and the traces of small circuits with plain and slow functions that were written
+//! from the rules alone. The circuits are generated, and the same ones each time.
+#![tactic(auto)]
+
+mod targets;
+mod traces;
+mod trouble;
+
+use std::alloc::Global;
+use std::io;
+use std::process::ExitCode;
+use targets::{Outcome, targets};
+use traces::{Traced, traces};
+use trouble::Trouble;
+
+/// The status where a result differs.
+const DIFFERS: u8 = 1;
+
+/// The status where a circuit isn't read, memory doesn't suffice or a line isn't printed.
+const NOT_COMPARED: u8 = 2;
+
+/// How many circuits have their targets compared.
+const CIRCUITS: u64 = 800;
+
+/// How many decks have their traces compared.
+const DECKS: u64 = 400;
+
+/// Compares targets and prints what came of it. It answers whether all are alike.
+fn targets_are_alike(rt: &impl Print, alloc: Global) -> Result<bool, Trouble> {
+    match targets(alloc, CIRCUITS)? {
+        Outcome::Alike(count) => {
+            printed(println!(rt; "targets {CIRCUITS} circuits, {count} targets, all alike"))?;
+            Ok(true)
+        }
+        Outcome::Differ(case) => {
+            printed(println!(rt; "targets differ at case {case}"))?;
+            Ok(false)
+        }
+    }
+}
+
+/// Compares traces and prints what came of it. It answers whether all are alike.
+fn traces_are_alike(rt: &impl Print, alloc: Global) -> Result<bool, Trouble> {
+    match traces(alloc, DECKS)? {
+        Traced::Alike(unsettled) => {
+            printed(println!(rt; "traces {DECKS} decks, {unsettled} unsettled, all alike"))?;
+            Ok(true)
+        }
+        Traced::Differ(case) => {
+            printed(println!(rt; "traces differ at case {case}"))?;
+            Ok(false)
+        }
+    }
+}
+
+/// Whether a line was printed.
+fn printed(line: io::Result<()>) -> Result<(), Trouble> {
+    match line {
+        Ok(()) => Ok(()),
+        Err(_) => Err(Trouble::NotPrinted),
+    }
+}
+
+fn all_alike(rt: &impl Print, alloc: Global) -> Result<bool, Trouble> {
+    let targets = targets_are_alike(rt, alloc)?;
+    let traces = traces_are_alike(rt, alloc)?;
+    Ok(targets && traces)
+}
+
+fn main(rt: HostRuntime) -> ExitCode {
+    match all_alike(&rt, rt.alloc()) {
+        Ok(true) => ExitCode::from(0),
+        Ok(false) => ExitCode::from(DIFFERS),
+        Err(_) => ExitCode::from(NOT_COMPARED),
+    }
+}

@@ -1,4 +1,0 @@
-use Rattle.reference_circuits.proofs.paths.+walk.Given as goal
-
-abbrev pub decreases-walk : goal.decreases-walk
-decreases-walk l = l.most
