@@ -1,8 +1,10 @@
 -- The cards of BLIF, the Berkeley Logic Interchange Format, and the forms of cards and rows by their words.
-use Rattle.std.specs.Prelude.{ℕ, ◌-◌, Bool, true, false, ◌==◌, ◌||◌, ◌&&◌, not, nat_eq, nat_lt, if◌then◌else◌, List, [], ◌∷◌, length, take, drop, slice_index, slice_index_or, codes}
-use Rattle.std.specs.List.{list_any, list_all, before_first, after_first}
+use Rattle.std.specs.Prelude.{ℕ, ◌-◌, Bool, true, false, ◌==◌, ◌||◌, ◌&&◌, not, nat_eq, nat_lt, if◌then◌else◌, List, [], ◌∷◌, length, take, drop, slice_index, slice_index_or, codes, Option, Some, None}
+use Rattle.std.specs.List.{list_any, list_all, find, before_first, after_first}
 use Rattle.std.specs.Cmp.Lexicographic.{pointwise}
 use Rattle.dom_base.specs.Lines.{first_word}
+use Rattle.blif_ast.specs.declared.card.Card.{Card}
+use Rattle.blif_ast.specs.declared.card.Card.TheVariants.{Model, Inputs, Outputs, Names, Latch, Subckt, Clock, End}
 use Rattle.blif_ast.specs.LogicalLines.{LogicalLine}
 
 abbrev pub same : List ℕ → List ℕ → Bool
@@ -56,9 +58,28 @@ clock_card = codes ".clock"
 abbrev pub end_card : List ℕ
 end_card = codes ".end"
 
--- a card that is known
-abbrev pub is_known : LogicalLine → Bool
-is_known line = is_one_of (model_card ∷ inputs_card ∷ outputs_card ∷ names_card ∷ latch_card ∷ subckt_card ∷ clock_card ∷ end_card ∷ []) (first_word line.words)
+-- the first word of a card that is known
+abbrev pub card_word : Card → List ℕ
+card_word Model = model_card
+card_word Inputs = inputs_card
+card_word Outputs = outputs_card
+card_word Names = names_card
+card_word Latch = latch_card
+card_word Subckt = subckt_card
+card_word Clock = clock_card
+card_word End = end_card
+
+-- the cards that are known
+abbrev pub cards : List Card
+cards = Model ∷ Inputs ∷ Outputs ∷ Names ∷ Latch ∷ Subckt ∷ Clock ∷ End ∷ []
+
+-- the card of a first word, if it is known
+abbrev pub card_named : List ℕ → Option Card
+card_named word = find (λ card. same word (card_word card)) cards
+
+-- the card of a line, if it is known
+abbrev pub card_of : LogicalLine → Option Card
+card_of line = card_named (first_word line.words)
 
 -- the start value of a latch
 abbrev pub is_init : List ℕ → Bool
@@ -82,9 +103,12 @@ is_latch_form (card ∷ input ∷ output ∷ type ∷ control ∷ []) = is_type 
 is_latch_form (card ∷ input ∷ output ∷ type ∷ control ∷ init ∷ []) = is_type type && is_init init
 is_latch_form _ = false
 
--- a card `.latch` in its form whose type is one of a level
+-- the words of a card `.latch` in its form whose type is one of a level
+abbrev pub is_level_form : List (List ℕ) → Bool
+is_level_form words = is_latch_form words && nat_lt 4 (length words) && is_level (slice_index_or words 3 [])
+
 abbrev pub is_level_latch : LogicalLine → Bool
-is_level_latch line = begins latch_card line && is_latch_form line.words && nat_lt 4 (length line.words) && is_level (slice_index_or line.words 3 [])
+is_level_latch line = begins latch_card line && is_level_form line.words
 
 -- what stands before the first `=` of a binding, and what stands behind it
 abbrev pub formal_of : List ℕ → List ℕ
@@ -101,16 +125,25 @@ abbrev pub is_subckt_form : List (List ℕ) → Bool
 is_subckt_form (card ∷ unit ∷ bindings) = list_all is_binding bindings
 is_subckt_form _ = false
 
--- the words of a known card in its form: `.model` has one name, `.names` one or more, `.end` nothing, and
--- `.inputs`, `.outputs` and `.clock` have any words
-abbrev pub is_form : List (List ℕ) → Bool
-is_form words =
-    if same (first_word words) model_card then length words == 2
-    else (if same (first_word words) names_card then nat_lt 1 (length words)
-    else (if same (first_word words) latch_card then is_latch_form words
-    else (if same (first_word words) subckt_card then is_subckt_form words
-    else (if same (first_word words) end_card then length words == 1
-    else true))))
+-- the words of a card in its form, its own among them
+abbrev pub is_form : Card → List (List ℕ) → Bool
+is_form Model words = length words == 2
+is_form Inputs words = true
+is_form Outputs words = true
+is_form Names words = nat_lt 1 (length words)
+is_form Latch words = is_latch_form words
+is_form Subckt words = is_subckt_form words
+is_form Clock words = true
+is_form End words = length words == 1
+
+-- a card that is known, by whether it is in its form
+abbrev pub is_known : Option Card → Bool
+is_known None = false
+is_known (Some card) = true
+
+abbrev pub is_out_of_form : Option Card → List (List ℕ) → Bool
+is_out_of_form None words = false
+is_out_of_form (Some card) words = not (is_form card words)
 
 -- the inputs of a table by its card: all names but the last, which is the output
 abbrev pub table_inputs : List (List ℕ) → List (List ℕ)

@@ -5,7 +5,7 @@ use Rattle.dom_base.specs.Lines.{is_control}
 use Rattle.blif_ast.specs.declared.kind.BlifKind.{BlifKind}
 use Rattle.blif_ast.specs.declared.kind.BlifKind.TheVariants.{ControlByte, UnknownCard, BadCard, RowOutsideTable, BadRow, MixedCover, TooWide, NoModel, LatchKind}
 use Rattle.blif_ast.specs.LogicalLines.{LogicalLine}
-use Rattle.blif_ast.specs.Cards.{begins, is_card, is_row, is_known, is_form, is_row_form, is_too_wide, is_level_latch, last_letter, model_card}
+use Rattle.blif_ast.specs.Cards.{begins, is_card, is_row, card_of, is_known, is_out_of_form, is_row_form, is_too_wide, is_level_latch, last_letter, model_card}
 use Rattle.blif_ast.specs.Context.{is_model_open, is_table_open, open_width, open_rows, differs_from_first}
 
 -- the number of a kind: of two faults of a line the smaller one is reported
@@ -40,8 +40,8 @@ is_row_inside before line = is_row line && is_table_open before
 abbrev pub has_blif_fault : BlifKind → List LogicalLine → LogicalLine → Bool
 -- a byte outside comments is a control byte; blanks and tabs are none, so it stands in a word
 has_blif_fault ControlByte before line = list_any (list_any is_control) line.words
-has_blif_fault UnknownCard before line = is_card line && not (is_known line)
-has_blif_fault BadCard before line = is_known line && not (is_form line.words)
+has_blif_fault UnknownCard before line = is_card line && not (is_known (card_of line))
+has_blif_fault BadCard before line = is_out_of_form (card_of line) line.words
 has_blif_fault RowOutsideTable before line = is_row line && not (is_table_open before)
 has_blif_fault BadRow before line = is_row_inside before line && not (is_row_form (open_width before) line.words)
 has_blif_fault MixedCover before line =

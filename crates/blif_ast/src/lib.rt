@@ -5,6 +5,7 @@ ghost use Rattle.std.specs.Prelude.{◌≡◌, IfOk};
 ghost use Rattle.blif_ast.specs.Good.{IsGoodFile};
 ghost use Rattle.blif_ast.specs.Printed.{printed};
 
+mod card;
 mod cards;
 mod file;
 mod instance;
@@ -15,6 +16,7 @@ mod line;
 mod models;
 mod table;
 
+pub use card::Card;
 use dom_base::OutOfMemory;
 pub use file::{BlifFile, BlifModel};
 pub use instance::{Binding, Instance};

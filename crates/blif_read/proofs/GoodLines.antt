@@ -1,5 +1,5 @@
 -- Lines without faults: their words are good names, and their cards are in their forms.
-use Rattle.std.proofs.Common.{◌≡◌, ℕ, zero, suc, ◌<◌, Bool, true, false, ◌==◌, ◌&&◌, ◌||◌, not, nat_lt, if◌then◌else◌, List, [], ◌∷◌, length, filter, take, slice_index_or, refl, ap, sym, ◌∙◌, arith, inl, inr}
+use Rattle.std.proofs.Common.{◌≡◌, ℕ, zero, suc, ◌<◌, Bool, true, false, ◌==◌, ◌&&◌, ◌||◌, not, nat_lt, if◌then◌else◌, List, [], ◌∷◌, length, filter, take, slice_index_or, refl, ap, sym, ◌∙◌, arith, inl, inr, Some}
 use Rattle.std.specs.List.{AllByRecursion, list_any}
 use Rattle.std.specs.Cmp.Lexicographic.{same_text}
 use Rattle.std.proofs.lemmas.Bool.{false_from_ne_true}
@@ -11,7 +11,9 @@ use Rattle.blif_ast.specs.Good.{IsNameByte, IsGoodName}
 use Rattle.blif_ast.specs.declared.kind.BlifKind.{BlifKind}
 use Rattle.blif_ast.specs.declared.kind.BlifKind.TheVariants.{ControlByte, BadCard}
 use Rattle.blif_ast.specs.LogicalLines.{LogicalLine}
-use Rattle.blif_ast.specs.Cards.{same, begins, is_one_of, is_known, is_form, is_latch_form, is_subckt_form, model_card, inputs_card, outputs_card, names_card, latch_card, subckt_card, clock_card, end_card}
+use Rattle.blif_ast.specs.declared.card.Card.{Card}
+use Rattle.blif_ast.specs.declared.card.Card.TheVariants.{Model, Inputs, Outputs, Names, Latch, Subckt, Clock, End}
+use Rattle.blif_ast.specs.Cards.{same, begins, card_named, card_of, card_word, is_form, is_out_of_form}
 use Rattle.blif_ast.specs.Faults.{has_blif_fault}
 use Rattle.blif_read.proofs.GoodWords.{IsNoMark, IsPlainWord, IsPlainLine}
 use Rattle.blif_read.proofs.Positions.{FaultIn}
@@ -76,28 +78,24 @@ good_word-at words k h lt = All-from_recursion IsGoodName words h k [] lt
 pub same-true : (a b : List ℕ) → same a b ≡ true → a ≡ b
 same-true a b e = same_text a b (sym e)
 
--- the form of a card by its first word
-abbrev pub form_of : List ℕ → List (List ℕ) → Bool
-form_of first words =
-    if same first model_card then length words == 2
-    else (if same first names_card then nat_lt 1 (length words)
-    else (if same first latch_card then is_latch_form words
-    else (if same first subckt_card then is_subckt_form words
-    else (if same first end_card then length words == 1
-    else true))))
+-- the word of a card names it
+named : (card : Card) → card_named (card_word card) ≡ Some card
+named Model = refl
+named Inputs = refl
+named Outputs = refl
+named Names = refl
+named Latch = refl
+named Subckt = refl
+named Clock = refl
+named End = refl
 
-abbrev pub known_of : List ℕ → Bool
-known_of first = is_one_of (model_card ∷ inputs_card ∷ outputs_card ∷ names_card ∷ latch_card ∷ subckt_card ∷ clock_card ∷ end_card ∷ []) first
-
-in_form : (known form : Bool) → known ≡ true → (known && not form) ≡ false → form ≡ true
-in_form true true k h = refl
-in_form true false k h = sym h
-in_form false form k h = absurd (cc)
+no_fault : (form : Bool) → not form ≡ false → form ≡ true
+no_fault true e = refl
+no_fault false e = sym e
 
 -- a card without faults is in its form
-pub card_form : (card : List ℕ) (before : List LogicalLine) (line : LogicalLine) → begins card line ≡ true → known_of card ≡ true
-    → ((kind : BlifKind) → has_blif_fault kind before line ≡ false) → form_of card line.words ≡ true
-card_form card before line is known free =
-    let first : first_word line.words ≡ card = same-true (first_word line.words) card is in
-    ap (λ f. form_of f line.words) (sym first)
-    ∙ in_form (is_known line) (is_form line.words) (ap known_of first ∙ known) (free BadCard)
+pub card_form : (card : Card) (before : List LogicalLine) (line : LogicalLine) → begins (card_word card) line ≡ true
+    → ((kind : BlifKind) → has_blif_fault kind before line ≡ false) → is_form card line.words ≡ true
+card_form card before line is free =
+    let known : card_of line ≡ Some card = ap card_named (same-true (first_word line.words) (card_word card) is) ∙ named card in
+    no_fault (is_form card line.words) (ap (λ o. is_out_of_form o line.words) (sym known) ∙ free BadCard)

@@ -7,6 +7,7 @@ use Rattle.dom_base.proofs.Lists.{AllByRecursion-append, AllByRecursion-take}
 use Rattle.blif_ast.specs.Good.{IsGoodName, IsGoodTable, IsGoodLatch, IsGoodInstance, IsGoodModel, IsGoodFile, card_lines}
 use Rattle.blif_ast.specs.declared.kind.BlifKind.{BlifKind}
 use Rattle.blif_ast.specs.declared.kind.BlifKind.TheVariants.{RowOutsideTable, NoModel}
+use Rattle.blif_ast.specs.declared.card.Card.TheVariants.{Model}
 use Rattle.blif_ast.specs.LogicalLines.{LogicalLine, logical_lines}
 use Rattle.blif_ast.specs.Cards.{begins, is_card, model_card, inputs_card, outputs_card, names_card, latch_card, subckt_card, same}
 use Rattle.blif_ast.specs.Faults.{has_blif_fault}
@@ -67,7 +68,7 @@ good_model : (n : ℕ) (before : List LogicalLine) (line : LogicalLine) (all : L
     → IsGoodLine line → Free (line ∷ before) all → AllByRecursion IsGoodLine all → Rises n all → IsGoodModel (model_of line all)
 good_model n before line all is free good rest goods rises =
     let latches = good_latches (line ∷ before) all rest goods in
-    let form : (length line.words == 2) ≡ true = card_form model_card before line is refl free in
+    let form : (length line.words == 2) ≡ true = card_form Model before line is free in
     record {
       name = good_word-at line.words 1 good.1 (omega (arith, eqb-true (length line.words) 2 form));
       inputs = All-from_recursion IsGoodName (names_on inputs_card all) (names_on-good inputs_card all goods);

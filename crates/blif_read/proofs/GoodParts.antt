@@ -7,6 +7,7 @@ use Rattle.std.proofs.lemmas.List.Elements.{All-from_recursion, recursion_from_A
 use Rattle.dom_base.proofs.Lists.{AllByRecursion-take, AllByRecursion-weaker}
 use Rattle.blif_ast.specs.declared.latch.Latch.{Latch}
 use Rattle.blif_ast.specs.Good.{IsNameByte, IsGoodName, IsGoodSignal, IsGoodLatch, IsGoodBinding, IsGoodInstance}
+use Rattle.blif_ast.specs.declared.card.Card.TheVariants as card
 use Rattle.blif_ast.specs.LogicalLines.{LogicalLine}
 use Rattle.blif_ast.specs.Cards.{same, begins, is_one_of, is_init, is_type, is_latch_form, is_subckt_form, formal_of, actual_of, is_binding, latch_card, subckt_card}
 use Rattle.blif_ast.specs.Models.{control_of, init_of, latch_of, latches_of, binding_of, instance_of, instances_of}
@@ -14,7 +15,7 @@ use Rattle.blif_read.proofs.GoodPrefix.{before_first-all, AllByRecursion-drop}
 use Rattle.blif_read.proofs.GoodRows.{and_first, and_second}
 use Rattle.blif_read.proofs.GoodLines.{Free, IsGoodLine, card_form, same-true}
 
-one_of-all : (P : List ℕ → Type 0) (all : List (List ℕ)) (word : List ℕ) → AllByRecursion P all → is_one_of all word ≡ true → P word
+pub one_of-all : (P : List ℕ → Type 0) (all : List (List ℕ)) (word : List ℕ) → AllByRecursion P all → is_one_of all word ≡ true → P word
 one_of-all P [] word h e = absurd (cc)
 one_of-all P (other ∷ all) word h e = by (same word other) refl (one_of-all P all word h.1)
   where
@@ -106,7 +107,7 @@ good_latches before [] free good = record { good = tt; lines = refl }
 good_latches before (line ∷ more) free good = by (begins latch_card line) refl (good_latches (line ∷ before) more free.1 good.1)
   where
     by : (b : Bool) → begins latch_card line ≡ b → GoodLatches more → GoodLatches (line ∷ more)
-    by true e rest = one_more_latch line more e (good_latch line.number line.words (card_form latch_card before line e refl free.0) good.0.1) rest
+    by true e rest = one_more_latch line more e (good_latch line.number line.words (card_form card.Latch before line e free.0) good.0.1) rest
     by false e rest = no_more_latch line more e rest
 
 nat_some : (bytes : List ℕ) → nat_lt 0 (length bytes) ≡ true → bytes ≢ []
@@ -152,5 +153,5 @@ good_instances before [] free good = tt
 good_instances before (line ∷ more) free good = by (begins subckt_card line) refl (good_instances (line ∷ before) more free.1 good.1)
   where
     by : (b : Bool) → begins subckt_card line ≡ b → AllByRecursion IsGoodInstance (instances_of more) → AllByRecursion IsGoodInstance (instances_of (line ∷ more))
-    by true e rest = rw e (good_instance line line.words refl (card_form subckt_card before line e refl free.0) good.0.1, rest)
+    by true e rest = rw e (good_instance line line.words refl (card_form card.Subckt before line e free.0) good.0.1, rest)
     by false e rest = rw e rest

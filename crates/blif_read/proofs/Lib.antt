@@ -1,5 +1,6 @@
-pub mod Contexts
-pub mod Forms
+pub mod LineContexts
+pub mod WordParts
+pub mod CutWords
 pub mod GoodApart
 pub mod GoodLines
 pub mod GoodModels
@@ -24,7 +25,7 @@ pub mod PrintedParts
 pub mod PrintedRows
 pub mod PrintedUnlined
 pub mod PrintedWords
-pub mod Smallest
-pub mod Building
+pub mod SmallestFault
+pub mod BuiltModels
 pub mod Positions
-pub mod Progress
+pub mod ReaderInvariant

@@ -1,14 +1,17 @@
-//! The models of a file, made line by line.
-ghost use Rattle.std.specs.Prelude.{◌≡◌, ◌++◌, ◌∷◌, [], IfOk, OnOk, Some, None, if◌then◌else◌, drop};
+//! The models of a text, made line by line.
+ghost use Rattle.std.specs.Prelude.{◌≡◌, ◌≢◌, ◌++◌, ◌∷◌, [], ℕ, IfOk, OnOk, IsErrOf, Some, None, map, drop};
 ghost use Rattle.std.specs.Option.{option_to_list};
-ghost use Rattle.blif_ast.specs.Cards.{begins, latch_card, subckt_card, names_card};
 ghost use Rattle.blif_ast.specs.Models.{latch_of, instance_of};
-ghost use Rattle.blif_read.specs.Build.{built_after, closed_models, model_after_card, model_with_card, model_with_table, new_table, on_after, table_with_row};
+ghost use Rattle.blif_ast.specs.declared.kind.BlifKind.TheVariants.{NoModel};
+ghost use Rattle.blif_read.specs.Build.{built_after, closed_models, context_in, model_after_card, model_with_card, model_with_table, on_after, table_after_card, table_with_row};
+ghost use Rattle.blif_read.specs.Steps.{fault_in};
 
-use crate::line::Line;
+use crate::line::{Line, last_letter};
+use crate::line_fault::{card_fault, row_fault};
 use crate::parts::{instance_of, latch_of, new_model, new_table, push_names, row_of};
-use blif_ast::{BlifFile, BlifModel, Instance, Latch, Row, Table};
-use dom_base::{Name, OutOfMemory};
+use crate::{BlifFault, BlifKind};
+use blif_ast::{BlifFile, BlifModel, Card, Instance, Latch, Row, Table};
+use dom_base::{OutOfMemory, have_control};
 use std::alloc::Global;
 use std::marker::Model;
 
@@ -39,34 +42,55 @@ impl Builder {
         }
     }
 
+    /// The fault of the next line with the smallest number, where it has one.
+    pub fn fault(&self, line: &Line<'_, '_>) -> Option<BlifKind>
+        ensures { result ≡ fault_in (context_in self.now) line.now }
+    {
+        if have_control(line.words) {
+            return Some(BlifKind::ControlByte);
+        }
+        if line.is_card() {
+            card_fault(self.model.is_some(), line.card(), line.words)
+        } else {
+            row_fault(&self.table, line.words)
+        }
+    }
+
     /// Takes the next line, which has no fault.
-    pub fn push(&mut self, alloc: Global, line: &Line<'_>) -> Result<(), OutOfMemory>
+    pub fn push(&mut self, alloc: Global, line: &Line<'_, '_>) -> Result<(), OutOfMemory>
         ensures { OnOk result (self.new ≡ built_after self.old line.now) }
     {
-        if !line.is_card() {
-            self.table = with_row(alloc, self.table.take(), line)?;
-            return Ok(());
+        let Some(card) = line.card() else {
+            return push_row(alloc, &mut self.table, line.words);
+        };
+        match card {
+            Card::Model => {
+                push_closed(&mut self.models, self.model.take(), self.table.take())?;
+                self.model = Some(new_model(alloc, line)?);
+            }
+            Card::End => push_closed(&mut self.models, self.model.take(), self.table.take())?,
+            _ => {
+                push_card(alloc, &mut self.model, self.table.take(), card, line)?;
+                self.table = table_after(alloc, card, line)?;
+            }
         }
-        let (model, table) = (self.model.take(), self.table.take());
-        if line.begins(b".model") {
-            push_closed(&mut self.models, model, table)?;
-            self.model = Some(new_model(alloc, line)?);
-            return Ok(());
-        }
-        if line.begins(b".end") {
-            return push_closed(&mut self.models, model, table);
-        }
-        self.model = after_card(alloc, model, table, line)?;
-        self.table = opened_table(alloc, line)?;
         Ok(())
     }
 
-    /// The file, after the last line.
-    pub fn finish(self) -> Result<BlifFile, OutOfMemory>
-        ensures { IfOk result (λ file. file ≡ record { models = closed_models self.models self.model self.table }) }
+    /// The file after the last line, or the fault of a text without a model, at the line behind it.
+    pub fn finish(self, line: u64) -> Result<BlifFile, BlifFault>
+        ensures file { IfOk result (λ file. (file.models ≡ closed_models self.models self.model self.table) × (file.models ≢ [])) }
+        ensures fault { (number : ℕ) (kind : _) → IsErrOf result (BlifFault.At number kind)
+            → (closed_models self.models self.model self.table ≡ []) × (number ≡ line) × (kind ≡ NoModel) }
     {
         let mut models = self.models;
         push_closed(&mut models, self.model, self.table)?;
+        if models.is_empty() {
+            return Err(BlifFault::At {
+                line,
+                kind: BlifKind::NoModel,
+            });
+        }
         Ok(BlifFile { models })
     }
 }
@@ -78,31 +102,22 @@ fn on_after(rows: &[Row], on: bool, letter: u8) -> bool
     if rows.is_empty() { letter == b'1' } else { on }
 }
 
-fn with_row(
-    alloc: Global,
-    table: Option<Table>,
-    line: &Line<'_>,
-) -> Result<Option<Table>, OutOfMemory>
-    ensures { IfOk result (λ t. t ≡ table_with_row table line.now.words) }
+/// Appends a row to the open table. Most tables of a circuit have one row, so the first has no room
+/// beside it.
+fn push_row(alloc: Global, table: &mut Option<Table>, words: &[&[u8]]) -> Result<(), OutOfMemory>
+    ensures { OnOk result (table.new ≡ table_with_row table.old (map (λ w. w.now) words.now)) }
 {
     match table {
-        Some(mut table) => {
-            table.on = on_after(&table.rows, table.on, line.last_letter());
-            table.rows.push(row_of(alloc, &line.words)?)?;
-            Ok(Some(table))
+        Some(table) => {
+            table.on = on_after(&table.rows, table.on, last_letter(words));
+            if table.rows.is_empty() {
+                table.rows.reserve_exact(1)?;
+            }
+            table.rows.push(row_of(alloc, words)?)?;
+            Ok(())
         }
-        None => Ok(None),
+        None => Ok(()),
     }
-}
-
-fn with_table(mut model: BlifModel, table: Option<Table>) -> Result<BlifModel, OutOfMemory>
-    ensures { IfOk result (λ m. m ≡ model_with_table model table) }
-{
-    match table {
-        Some(table) => model.tables.push(table)?,
-        None => (),
-    }
-    Ok(model)
 }
 
 /// Closes the model, if one is open.
@@ -114,63 +129,82 @@ fn push_closed(
     ensures { OnOk result (models.new.items ≡ closed_models models.old.items model table) }
 {
     match model {
-        Some(model) => {
-            models.push(with_table(model, table)?)?;
+        Some(mut model) => {
+            push_table(&mut model, table)?;
+            models.push(model)?;
             Ok(())
         }
         None => Ok(()),
     }
 }
 
-/// The open model after a card that neither opens nor closes one.
-fn after_card(
+fn push_table(model: &mut BlifModel, table: Option<Table>) -> Result<(), OutOfMemory>
+    ensures { OnOk result (model.new ≡ model_with_table model.old table) }
+{
+    match table {
+        Some(table) => {
+            model.tables.push(table)?;
+            Ok(())
+        }
+        None => Ok(()),
+    }
+}
+
+/// Closes the open table and takes a card that neither opens nor closes a model.
+fn push_card(
     alloc: Global,
-    model: Option<BlifModel>,
+    model: &mut Option<BlifModel>,
     table: Option<Table>,
-    line: &Line<'_>,
-) -> Result<Option<BlifModel>, OutOfMemory>
-    ensures { IfOk result (λ m. m ≡ model_after_card model table line.now) }
+    card: Card,
+    line: &Line<'_, '_>,
+) -> Result<(), OutOfMemory>
+    ensures { OnOk result (model.new ≡ model_after_card model.old table card line.now) }
 {
     match model {
         Some(model) => {
-            let model = with_table(model, table)?;
-            Ok(Some(with_card(alloc, model, line)?))
+            push_table(model, table)?;
+            push_parts(alloc, model, card, line)
         }
-        None => Ok(None),
+        None => Ok(()),
     }
 }
 
-fn with_card(alloc: Global, mut model: BlifModel, line: &Line<'_>) -> Result<BlifModel, OutOfMemory>
-    ensures { IfOk result (λ m. m ≡ model_with_card model line.now) }
-{
-    push_ports(alloc, &mut model.inputs, b".inputs", line)?;
-    push_ports(alloc, &mut model.outputs, b".outputs", line)?;
-    push_latch(alloc, &mut model.latches, line)?;
-    push_instance(alloc, &mut model.instances, line)?;
-    Ok(model)
-}
-
-fn push_ports(
+/// Appends the names, latch or instance of a card.
+fn push_parts(
     alloc: Global,
-    ports: &mut Vec<Name>,
-    card: &[u8],
-    line: &Line<'_>,
+    model: &mut BlifModel,
+    card: Card,
+    line: &Line<'_, '_>,
 ) -> Result<(), OutOfMemory>
-    ensures { OnOk result (ports.new.items ≡ ports.old.items ++ (if begins card.now line.now then drop 1 line.now.words else [])) }
+    ensures { OnOk result (model.new ≡ model_with_card model.old card line.now) }
 {
-    if !line.begins(card) || line.words.is_empty() {
-        return Ok(());
+    match card {
+        Card::Inputs => push_names(alloc, &mut model.inputs, behind_first(line.words)),
+        Card::Outputs => push_names(alloc, &mut model.outputs, behind_first(line.words)),
+        Card::Latch => push_latch(alloc, &mut model.latches, line),
+        Card::Subckt => push_instance(alloc, &mut model.instances, line),
+        _ => Ok(()),
     }
-    push_names(alloc, ports, &line.words[1..])
 }
 
-fn push_latch(alloc: Global, latches: &mut Vec<Latch>, line: &Line<'_>) -> Result<(), OutOfMemory>
-    ensures { OnOk result (latches.new.items ≡ latches.old.items ++ (if begins latch_card line.now then option_to_list (latch_of line.now.number line.now.words) else [])) }
+/// The words behind the first.
+fn behind_first<'w, 'a>(words: &'w [&'a [u8]]) -> &'w [&'a [u8]]
+    ensures { result.now ≡ drop 1 words.now }
 {
-    if !line.begins(b".latch") {
-        return Ok(());
+    match words {
+        [_, rest @ ..] => rest,
+        _ => words,
     }
-    match latch_of(alloc, line.number, &line.words)? {
+}
+
+fn push_latch(
+    alloc: Global,
+    latches: &mut Vec<Latch>,
+    line: &Line<'_, '_>,
+) -> Result<(), OutOfMemory>
+    ensures { OnOk result (latches.new.items ≡ latches.old.items ++ option_to_list (latch_of line.now.number line.now.words)) }
+{
+    match latch_of(alloc, line.number, line.words)? {
         Some(latch) => {
             latches.push(latch)?;
             Ok(())
@@ -182,22 +216,20 @@ fn push_latch(alloc: Global, latches: &mut Vec<Latch>, line: &Line<'_>) -> Resul
 fn push_instance(
     alloc: Global,
     instances: &mut Vec<Instance>,
-    line: &Line<'_>,
+    line: &Line<'_, '_>,
 ) -> Result<(), OutOfMemory>
-    ensures { OnOk result (instances.new.items ≡ instances.old.items ++ (if begins subckt_card line.now then instance_of line.now ∷ [] else [])) }
+    ensures { OnOk result (instances.new.items ≡ instances.old.items ++ instance_of line.now ∷ []) }
 {
-    if line.begins(b".subckt") {
-        instances.push(instance_of(alloc, line)?)?;
-    }
+    instances.push(instance_of(alloc, line)?)?;
     Ok(())
 }
 
-fn opened_table(alloc: Global, line: &Line<'_>) -> Result<Option<Table>, OutOfMemory>
-    ensures { IfOk result (λ t. t ≡ (if begins names_card line.now then Some (new_table line.now) else None)) }
+/// The table that a card opens.
+fn table_after(alloc: Global, card: Card, line: &Line<'_, '_>) -> Result<Option<Table>, OutOfMemory>
+    ensures { IfOk result (λ t. t ≡ table_after_card card line.now) }
 {
-    if line.begins(b".names") {
-        Ok(Some(new_table(alloc, line)?))
-    } else {
-        Ok(None)
+    match card {
+        Card::Names => Ok(Some(new_table(alloc, line)?)),
+        _ => Ok(None),
     }
 }

@@ -2,12 +2,12 @@
 #![tactic(auto)]
 
 mod builder;
-mod check;
-mod context;
 mod fault;
-mod form;
+mod forms;
 mod laws;
 mod line;
+mod line_fault;
+mod lines;
 mod parts;
 mod reader;
 

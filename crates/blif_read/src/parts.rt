@@ -4,10 +4,10 @@ ghost use Rattle.blif_ast.specs.Models.{letter_of, row_letters, control_of, init
 ghost use Rattle.blif_ast.specs.Cards.{table_inputs};
 ghost use Rattle.blif_read.specs.Build.{new_model, new_table};
 
-use crate::form::sides;
+use crate::forms::sides;
 use crate::line::Line;
 use blif_ast::{Binding, BlifModel, Control, Edge2, Instance, Latch, Letter, Row, Table};
-use dom_base::{Name, OutOfMemory, same_word};
+use dom_base::{Name, OutOfMemory};
 use std::alloc::{AllocError, Global};
 
 fn name_of(alloc: Global, word: &[u8]) -> Result<Name, AllocError>
@@ -37,11 +37,11 @@ fn name_at(alloc: Global, words: &[&[u8]], place: usize) -> Result<Name, AllocEr
 }
 
 /// The model of a card `.model`, without lines.
-pub fn new_model(alloc: Global, line: &Line<'_>) -> Result<BlifModel, OutOfMemory>
+pub fn new_model(alloc: Global, line: &Line<'_, '_>) -> Result<BlifModel, OutOfMemory>
     ensures { IfOk result (λ model. model ≡ new_model line.now) }
 {
     Ok(BlifModel {
-        name: name_at(alloc, &line.words, 1)?,
+        name: name_at(alloc, line.words, 1)?,
         inputs: Vec::new(alloc),
         outputs: Vec::new(alloc),
         tables: Vec::new(alloc),
@@ -70,10 +70,10 @@ fn inputs_of(alloc: Global, words: &[&[u8]]) -> Result<Vec<Name>, OutOfMemory>
 }
 
 /// The table of a card `.names`, without rows.
-pub fn new_table(alloc: Global, line: &Line<'_>) -> Result<Table, OutOfMemory>
+pub fn new_table(alloc: Global, line: &Line<'_, '_>) -> Result<Table, OutOfMemory>
     ensures { IfOk result (λ table. table ≡ new_table line.now) }
 {
-    let words = line.words.as_slice();
+    let words = line.words;
     Ok(Table {
         inputs: inputs_of(alloc, words)?,
         output: name_at(alloc, words, words.len().saturating_sub(1))?,
@@ -113,12 +113,12 @@ pub fn row_of(alloc: Global, words: &[&[u8]]) -> Result<Row, OutOfMemory>
 fn control_of(alloc: Global, kind: &[u8], word: &[u8]) -> Result<Control, OutOfMemory>
     ensures { IfOk result (λ control. control ≡ control_of kind.now word.now) }
 {
-    let edge = if same_word(kind, b"re") {
+    let edge = if kind == b"re".as_slice() {
         Edge2::Rising
     } else {
         Edge2::Falling
     };
-    let signal = if same_word(word, b"NIL") {
+    let signal = if word == b"NIL".as_slice() {
         None
     } else {
         Some(name_of(alloc, word)?)
@@ -187,10 +187,10 @@ fn bindings_behind(alloc: Global, words: &[&[u8]]) -> Result<Vec<Binding>, OutOf
 }
 
 /// The instance of a card `.subckt`.
-pub fn instance_of(alloc: Global, line: &Line<'_>) -> Result<Instance, OutOfMemory>
+pub fn instance_of(alloc: Global, line: &Line<'_, '_>) -> Result<Instance, OutOfMemory>
     ensures { IfOk result (λ instance. instance ≡ instance_of line.now) }
 {
-    let words = line.words.as_slice();
+    let words = line.words;
     Ok(Instance {
         unit: name_at(alloc, words, 1)?,
         bindings: bindings_behind(alloc, words)?,

@@ -1,6 +1,6 @@
 use Rattle.std.proofs.Common.{◌∙◌}
 use Rattle.std.proofs.lemmas.Result.{IfOk-weaker}
-use Rattle.blif_read.proofs.Forms.{inputs_between}
+use Rattle.blif_read.proofs.WordParts.{inputs_between}
 use Rattle.blif_read.proofs.parts.inputs_of.Goals as goal
 
 pub returns : goal.returns

@@ -1,39 +1,43 @@
-use Rattle.std.proofs.Common.{rules, ◌∙◌, sym, ap, refl}
+use Rattle.std.proofs.Common.{◌∷◌, ◌∙◌, sym, ap, refl, map}
 use Rattle.std.proofs.lemmas.Result.{IfOk-weaker}
-use Rattle.blif_ast.specs.LogicalLines.{LogicalLine}
+use Rattle.dom_base.specs.Lines.{lines}
+use Rattle.dom_base.proofs.Options.{none_case, some_case}
+use Rattle.blif_ast.specs.LogicalLines.{LogicalLine, logical_lines_from}
 use Rattle.blif_ast.specs.declared.kind.BlifKind.TheVariants.{NoModel}
-use Rattle.blif_read.proofs.Progress.{accepted, ended, fault, no_lines, step, told, none_case, some_case, line_told, kind_told, nothing_left}
+use Rattle.blif_read.specs.Cuts.{line_of}
+use Rattle.blif_read.proofs.ReaderInvariant.{Cuts, reads-file, reads-fault, reads-next, reads-nothing, same_fault, line_of_fault, kind_of_fault}
 use Rattle.blif_read.proofs.reader.read.Goals as goal
 
-pub returns-in-Ok-None-clause-file : goal.returns-in-Ok-None-clause-file
-returns-in-Ok-None-clause-file c =
-    let none = none_case _ _ _ c.in-Ok-None.field-0-is c.in-Ok-None.ensures.line in
-    IfOk-weaker c.finish.result _ _ (λ file p. accepted c.args.text.now _ _ _ _ _ file c.lines.invariant none.1 p.0 p.1) c.finish.ensures.file
-
-pub returns-in-Ok-None-clause-fault : goal.returns-in-Ok-None-clause-fault
-returns-in-Ok-None-clause-fault c = λ line kind is.
-    let none = none_case _ _ _ c.in-Ok-None.field-0-is c.in-Ok-None.ensures.line in
-    let f = c.finish.ensures.fault line kind is in
-    told c.args.text.now line _ kind NoModel f.1 f.2 (ended c.args.text.now _ _ _ _ _ _ _ c.lines.invariant none.1 (c.in-Ok-None.ensures.number refl) none.0 f.0)
-
-pub returns-in-Some-clause-fault : goal.returns-in-Some-clause-fault
-returns-in-Some-clause-fault c = λ line kind is.
-    let some = some_case _ _ _ c.in-Ok-Some.line c.in-Ok-Some.field-0-is c.in-Ok-Some.ensures.line in
-    told c.args.text.now line c.in-Ok-Some.line.number kind c.in-Some.kind (sym (ap line_told is) ∙ ap (λ (l : LogicalLine). l.number) c.line.view_is) (sym (ap kind_told is))
-    (fault c.args.text.now c.lines.context c.lines.builder c.lines.some c.lines.lines.number c.next.new.self.number c.lines.lines.rest.now c.next.new.self.rest.now c.in-Ok-Some.line c.in-Some.kind c.lines.invariant some.1 (search rules))
+pub returns-in-Some-fault-clause-fault : goal.returns-in-Some-fault-clause-fault
+returns-in-Some-fault-clause-fault c = λ line kind is.
+    let some = some_case _ _ _ c.in-Some.number c.in-Some.is c.in_ok-number.ensures.line in
+    let line_is = c.new-line.ensures ∙ ap (λ ws. line_of c.in-Some.number (map (λ w. w.now) ws)) c.deref.ensures.value in
+    let cut : Cuts c.lines.lines.number c.lines.lines.rest.now c.new-line.result c.next.new.self.number c.next.new.self.rest.now = record {
+      lines_are = some.1 ∙ ap (λ l. l ∷ logical_lines_from c.next.new.self.number (lines c.next.new.self.rest.now)) (sym line_is);
+      fit = c.in_ok-number.ensures.fit;
+      count = c.in_ok-number.ensures.number refl;
+    } in
+    same_fault c.args.text.now line c.new-line.result.number kind c.in-Some-fault.kind (sym (ap line_of_fault is) ∙ sym (ap (λ (l : LogicalLine). l.number) c.new-line.ensures)) (sym (ap kind_of_fault is))
+    (reads-fault c.lines.invariant cut c.in-Some-fault.kind (sym c.in-Some-fault.is ∙ c.fault.ensures))
 
 pub lines-preserved : goal.lines-preserved
 lines-preserved c =
-    let some = some_case _ _ _ c.in-Ok-Some.line c.in-Ok-Some.field-0-is c.in-Ok-Some.ensures.line in
-    step c.args.text.now c.lines.context c.after-context.result c.lines.builder c.push.new.self c.lines.some c.lines.lines.number c.next.new.self.number c.lines.lines.rest.now c.next.new.self.rest.now c.in-Ok-Some.line c.lines.invariant some.1 c.in-Ok-Some.ensures.fit (c.in-Ok-Some.ensures.number refl) (search rules) c.after-context.ensures c.in-Ok.ensures
+    let some = some_case _ _ _ c.in-Some.number c.in-Some.is c.in_ok-number.ensures.line in
+    let line_is = c.new-line.ensures ∙ ap (λ ws. line_of c.in-Some.number (map (λ w. w.now) ws)) c.deref.ensures.value in
+    let cut : Cuts c.lines.lines.number c.lines.lines.rest.now c.new-line.result c.next.new.self.number c.next.new.self.rest.now = record {
+      lines_are = some.1 ∙ ap (λ l. l ∷ logical_lines_from c.next.new.self.number (lines c.next.new.self.rest.now)) (sym line_is);
+      fit = c.in_ok-number.ensures.fit;
+      count = c.in_ok-number.ensures.number refl;
+    } in
+    reads-next c.lines.invariant cut (sym c.in_default-fault.is ∙ c.fault.ensures) c.push.new.self c.in_ok-push.ensures
 
 pub returns-clause-file : goal.returns-clause-file
 returns-clause-file c =
-    let none = no_lines c.lines.lines.number c.lines.lines.rest.now (nothing_left c.lines.lines.rest.now c.is_empty.result c.is_empty.ensures c.lines-test.false) in
-    IfOk-weaker c.finish-2.result _ _ (λ file p. accepted c.args.text.now _ _ _ _ _ file c.lines.invariant none p.0 p.1) c.finish-2.ensures.file
+    let none = none_case _ _ _ c.in_default.is c.in_ok-number.ensures.line in
+    IfOk-weaker c.finish.result _ _ (λ file p. reads-file c.lines.invariant none.1 file p) c.finish.ensures.file
 
 pub returns-clause-fault : goal.returns-clause-fault
 returns-clause-fault c = λ line kind is.
-    let none = no_lines c.lines.lines.number c.lines.lines.rest.now (nothing_left c.lines.lines.rest.now c.is_empty.result c.is_empty.ensures c.lines-test.false) in
-    let f = c.finish-2.ensures.fault line kind is in
-    told c.args.text.now line c.lines.lines.number kind NoModel f.1 f.2 (ended c.args.text.now c.lines.context c.lines.builder c.lines.some c.lines.lines.number c.lines.lines.number c.lines.lines.rest.now c.lines.lines.rest.now c.lines.invariant none refl (nothing_left c.lines.lines.rest.now c.is_empty.result c.is_empty.ensures c.lines-test.false) f.0)
+    let none = none_case _ _ _ c.in_default.is c.in_ok-number.ensures.line in
+    let f = c.finish.ensures.fault line kind is in
+    same_fault c.args.text.now line c.next.new.self.number kind NoModel f.1 f.2 (reads-nothing c.lines.invariant none.1 c.next.new.self.number c.next.new.self.rest.now (c.in_ok-number.ensures.number refl) none.0 f.0)

@@ -1,5 +1,5 @@
 use Rattle.blif_read.proofs.JoinBytes.{match_weaker, joined-at, not_joined}
-use Rattle.blif_read.proofs.line.strip_join.Goals as goal
+use Rattle.blif_read.proofs.lines.strip_join.Goals as goal
 
 pub returns : goal.returns
 returns c = match_weaker _ _ _ _ c.strip_last.result (not_joined c.args.line.now) (λ front. joined-at c.args.line.now front.now) c.strip_last.ensures

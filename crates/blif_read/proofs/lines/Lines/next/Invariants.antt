@@ -2,7 +2,7 @@ use Rattle.std.proofs.Common.{◌≡◌, ◌≤◌, ◌+◌, length}
 use Rattle.dom_base.specs.Lines.{lines}
 use Rattle.blif_ast.specs.LogicalLines.{logical_lines_from}
 use Rattle.dom_base.specs.Cuts.{NumbersFit}
-use Rattle.blif_read.proofs.line.Lines.next.Given as goal
+use Rattle.blif_read.proofs.lines.Lines.next.Given as goal
 
 pub record Skips (l : goal.Live-lines) : Type 0 where
   pub fit : NumbersFit l.self.number l.self.rest.now

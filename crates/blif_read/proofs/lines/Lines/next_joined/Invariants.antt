@@ -2,7 +2,7 @@ use Rattle.std.proofs.Common.{◌≡◌, ◌<◌, ◌+◌, map, length}
 use Rattle.dom_base.specs.Lines.{lines}
 use Rattle.dom_base.specs.Cuts.{NumbersFit}
 use Rattle.blif_read.specs.Cuts.{worded_lines, with_words}
-use Rattle.blif_read.proofs.line.Lines.next_joined.Given as goal
+use Rattle.blif_read.proofs.lines.Lines.next_joined.Given as goal
 
 pub record Joins (l : goal.Live-pieces) : Type 0 where
   pub fit : NumbersFit l.self.number l.self.rest.now

@@ -1,5 +1,5 @@
-use Rattle.blif_read.proofs.Forms.{formal_at, actual_at, formal_none, actual_none}
-use Rattle.blif_read.proofs.form.sides.Goals as goal
+use Rattle.blif_read.proofs.WordParts.{formal_at, actual_at, formal_none, actual_none}
+use Rattle.blif_read.proofs.forms.sides.Goals as goal
 
 pub returns-in-Some-clause-formal : goal.returns-in-Some-clause-formal
 returns-in-Some-clause-formal c = formal_at c.args.word.now c.in-Some.place c.in-Some.ensures

@@ -1,3 +1,4 @@
+-- The models that the reader makes are those of the text.
 use Rattle.std.proofs.Common.{◌≡◌, ℕ, Bool, true, false, cond, List, [], ◌∷◌, ◌++◌, map, drop, refl, sym, ap, ◌∙◌, Some, None}
 use Rattle.std.specs.Prelude.{Option, ◌||◌, not, if◌then◌else◌, codes, filter}
 use Rattle.std.specs.List.{flat_map, filter_map, cons_option, take_while}
@@ -6,13 +7,15 @@ use Rattle.std.proofs.lemmas.List.{append_assoc, append-nil}
 use Rattle.std.proofs.lemmas.List.Sums.{take_while-cons}
 use Rattle.dom_base.specs.Lines.{first_word}
 use Rattle.blif_ast.specs.declared.letter.Letter.{Letter}
+use Rattle.blif_ast.specs.declared.card.Card.{Card}
+use Rattle.blif_ast.specs.declared.card.Card.TheVariants.{Model, Inputs, Outputs, Names, Latch, Subckt, Clock, End}
 use Rattle.blif_ast.specs.TableData.{TableData}
 use Rattle.blif_ast.specs.BlifModelData.{BlifModelData}
 use Rattle.blif_ast.specs.LogicalLines.{LogicalLine}
-use Rattle.blif_ast.specs.Cards.{begins, is_card, is_row, last_letter, model_card, end_card, inputs_card, outputs_card, names_card, latch_card, subckt_card}
+use Rattle.blif_ast.specs.Cards.{same, begins, card_of, card_word, is_card, is_row, last_letter, model_card, end_card, inputs_card, outputs_card, names_card, latch_card, subckt_card}
 use Rattle.blif_ast.specs.Models.{row_letters, latch_of, instance_of, names_on, tables_of, table_of, latches_of, instances_of, models_of, model_of, is_inside, rows_are_on}
-use Rattle.blif_read.specs.Build.{Built, on_after, table_with_row, model_with_table, model_with_card, new_table, closed_models, model_after_card, built_after, rows_on, table_with_rows, tables_from, model_with_lines, models_from, finished}
-use Rattle.blif_read.proofs.Contexts.{no_dot}
+use Rattle.blif_read.specs.Build.{Built, on_after, table_with_row, model_with_table, model_with_card, new_table, closed_models, model_after_card, table_after_card, built_by, built_after, rows_on, table_with_rows, tables_from, model_with_lines, models_from, finished}
+use Rattle.blif_read.proofs.LineContexts.{no_dot, card_begins, known_is_card}
 
 -- one line more in front of the lines that are left
 
@@ -109,9 +112,62 @@ tables_from-card (Some t) line body card =
 join_parts : {X : Type 0} (a b c d : List X) → b ++ c ≡ d → a ++ b ++ c ≡ a ++ d
 join_parts a b c d is = append_assoc a b c ∙ ap (λ l. a ++ l) is
 
-model_with_lines-card : (m : BlifModelData) (table : Option TableData) (line : LogicalLine) (body : List LogicalLine) → is_card line ≡ true
-    → model_with_lines (model_with_card (model_with_table m table) line) (if begins names_card line then Some (new_table line) else None) body ≡ model_with_lines m table (line ∷ body)
-model_with_lines-card m table line body card = λ i. record {
+-- a model with the parts of a line, by four tests of its first word
+abbrev with_parts : BlifModelData → LogicalLine → (inputs outputs latch subckt : Bool) → BlifModelData
+with_parts m line inputs outputs latch subckt = record m {
+  inputs = m.inputs ++ (if inputs then drop 1 line.words else []);
+  outputs = m.outputs ++ (if outputs then drop 1 line.words else []);
+  latches = m.latches ++ (if latch then option_to_list (latch_of line.number line.words) else []);
+  instances = m.instances ++ (if subckt then instance_of line ∷ [] else []);
+}
+
+with_parts-none : (m : BlifModelData) (line : LogicalLine) → m ≡ with_parts m line false false false false
+with_parts-none m line = λ i. record m {
+  inputs = sym (append-nil m.inputs) i;
+  outputs = sym (append-nil m.outputs) i;
+  latches = sym (append-nil m.latches) i;
+  instances = sym (append-nil m.instances) i;
+}
+
+model_with_card-parts : (m : BlifModelData) (card : Card) (line : LogicalLine) → model_with_card m card line
+    ≡ with_parts m line (same (card_word card) inputs_card) (same (card_word card) outputs_card) (same (card_word card) latch_card) (same (card_word card) subckt_card)
+model_with_card-parts m Model line = with_parts-none m line
+model_with_card-parts m Inputs line = λ i. record m { inputs = m.inputs ++ drop 1 line.words; outputs = sym (append-nil m.outputs) i; latches = sym (append-nil m.latches) i; instances = sym (append-nil m.instances) i }
+model_with_card-parts m Outputs line = λ i. record m { inputs = sym (append-nil m.inputs) i; outputs = m.outputs ++ drop 1 line.words; latches = sym (append-nil m.latches) i; instances = sym (append-nil m.instances) i }
+model_with_card-parts m Names line = with_parts-none m line
+model_with_card-parts m Latch line = λ i. record m {
+  inputs = sym (append-nil m.inputs) i;
+  outputs = sym (append-nil m.outputs) i;
+  latches = m.latches ++ option_to_list (latch_of line.number line.words);
+  instances = sym (append-nil m.instances) i;
+}
+model_with_card-parts m Subckt line = λ i. record m { inputs = sym (append-nil m.inputs) i; outputs = sym (append-nil m.outputs) i; latches = sym (append-nil m.latches) i; instances = m.instances ++ instance_of line ∷ [] }
+model_with_card-parts m Clock line = with_parts-none m line
+model_with_card-parts m End line = with_parts-none m line
+
+with_parts-line : (m : BlifModelData) (card : Card) (line : LogicalLine) → card_of line ≡ Some card → model_with_card m card line
+    ≡ with_parts m line (begins inputs_card line) (begins outputs_card line) (begins latch_card line) (begins subckt_card line)
+with_parts-line m card line is =
+    model_with_card-parts m card line
+    ∙ (λ i. with_parts m line (sym (card_begins inputs_card line card is) i) (sym (card_begins outputs_card line card is) i) (sym (card_begins latch_card line card is) i) (sym (card_begins subckt_card line card is) i))
+
+table_after-line : (card : Card) (line : LogicalLine) → card_of line ≡ Some card → table_after_card card line ≡ (if begins names_card line then Some (new_table line) else None)
+table_after-line card line is = by card ∙ ap (λ b. if b then Some (new_table line) else None) (sym (card_begins names_card line card is))
+  where
+    by : (c : Card) → table_after_card c line ≡ (if same (card_word c) names_card then Some (new_table line) else None)
+    by Model = refl
+    by Inputs = refl
+    by Outputs = refl
+    by Names = refl
+    by Latch = refl
+    by Subckt = refl
+    by Clock = refl
+    by End = refl
+
+with_parts-lines : (m : BlifModelData) (table : Option TableData) (line : LogicalLine) (body : List LogicalLine) → is_card line ≡ true
+    → model_with_lines (with_parts (model_with_table m table) line (begins inputs_card line) (begins outputs_card line) (begins latch_card line) (begins subckt_card line))
+    (if begins names_card line then Some (new_table line) else None) body ≡ model_with_lines m table (line ∷ body)
+with_parts-lines m table line body card = λ i. record {
   name = m.name;
   inputs = join_parts m.inputs (if begins inputs_card line then drop 1 line.words else []) (names_on inputs_card body) (names_on inputs_card (line ∷ body)) (names_on-line inputs_card line body) i;
   outputs = join_parts m.outputs (if begins outputs_card line then drop 1 line.words else []) (names_on outputs_card body) (names_on outputs_card (line ∷ body)) (names_on-line outputs_card line body) i;
@@ -120,6 +176,13 @@ model_with_lines-card m table line body card = λ i. record {
   instances = join_parts m.instances (if begins subckt_card line then instance_of line ∷ [] else []) (instances_of body) (instances_of (line ∷ body)) (instances_of-line line body) i;
   line = m.line;
 }
+
+model_with_lines-card : (m : BlifModelData) (table : Option TableData) (card : Card) (line : LogicalLine) (body : List LogicalLine) → card_of line ≡ Some card
+    → model_with_lines (model_with_card (model_with_table m table) card line) (table_after_card card line) body ≡ model_with_lines m table (line ∷ body)
+model_with_lines-card m table card line body is =
+    ap (λ x. model_with_lines x (table_after_card card line) body) (with_parts-line (model_with_table m table) card line is)
+    ∙ ap (λ t. model_with_lines (with_parts (model_with_table m table) line (begins inputs_card line) (begins outputs_card line) (begins latch_card line) (begins subckt_card line)) t body) (table_after-line card line is)
+    ∙ with_parts-lines m table line body (known_is_card line card is)
 
 -- a row belongs to the open table alone
 names_on-row : (rest : List ℕ) (line : LogicalLine) (body : List LogicalLine) → is_card line ≡ false → names_on (46 ∷ rest) body ≡ names_on (46 ∷ rest) (line ∷ body)
@@ -163,11 +226,11 @@ models_from-row (Some m) table line more row =
     ap (λ x. x ∷ models_of more) (model_with_lines-row m table line (take_while is_inside more) row ∙ ap (model_with_lines m table) (sym (take_inside line more true inside)))
     ∙ ap (λ ms. model_with_lines m table (take_while is_inside (line ∷ more)) ∷ ms) (sym (models_of-line line more false (no_dot (first_word line.words) (codes "model") row)))
 
-models_from-card : (model : Option BlifModelData) (table : Option TableData) (line : LogicalLine) (more : List LogicalLine) → is_card line ≡ true → begins model_card line ≡ false → begins end_card line ≡ false
-    → models_from (model_after_card model table line) (if begins names_card line then Some (new_table line) else None) more ≡ models_from model table (line ∷ more)
-models_from-card None table line more card still end = sym (models_of-line line more false still)
-models_from-card (Some m) table line more card still end =
-    ap (λ x. x ∷ models_of more) (model_with_lines-card m table line (take_while is_inside more) card ∙ ap (model_with_lines m table) (sym (take_inside line more true (inside-false line still end))))
+models_from-card : (model : Option BlifModelData) (table : Option TableData) (card : Card) (line : LogicalLine) (more : List LogicalLine) → card_of line ≡ Some card → begins model_card line ≡ false → begins end_card line ≡ false
+    → models_from (model_after_card model table card line) (table_after_card card line) more ≡ models_from model table (line ∷ more)
+models_from-card None table card line more is still end = sym (models_of-line line more false still)
+models_from-card (Some m) table card line more is still end =
+    ap (λ x. x ∷ models_of more) (model_with_lines-card m table card line (take_while is_inside more) is ∙ ap (model_with_lines m table) (sym (take_inside line more true (inside-false line still end))))
     ∙ ap (λ ms. model_with_lines m table (take_while is_inside (line ∷ more)) ∷ ms) (sym (models_of-line line more false still))
 
 -- a line that closes the model
@@ -178,20 +241,31 @@ closed-line models (Some m) table line more outside =
     append_assoc models (model_with_table m table ∷ []) (models_of (line ∷ more))
     ∙ ap (λ x. models ++ x ∷ models_of (line ∷ more)) (sym (ap (model_with_lines m table) (take_inside line more false outside) ∙ model_with_lines-none m table))
 
-by_line : (b : Built) (line : LogicalLine) (more : List LogicalLine) (card model end : Bool) → is_card line ≡ card → begins model_card line ≡ model → begins end_card line ≡ end
-    → finished (built_after b line) more ≡ finished b (line ∷ more)
-by_line b line more false model end row e1 e2 = rw row (ap (λ ms. b.models ++ ms) (models_from-row b.model b.table line more row))
-by_line b line more true true end card e1 e2 =
-    let outside : is_inside line ≡ false = ap (λ c. not (c || begins end_card line)) e1 in
-    rw (card, e1) (ap (λ ms. closed_models b.models b.model b.table ++ ms) (sym (models_of-line line more true e1)) ∙ closed-line b.models b.model b.table line more outside)
-by_line b line more true false true card e1 e2 =
-    let outside : is_inside line ≡ false = ap (λ c. not (c || begins end_card line)) e1 ∙ ap (λ c. not (false || c)) e2 in
-    rw (card, e1, e2) (ap (λ ms. closed_models b.models b.model b.table ++ ms) (sym (models_of-line line more false e1)) ∙ closed-line b.models b.model b.table line more outside)
-by_line b line more true false false card e1 e2 = rw (card, e1, e2) (ap (λ ms. b.models ++ ms) (models_from-card b.model b.table line more card e1 e2))
+-- the built parts after a line, with the lines behind it, are those before it, with it too; the line is a row or a card that is known
+pub finished-line : (b : Built) (line : LogicalLine) (more : List LogicalLine) → (card_of line ≡ None → is_card line ≡ false) → finished (built_after b line) more ≡ finished b (line ∷ more)
+finished-line b line more row = by (card_of line) refl
+  where
+    inside : (card : Card) → same (card_word card) model_card ≡ false → same (card_word card) end_card ≡ false → card_of line ≡ Some card
+        → b.models ++ models_from (model_after_card b.model b.table card line) (table_after_card card line) more ≡ finished b (line ∷ more)
+    inside card model end e = ap (λ ms. b.models ++ ms) (models_from-card b.model b.table card line more e (card_begins model_card line card e ∙ model) (card_begins end_card line card e ∙ end))
 
--- the built parts after a line, with the lines behind it, are those before it, with it too
-pub finished-line : (b : Built) (line : LogicalLine) (more : List LogicalLine) → finished (built_after b line) more ≡ finished b (line ∷ more)
-finished-line b line more = by_line b line more (is_card line) (begins model_card line) (begins end_card line) refl refl refl
+    by : (o : Option Card) → card_of line ≡ o → finished (built_by b o line) more ≡ finished b (line ∷ more)
+    by None e = ap (λ ms. b.models ++ ms) (models_from-row b.model b.table line more (row e))
+    by (Some Model) e =
+        let model : begins model_card line ≡ true = card_begins model_card line Model e in
+        let outside : is_inside line ≡ false = ap (λ c. not (c || begins end_card line)) model in
+        ap (λ ms. closed_models b.models b.model b.table ++ ms) (sym (models_of-line line more true model)) ∙ closed-line b.models b.model b.table line more outside
+    by (Some End) e =
+        let model : begins model_card line ≡ false = card_begins model_card line End e in
+        let end : begins end_card line ≡ true = card_begins end_card line End e in
+        let outside : is_inside line ≡ false = ap (λ c. not (c || begins end_card line)) model ∙ ap (λ c. not (false || c)) end in
+        ap (λ ms. closed_models b.models b.model b.table ++ ms) (sym (models_of-line line more false model)) ∙ closed-line b.models b.model b.table line more outside
+    by (Some Inputs) e = inside Inputs refl refl e
+    by (Some Outputs) e = inside Outputs refl refl e
+    by (Some Names) e = inside Names refl refl e
+    by (Some Latch) e = inside Latch refl refl e
+    by (Some Subckt) e = inside Subckt refl refl e
+    by (Some Clock) e = inside Clock refl refl e
 
 finished-end : (models : List BlifModelData) (model : Option BlifModelData) (table : Option TableData) → models ++ models_from model table [] ≡ closed_models models model table
 finished-end models None table = append-nil models

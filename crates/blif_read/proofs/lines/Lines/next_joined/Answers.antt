@@ -1,6 +1,6 @@
 use Rattle.std.proofs.Common.{ap, map, refl, arith, ◌∙◌}
 use Rattle.blif_read.proofs.Joining.{first_piece_of, more_pieces, count_piece}
-use Rattle.blif_read.proofs.line.Lines.next_joined.Goals as goal
+use Rattle.blif_read.proofs.lines.Lines.next_joined.Goals as goal
 
 pub pieces-init : goal.pieces-init
 pieces-init c = record {
@@ -8,7 +8,7 @@ pieces-init c = record {
   count = count_piece _ _ _ _ _ _ _ c.in_ok-goes_on.ensures.number c.in_ok-goes_on.ensures.piece;
   shorter = c.in_ok-goes_on.ensures.shorter;
   first = refl;
-  lines_are = first_piece_of _ _ _ _ _ _ _ (ap (map (λ w. w.now)) c.new-words.ensures.items) c.in_ok-goes_on.ensures.number c.in_ok-goes_on.ensures.piece;
+  lines_are = first_piece_of _ _ _ _ _ _ _ (ap (map (λ w. w.now)) c.clear.ensures.items) c.in_ok-goes_on.ensures.number c.in_ok-goes_on.ensures.piece;
 }
 
 pub pieces-preserved : goal.pieces-preserved

@@ -1,28 +1,45 @@
 //! The forms of cards and rows, by their words.
-ghost use Rattle.std.specs.Prelude.{◌≡◌, map};
+ghost use Rattle.std.specs.Prelude.{◌≡◌, ◌&&◌, map, nat_lt, length, slice_index_or, []};
 ghost use Rattle.std.specs.List.{list_all};
-ghost use Rattle.blif_ast.specs.Cards.{is_init, is_edge, is_type, is_latch_form, is_level, is_binding, is_subckt_form, formal_of, actual_of, is_value, is_letter, is_row_form};
+ghost use Rattle.blif_ast.specs.Cards.{is_form, is_init, is_edge, is_type, is_latch_form, is_level_form, is_level, is_binding, is_subckt_form, formal_of, actual_of, is_value, is_letter, is_row_form};
 
-use dom_base::same_word;
+use blif_ast::Card;
 use memchr::memchr;
+
+/// Whether these are the words of this card in its form.
+pub fn is_form(card: Card, words: &[&[u8]]) -> bool
+    ensures { result ≡ is_form card (map (λ w. w.now) words.now) }
+{
+    match card {
+        Card::Model => words.len() == 2,
+        Card::Names => 1 < words.len(),
+        Card::Latch => is_latch_form(words),
+        Card::Subckt => is_subckt_form(words),
+        Card::End => words.len() == 1,
+        Card::Inputs | Card::Outputs | Card::Clock => true,
+    }
+}
 
 fn is_init(word: &[u8]) -> bool
     ensures { result ≡ is_init word.now }
 {
-    same_word(word, b"0") || same_word(word, b"1") || same_word(word, b"2") || same_word(word, b"3")
+    word == b"0".as_slice()
+        || word == b"1".as_slice()
+        || word == b"2".as_slice()
+        || word == b"3".as_slice()
 }
 
 fn is_edge(word: &[u8]) -> bool
     ensures { result ≡ is_edge word.now }
 {
-    same_word(word, b"re") || same_word(word, b"fe")
+    word == b"re".as_slice() || word == b"fe".as_slice()
 }
 
 /// Whether the word is the type of a latch that takes its input at a level of its control.
-pub fn is_level(word: &[u8]) -> bool
+fn is_level(word: &[u8]) -> bool
     ensures { result ≡ is_level word.now }
 {
-    same_word(word, b"ah") || same_word(word, b"al") || same_word(word, b"as")
+    word == b"ah".as_slice() || word == b"al".as_slice() || word == b"as".as_slice()
 }
 
 fn is_type(word: &[u8]) -> bool
@@ -31,8 +48,7 @@ fn is_type(word: &[u8]) -> bool
     is_edge(word) || is_level(word)
 }
 
-/// Whether these are the words of a card `.latch` in its form.
-pub fn is_latch_form(words: &[&[u8]]) -> bool
+fn is_latch_form(words: &[&[u8]]) -> bool
     ensures { result ≡ is_latch_form (map (λ w. w.now) words.now) }
 {
     match words {
@@ -42,6 +58,13 @@ pub fn is_latch_form(words: &[&[u8]]) -> bool
         [_, _, _, kind, _, init] => is_type(kind) && is_init(init),
         _ => false,
     }
+}
+
+/// Whether these are the words of a card `.latch` in its form that has a type of a level.
+pub fn is_level_form(words: &[&[u8]]) -> bool
+    ensures { result ≡ is_level_form (map (λ w. w.now) words.now) }
+{
+    is_latch_form(words) && 4 < words.len() && is_level(words[3])
 }
 
 /// The sides of a word at its first `=`; without one the second is empty.
@@ -68,8 +91,7 @@ fn are_bindings(words: &[&[u8]]) -> bool
     words.iter().all(|word| is_binding(word))
 }
 
-/// Whether these are the words of a card `.subckt` in its form.
-pub fn is_subckt_form(words: &[&[u8]]) -> bool
+fn is_subckt_form(words: &[&[u8]]) -> bool
     ensures { result ≡ is_subckt_form (map (λ w. w.now) words.now) }
 {
     match words {
@@ -81,7 +103,7 @@ pub fn is_subckt_form(words: &[&[u8]]) -> bool
 fn is_value(word: &[u8]) -> bool
     ensures { result ≡ is_value word.now }
 {
-    same_word(word, b"0") || same_word(word, b"1")
+    word == b"0".as_slice() || word == b"1".as_slice()
 }
 
 fn are_letters(word: &[u8]) -> bool
