@@ -7,7 +7,7 @@ use Rattle.deck.specs.declared.device.Device.{Device}
 use Rattle.deck.specs.CircuitData.{CircuitData}
 use Rattle.deck.specs.NamedDevices.{NamedDevice, device_of, map_device, with_devices}
 use Rattle.deck.specs.Nets.{net_number, with_net, with_nets}
-use Rattle.deck.specs.Pushes.{pushed}
+use Rattle.deck.specs.Pushes.{added_device, pushed}
 use Rattle.deck.proofs.NetNumbers.{HasNumber, IsDistinct-with_net, Longer, Longer-trans, net_number-kept, with_net-grows}
 
 -- a later state of a circuit that only grew
@@ -75,7 +75,7 @@ IsNumberedDevice nets d = HasNumber nets d.drain × HasNumber nets d.gate × Has
 
 -- the device that is added is the device by the numbers in the end
 record IsKept (old new : List (List ℕ)) (d : NamedDevice (List ℕ)) : Type 0 where
-  numbers : record { kind = d.kind; drain = net_number old d.drain; gate = net_number (with_net old d.drain) d.gate; source = net_number (with_net (with_net old d.drain) d.gate) d.source } ≡ numbered_device new d
+  numbers : added_device old d.kind d.drain d.gate d.source ≡ numbered_device new d
   stand : IsNumberedDevice new d
 
 is_kept : (old new : List (List ℕ)) (d : NamedDevice (List ℕ)) → Longer (with_nets old d.drain d.gate d.source) new → IsKept old new d
@@ -102,7 +102,7 @@ with_devices-devices c (d ∷ ds) =
     let new = (with_devices p ds).nets in
     let kept = is_kept c.nets new d (grew.more_nets, grew.nets) in
     with_devices-devices p ds
-    ∙ append_assoc c.devices (record { kind = d.kind; drain = net_number c.nets d.drain; gate = net_number (with_net c.nets d.drain) d.gate; source = net_number (with_net (with_net c.nets d.drain) d.gate) d.source } ∷ []) (map (numbered_device new) ds)
+    ∙ append_assoc c.devices (added_device c.nets d.kind d.drain d.gate d.source ∷ []) (map (numbered_device new) ds)
     ∙ ap (λ e. c.devices ++ e ∷ map (numbered_device new) ds) kept.numbers
 
 pub with_devices-numbered : (c : CircuitData) (ds : List (NamedDevice (List ℕ))) → AllByRecursion (IsNumberedDevice (with_devices c ds).nets) ds

@@ -32,7 +32,7 @@ LeavesRolesAt-same ports a b h k =
     let not_behind = no_earlier ports b a k h in
     omega (arith, not_before, not_behind)
 
--- an order has the name of its leading ports at each of their places
+-- an order has the names of its leading ports
 at_leading : {ports pins outs : List (List ℕ)} {clocks : ℕ} → HasRoles ports clocks pins outs → (k : ℕ) → k < clocks + 8
     → (k < length ports) × (get_or ports k [] ≡ get_or (leading_ports clocks) k [])
 at_leading {ports = ports} {pins = pins} {outs = outs} {clocks = clocks} h k lt =
@@ -40,33 +40,33 @@ at_leading {ports = ports} {pins = pins} {outs = outs} {clocks = clocks} h k lt 
     let whole : length ports ≡ length (leading_ports clocks) + length (pins ++ outs) = ap length (joined h) ∙ length-append (leading_ports clocks) (pins ++ outs) in
     (omega arith, ap (λ l. get_or l k []) (joined h) ∙ get_or_append_left (leading_ports clocks) (pins ++ outs) [] k (omega arith))
 
--- with so many clocks the names leave the leading ports not behind a place
-pub record LeavesLeading (ports : List (List ℕ)) (place clocks : ℕ) : Type 0 where
+-- with so many clocks the names leave the leading ports not behind this port
+pub record LeavesLeading (ports : List (List ℕ)) (port clocks : ℕ) : Type 0 where
   pub at : ℕ
-  pub not_behind : at ≤ place
+  pub not_behind : at ≤ port
   pub leading : at < clocks + 8
   pub differs : at < length ports → get_or ports at [] ≡ get_or (leading_ports clocks) at [] → ⊥
 
--- some number of clocks with which the names before a place are leading ports
-pub record BeginsLeading (ports : List (List ℕ)) (place : ℕ) : Type 0 where
+-- some number of clocks with which the names before this port are leading ports
+pub record BeginsLeading (ports : List (List ℕ)) (port : ℕ) : Type 0 where
   pub clocks : ℕ
   pub some_clock : 1 ≤ clocks
   pub few_clocks : clocks ≤ 4
-  pub leading : place ≤ clocks + 8
-  pub within : place ≤ length ports
-  pub agrees : (k : ℕ) → k < place → get_or ports k [] ≡ get_or (leading_ports clocks) k []
+  pub leading : port ≤ clocks + 8
+  pub within : port ≤ length ports
+  pub agrees : (k : ℕ) → k < port → get_or ports k [] ≡ get_or (leading_ports clocks) k []
 
-begins_with : (ports : List (List ℕ)) (place : ℕ) → BeginsLeading ports place → BeginsRoles (take place ports)
-begins_with ports place b =
+begins_with : (ports : List (List ℕ)) (port : ℕ) → BeginsLeading ports port → BeginsRoles (take port ports)
+begins_with ports port b =
     let lead = leading_ports b.clocks in
     let long : length lead ≡ b.clocks + 8 = length-leading b.clocks b.few_clocks in
-    let short : length (take place ports) ≡ place = length-take-le place ports b.within in
-    let short' : length (take place lead) ≡ place = length-take-le place lead (omega (arith, long, b.leading)) in
-    let same : take place ports ≡ take place lead =
-    ext_get_or [] (take place ports) (take place lead) (short ∙ sym short')
-    (λ k lt. let lt' : k < place = omega arith in get_or-take place ports k [] lt' ∙ b.agrees k lt' ∙ sym (get_or-take place lead k [] lt')) in
+    let short : length (take port ports) ≡ port = length-take-le port ports b.within in
+    let short' : length (take port lead) ≡ port = length-take-le port lead (omega (arith, long, b.leading)) in
+    let same : take port ports ≡ take port lead =
+    ext_get_or [] (take port ports) (take port lead) (short ∙ sym short')
+    (λ k lt. let lt' : k < port = omega arith in get_or-take port ports k [] lt' ∙ b.agrees k lt' ∙ sym (get_or-take port lead k [] lt')) in
     record {
-      more = drop place lead;
+      more = drop port lead;
       roles = record { clocks = b.clocks; pins = 0; outs = 0 };
       in_order = record {
         pins = [];
@@ -76,7 +76,7 @@ begins_with ports place b =
           few_clocks = b.few_clocks;
           pins_are = All-none IsPin;
           outs_are = All-none IsOutput;
-          order = ap (λ l. l ++ drop place lead) same ∙ take-append-drop place lead ∙ sym (append-nil lead) ∙ sym (append-nil (lead ++ []));
+          order = ap (λ l. l ++ drop port lead) same ∙ take-append-drop port lead ∙ sym (append-nil lead) ∙ sym (append-nil (lead ++ []));
         };
         pin_count = refl;
         out_count = refl;
@@ -86,25 +86,25 @@ begins_with ports place b =
     All-none : (P : List ℕ → Type 0) → All P []
     All-none P = λ k d lt. absurd (omega arith)
 
-pub leaves_leading : (ports : List (List ℕ)) (place : ℕ) → BeginsLeading ports place → ((clocks : ℕ) → 1 ≤ clocks → clocks ≤ 4 → LeavesLeading ports place clocks) → LeavesRolesAt ports place
-leaves_leading ports place b each = record {
+pub leaves_leading : (ports : List (List ℕ)) (port : ℕ) → BeginsLeading ports port → ((clocks : ℕ) → 1 ≤ clocks → clocks ≤ 4 → LeavesLeading ports port clocks) → LeavesRolesAt ports port
+leaves_leading ports port b each = record {
   no_order = λ roles h. none ports roles h (λ at lt. refl) (λ at le lt. lt);
   within = b.within;
-  before = begins_with ports place b;
-  first = λ lt c. none (take (place + 1) ports ++ c.more) c.roles c.in_order
-      (λ at le. get_or_append_left (take (place + 1) ports) c.more [] at (omega (arith, length-take-le (place + 1) ports (omega arith), le)) ∙ get_or-take (place + 1) ports at [] (omega (arith, le)))
+  before = begins_with ports port b;
+  first = λ lt c. none (take (port + 1) ports ++ c.more) c.roles c.in_order
+      (λ at le. get_or_append_left (take (port + 1) ports) c.more [] at (omega (arith, length-take-le (port + 1) ports (omega arith), le)) ∙ get_or-take (port + 1) ports at [] (omega (arith, le)))
       (λ at le l. omega (arith, le, lt));
 }
   where
     none : (names : List (List ℕ)) (roles : Roles) → AreRoles names roles
-        → ((at : ℕ) → at ≤ place → get_or names at [] ≡ get_or ports at []) → ((at : ℕ) → at ≤ place → at < length names → at < length ports) → ⊥
+        → ((at : ℕ) → at ≤ port → get_or names at [] ≡ get_or ports at []) → ((at : ℕ) → at ≤ port → at < length names → at < length ports) → ⊥
     none names roles h same there =
         let o = h.in_order in
         let l = each roles.clocks o.some_clock o.few_clocks in
         let k = at_leading o l.at l.leading in
         l.differs (there l.at l.not_behind k.0) (sym (same l.at l.not_behind) ∙ k.1)
 
--- names that agree with the leading ports at each place
+-- names that agree with the leading ports at each index
 pub leading_from : (ports : List (List ℕ)) (clocks : ℕ) → clocks ≤ 4 → clocks + 8 ≤ length ports
     → ((k : ℕ) → k < clocks + 8 → get_or ports k [] ≡ get_or (leading_ports clocks) k []) → take (clocks + 8) ports ≡ leading_ports clocks
 leading_from ports clocks few le each =
@@ -116,31 +116,38 @@ leading_from ports clocks few le each =
 pub greater : (a b : ℕ) → ((ord_max nat_cmp a b ≡ a) × (b ≤ a)) ⊎ ((ord_max nat_cmp a b ≡ b) × (a ≤ b))
 greater a b = grind arith
 
--- the number of leading ports with one more number of clocks
-pub further : (ports : List (List ℕ)) (place count clocks farthest : ℕ) → farthest ≡ ord_max nat_cmp place count → 1 ≤ clocks → clocks ≤ 4
-    → count ≤ clocks + 8 → count ≤ length ports → ((k : ℕ) → k < count → get_or ports k [] ≡ get_or (leading_ports clocks) k [])
-    → (count ≡ clocks + 8 → ⊥) → (count < clocks + 8 → count < length ports → get_or ports count [] ≡ get_or (leading_ports clocks) count [] → ⊥)
-    → BeginsLeading ports place → ((k : ℕ) → 1 ≤ k → k < clocks → LeavesLeading ports place k)
+-- how many ports, before all of them, are the leading ports with so many clocks
+pub record IsCount (ports : List (List ℕ)) (clocks count : ℕ) : Type 0 where
+  pub some_clock : 1 ≤ clocks
+  pub few_clocks : clocks ≤ 4
+  pub short : count < clocks + 8
+  pub within : count ≤ length ports
+  pub agrees : (k : ℕ) → k < count → get_or ports k [] ≡ get_or (leading_ports clocks) k []
+  pub differs : count < length ports → get_or ports count [] ≡ get_or (leading_ports clocks) count [] → ⊥
+
+-- the farthest port with one more number of clocks
+pub further : (ports : List (List ℕ)) (port count clocks farthest : ℕ) → farthest ≡ ord_max nat_cmp port count → IsCount ports clocks count
+    → BeginsLeading ports port → ((k : ℕ) → 1 ≤ k → k < clocks → LeavesLeading ports port k)
     → BeginsLeading ports farthest × ((k : ℕ) → 1 ≤ k → k < clocks + 1 → LeavesLeading ports farthest k)
-further ports place count clocks farthest e some few le within agrees short differs b leaves =
-    (elim (greater place count) [ inl z ↦ subst (BeginsLeading ports) (sym z.0 ∙ sym e) b | inr z ↦ subst (BeginsLeading ports) (sym z.0 ∙ sym e) own ], each)
+further ports port count clocks farthest e h b leaves =
+    (elim (greater port count) [ inl z ↦ subst (BeginsLeading ports) (sym z.0 ∙ sym e) b | inr z ↦ subst (BeginsLeading ports) (sym z.0 ∙ sym e) own ], each)
   where
     own : BeginsLeading ports count
-    own = record { clocks = clocks; some_clock = some; few_clocks = few; leading = le; within = within; agrees = agrees }
+    own = record { clocks = clocks; some_clock = h.some_clock; few_clocks = h.few_clocks; leading = omega (arith, h.short); within = h.within; agrees = h.agrees }
 
-    not_less : (place ≤ farthest) × (count ≤ farthest)
-    not_less = elim (greater place count) [ inl z ↦ (omega (arith, z.0, z.1, e), omega (arith, z.0, z.1, e)) | inr z ↦ (omega (arith, z.0, z.1, e), omega (arith, z.0, z.1, e)) ]
+    not_less : (port ≤ farthest) × (count ≤ farthest)
+    not_less = elim (greater port count) [ inl z ↦ (omega (arith, z.0, z.1, e), omega (arith, z.0, z.1, e)) | inr z ↦ (omega (arith, z.0, z.1, e), omega (arith, z.0, z.1, e)) ]
 
     last : (k : ℕ) → k ≡ clocks → LeavesLeading ports farthest k
-    last k z = rw z (record { at = count; not_behind = not_less.1; leading = omega (arith, short, le); differs = differs (omega (arith, short, le)) })
+    last k z = rw z (record { at = count; not_behind = not_less.1; leading = h.short; differs = h.differs })
 
     dec_lt : (a b : ℕ) → (a < b) ⊎ (b ≤ a)
     dec_lt a b = grind arith
 
     each : (k : ℕ) → 1 ≤ k → k < clocks + 1 → LeavesLeading ports farthest k
     each k one lt = elim (dec_lt k clocks) [
-      | inl h ↦ let l = leaves k one h in record { at = l.at; not_behind = omega (arith, l.not_behind, not_less.0); leading = l.leading; differs = l.differs }
-      | inr h ↦ last k (omega arith)
+      | inl g ↦ let l = leaves k one g in record { at = l.at; not_behind = omega (arith, l.not_behind, not_less.0); leading = l.leading; differs = l.differs }
+      | inr g ↦ last k (omega arith)
     ]
 
 -- pins, then outputs, then a name that can stand behind neither

@@ -1,3 +1,4 @@
+-- Circuits as they are seen in contracts.
 use Rattle.std.specs.Prelude.{ℕ, List}
 use Rattle.deck.specs.declared.device.Device.{Device}
 use Rattle.deck.specs.declared.phase.Phase.{Phase}

@@ -1,3 +1,4 @@
+-- Escapes: names of any bytes as parts of the names of nets.
 use Rattle.std.specs.Prelude.{ℕ, ◌≡◌, ◌<◌, ◌+◌, ◌/◌, ◌%◌, Bool, ◌||◌, List, [], ◌∷◌, All, nat_lt, if◌then◌else◌}
 use Rattle.std.specs.Char.{is_ascii_digit, is_ascii_lowercase}
 use Rattle.std.specs.List.{flat_map}

@@ -1,3 +1,4 @@
+-- Paths of devices between nets, possible or definite, strong or weak, as in the switch-level model of Bryant.
 use Rattle.std.specs.Prelude.{◌≡◌, ℕ, Bool, false, List, [], ◌∷◌, ◌⊎◌, Contains}
 use Rattle.std.specs.List.{AllByRecursion}
 use Rattle.dom_base.specs.declared.kind.Kind.TheVariants.{Keep}
@@ -14,7 +15,8 @@ pub data Path (is_source : ℕ → Bool) : ℕ → List Device → ℕ → Type 
   -- one device joins its two ends
   one : {d : Device} {a b : ℕ} → Ends d a b → Path is_source a (d ∷ []) b
   -- a device to a net that is no source, and a path from there
-  more : {d : Device} {ds : List Device} {a m b : ℕ} → Ends d a m → is_source m ≡ false → Path is_source m ds b → Path is_source a (d ∷ ds) b
+  more : {d : Device} {ds : List Device} {a m b : ℕ}
+      → Ends d a m → is_source m ≡ false → Path is_source m ds b → Path is_source a (d ∷ ds) b
 
 -- one of the devices is a keeper
 abbrev pub IsWeak : List Device → Type 0

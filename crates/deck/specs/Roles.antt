@@ -30,15 +30,15 @@ pub record BeginsRoles (names : List (List ℕ)) : Type 0 where
   pub roles : Roles
   pub in_order : AreRoles (names ++ more) roles
 
--- the ports leave every order of roles at a place: they have none, the names before the place begin
--- one, and with the name at the place, if one stands there, they begin none
-pub record LeavesRolesAt (ports : List (List ℕ)) (place : ℕ) : Type 0 where
+-- the ports leave every order of roles at a port: they have none, the names before it begin
+-- one, and with its name, if it is there, they begin none
+pub record LeavesRolesAt (ports : List (List ℕ)) (port : ℕ) : Type 0 where
   pub no_order : (roles : Roles) → AreRoles ports roles → ⊥
-  pub within : place ≤ length ports
-  pub before : BeginsRoles (take place ports)
-  pub first : place < length ports → BeginsRoles (take (place + 1) ports) → ⊥
+  pub within : port ≤ length ports
+  pub before : BeginsRoles (take port ports)
+  pub first : port < length ports → BeginsRoles (take (port + 1) ports) → ⊥
 
--- ports have one count of clocks, pins and outputs, or leave every order at one place
+-- ports have one count of clocks, pins and outputs, or leave every order at one port
 pub record RolesAreOne : Type 0 where
   pub roles : (ports : List (List ℕ)) (a b : Roles) → AreRoles ports a → AreRoles ports b → a ≡ b
   pub places : (ports : List (List ℕ)) (a b : ℕ) → LeavesRolesAt ports a → LeavesRolesAt ports b → a ≡ b

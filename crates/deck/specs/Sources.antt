@@ -1,3 +1,4 @@
+-- Which nets of a circuit are sources: inputs, in the switch-level model of Bryant.
 use Rattle.std.specs.Prelude.{ℕ, Bool, ◌&&◌, not, [], slice_index_or, nat_eq, nat_lt, codes}
 use Rattle.std.specs.List.{starts_with}
 use Rattle.deck.specs.CircuitData.{CircuitData}

@@ -1,3 +1,4 @@
+-- When a device conducts, as in the switch-level model of Bryant.
 use Rattle.std.specs.Prelude.{◌≡◌, ◌≢◌, ℕ, List, slice_index_or}
 use Rattle.dom_base.specs.Conduction.{conduction}
 use Rattle.dom_base.specs.declared.tri.Tri.{Tri}

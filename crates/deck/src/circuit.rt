@@ -35,7 +35,8 @@ impl Model for Circuit {
 
     ghost Value = { CircuitData };
 
-    ghost view = { λ c. record { name = c.name; phases = c.phases.items; ports = c.ports; nets = c.nets.keys; devices = c.devices.items } };
+    ghost view = { λ c.
+        record { name = c.name; phases = c.phases.items; ports = c.ports; nets = c.nets.keys; devices = c.devices.items } };
 
     ghost invariant = { λ c. IsCircuit c.ports c.nets.keys c.devices.items };
 }
@@ -129,7 +130,8 @@ fn push_device(
 ) -> Result<(), OutOfMemory>
     requires { length nets.old.keys + 3 < 2 ^ 32 }
     ensures nets { OnOk result (nets.new.keys ≡ with_nets nets.old.keys drain.now gate.now source.now) }
-    ensures devices { OnOk result (devices.new.items ≡ devices.old.items ++ added_device nets.old.keys kind drain.now gate.now source.now ∷ []) }
+    ensures devices { OnOk result (devices.new.items
+        ≡ devices.old.items ++ added_device nets.old.keys kind drain.now gate.now source.now ∷ []) }
     ensures kept { OnErr result (devices.new.items ≡ devices.old.items) }
     ensures begins { take (length nets.old.keys) nets.new.keys ≡ nets.old.keys }
 {

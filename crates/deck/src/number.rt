@@ -1,22 +1,22 @@
 //! Numbers of nets.
 ghost use Rattle.std.specs.Prelude.{◌≡◌, IfOk, OnOk, is_ok, if◌then◌else◌, length, take};
 ghost use Rattle.deck.specs.Nets.{net_number, with_net, with_nets};
-ghost use Rattle.deck.specs.Numbers.{PlacesOf, with_all};
+ghost use Rattle.deck.specs.Numbers.{AreNumbersOf, with_all};
 
 use dom_base::{NetName, OutOfMemory};
 use indexmap::IndexSet;
 
 /// The number of a net, which is added at the end where it is new. A refusal adds nothing.
 pub fn number(nets: &mut IndexSet<NetName>, name: &NetName) -> Result<usize, OutOfMemory>
-    ensures place { IfOk result (λ i. i ≡ net_number nets.old.keys name.now) }
+    ensures number { IfOk result (λ i. i ≡ net_number nets.old.keys name.now) }
     ensures keys { nets.new.keys ≡ (if is_ok result then with_net nets.old.keys name.now else nets.old.keys) }
 {
-    if let Some(place) = nets.get_index_of(name) {
-        return Ok(place);
+    if let Some(number) = nets.get_index_of(name) {
+        return Ok(number);
     }
     let copy = name.clone()?;
-    let (place, _) = nets.insert_full(copy)?;
-    Ok(place)
+    let (number, _) = nets.insert_full(copy)?;
+    Ok(number)
 }
 
 /// The numbers of a device's nets. After a refusal some of the nets may stand at the end.
@@ -26,7 +26,7 @@ pub fn number_ends(
     gate: &NetName,
     source: &NetName,
 ) -> Result<(usize, usize, usize), OutOfMemory>
-    ensures places { IfOk result (PlacesOf nets.old.keys drain.now gate.now source.now) }
+    ensures numbers { IfOk result (AreNumbersOf nets.old.keys drain.now gate.now source.now) }
     ensures keys { OnOk result (nets.new.keys ≡ with_nets nets.old.keys drain.now gate.now source.now) }
     ensures begins { take (length nets.old.keys) nets.new.keys ≡ nets.old.keys }
 {

@@ -12,17 +12,18 @@ use dom_base::NetName;
 
 /// What the ports of a circuit are for: `vdd`, `vss`, the clocks `ck1` to `ckP` with P from 1 to 4,
 /// `lm`, `lmb`, `ls`, `lsb`, `rs`, `rsb`, then the pins, whose names begin with `i_`, and then the
-/// outputs, whose names begin with `o_`. The fault is the first place at which the ports leave every
+/// outputs, whose names begin with `o_`. The fault is the first port at which the ports leave every
 /// such order, or the number of ports where they end before `rsb`. Takes no memory.
 pub fn roles(circuit: &Circuit) -> Result<Roles, PortFault>
-    ensures roles { MatchResult result (λ roles. AreRoles (ports_of circuit.now) roles) (λ fault. LeavesRolesAt (ports_of circuit.now) fault.place) }
+    ensures roles { MatchResult result (λ roles. AreRoles (ports_of circuit.now) roles)
+        (λ fault. LeavesRolesAt (ports_of circuit.now) fault.place) }
 {
     let nets = circuit.nets.as_slice();
     roles_of(&nets[..circuit.ports as usize])
 }
 
 /// Ports have at most one count of clocks, pins and outputs, or leave every order of roles at one
-/// place.
+/// port.
 pub fn roles_are_one()
     ensures { RolesAreOne }
 {}
@@ -47,7 +48,7 @@ fn roles_of(ports: &[NetName]) -> Result<Roles, PortFault>
     })
 }
 
-/// The number of clocks with which the ports begin with the leading ports, else the place at which
+/// The number of clocks with which the ports begin with the leading ports, else the port at which
 /// they leave these.
 fn count_clocks(ports: &[NetName]) -> Result<u8, PortFault>
     ensures { MatchResult result (λ clocks. HasLeading ports.now clocks) (λ fault. LeavesRolesAt ports.now fault.place) }
@@ -71,7 +72,8 @@ fn count_leading(ports: &[NetName], clocks: u8) -> u8
     ensures few { result ≤ clocks + unclocked_count }
     ensures within { result ≤ length ports.now }
     ensures agrees { (k : ℕ) → k < result → slice_index_or ports.now k [] ≡ slice_index_or (leading_ports clocks) k [] }
-    ensures differs { result < clocks + unclocked_count → result < length ports.now → slice_index_or ports.now result [] ≢ slice_index_or (leading_ports clocks) result [] }
+    ensures differs { result < clocks + unclocked_count → result < length ports.now
+        → slice_index_or ports.now result [] ≢ slice_index_or (leading_ports clocks) result [] }
 {
     for port in 0..clocks + UNCLOCKED_COUNT {
         if !has_name(ports, port, leading_port(clocks, port)) {

@@ -67,7 +67,7 @@ impl Roles {
     }
 }
 
-/// The place, from 0, at which ports leave the order of roles.
+/// The port, from 0, at which ports leave the order of roles.
 #[derive(Clone, Copy, Debug, PartialEq, Eq)]
 pub struct PortFault {
     pub place: u32,

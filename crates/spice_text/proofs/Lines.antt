@@ -55,10 +55,10 @@ appended : {x y : List ℕ} (z w u : List ℕ) → y ≡ z ++ w → x ≡ y ++ u
 appended z w u ey ex = ex ∙ ap (λ l. l ++ u) ey ∙ append_assoc z w u
 
 -- a card, where its parts are appended one after another
-pub card_parts : (t m n d g s b k e number drain gate source bulk model : List ℕ)
+pub card_parts : (t number drain gate source bulk model : List ℕ) {m n d g s b k e : List ℕ}
     → m ≡ t ++ 109 ∷ [] → n ≡ m ++ number → d ≡ n ++ 32 ∷ drain → g ≡ d ++ 32 ∷ gate → s ≡ g ++ 32 ∷ source → b ≡ s ++ 32 ∷ bulk → k ≡ b ++ 32 ∷ model → e ≡ k ++ 10 ∷ []
     → e ≡ t ++ deck_line (codes "m" ++ number) (drain ∷ gate ∷ source ∷ bulk ∷ model ∷ [])
-card_parts t m n d g s b k e number drain gate source bulk model em en ed eg es eb ek ee =
+card_parts t number drain gate source bulk model {m} {n} {d} {g} {s} {b} {k} {e} em en ed eg es eb ek ee =
     let last = ek ∙ ap (λ w. b ++ 32 ∷ w) (sym (append-nil model)) in
     let words = appended n (32 ∷ drain) _ ed (appended d (32 ∷ gate) _ eg (appended g (32 ∷ source) _ es (appended s (32 ∷ bulk) _ eb last))) in
     appended t _ (10 ∷ []) (appended t (109 ∷ []) _ em (appended m number _ en words)) ee

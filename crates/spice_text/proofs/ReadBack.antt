@@ -19,7 +19,7 @@ use Rattle.deck.proofs.DeckCircuits.{IsDeckOf-circuit, IsDeckOf-good}
 use Rattle.deck.proofs.DeckNames.{IsDeckOf-names}
 use Rattle.spice_text.specs.Text.{sign_of, eights, text_with, IsWritten}
 use Rattle.spice_text.proofs.DeviceRows.{all_cards, cards_plain, cards_are}
-use Rattle.deck.proofs.DeviceNumbers.{named_device, state, used-ge, devices_in_range, with_devices-named}
+use Rattle.deck.proofs.DeviceNumbers.{named_device, used-ge, devices_in_range, with_devices-named}
 use Rattle.deck.proofs.NetNumbers.{IsDistinct-take}
 use Rattle.spice_text.proofs.ReadRows.{row_line, text_of_rows, IsPlainRow, IsNoEnd, IsComment, IsOfCard, Begins, plus_rows, deck_phases-rows, card_lines-rows, cards_of-rows}
 use Rattle.deck.proofs.PortDecisions.{HasSomeRoles, has_roles}
@@ -174,11 +174,12 @@ same_circuit c is phases e =
     let count : length (take c.ports c.nets) ≡ c.ports = length-take-le c.ports c.nets within in
     let all : take (used c.ports (ends c.devices)) c.nets ≡ c.nets = take_all (used c.ports (ends c.devices)) c.nets (omega (arith, is.all_used)) in
     let low = devices_in_range (length c.nets) c.ports c.devices (omega (arith, is.all_used)) in
+    let bare : List Phase → ℕ → CircuitData = λ list n. record { name = c.name; phases = list; ports = n; nets = take c.ports c.nets; devices = [] } in
     sym (
-    ap (λ (n : ℕ). with_devices (state c.name phases n (take c.ports c.nets) []) (map (named_device c.nets) c.devices)) count
-    ∙ with_devices-named c.name phases c.ports c.nets [] c.ports c.devices is.distinct is.in_order low
-    ∙ ap (λ l. state c.name phases c.ports l c.devices) all
-    ∙ ap (λ l. state c.name l c.ports c.nets c.devices) e
+    ap (λ (n : ℕ). with_devices (bare phases n) (map (named_device c.nets) c.devices)) count
+    ∙ ap (λ l. with_devices (bare l c.ports) (map (named_device c.nets) c.devices)) e
+    ∙ with_devices-named c c.ports [] c.devices is.distinct is.in_order low
+    ∙ ap (λ l. record c { nets = l }) all
     )
 
 -- the written text of a circuit, with its ports on these lines

@@ -1,4 +1,4 @@
-use Rattle.std.proofs.Common.{◌+◌, ◌≤◌, length, arith}
+use Rattle.std.proofs.Common.{◌+◌, ◌<◌, ◌≤◌, length, arith}
 use Rattle.deck.proofs.PortOrder.{leading_from, further, leaves_leading}
 use Rattle.deck.proofs.port_order.count_clocks.Goals as goal
 
@@ -18,8 +18,10 @@ returns-then-count-clocks c =
 pub loop-clocks-preserved : goal.loop-clocks-preserved
 loop-clocks-preserved c =
     let count = c.count_leading-count in
+    let few : c.loop-clocks.clocks ≤ 4 = omega arith in
+    let short : count.result < c.loop-clocks.clocks + 8 = omega (arith, count.ensures.few, c.if-count-clocks.false) in
     let t = further c.args.ports.now c.loop-clocks.farthest count.result c.loop-clocks.clocks c.max-farthest.result c.max-farthest.ensures
-    c.loop-clocks.auto.clocks (omega arith) count.ensures.few count.ensures.within count.ensures.agrees c.if-count-clocks.false count.ensures.differs
+    record { some_clock = c.loop-clocks.auto.clocks; few_clocks = few; short = short; within = count.ensures.within; agrees = count.ensures.agrees; differs = count.ensures.differs short }
     c.loop-clocks.invariant.begins c.loop-clocks.invariant.leaves in
     record { begins = t.0; leaves = t.1 }
 
