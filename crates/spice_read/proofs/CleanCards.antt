@@ -1,5 +1,5 @@
 -- Cards without a fault.
-use Rattle.std.proofs.Common.{◌≡◌, ◌≢◌, ◌<◌, ◌≤◌, ℕ, Bool, true, false, ◌==◌, ◌||◌, ◌&&◌, not, if◌then◌else◌, List, [], ◌∷◌, length, drop, nat_eq, nat_lt, codes, slice_index, slice_index_or, refl, sym, ap, ◌∙◌, arith, Some, None, eqb-true, eq-eqb, All, subst}
+use Rattle.std.proofs.Common.{◌≡◌, ◌≢◌, ◌<◌, ◌≤◌, ℕ, Bool, true, false, ◌==◌, ◌||◌, ◌&&◌, not, if◌then◌else◌, List, [], ◌∷◌, length, drop, nat_eq, nat_lt, codes, slice_index, slice_index_or, refl, sym, ap, ◌∙◌, arith, Option, Some, None, eqb-true, eq-eqb, All, subst}
 use Rattle.std.specs.List.{AllByRecursion, list_any}
 use Rattle.std.specs.Cmp.Lexicographic.{pointwise, bytes_decides}
 use Rattle.std.proofs.lemmas.Bool.{true≢false}
@@ -14,24 +14,26 @@ use Rattle.deck.specs.DeckText.{model_word, HasNoEquals, IsDeviceCard}
 use Rattle.deck.specs.NamedDevices.{NamedDevice}
 use Rattle.deck.specs.DeckCards.{NumberedCard, begins, subckt_card, ends_card, end_card, model_card, is_device, is_model_word, has_equals, port_names}
 use Rattle.deck.specs.Limits.{most_devices}
-use Rattle.spice_read.specs.declared.stage.Stage.{Stage}
-use Rattle.spice_read.specs.declared.stage.Stage.TheVariants.{Before, Open, Closed}
-use Rattle.spice_read.specs.Stages.{fault_in, device_fault, subckt_fault, ends_fault, is_subckt_form, kind_of, ports_fault, room_fault, word_at}
+use Rattle.spice_read.specs.declared.subckt.Subckt.{Subckt}
+use Rattle.spice_read.specs.declared.subckt.Subckt.TheVariants.{Before, Open, Closed}
+use Rattle.spice_read.specs.Forms.{is_deck_subckt, kind_of, word_at}
+use Rattle.spice_read.specs.Subckts.{fault_in, ports_fault, room_fault, subckt_after}
+use Rattle.spice_read.proofs.CardForms.{after_tests, device_fault, ends_fault, fault_in-tests, subckt_fault}
 
 -- what a card without a fault is, by what was read before it
-pub data CleanCard : Stage → NumberedCard → Type 0 where
+pub data CleanCard : Subckt → NumberedCard → Type 0 where
   device : {c : CircuitData} {card : NumberedCard} → is_device card ≡ true → 5 < length card.words → is_model_word (word_at card 5) ≡ true → (length c.devices == most_devices) ≡ false → CleanCard (Open c) card
-  opening : {card : NumberedCard} → is_device card ≡ false → begins subckt_card card ≡ true → is_subckt_form card ≡ true → ports_fault card ≡ None → CleanCard Before card
+  opening : {card : NumberedCard} → is_device card ≡ false → begins subckt_card card ≡ true → is_deck_subckt card ≡ true → ports_fault card ≡ None → CleanCard Before card
   ending : {c : CircuitData} {card : NumberedCard} → is_device card ≡ false → begins subckt_card card ≡ false → begins ends_card card ≡ true → length card.words < 3 → CleanCard (Open c) card
-  skipped : {stage : Stage} {card : NumberedCard} → is_device card ≡ false → begins subckt_card card ≡ false → begins ends_card card ≡ false → (begins end_card card || begins model_card card) ≡ true → CleanCard stage card
+  skipped : {subckt : Subckt} {card : NumberedCard} → is_device card ≡ false → begins subckt_card card ≡ false → begins ends_card card ≡ false → (begins end_card card || begins model_card card) ≡ true → CleanCard subckt card
 
 some_fault : {P : Type 0} {k : DeckKind} → Some k ≡ None → P
 some_fault e = absurd (cc)
 
-clean_device : (stage : Stage) (card : NumberedCard) → is_device card ≡ true → device_fault stage card ≡ None → CleanCard stage card
-clean_device stage card d clean = by (nat_lt 5 (length card.words)) (is_model_word (word_at card 5)) refl refl clean
+clean_device : (subckt : Subckt) (card : NumberedCard) → is_device card ≡ true → device_fault subckt card ≡ None → CleanCard subckt card
+clean_device subckt card d clean = by (nat_lt 5 (length card.words)) (is_model_word (word_at card 5)) refl refl clean
   where
-    room : (s : Stage) → 5 < length card.words → is_model_word (word_at card 5) ≡ true → room_fault s ≡ None → CleanCard s card
+    room : (s : Subckt) → 5 < length card.words → is_model_word (word_at card 5) ≡ true → room_fault s ≡ None → CleanCard s card
     room Before long known h = some_fault h
     room (Open c) long known h = full (length c.devices == most_devices) refl h
       where
@@ -41,29 +43,29 @@ clean_device stage card d clean = by (nat_lt 5 (length card.words)) (is_model_wo
     room (Closed c) long known h = some_fault h
 
     by : (s t : Bool) → nat_lt 5 (length card.words) ≡ s → is_model_word (word_at card 5) ≡ t
-        → (if s then (if t then room_fault stage else Some UnknownDevice) else Some BadCard) ≡ None → CleanCard stage card
-    by true true e f h = room stage (grind (arith, nat_tests)) f h
+        → (if s then (if t then room_fault subckt else Some UnknownDevice) else Some BadCard) ≡ None → CleanCard subckt card
+    by true true e f h = room subckt (grind (arith, nat_tests)) f h
     by true false e f h = some_fault h
     by false t e f h = some_fault h
 
-clean_subckt : (stage : Stage) (card : NumberedCard) → is_device card ≡ false → begins subckt_card card ≡ true → subckt_fault stage card ≡ None → CleanCard stage card
-clean_subckt Before card d s clean = by (is_subckt_form card) refl clean
+clean_subckt : (subckt : Subckt) (card : NumberedCard) → is_device card ≡ false → begins subckt_card card ≡ true → subckt_fault subckt card ≡ None → CleanCard subckt card
+clean_subckt Before card d s clean = by (is_deck_subckt card) refl clean
   where
-    by : (t : Bool) → is_subckt_form card ≡ t → (if t then ports_fault card else Some BadCard) ≡ None → CleanCard Before card
+    by : (t : Bool) → is_deck_subckt card ≡ t → (if t then ports_fault card else Some BadCard) ≡ None → CleanCard Before card
     by true e h = opening d s e h
     by false e h = some_fault h
-clean_subckt (Open c) card d s clean = by (is_subckt_form card) clean
+clean_subckt (Open c) card d s clean = by (is_deck_subckt card) clean
   where
     by : (t : Bool) → (if t then Some SecondSubckt else Some BadCard) ≡ None → CleanCard (Open c) card
     by true h = some_fault h
     by false h = some_fault h
-clean_subckt (Closed c) card d s clean = by (is_subckt_form card) clean
+clean_subckt (Closed c) card d s clean = by (is_deck_subckt card) clean
   where
     by : (t : Bool) → (if t then Some SecondSubckt else Some BadCard) ≡ None → CleanCard (Closed c) card
     by true h = some_fault h
     by false h = some_fault h
 
-clean_ends : (stage : Stage) (card : NumberedCard) → is_device card ≡ false → begins subckt_card card ≡ false → begins ends_card card ≡ true → ends_fault stage card ≡ None → CleanCard stage card
+clean_ends : (subckt : Subckt) (card : NumberedCard) → is_device card ≡ false → begins subckt_card card ≡ false → begins ends_card card ≡ true → ends_fault subckt card ≡ None → CleanCard subckt card
 clean_ends Before card d s e clean = by (nat_lt (length card.words) 3) clean
   where
     by : (t : Bool) → (if t then Some NoSubckt else Some BadCard) ≡ None → CleanCard Before card
@@ -80,21 +82,45 @@ clean_ends (Closed c) card d s e clean = by (nat_lt (length card.words) 3) clean
     by true h = some_fault h
     by false h = some_fault h
 
-pub clean_card : (stage : Stage) (card : NumberedCard) → fault_in stage card ≡ None → CleanCard stage card
-clean_card stage card clean = control (list_any (list_any is_control) card.words) clean
+pub clean_card : (subckt : Subckt) (card : NumberedCard) → fault_in subckt card ≡ None → CleanCard subckt card
+clean_card subckt card clean = control (list_any (list_any is_control) card.words) (sym (fault_in-tests subckt card) ∙ clean)
   where
     other : (s t u v : Bool) → is_device card ≡ s → begins subckt_card card ≡ t → begins ends_card card ≡ u → (begins end_card card || begins model_card card) ≡ v
-        → (if s then device_fault stage card else (if t then subckt_fault stage card else (if u then ends_fault stage card else (if v then None else Some UnknownCard)))) ≡ None
-        → CleanCard stage card
-    other true t u v d s e f h = clean_device stage card d h
-    other false true u v d s e f h = clean_subckt stage card d s h
-    other false false true v d s e f h = clean_ends stage card d s e h
+        → (if s then device_fault subckt card else (if t then subckt_fault subckt card else (if u then ends_fault subckt card else (if v then None else Some UnknownCard)))) ≡ None
+        → CleanCard subckt card
+    other true t u v d s e f h = clean_device subckt card d h
+    other false true u v d s e f h = clean_subckt subckt card d s h
+    other false false true v d s e f h = clean_ends subckt card d s e h
     other false false false true d s e f h = skipped d s e f
     other false false false false d s e f h = some_fault h
 
-    control : (w : Bool) → (if w then Some ControlByte else (if is_device card then device_fault stage card else (if begins subckt_card card then subckt_fault stage card else (if begins ends_card card then ends_fault stage card else (if begins end_card card || begins model_card card then None else Some UnknownCard))))) ≡ None → CleanCard stage card
+    control : (w : Bool) → (if w then Some ControlByte else (if is_device card then device_fault subckt card else (if begins subckt_card card then subckt_fault subckt card else (if begins ends_card card then ends_fault subckt card else (if begins end_card card || begins model_card card then None else Some UnknownCard))))) ≡ None → CleanCard subckt card
     control true h = some_fault h
     control false h = other (is_device card) (begins subckt_card card) (begins ends_card card) (begins end_card card || begins model_card card) refl refl refl refl h
+
+-- what was read after such a card, which has no control byte
+pub after_clean_card : (subckt : Subckt) (card : NumberedCard) → CleanCard subckt card → list_any (list_any is_control) card.words ≡ false → subckt_after subckt card ≡ after_tests subckt card
+after_clean_card (Open c) card (device d long known room) no_control =
+    let five : nat_lt 5 (length card.words) ≡ true = grind (arith, nat_tests) in
+    rw (no_control, d, five, known) refl
+after_clean_card Before card (opening d is form ports) no_control = rw (no_control, d, is, form) refl
+after_clean_card (Open c) card (ending d no_subckt is short) no_control =
+    let three : nat_lt (length card.words) 3 ≡ true = grind (arith, nat_tests) in
+    rw (no_control, d, no_subckt, is, three) refl
+after_clean_card Before card (skipped d no_subckt no_ends is) no_control = rw (no_control, d, no_subckt, no_ends, is) refl
+after_clean_card (Open c) card (skipped d no_subckt no_ends is) no_control = rw (no_control, d, no_subckt, no_ends, is) refl
+after_clean_card (Closed c) card (skipped d no_subckt no_ends is) no_control = rw (no_control, d, no_subckt, no_ends, is) refl
+
+-- a card without a fault has no control byte
+pub no_control_byte : (subckt : Subckt) (card : NumberedCard) → fault_in subckt card ≡ None → list_any (list_any is_control) card.words ≡ false
+no_control_byte subckt card clean = by (list_any (list_any is_control) card.words) refl (sym (fault_in-tests subckt card) ∙ clean)
+  where
+    others : Option DeckKind
+    others = if is_device card then device_fault subckt card else (if begins subckt_card card then subckt_fault subckt card else (if begins ends_card card then ends_fault subckt card else (if begins end_card card || begins model_card card then None else Some UnknownCard)))
+
+    by : (t : Bool) → list_any (list_any is_control) card.words ≡ t → (if t then Some ControlByte else others) ≡ None → list_any (list_any is_control) card.words ≡ false
+    by true e h = some_fault h
+    by false e h = e
 
 -- the words of such cards
 
@@ -153,7 +179,7 @@ words_no_equals (word ∷ all) h = by (has_equals word) refl h (λ rest. words_n
     by true e f rest = absurd (true≢false f)
     by false e f rest = (All-from_recursion (λ b. b ≢ 61) word (byte_no_equals word e), rest f)
 
-pub subckt_words : (card : NumberedCard) → begins subckt_card card ≡ true → is_subckt_form card ≡ true → IsSubcktCard card
+pub subckt_words : (card : NumberedCard) → begins subckt_card card ≡ true → is_deck_subckt card ≡ true → IsSubcktCard card
 subckt_words card is form = by (nat_lt 1 (length card.words)) (list_any has_equals card.words) refl refl form
   where
     shape : (all : List (List ℕ)) → card.words ≡ all → 1 < length all → pointwise nat_eq (first_word all) (codes ".subckt") ≡ true → AllByRecursion HasNoEquals all → IsSubcktCard card

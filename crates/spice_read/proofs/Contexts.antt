@@ -8,24 +8,26 @@ use Rattle.deck.specs.declared.fault.DeckKind.{DeckKind}
 use Rattle.deck.specs.declared.fault.DeckKind.TheVariants.{ControlByte, UnknownCard, BadCard, UnknownDevice, NoSubckt, SecondSubckt, NotClosed, DuplicatePort, TooMany}
 use Rattle.deck.specs.DeckCards.{NumberedCard, begins, subckt_card, ends_card, end_card, model_card, is_device, is_form, is_model_word, names_twice, port_names, is_open, has_subckt, device_count}
 use Rattle.deck.specs.Limits.{most_devices, most_ports}
-use Rattle.spice_read.specs.declared.stage.Stage.{Stage}
-use Rattle.spice_read.specs.declared.stage.Stage.TheVariants.{Before, Open, Closed}
-use Rattle.spice_read.specs.Stages.{fault_in, is_open_stage, has_begun, is_subckt_form, room_fault, word_at}
+use Rattle.spice_read.specs.declared.subckt.Subckt.{Subckt}
+use Rattle.spice_read.specs.declared.subckt.Subckt.TheVariants.{Before, Open, Closed}
+use Rattle.spice_read.specs.Forms.{is_deck_subckt, word_at}
+use Rattle.spice_read.specs.Subckts.{fault_in, is_open_subckt, has_begun, room_fault}
+use Rattle.spice_read.proofs.CardForms.{fault_in-tests}
 use Rattle.spice_read.proofs.KindNumbers.{smallest_fault}
 
 -- how many devices were read
-abbrev pub devices_of : Stage → ℕ
+abbrev pub devices_of : Subckt → ℕ
 devices_of Before = 0
 devices_of (Open c) = length c.devices
 devices_of (Closed c) = length c.devices
 
 -- what was read says what the cards before say
-pub record IsContext (before : List NumberedCard) (stage : Stage) : Type 0 where
-  pub open_is : is_open before ≡ is_open_stage stage
-  pub begun_is : has_subckt before ≡ has_begun stage
-  pub count_is : device_count before ≡ devices_of stage
+pub record IsContext (before : List NumberedCard) (subckt : Subckt) : Type 0 where
+  pub open_is : is_open before ≡ is_open_subckt subckt
+  pub begun_is : has_subckt before ≡ has_begun subckt
+  pub count_is : device_count before ≡ devices_of subckt
 
-room_is : (stage : Stage) → room_fault stage ≡ cond (is_open_stage stage) (cond (devices_of stage == most_devices) (Some TooMany) None) (Some NoSubckt)
+room_is : (subckt : Subckt) → room_fault subckt ≡ cond (is_open_subckt subckt) (cond (devices_of subckt == most_devices) (Some TooMany) None) (Some NoSubckt)
 room_is Before = refl
 room_is (Open c) = refl
 room_is (Closed c) = refl
@@ -93,17 +95,18 @@ pub begins_one : (card : NumberedCard) (word other : List ℕ) → begins word c
 begins_one card word other is apart = ap (λ (w : List ℕ). pointwise nat_eq w other) ((bytes_decides (first_word card.words) word).0 is) ∙ apart
 
 -- the fault by what was read is the smallest
-pub fault_in-smallest : (before : List NumberedCard) (stage : Stage) (card : NumberedCard) → IsContext before stage → fault_in stage card ≡ smallest_fault before card
-fault_in-smallest before stage card is =
-    ap (λ room. cond (list_any (list_any is_control) card.words) (Some ControlByte)
+pub fault_in-smallest : (before : List NumberedCard) (subckt : Subckt) (card : NumberedCard) → IsContext before subckt → fault_in subckt card ≡ smallest_fault before card
+fault_in-smallest before subckt card is =
+    fault_in-tests subckt card
+    ∙ ap (λ room. cond (list_any (list_any is_control) card.words) (Some ControlByte)
     (cond (is_device card) (cond (nat_lt 5 (length card.words)) (cond (is_model_word (word_at card 5)) room (Some UnknownDevice)) (Some BadCard))
-    (cond (begins subckt_card card) (cond (is_subckt_form card) (cond (has_begun stage) (Some SecondSubckt) (cond (names_twice card) (Some DuplicatePort) (cond (nat_lt most_ports (length (port_names card))) (Some TooMany) None))) (Some BadCard))
-    (cond (begins ends_card card) (cond (nat_lt (length card.words) 3) (cond (is_open_stage stage) None (Some NoSubckt)) (Some BadCard))
-    (cond (begins end_card card || begins model_card card) None (Some UnknownCard)))))) (room_is stage)
+    (cond (begins subckt_card card) (cond (is_deck_subckt card) (cond (has_begun subckt) (Some SecondSubckt) (cond (names_twice card) (Some DuplicatePort) (cond (nat_lt most_ports (length (port_names card))) (Some TooMany) None))) (Some BadCard))
+    (cond (begins ends_card card) (cond (nat_lt (length card.words) 3) (cond (is_open_subckt subckt) None (Some NoSubckt)) (Some BadCard))
+    (cond (begins end_card card || begins model_card card) None (Some UnknownCard)))))) (room_is subckt)
     ∙ decide (list_any (list_any is_control) card.words) (is_device card) (begins subckt_card card) (begins ends_card card) (begins end_card card) (begins model_card card)
-    (nat_lt 5 (length card.words)) (is_model_word (word_at card 5)) (is_subckt_form card) (nat_lt (length card.words) 3) (is_open_stage stage) (has_begun stage)
-    (names_twice card) (nat_lt most_ports (length (port_names card))) (devices_of stage == most_devices)
+    (nat_lt 5 (length card.words)) (is_model_word (word_at card 5)) (is_deck_subckt card) (nat_lt (length card.words) 3) (is_open_subckt subckt) (has_begun subckt)
+    (names_twice card) (nat_lt most_ports (length (port_names card))) (devices_of subckt == most_devices)
     (λ e. not_device card subckt_card e refl) (λ e. begins_one card subckt_card ends_card e refl)
-    ∙ ap (λ opened. told before card opened (has_begun stage) (devices_of stage)) (sym is.open_is)
-    ∙ ap (λ begun. told before card (is_open before) begun (devices_of stage)) (sym is.begun_is)
+    ∙ ap (λ opened. told before card opened (has_begun subckt) (devices_of subckt)) (sym is.open_is)
+    ∙ ap (λ begun. told before card (is_open before) begun (devices_of subckt)) (sym is.begun_is)
     ∙ ap (λ (count : ℕ). told before card (is_open before) (has_subckt before) count) (sym is.count_is)

@@ -7,17 +7,17 @@ use Rattle.std.proofs.lemmas.List.{reverse-reverse, reverse-append}
 use Rattle.dom_base.specs.Lines.{is_blank, lines, words, first_word}
 use Rattle.deck.specs.declared.fault.DeckKind.{DeckKind}
 use Rattle.deck.specs.declared.fault.DeckKind.TheVariants.{ControlByte, UnknownCard, BadCard, UnknownDevice, NoSubckt, SecondSubckt, NotClosed, DuplicatePort, TooMany}
-use Rattle.deck.specs.DeckText.{added_words, continues, deck_lines, is_end, is_of_card, read_line, through_end}
+use Rattle.deck.specs.DeckText.{added_words, continues, is_end, is_of_card, read_line, through_end}
 use Rattle.deck.specs.DeckCards.{NumberedCard, begins, end_card, ends_card, model_card, subckt_card, is_device, numbered_cards, numbered_cards_of, numbered_lines, numbered_lines_from, has_equals, has_subckt, is_model_word, is_open, device_count, names_twice, port_names}
 use Rattle.deck.specs.Limits.{most_devices, most_ports}
 use Rattle.deck.specs.DeckFaults.{has_fault, has_end_fault, end_line, IsDeckFault, IsDeckFaultAt, IsFaultOfCard, IsLooseLine}
 use Rattle.deck.specs.DeckKinds.{deck_kind_number}
 use Rattle.deck.specs.CircuitData.{CircuitData}
-use Rattle.spice_read.specs.declared.stage.Stage.{Stage}
-use Rattle.spice_read.specs.declared.stage.Stage.TheVariants.{Before, Open, Closed}
-use Rattle.spice_read.specs.Stages.{end_fault}
-use Rattle.spice_read.specs.Rests.{end_from}
-use Rattle.spice_read.specs.Scans.{BeginsNumbered, IsLooseAt}
+use Rattle.spice_read.specs.declared.subckt.Subckt.{Subckt}
+use Rattle.spice_read.specs.declared.subckt.Subckt.TheVariants.{Before, Open, Closed}
+use Rattle.spice_read.specs.Subckts.{end_fault}
+use Rattle.spice_read.specs.Readers.{end_from, BeginsNumbered, IsStrayAt}
+use Rattle.spice_read.proofs.DeckEnds.{end_line-from}
 use Rattle.spice_read.proofs.KindNumbers.{IsFound}
 use Rattle.spice_read.proofs.Contexts.{IsContext, begins_one}
 use Rattle.spice_read.proofs.FirstWords.{words-front}
@@ -83,28 +83,6 @@ cards-rise n last (p ∷ ps) h = by (continues p.1) (cards-rise (p.0 + 1) last p
     by true rest = cards-weaker n (p.0 + 1) last (numbered_cards_of ps) (omega (arith, h.0)) rest
     by false rest = (h.0, within h.1, rest)
 
--- the end of the text by its lines
-end-from : (n : ℕ) (raw : List (List ℕ)) → end_from (n + 1) (through_end raw) ≡ n + (if list_any is_end (through_end raw) then length (through_end raw) else length (through_end raw) + 1)
-end-from n [] = omega arith
-end-from n (line ∷ raw) = by (is_end line) (end-from (n + 1) raw)
-  where
-    goes_on : (s : Bool) → end_from (n + 1 + 1) (through_end raw) ≡ n + 1 + (if s then length (through_end raw) else length (through_end raw) + 1)
-        → end_from (n + 1 + 1) (through_end raw) ≡ n + (if s then length (line ∷ through_end raw) else length (line ∷ through_end raw) + 1)
-    goes_on true h = omega (arith, h)
-    goes_on false h = omega (arith, h)
-
-    by : (t : Bool) → end_from (n + 1 + 1) (through_end raw) ≡ n + 1 + (if list_any is_end (through_end raw) then length (through_end raw) else length (through_end raw) + 1)
-        → (if t then n + 1 else end_from (n + 1 + 1) (if t then [] else through_end raw))
-        ≡ n + (if t || list_any is_end (if t then [] else through_end raw) then length (line ∷ (if t then [] else through_end raw)) else length (line ∷ (if t then [] else through_end raw)) + 1)
-    by true h = omega arith
-    by false h = goes_on (list_any is_end (through_end raw)) h
-
-pub end_line-from : (text : List ℕ) → end_line text ≡ end_from 1 (deck_lines text)
-end_line-from text = sym (end-from 0 (map read_line (lines text)) ∙ zero_plus _)
-  where
-    zero_plus : (n : ℕ) → 0 + n ≡ n
-    zero_plus n = omega arith
-
 lines_of_text-rise : (text : List ℕ) → LinesRise 1 (end_line text) (numbered_lines text)
 lines_of_text-rise text = subst (λ last. LinesRise 1 last (numbered_lines text)) (sym (end_line-from text)) (lines-rise 1 (map read_line (lines text)))
 
@@ -169,8 +147,8 @@ no_card-continues (q ∷ ps) p after none is starts = by (continues q.1) starts 
     by false e f = absurd (omega (arith, ap length f))
 
 -- a deck that begins with a card has no loose line
-pub no_loose : (text : List ℕ) → BeginsNumbered (numbered_lines text) → (n : ℕ) (kind : DeckKind) → IsLooseLine text n kind → ⊥
-no_loose text starts n kind l = no_card-continues l.before (n, l.line) l.after l.no_card l.line_continues (subst BeginsNumbered l.lines_are starts)
+pub no_stray : (text : List ℕ) → BeginsNumbered (numbered_lines text) → (n : ℕ) (kind : DeckKind) → IsLooseLine text n kind → ⊥
+no_stray text starts n kind l = no_card-continues l.before (n, l.line) l.after l.no_card l.line_continues (subst BeginsNumbered l.lines_are starts)
 
 -- a card `.end` has no fault but a control byte
 end_card_fault : (before : List NumberedCard) (card : NumberedCard) (kind : DeckKind) → begins end_card card ≡ true → has_fault kind before card ≡ true → deck_kind_number kind ≤ 1
@@ -225,7 +203,7 @@ fault_at_card text before card rest kind starts p found = record {
 
     first : (other : ℕ) (any : DeckKind) → IsDeckFault text other any → card.number ≤ other
     first other any (inl f) = rising-fault card.number (end_line text) before (card ∷ rest) other any (omega arith, p.rise.1, p.rise.2) (p.faults other any (fault_in text other any f))
-    first other any (inr (inl l)) = absurd (no_loose text starts other any l)
+    first other any (inr (inl l)) = absurd (no_stray text starts other any l)
     first other any (inr (inr e)) = omega (arith, e.number_is, before_end p.rise.1)
 
     here : (other : DeckKind) → FaultIn before (card ∷ rest) card.number other → deck_kind_number kind ≤ deck_kind_number other
@@ -238,7 +216,7 @@ fault_at_card text before card rest kind starts p found = record {
 
     smallest : (other : DeckKind) → IsDeckFault text card.number other → deck_kind_number kind ≤ deck_kind_number other
     smallest other (inl f) = here other (p.faults card.number other (fault_in text card.number other f))
-    smallest other (inr (inl l)) = absurd (no_loose text starts card.number other l)
+    smallest other (inr (inl l)) = absurd (no_stray text starts card.number other l)
     smallest other (inr (inr e)) = at_end other e.number_is p.rise.1
 
 -- the cards, the last first, once all are passed
@@ -249,7 +227,7 @@ all_passed text before p = ap reverse (p.split ∙ append-nil (reverse before)) 
 end_only : (text : List ℕ) (before : List NumberedCard) (n : ℕ) (kind : DeckKind) → BeginsNumbered (numbered_lines text) → IsPassed text before [] → IsDeckFault text n kind
     → (n ≡ end_line text) × (has_end_fault kind before ≡ true)
 end_only text before n kind starts p (inl f) = absurd (p.faults n kind (fault_in text n kind f))
-end_only text before n kind starts p (inr (inl l)) = absurd (no_loose text starts n kind l)
+end_only text before n kind starts p (inr (inl l)) = absurd (no_stray text starts n kind l)
 end_only text before n kind starts p (inr (inr e)) = (e.number_is, subst (λ all. has_end_fault kind all ≡ true) (all_passed text before p) e.fault)
 
 no_end : {P : Type 0} → false ≡ true → P
@@ -297,8 +275,8 @@ fault_told text before kind starts p is least = record {
 }
 
 -- the fault of the end, where no card has one
-pub fault_at_end : (text : List ℕ) (before : List NumberedCard) (stage : Stage) (kind : DeckKind) → BeginsNumbered (numbered_lines text) → IsPassed text before [] → IsContext before stage
-    → end_fault stage ≡ Some kind → IsDeckFaultAt text (end_line text) kind
+pub fault_at_end : (text : List ℕ) (before : List NumberedCard) (subckt : Subckt) (kind : DeckKind) → BeginsNumbered (numbered_lines text) → IsPassed text before [] → IsContext before subckt
+    → end_fault subckt ≡ Some kind → IsDeckFaultAt text (end_line text) kind
 fault_at_end text before Before kind starts p context is =
     let same : NoSubckt ≡ kind = cc in
     subst (IsDeckFaultAt text (end_line text)) same (fault_told text before NoSubckt starts p (ap not context.begun_is) (λ other h. end_number other before h))
@@ -318,7 +296,7 @@ plus_no_end [] h = refl
 plus_no_end (b ∷ bs) h =
     let plus : b ≡ 43 = eqb-true b 43 h in
     let all = words-front b bs (ap is_blank plus) in
-    ap (λ ws. pointwise nat_eq (first_word ws) (codes ".end")) all.1
+    ap (λ ws. pointwise nat_eq (first_word ws) (codes ".end")) all
     ∙ ap (λ (n : ℕ). pointwise nat_eq (n ∷ before_first is_blank bs) (codes ".end")) plus
 
 lines-least : (m last : ℕ) (before : List (ℕ × List ℕ)) (q : ℕ × List ℕ) (after : List (ℕ × List ℕ)) → LinesRise m last (before ++ q ∷ after) → m ≤ q.0
@@ -326,29 +304,29 @@ lines-least m last [] q after h = h.0
 lines-least m last (p ∷ before) q after h = omega (arith, h.0, lines-least (p.0 + 1) last before q after h.2)
 
 -- the facts of a text whose first line of a card continues a card
-record LooseFacts (text : List ℕ) (n : ℕ) : Type 0 where
+record StrayFacts (text : List ℕ) (n : ℕ) : Type 0 where
   line : List ℕ
   more : List (ℕ × List ℕ)
   lines_are : numbered_lines text ≡ (n, line) ∷ more
   line_continues : continues line ≡ true
 
-loose_facts : (text : List ℕ) (n : ℕ) → IsLooseAt (numbered_lines text) n → LooseFacts text n
-loose_facts text n h = by (numbered_lines text) refl h
+stray_facts : (text : List ℕ) (n : ℕ) → IsStrayAt (numbered_lines text) n → StrayFacts text n
+stray_facts text n h = by (numbered_lines text) refl h
   where
-    by : (ps : List (ℕ × List ℕ)) → numbered_lines text ≡ ps → IsLooseAt ps n → LooseFacts text n
+    by : (ps : List (ℕ × List ℕ)) → numbered_lines text ≡ ps → IsStrayAt ps n → StrayFacts text n
     by [] e g = absurd g
     by (p ∷ ps) e g = record { line = p.1; more = ps; lines_are = e ∙ ap (λ (k : ℕ). (k, p.1) ∷ ps) g.0; line_continues = g.1 }
 
 -- a deck that begins with a line with `+`
-pub fault_at_loose : (text : List ℕ) (n : ℕ) → IsLooseAt (numbered_lines text) n → IsDeckFaultAt text n BadCard
-fault_at_loose text n h = record {
+pub fault_at_stray : (text : List ℕ) (n : ℕ) → IsStrayAt (numbered_lines text) n → IsDeckFaultAt text n BadCard
+fault_at_stray text n h = record {
   fault = inr (inl (record { before = []; line = facts.line; after = facts.more; lines_are = facts.lines_are; line_continues = facts.line_continues; no_card = refl; kind_is = refl }));
   first = first;
   smallest = smallest;
 }
   where
-    facts : LooseFacts text n
-    facts = loose_facts text n h
+    facts : StrayFacts text n
+    facts = stray_facts text n h
 
     rise : LinesRise 1 (end_line text) ((n, facts.line) ∷ facts.more)
     rise = subst (LinesRise 1 (end_line text)) facts.lines_are (lines_of_text-rise text)

@@ -1,5 +1,5 @@
 -- The first word of a line.
-use Rattle.std.proofs.Common.{◌≡◌, ℕ, suc, ◌<◌, ◌≤◌, ◌+◌, Bool, true, false, cond, not, if◌then◌else◌, List, [], ◌∷◌, length, take, filter, refl, sym, ap, ◌∙◌, arith, Some, None, take_all}
+use Rattle.std.proofs.Common.{◌≡◌, ℕ, suc, ◌<◌, ◌≤◌, ◌+◌, Bool, true, false, cond, not, if◌then◌else◌, List, [], ◌∷◌, length, take, drop, filter, refl, sym, ap, ◌∙◌, arith, Some, None, take_all}
 use Rattle.std.specs.List.{slice_split, onto_first, before_first, position_or_len}
 use Rattle.std.proofs.lemmas.Bool.{false_from_ne_true}
 use Rattle.std.proofs.lemmas.List.Sums.{position_or_len_is}
@@ -23,28 +23,56 @@ front-cons b bs e =
     let next : 1 + position_or_len is_blank bs ≡ suc (position_or_len is_blank bs) = omega arith in
     ap (λ (t : Bool). take (if not t then 1 + position_or_len is_blank bs else 0) (b ∷ bs)) e ∙ ap (λ n. take n (b ∷ bs)) next
 
--- the first piece of a line
-split_head : (line : List ℕ) → (pieces : List (List ℕ)) × (slice_split is_blank line ≡ before_first is_blank line ∷ pieces)
-split_head [] = ([], refl)
+-- what stands behind the first piece of a line
+abbrev pub behind_front : List ℕ → List ℕ
+behind_front line = drop (length (before_first is_blank line)) line
+
+-- the first piece of a line, and the others
+record HasFront (line : List ℕ) : Type 0 where
+  others : List (List ℕ)
+  split_is : slice_split is_blank line ≡ before_first is_blank line ∷ others
+  words_are : filter is_word others ≡ words (behind_front line)
+
+split_head : (line : List ℕ) → HasFront line
+split_head [] = record { others = []; split_is = refl; words_are = refl }
 split_head (b ∷ bs) = by (is_blank b) refl (split_head bs)
   where
-    by : (t : Bool) → is_blank b ≡ t → (pieces : List (List ℕ)) × (slice_split is_blank bs ≡ before_first is_blank bs ∷ pieces)
-        → (pieces : List (List ℕ)) × (slice_split is_blank (b ∷ bs) ≡ before_first is_blank (b ∷ bs) ∷ pieces)
-    by true e rest = (slice_split is_blank bs, rw e refl)
-    by false e rest = (
-      rest.0,
-      ap (λ (t : Bool). cond t ([] ∷ slice_split is_blank bs) (onto_first b (slice_split is_blank bs))) e
-          ∙ ap (onto_first b) rest.1
-          ∙ ap (λ l. l ∷ rest.0) (sym (front-cons b bs e)),
-    )
+    by : (t : Bool) → is_blank b ≡ t → HasFront bs → HasFront (b ∷ bs)
+    by true e rest =
+        let front : before_first is_blank (b ∷ bs) ≡ [] = ap (λ (t : Bool). take (if not t then 1 + position_or_len is_blank bs else 0) (b ∷ bs)) e in
+        let pieces : slice_split is_blank (b ∷ bs) ≡ [] ∷ slice_split is_blank bs = ap (λ (t : Bool). cond t ([] ∷ slice_split is_blank bs) (onto_first b (slice_split is_blank bs))) e in
+        record {
+          others = slice_split is_blank bs;
+          split_is = pieces ∙ ap (λ l. l ∷ slice_split is_blank bs) (sym front);
+          words_are = sym (ap (λ l. words (drop (length l) (b ∷ bs))) front ∙ ap (filter is_word) pieces);
+        }
+    by false e rest =
+        let front = front-cons b bs e in
+        let next : length (b ∷ before_first is_blank bs) ≡ suc (length (before_first is_blank bs)) = omega arith in
+        record {
+          others = rest.others;
+          split_is = ap (λ (t : Bool). cond t ([] ∷ slice_split is_blank bs) (onto_first b (slice_split is_blank bs))) e
+              ∙ ap (onto_first b) rest.split_is
+              ∙ ap (λ l. l ∷ rest.others) (sym front);
+          words_are = rest.words_are ∙ sym (ap (λ l. words (drop (length l) (b ∷ bs))) front ∙ ap (λ (n : ℕ). words (drop n (b ∷ bs))) next);
+        }
 
 -- the words of a line that begins with no blank
-pub words-front : (b : ℕ) (bs : List ℕ) → is_blank b ≡ false → (others : List (List ℕ)) × (words (b ∷ bs) ≡ (b ∷ before_first is_blank bs) ∷ others)
+pub words-front : (b : ℕ) (bs : List ℕ) → is_blank b ≡ false → words (b ∷ bs) ≡ (b ∷ before_first is_blank bs) ∷ words (behind_front (b ∷ bs))
 words-front b bs e =
     let head = split_head (b ∷ bs) in
-    (filter is_word head.0, ap (filter is_word) (head.1 ∙ ap (λ l. l ∷ head.0) (front-cons b bs e)))
+    ap (filter is_word) (head.split_is ∙ ap (λ l. l ∷ head.others) (front-cons b bs e)) ∙ ap (λ l. (b ∷ before_first is_blank bs) ∷ l) head.words_are
 
-unindented-shorter : (line : List ℕ) → length (unindented line) ≤ length line
+-- blanks and tabs at the start of a line part no words
+pub words-unindented : (line : List ℕ) → words (unindented line) ≡ words line
+words-unindented [] = refl
+words-unindented (b ∷ bs) = by (is_blank b) refl (words-unindented bs)
+  where
+    by : (t : Bool) → is_blank b ≡ t → words (unindented bs) ≡ words bs → words (if t then unindented bs else b ∷ bs) ≡ words (b ∷ bs)
+    by true e rest = rest ∙ sym (ap (λ (t : Bool). filter is_word (cond t ([] ∷ slice_split is_blank bs) (onto_first b (slice_split is_blank bs)))) e)
+    by false e rest = refl
+
+pub unindented-shorter : (line : List ℕ) → length (unindented line) ≤ length line
 unindented-shorter [] = omega arith
 unindented-shorter (b ∷ bs) = by (is_blank b) (unindented-shorter bs)
   where
@@ -75,5 +103,16 @@ pub first_word-front : (line : List ℕ) → unindented line ≡ line → first_
 first_word-front [] is = refl
 first_word-front (b ∷ bs) is =
     let clean = no_blank b bs is in
-    let all = words-front b bs clean in
-    ap first_word all.1 ∙ sym (front-cons b bs clean)
+    ap first_word (words-front b bs clean) ∙ sym (front-cons b bs clean)
+
+-- the first of the words of a line with no blank at its start, and the others
+pub words-next : (line : List ℕ) → unindented line ≡ line → 0 < length line → words line ≡ before_first is_blank line ∷ words (unindented (behind_front line))
+words-next [] is some = absurd (omega (arith, some))
+words-next (b ∷ bs) is some =
+    let clean = no_blank b bs is in
+    words-front b bs clean ∙ (λ i. sym (front-cons b bs clean) i ∷ sym (words-unindented (behind_front (b ∷ bs))) i)
+
+-- its first word has a byte
+pub front-some : (line : List ℕ) → unindented line ≡ line → 0 < length line → 0 < length (before_first is_blank line)
+front-some [] is some = absurd (omega (arith, some))
+front-some (b ∷ bs) is some = omega (arith, ap length (front-cons b bs (no_blank b bs is)))

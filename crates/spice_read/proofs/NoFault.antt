@@ -17,20 +17,22 @@ use Rattle.deck.specs.DeckCards.{NumberedCard, begins, end_card, ends_card, has_
 use Rattle.deck.specs.Limits.{most_ports}
 use Rattle.deck.specs.DeckFaults.{IsDeckFault}
 use Rattle.dom_base.proofs.Names.{names_equal}
-use Rattle.spice_read.specs.declared.stage.Stage.{Stage}
-use Rattle.spice_read.specs.declared.stage.Stage.TheVariants.{Before, Open, Closed}
-use Rattle.spice_read.specs.Stages.{fault_in, is_subckt_form, opened, ports_fault, stage_after, with_device}
-use Rattle.spice_read.proofs.Accepting.{IsVisible}
-use Rattle.spice_read.proofs.CleanCards.{CleanCard, device, opening, ending, skipped}
+use Rattle.spice_read.specs.declared.subckt.Subckt.{Subckt}
+use Rattle.spice_read.specs.declared.subckt.Subckt.TheVariants.{Before, Open, Closed}
+use Rattle.spice_read.specs.Forms.{is_deck_subckt, kind_of, word_at}
+use Rattle.spice_read.specs.Subckts.{fault_in, opened, ports_fault, subckt_after, with_device}
+use Rattle.spice_read.proofs.CardForms.{after_tests}
+use Rattle.spice_read.proofs.AcceptedDecks.{IsVisible}
+use Rattle.spice_read.proofs.CleanCards.{CleanCard, device, opening, ending, skipped, after_clean_card}
 use Rattle.spice_read.proofs.Contexts.{IsContext, begins_one, fault_in-smallest}
 use Rattle.spice_read.proofs.FaultPlaces.{IsPassed, no_fault, none_passed, one_passed}
 use Rattle.spice_read.proofs.KindNumbers.{IsFound, smallest_is}
-use Rattle.spice_read.proofs.Numbered.{begins_numbered, deck_cards-numbered}
+use Rattle.spice_read.proofs.NumberedCards.{begins_numbered, deck_cards-numbered}
 use Rattle.spice_read.proofs.Ports.{HasGoodPorts}
-use Rattle.spice_read.proofs.Stands.{Stands, stage_skipped, stands_after, starts}
+use Rattle.spice_read.proofs.SubcktSoFar.{Stands, tests_skipped, stands_after, starts}
 
 -- a card without a fault, by what it is
-clean_fault : (stage : Stage) (card : NumberedCard) → CleanCard stage card → list_any (list_any is_control) card.words ≡ false → fault_in stage card ≡ None
+clean_fault : (subckt : Subckt) (card : NumberedCard) → CleanCard subckt card → list_any (list_any is_control) card.words ≡ false → fault_in subckt card ≡ None
 clean_fault (Open c) card (device d long known room) no_control =
     let five : nat_lt 5 (length card.words) ≡ true = grind (arith, nat_tests) in
     rw (no_control, d, five, known, room) refl
@@ -38,7 +40,7 @@ clean_fault Before card (opening d is form ports) no_control = rw (no_control, d
 clean_fault (Open c) card (ending d no_subckt is short) no_control =
     let three : nat_lt (length card.words) 3 ≡ true = grind (arith, nat_tests) in
     rw (no_control, d, no_subckt, is, three) refl
-clean_fault stage card (skipped d no_subckt no_ends is) no_control = rw (no_control, d, no_subckt, no_ends, is) refl
+clean_fault subckt card (skipped d no_subckt no_ends is) no_control = rw (no_control, d, no_subckt, no_ends, is) refl
 
 no_control_word : (word : List ℕ) → All (λ b. is_control b ≡ false) word → list_any is_control word ≡ false
 no_control_word word h = list_any-none is_control word (recursion_from_All (λ b. is_control b ≡ false) word h)
@@ -71,7 +73,7 @@ opening_card card name ports is no_equals good =
     let first : begins subckt_card card ≡ true = ap (λ ws. pointwise nat_eq (first_word ws) (codes ".subckt")) is in
     let not_m : is_device card ≡ false = ap (λ ws. slice_index (first_word ws) 0 == 109) is in
     let none : list_any has_equals (name ∷ ports) ≡ false = list_any-none has_equals (name ∷ ports) (no_equals_words (name ∷ ports) (recursion_from_All HasNoEquals (name ∷ ports) no_equals)) in
-    let form : is_subckt_form card ≡ true = ap (λ ws. nat_lt 1 (length ws) && not (list_any has_equals ws)) is ∙ form_of name ports none in
+    let form : is_deck_subckt card ≡ true = ap (λ ws. nat_lt 1 (length ws) && not (list_any has_equals ws)) is ∙ form_of name ports none in
     opening not_m first form (ports_clean card (subst (λ ws. HasGoodPorts (drop 2 ws)) (sym is) good))
   where
     form_of : (n : List ℕ) (ps : List (List ℕ)) → list_any has_equals (n ∷ ps) ≡ false → (nat_lt 1 (length (codes ".subckt" ∷ n ∷ ps)) && not (list_any has_equals (codes ".subckt" ∷ n ∷ ps))) ≡ true
@@ -119,8 +121,8 @@ or_swap true false e = refl
 or_swap false true e = refl
 or_swap false false e = e
 
-skipped_card : (stage : Stage) (card : NumberedCard) → is_skipped card.words ≡ true → CleanCard stage card
-skipped_card stage card h =
+skipped_card : (subckt : Subckt) (card : NumberedCard) → is_skipped card.words ≡ true → CleanCard subckt card
+skipped_card subckt card h =
     let parts = skipped_parts card h in
     skipped parts.0 parts.1 parts.2 (or_swap (begins model_card card) (begins end_card card) h)
 
@@ -143,28 +145,28 @@ record DevicesLeft (closing : List (List ℕ)) (c : CircuitData) (rest : List Nu
   few : length c.devices + length devices ≤ 2 ^ 24
 
 -- what is left of a deck, by what was read
-abbrev IsLeft : {text : List ℕ} {circuit : CircuitData} → IsDeckOf text circuit → Stage → List NumberedCard → Type 0
+abbrev IsLeft : {text : List ℕ} {circuit : CircuitData} → IsDeckOf text circuit → Subckt → List NumberedCard → Type 0
 IsLeft h Before rest = left rest ≡ (codes ".subckt" ∷ h.name ∷ h.ports) ∷ h.device_cards ++ (codes ".ends" ∷ h.closing) ∷ []
 IsLeft h (Open c) rest = DevicesLeft h.closing c rest
 IsLeft h (Closed c) rest = left rest ≡ []
 
 -- a card of a deck has no fault, and what it leaves
-record IsTaken {text : List ℕ} {circuit : CircuitData} (h : IsDeckOf text circuit) (stage : Stage) (card : NumberedCard) (rest : List NumberedCard) : Type 0 where
-  clean : CleanCard stage card
-  rest_left : IsLeft h (stage_after stage card) rest
+record IsTaken {text : List ℕ} {circuit : CircuitData} (h : IsDeckOf text circuit) (subckt : Subckt) (card : NumberedCard) (rest : List NumberedCard) : Type 0 where
+  clean : CleanCard subckt card
+  rest_left : IsLeft h (after_tests subckt card) rest
 
-left_again : {text : List ℕ} {circuit : CircuitData} (h : IsDeckOf text circuit) (stage : Stage) (card : NumberedCard) (rest : List NumberedCard) → left (card ∷ rest) ≡ left rest → IsLeft h stage (card ∷ rest) → IsLeft h stage rest
+left_again : {text : List ℕ} {circuit : CircuitData} (h : IsDeckOf text circuit) (subckt : Subckt) (card : NumberedCard) (rest : List NumberedCard) → left (card ∷ rest) ≡ left rest → IsLeft h subckt (card ∷ rest) → IsLeft h subckt rest
 left_again h Before card rest same l = sym same ∙ l
 left_again h (Open c) card rest same l = record { cards = l.cards; devices = l.devices; order = sym same ∙ l.order; cards_are = l.cards_are; few = l.few }
 left_again h (Closed c) card rest same l = sym same ∙ l
 
-taken_skipped : {text : List ℕ} {circuit : CircuitData} (h : IsDeckOf text circuit) (stage : Stage) (card : NumberedCard) (rest : List NumberedCard) → is_skipped card.words ≡ true → IsLeft h stage (card ∷ rest)
-    → CleanCard stage card → IsTaken h stage card rest
-taken_skipped h stage card rest e l clean =
+taken_skipped : {text : List ℕ} {circuit : CircuitData} (h : IsDeckOf text circuit) (subckt : Subckt) (card : NumberedCard) (rest : List NumberedCard) → is_skipped card.words ≡ true → IsLeft h subckt (card ∷ rest)
+    → CleanCard subckt card → IsTaken h subckt card rest
+taken_skipped h subckt card rest e l clean =
     let parts = skipped_parts card e in
     record {
       clean = clean;
-      rest_left = subst (λ s. IsLeft h s rest) (sym (stage_skipped stage card parts.0 parts.1 parts.2)) (left_again h stage card rest (left-same card rest e) l);
+      rest_left = subst (λ s. IsLeft h s rest) (sym (tests_skipped subckt card parts.0 parts.1 parts.2)) (left_again h subckt card rest (left-same card rest e) l);
     }
 
 after_opening : {text : List ℕ} {circuit : CircuitData} (h : IsDeckOf text circuit) (card : NumberedCard) (rest : List NumberedCard) → is_skipped card.words ≡ false → IsLeft h Before (card ∷ rest) → IsTaken h Before card rest
@@ -188,7 +190,7 @@ after_open h c card rest [] devices all zip few =
     let first : begins ends_card card ≡ true = ap (λ ws. pointwise nat_eq (first_word ws) (codes ".ends")) words in
     record {
       clean = ending_card c card h.closing words h.few_closing;
-      rest_left = subst (λ s. IsLeft h s rest) (λ i. if sym not_m i then Open (with_device c card) else (if sym first i then Closed c else Open c)) more;
+      rest_left = subst (λ s. IsLeft h s rest) (λ i. if sym not_m i then Open (with_device c (kind_of (word_at card 5)) card) else (if sym first i then Closed c else Open c)) more;
     }
 after_open h c card rest (one ∷ cards) [] all zip few = absurd zip
 after_open h c card rest (one ∷ cards) (d ∷ devices) all zip few =
@@ -196,41 +198,41 @@ after_open h c card rest (one ∷ cards) (d ∷ devices) all zip few =
     let more : left rest ≡ cards ++ (codes ".ends" ∷ h.closing) ∷ [] = cc in
     let is = subst (λ ws. IsDeviceCard ws d) (sym words) zip.0 in
     let m : is_device card ≡ true = ap (λ ws. slice_index (first_word ws) 0 == 109) is.words_are in
-    let count : length (with_device c card).devices ≡ length c.devices + 1 = length-append c.devices _ in
+    let count : length (with_device c (kind_of (word_at card 5)) card).devices ≡ length c.devices + 1 = length-append c.devices _ in
     record {
       clean = device_card c card d is (omega (arith, few));
-      rest_left = subst (λ s. IsLeft h s rest) (sym (ap (λ (t : Bool). if t then Open (with_device c card) else (if begins ends_card card then Closed c else Open c)) m))
+      rest_left = subst (λ s. IsLeft h s rest) (sym (ap (λ (t : Bool). if t then Open (with_device c (kind_of (word_at card 5)) card) else (if begins ends_card card then Closed c else Open c)) m))
           (record { cards = cards; devices = devices; order = more; cards_are = zip.1; few = omega (arith, few, count) });
     }
 
-taken : {text : List ℕ} {circuit : CircuitData} (h : IsDeckOf text circuit) (stage : Stage) (card : NumberedCard) (rest : List NumberedCard) → IsLeft h stage (card ∷ rest) → IsTaken h stage card rest
-taken h stage card rest l = by (is_skipped card.words) refl
+taken : {text : List ℕ} {circuit : CircuitData} (h : IsDeckOf text circuit) (subckt : Subckt) (card : NumberedCard) (rest : List NumberedCard) → IsLeft h subckt (card ∷ rest) → IsTaken h subckt card rest
+taken h subckt card rest l = by (is_skipped card.words) refl
   where
-    other : (s : Stage) → is_skipped card.words ≡ false → IsLeft h s (card ∷ rest) → IsTaken h s card rest
+    other : (s : Subckt) → is_skipped card.words ≡ false → IsLeft h s (card ∷ rest) → IsTaken h s card rest
     other Before e k = after_opening h card rest e k
     other (Open c) e k = after_open h c card rest k.cards k.devices (sym (left-more card rest e) ∙ k.order) k.cards_are k.few
     other (Closed c) e k = absurd (let all : card.words ∷ left rest ≡ [] = sym (left-more card rest e) ∙ k in omega (arith, ap length all))
 
-    by : (t : Bool) → is_skipped card.words ≡ t → IsTaken h stage card rest
-    by true e = taken_skipped h stage card rest e l (skipped_card stage card e)
-    by false e = other stage e l
+    by : (t : Bool) → is_skipped card.words ≡ t → IsTaken h subckt card rest
+    by true e = taken_skipped h subckt card rest e l (skipped_card subckt card e)
+    by false e = other subckt e l
 
 -- the end of a deck: its subcircuit was closed
-nothing_left : {P : Type 0} {text : List ℕ} {circuit : CircuitData} (h : IsDeckOf text circuit) (stage : Stage) → IsLeft h stage [] → ((c : CircuitData) → stage ≡ Closed c → P) → P
+nothing_left : {P : Type 0} {text : List ℕ} {circuit : CircuitData} (h : IsDeckOf text circuit) (subckt : Subckt) → IsLeft h subckt [] → ((c : CircuitData) → subckt ≡ Closed c → P) → P
 nothing_left h Before l f = absurd (omega (arith, ap length l))
 nothing_left h (Open c) l f = absurd (omega (arith, ap length l.order, length-append l.cards ((codes ".ends" ∷ h.closing) ∷ [])))
 nothing_left h (Closed c) l f = f c refl
 
-deck_walk : (text : List ℕ) (circuit : CircuitData) (h : IsDeckOf text circuit) (before rest : List NumberedCard) (stage : Stage)
-    → IsPassed text before rest → Stands before stage → AllByRecursion (λ card. IsVisible card.words) rest → IsLeft h stage rest
+deck_walk : (text : List ℕ) (circuit : CircuitData) (h : IsDeckOf text circuit) (before rest : List NumberedCard) (subckt : Subckt)
+    → IsPassed text before rest → Stands before subckt → AllByRecursion (λ card. IsVisible card.words) rest → IsLeft h subckt rest
     → (n : ℕ) (kind : DeckKind) → IsDeckFault text n kind → ⊥
-deck_walk text circuit h before [] stage p s v l n kind f =
-    nothing_left h stage l (λ c is. no_fault text before c (begins_numbered text h.begins) p (subst (λ e. IsContext before e) is s.context) n kind f)
-deck_walk text circuit h before (card ∷ rest) stage p s v l n kind f =
-    let t = taken h stage card rest l in
-    let clean = clean_fault stage card t.clean (visible_clean card.words v.0) in
-    let found : IsFound before card None = subst (IsFound before card) (sym (fault_in-smallest before stage card s.context) ∙ clean) (smallest_is before card) in
-    deck_walk text circuit h (card ∷ before) rest (stage_after stage card) (one_passed text before card rest p found) (stands_after before stage card s clean) v.1 t.rest_left n kind f
+deck_walk text circuit h before [] subckt p s v l n kind f =
+    nothing_left h subckt l (λ c is. no_fault text before c (begins_numbered text h.begins) p (subst (λ e. IsContext before e) is s.context) n kind f)
+deck_walk text circuit h before (card ∷ rest) subckt p s v l n kind f =
+    let t = taken h subckt card rest l in
+    let clean = clean_fault subckt card t.clean (visible_clean card.words v.0) in
+    let found : IsFound before card None = subst (IsFound before card) (sym (fault_in-smallest before subckt card s.context) ∙ clean) (smallest_is before card) in
+    deck_walk text circuit h (card ∷ before) rest (subckt_after subckt card) (one_passed text before card rest p found) (stands_after before subckt card s clean) v.1 (subst (λ s. IsLeft h s rest) (sym (after_clean_card subckt card t.clean (visible_clean card.words v.0))) t.rest_left) n kind f
 
 visible_unmap : (cards : List NumberedCard) → AllByRecursion IsVisible (map (λ card. card.words) cards) → AllByRecursion (λ card. IsVisible card.words) cards
 visible_unmap [] h = tt

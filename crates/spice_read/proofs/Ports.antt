@@ -14,7 +14,8 @@ use Rattle.deck.specs.DeckCards.{NumberedCard, port_names, names_twice}
 use Rattle.deck.specs.Limits.{most_ports}
 use Rattle.deck.specs.declared.device.Device.{Device}
 use Rattle.deck.specs.declared.phase.Phase.{Phase}
-use Rattle.spice_read.specs.Stages.{opened, ports_fault, word_at}
+use Rattle.spice_read.specs.Forms.{word_at}
+use Rattle.spice_read.specs.Subckts.{opened, ports_fault}
 use Rattle.dom_base.proofs.Names.{names_equal}
 use Rattle.deck.proofs.NetNumbers.{IsDistinct-with_net}
 
@@ -136,3 +137,28 @@ pub opened-parts : (card : NumberedCard) (name : List ℕ) (phases : List Phase)
 opened-parts card name phases count keys devices a b c d e =
     let ports = c ∙ ap length d in
     λ i. record { name = a i; phases = b i; ports = ports i; nets = d i; devices = e i }
+
+-- the ports of a `.subckt`, counted: so many words, of which so many differ
+module _ (card : NumberedCard) (keys : List (List ℕ)) (keys_are : keys ≡ with_all [] (port_names card)) (most : ℕ) (all_is : most ≡ length (port_names card)) where
+  count_is : length keys ≡ distinct_count (pointwise nat_eq) (port_names card)
+  count_is = ap length keys_are ∙ length-with_all (port_names card)
+
+  pub twice_fault : length keys < most → ports_fault card ≡ Some DuplicatePort
+  twice_fault fewer =
+      let twice : names_twice card ≡ true = grind (arith, nat_tests, count_is, all_is, fewer) in
+      rw twice refl
+
+  once : (length keys < most → ⊥) → names_twice card ≡ false
+  once all = grind (arith, nat_tests, count_is, all_is, all)
+
+  pub many_fault : (length keys < most → ⊥) → 2 ^ 20 < length keys → ports_fault card ≡ Some TooMany
+  many_fault all many =
+      let le = distinct_count-le (pointwise nat_eq) (port_names card) in
+      let full : nat_lt most_ports (length (port_names card)) ≡ true = grind (arith, nat_tests, count_is, le, many) in
+      rw (once all, full) refl
+
+  pub no_fault_of_ports : (length keys < most → ⊥) → (2 ^ 20 < length keys → ⊥) → ports_fault card ≡ None
+  no_fault_of_ports all few =
+      let more : length (port_names card) ≤ length keys = omega (arith, all, all_is) in
+      let room : nat_lt most_ports (length (port_names card)) ≡ false = grind (arith, nat_tests, more, few) in
+      rw (once all, room) refl

@@ -1,4 +1,4 @@
 pub mod Laws
-pub mod Rests
-pub mod Scans
-pub mod Stages
+pub mod Forms
+pub mod Readers
+pub mod Subckts

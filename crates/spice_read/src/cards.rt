@@ -1,78 +1,247 @@
-//! The cards of a text.
-ghost use Rattle.std.specs.Prelude.{◌≡◌, ◌<◌, ◌≤◌, ◌++◌, IfOk, IsOk, OnOk, length, map};
-ghost use Rattle.spice_read.specs.Rests.{IsReady};
+//! The cards of a text, each with its words cut once, and what a card is.
+ghost use Rattle.std.specs.Prelude.{◌≡◌, ◌<◌, ◌++◌, ℕ, IfOk, IsErrOf, OnOk, map};
+ghost use Rattle.std.specs.Cmp.Lexicographic.{pointwise};
+ghost use Rattle.std.specs.List.{list_any};
 ghost use Rattle.std.specs.Option.{option_to_list};
-ghost use Rattle.dom_base.specs.Lines.{words};
+ghost use Rattle.std.specs.Str.{str_to_ascii_lowercase};
+ghost use Rattle.dom_base.specs.Lines.{is_control, words};
+ghost use Rattle.deck.specs.declared.fault.DeckKind.{DeckKind};
+ghost use Rattle.deck.specs.declared.fault.DeckKind.TheVariants.{BadCard};
 ghost use Rattle.deck.specs.DeckText.{phase_of};
-ghost use Rattle.spice_read.specs.Rests.{IsLowerText};
-ghost use Rattle.spice_read.specs.Scans.{continued_words, IsCardRead, IsScanned};
+ghost use Rattle.deck.specs.DeckCards.{begins, has_equals, is_device, numbered_lines, port_names};
+ghost use Rattle.spice_read.specs.Forms.{card_form, device_form, known_kind, word_at};
+ghost use Rattle.spice_read.specs.Readers.{continued_words, IsAtFirstCard, IsNextRead, IsStrayAt};
 
-use crate::card::Card;
-use crate::cut::{begins_card, strip_plus};
-use crate::line::Lines;
-use crate::phase::push_phase;
-use deck::Phase;
-use dom_base::{OutOfMemory, cut_words};
+use crate::DeckFault;
+use crate::lines::{Lines, begins_card, same_letters, strip_plus};
+use crate::words::{push_phase, push_words};
+use deck::{DeckKind, Phase};
+use dom_base::{Kind, OutOfMemory, have_control};
 use std::alloc::Global;
+use std::marker::Model;
 
-/// The cards of a text in lower case that aren't read yet, and the phases of the lines that are.
+/// What a card is: a device of this kind, a `.subckt`, a `.ends`, or a card that adds nothing,
+/// `.model` or `.end`.
+#[derive(Clone, Copy, Debug)]
+pub enum Form {
+    Device(Kind),
+    Subckt,
+    Ends,
+    Skipped,
+}
+
+/// A card: the number of its first line, from 1, and its words, which are parts of the text.
+/// Letters of upper case count as those of lower case.
+#[derive(Drop)]
+pub struct Card<'a> {
+    pub number: u64,
+    pub words: Vec<&'a [u8]>,
+}
+
+impl<'a> Model for Card<'a> {
+    ghost use Rattle.std.specs.Prelude.{map};
+    ghost use Rattle.std.specs.Str.{str_to_ascii_lowercase};
+    ghost use Rattle.deck.specs.DeckCards.{NumberedCard};
+
+    ghost Value = { NumberedCard };
+
+    ghost view = { λ c. record { number = c.number; words = map (λ w. str_to_ascii_lowercase w.now) c.words.items } };
+}
+
+/// The kind of device of its word.
+fn kind_of(word: &[u8]) -> Option<Kind>
+    ensures { result ≡ known_kind (str_to_ascii_lowercase word.now) }
+{
+    if same_letters(word, b"nch") {
+        Some(Kind::N)
+    } else if same_letters(word, b"pch") {
+        Some(Kind::P)
+    } else if same_letters(word, b"pkeep") {
+        Some(Kind::Keep)
+    } else {
+        None
+    }
+}
+
+fn has_equals(word: &[u8]) -> bool
+    ensures { result ≡ has_equals (str_to_ascii_lowercase word.now) }
+{
+    word.iter().any(|b| *b == b'=')
+}
+
+impl<'a> Card<'a> {
+    /// The word of this index, from 0, or no bytes where there is none.
+    pub fn word(&self, index: usize) -> &[u8]
+        ensures { str_to_ascii_lowercase result.now ≡ word_at self.now index }
+    {
+        match self.words.get(index) {
+            Some(word) => word,
+            None => &[],
+        }
+    }
+
+    /// The ports that a `.subckt` names, behind the name of the subcircuit.
+    pub fn ports(&self) -> &[&'a [u8]]
+        ensures { map (λ w. str_to_ascii_lowercase w.now) result.now ≡ port_names self.now }
+    {
+        match self.words.as_slice() {
+            [_, _, ports @ ..] => ports,
+            _ => &[],
+        }
+    }
+
+    /// The fault of this kind at the card.
+    pub fn fault(&self, kind: DeckKind) -> DeckFault
+        ensures { result ≡ DeckFault.At self.now.number kind }
+    {
+        DeckFault::At {
+            line: self.number,
+            kind,
+        }
+    }
+
+    fn begins(&self, word: &[u8]) -> bool
+        ensures { result ≡ begins (str_to_ascii_lowercase word.now) self.now }
+    {
+        same_letters(self.word(0), word)
+    }
+
+    fn has_control(&self) -> bool
+        ensures { result ≡ list_any (list_any is_control) self.now.words }
+    {
+        have_control(&self.words)
+    }
+
+    fn has_equals(&self) -> bool
+        ensures { result ≡ list_any has_equals self.now.words }
+    {
+        self.words.iter().any(|word| has_equals(word))
+    }
+
+    /// Whether the card is that of a device: its first letter is `m`.
+    fn is_device(&self) -> bool
+        ensures { result ≡ is_device self.now }
+    {
+        match self.word(0) {
+            [first, ..] => *first == b'm' || *first == b'M',
+            [] => false,
+        }
+    }
+
+    /// What a card of a device is, or its fault.
+    fn device_form(&self) -> Result<Form, DeckKind>
+        ensures { result ≡ device_form self.now }
+    {
+        if self.words.len() <= 5 {
+            return Err(DeckKind::BadCard);
+        }
+        match kind_of(self.word(5)) {
+            Some(kind) => Ok(Form::Device(kind)),
+            None => Err(DeckKind::UnknownDevice),
+        }
+    }
+
+    /// What the card is, or the fault of the smallest number that it has whatever stands before it.
+    pub fn form(&self) -> Result<Form, DeckKind>
+        ensures { result ≡ card_form self.now }
+    {
+        if self.has_control() {
+            return Err(DeckKind::ControlByte);
+        }
+        if self.is_device() {
+            return self.device_form();
+        }
+        if self.begins(b".subckt") {
+            if 1 < self.words.len() && !self.has_equals() {
+                return Ok(Form::Subckt);
+            }
+            return Err(DeckKind::BadCard);
+        }
+        if self.begins(b".ends") {
+            if self.words.len() < 3 {
+                return Ok(Form::Ends);
+            }
+            return Err(DeckKind::BadCard);
+        }
+        if self.begins(b".end") || self.begins(b".model") {
+            Ok(Form::Skipped)
+        } else {
+            Err(DeckKind::UnknownCard)
+        }
+    }
+}
+
+/// The cards of a text that aren't read yet, and the phases of the lines that are. A line that begins
+/// the next card is held, with its number.
 #[derive(Drop)]
 pub struct Cards<'a> {
+    pub held: Option<(u64, &'a [u8])>,
     pub lines: Lines<'a>,
     pub phases: Vec<Phase>,
 }
 
+impl<'a> Model for Cards<'a> {
+    ghost use Rattle.std.specs.Prelude.{option_map};
+    ghost use Rattle.std.specs.Str.{str_to_ascii_lowercase};
+    ghost use Rattle.spice_read.specs.Readers.{Reader};
+
+    ghost Value = { Reader };
+
+    ghost view = { λ c. record { held = option_map (λ p. (p.0, str_to_ascii_lowercase p.1.now)) c.held; left = c.lines; phases = c.phases.items } };
+}
+
 impl<'a> Cards<'a> {
-    /// The next card.
-    pub fn next(&mut self, alloc: Global) -> Result<Option<Card<'a>>, OutOfMemory>
-        requires { IsReady self.old.lines.number self.old.lines.rest.now }
-        ensures ready { IsOk result → IsReady self.new.lines.number self.new.lines.rest.now }
-        ensures shorter { length self.new.lines.rest.now ≤ length self.old.lines.rest.now }
-        ensures card { IfOk result (λ r. IsCardRead self.old.lines.number self.old.lines.rest.now self.old.phases.items self.new.lines.number self.new.lines.rest.now self.new.phases.items r) }
+    /// The cards of a text. Where the first of its lines of cards begins with `+`, no card stands
+    /// before it, and it is a fault.
+    pub fn new(alloc: Global, text: &'a [u8]) -> Result<Cards<'a>, DeckFault>
+        ensures first { IfOk result (λ cards. IsAtFirstCard text.now cards) }
+        ensures stray { (line : ℕ) (kind : DeckKind) → IsErrOf result (DeckFault.At line kind) → IsStrayAt (numbered_lines text.now) line × (kind ≡ BadCard) }
     {
-        'lines: while !self.lines.rest.is_empty() {
-            let number = self.lines.number;
-            let line = self.lines.next();
-            if begins_card(line) {
-                return match self.rest_of_card(alloc, number, line) {
-                    Ok(card) => Ok(Some(card)),
-                    Err(failed) => Err(failed),
-                };
+        let mut lines = Lines {
+            rest: text,
+            number: 1,
+        };
+        let mut phases = Vec::new(alloc);
+        'lines: while let Some((line, bytes)) = lines.next() {
+            if begins_card(bytes) {
+                let held = Some((line, bytes));
+                return Ok(Cards {
+                    held,
+                    lines,
+                    phases,
+                });
             }
-            match push_phase(alloc, &mut self.phases, line) {
-                Ok(()) => (),
-                Err(failed) => return Err(failed),
+            if strip_plus(bytes).is_some() {
+                let kind = DeckKind::BadCard;
+                return Err(DeckFault::At { line, kind });
             }
+            push_phase(alloc, &mut phases, bytes)?;
         }
-        Ok(None)
+        Ok(Cards {
+            held: None,
+            lines,
+            phases,
+        })
     }
 
-    /// The card that begins with a line of this number, with the words of the lines that continue it.
-    fn rest_of_card(
-        &mut self,
-        alloc: Global,
-        number: u64,
-        line: &'a [u8],
-    ) -> Result<Card<'a>, OutOfMemory>
-        requires { IsReady self.old.lines.number self.old.lines.rest.now }
-        ensures ready { IsOk result → IsReady self.new.lines.number self.new.lines.rest.now }
-        ensures shorter { length self.new.lines.rest.now ≤ length self.old.lines.rest.now }
-        ensures card { IfOk result (λ card. IsScanned number (words line.now) self.old.lines.number self.old.lines.rest.now self.old.phases.items self.new.lines.number self.new.lines.rest.now self.new.phases.items card) }
+    /// Reads the next card in place of this one, whether there is one.
+    pub fn next(&mut self, alloc: Global, card: &mut Card<'a>) -> Result<bool, OutOfMemory>
+        ensures { IfOk result (λ some. IsNextRead some self.old card.new self.new) }
     {
-        let mut words = cut_words(alloc, line)?;
-        'lines: while !self.lines.rest.is_empty() {
-            let mut ahead = self.lines;
-            let next = ahead.next();
-            if begins_card(next) {
-                return Ok(Card { number, words });
+        let Some((number, line)) = self.held.take() else {
+            return Ok(false);
+        };
+        card.number = number;
+        card.words.clear();
+        push_words(&mut card.words, line)?;
+        'lines: while let Some((number, line)) = self.lines.next() {
+            if begins_card(line) {
+                self.held = Some((number, line));
+                return Ok(true);
             }
-            match self.push_line(alloc, &mut words, next) {
-                Ok(()) => (),
-                Err(failed) => return Err(failed),
-            }
-            self.lines = ahead;
+            self.push_line(alloc, &mut card.words, line)?;
         }
-        Ok(Card { number, words })
+        Ok(true)
     }
 
     /// Appends the words of a line that continues a card, or the phase of another line.
@@ -82,17 +251,13 @@ impl<'a> Cards<'a> {
         found: &mut Vec<&'a [u8]>,
         line: &'a [u8],
     ) -> Result<(), OutOfMemory>
-        requires { IsLowerText line.now }
-        ensures lines { self.new.lines ≡ self.old.lines }
-        ensures found { OnOk result (map (λ w. w.now) found.new.items ≡ map (λ w. w.now) found.old.items ++ continued_words line.now) }
-        ensures phases { OnOk result (self.new.phases.items ≡ self.old.phases.items ++ option_to_list (phase_of (words line.now))) }
+        ensures held { self.new.held ≡ self.old.held }
+        ensures left { self.new.left ≡ self.old.left }
+        ensures found { OnOk result (map (λ w. str_to_ascii_lowercase w.now) found.new.items ≡ map (λ w. str_to_ascii_lowercase w.now) found.old.items ++ continued_words (str_to_ascii_lowercase line.now)) }
+        ensures phases { OnOk result (self.new.phases ≡ self.old.phases ++ option_to_list (phase_of (words (str_to_ascii_lowercase line.now)))) }
     {
         match strip_plus(line) {
-            Some(rest) => {
-                let mut more = cut_words(alloc, rest)?;
-                found.append(&mut more)?;
-                Ok(())
-            }
+            Some(rest) => push_words(found, rest),
             None => push_phase(alloc, &mut self.phases, line),
         }
     }

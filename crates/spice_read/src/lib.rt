@@ -1,19 +1,15 @@
 //! The reader of decks.
 #![tactic(auto)]
 
-mod card;
 mod cards;
-mod check;
-mod cut;
-mod fault;
+mod faults;
 mod laws;
-mod line;
-mod name;
-mod phase;
+mod lines;
 mod reader;
-mod stage;
+mod subckt;
+mod words;
 
 pub use deck::DeckKind;
-pub use fault::DeckFault;
+pub use faults::DeckFault;
 pub use laws::{text_has_one_answer, written_is_read};
 pub use reader::read;

@@ -5,10 +5,8 @@ ghost use Rattle.deck.specs.DeckFaults.{IsDeckFaultAt};
 ghost use Rattle.deck.specs.DeckText.{IsDeckOf};
 
 use crate::DeckFault;
-use crate::cards::Cards;
-use crate::check::fault_of;
-use crate::line::Lines;
-use crate::stage::Stage;
+use crate::cards::{Card, Cards};
+use crate::subckt::Subckt;
 use deck::{Circuit, DeckKind};
 use std::alloc::Global;
 
@@ -20,41 +18,14 @@ pub fn read(alloc: Global, text: &[u8]) -> Result<Circuit, DeckFault>
     ensures circuit { IfOk result (λ circuit. IsDeckOf text.now circuit) }
     ensures fault { (line : ℕ) (kind : DeckKind) → IsErrOf result (DeckFault.At line kind) → IsDeckFaultAt text.now line kind }
 {
-    let lower = match text.to_ascii_lowercase(alloc) {
-        Ok(lower) => lower,
-        Err(_) => return Err(DeckFault::Memory),
+    let mut cards = Cards::new(alloc, text)?;
+    let mut subckt = Subckt::Before;
+    let mut card = Card {
+        number: 0,
+        words: Vec::new(alloc),
     };
-    let lines = Lines {
-        rest: &lower,
-        number: 1,
-    };
-    if let Some(line) = lines.loose() {
-        let kind = DeckKind::BadCard;
-        return Err(DeckFault::At { line, kind });
+    'cards: while cards.next(alloc, &mut card)? {
+        subckt.push(alloc, &card)?;
     }
-    let mut cards = Cards {
-        lines,
-        phases: Vec::new(alloc),
-    };
-    let mut stage = Stage::Before;
-    'cards: while !cards.lines.rest.is_empty() {
-        let card = match cards.next(alloc) {
-            Ok(Some(card)) => card,
-            Ok(None) => return stage.finish(cards.phases, cards.lines.number),
-            Err(_) => return Err(DeckFault::Memory),
-        };
-        match fault_of(alloc, &stage, &card) {
-            Ok(None) => (),
-            Ok(Some(kind)) => {
-                let line = card.number;
-                return Err(DeckFault::At { line, kind });
-            }
-            Err(_) => return Err(DeckFault::Memory),
-        }
-        stage = match stage.after(alloc, &card) {
-            Ok(stage) => stage,
-            Err(_) => return Err(DeckFault::Memory),
-        };
-    }
-    stage.finish(cards.phases, cards.lines.number)
+    subckt.finish(cards)
 }

@@ -1,54 +1,41 @@
-use Rattle.std.proofs.Common.{◌∙◌, sym, ap, refl, arith, length}
+use Rattle.std.proofs.Common.{◌∙◌, sym, ap, subst, Err}
 use Rattle.std.proofs.lemmas.Result.{IfOk-weaker}
-use Rattle.deck.specs.DeckCards.{NumberedCard}
-use Rattle.spice_read.proofs.Reading.{card_added, card_plain, card_told, end_accepted, end_empty, end_read, end_told, kind_told, line_told, loose_told, none_case, nothing_left, reads_start, ready_text, some_case}
+use Rattle.spice_read.specs.Readers.{IsNextRead, Reader}
+use Rattle.spice_read.proofs.AnsweredFaults.{handed_on}
+use Rattle.spice_read.proofs.DeckSoFar.{card_fault, card_read, card_worded, deck_accepted, deck_end_fault, no_card_read, stray_fault, HasRead}
 use Rattle.spice_read.proofs.reader.read.Goals as goal
 
-pub loose-requires : goal.loose-requires
-loose-requires c = ready_text c.args.text.now c.deref.result.now (c.deref.ensures.value ∙ c.in-Ok.ensures.ok) (omega (arith, ap length c.deref.ensures.value, c.in-Ok.lower.small))
-
-pub returns-in-Some-clause-fault : goal.returns-in-Some-clause-fault
-returns-in-Some-clause-fault c = λ line kind is.
-    loose_told c.args.text.now c.deref.result.now c.in-Some.line line kind (c.deref.ensures.value ∙ c.in-Ok.ensures.ok) c.in-Some.ensures (sym (ap line_told is)) (sym (ap kind_told is))
+pub returns-in_err-cards-clause-fault : goal.returns-in_err-cards-clause-fault
+returns-in_err-cards-clause-fault c = λ line kind is. stray_fault c.args.text.now line kind (c.in_err-cards.ensures.stray line kind (ap Err (sym (handed_on c.from_residual.result _ _ c.from_residual.ensures.1 is))))
 
 pub cards-init : goal.cards-init
-cards-init c =
-    let lower = c.deref.ensures.value ∙ c.in-Ok.ensures.ok in
-    reads_start c.args.text.now c.deref.result.now _ _ lower (ready_text c.args.text.now c.deref.result.now lower (omega (arith, ap length c.deref.ensures.value, c.in-Ok.lower.small))) c.in_default.ensures refl c.new.ensures.items
+cards-init c = no_card_read c.args.text.now c.in_ok-cards.cards c.in_ok-cards.ensures.first
 
-pub returns-in-Ok-None-clause-circuit : goal.returns-in-Ok-None-clause-circuit
-returns-in-Ok-None-clause-circuit c =
-    let none = none_case _ _ _ c.in-Ok-None.field-0-is c.in-Ok-None.ensures.card in
-    IfOk-weaker c.finish.result _ _ (λ circuit f. end_accepted c.args.text.now c.cards.stage _ _ circuit (end_read _ _ _ _ _ _ _ _ c.cards.invariant none) f) c.finish.ensures.circuit
-
-pub returns-in-Ok-None-clause-fault : goal.returns-in-Ok-None-clause-fault
-returns-in-Ok-None-clause-fault c = λ line kind is.
-    let none = none_case _ _ _ c.in-Ok-None.field-0-is c.in-Ok-None.ensures.card in
-    end_told c.args.text.now c.cards.stage _ _ line kind (end_read _ _ _ _ _ _ _ _ c.cards.invariant none) (c.finish.ensures.fault line kind is)
-
-pub returns-in-Ok-Some-fault_of-clause-fault : goal.returns-in-Ok-Some-fault_of-clause-fault
-returns-in-Ok-Some-fault_of-clause-fault c = λ line kind is.
-    let some = some_case _ _ _ c.in-Ok-Some.card c.in-Ok-Some.field-0-is c.in-Ok-Some.ensures.card in
-    card_told c.args.text.now c.cards.stage _ _ _ _ _ _ c.in-Ok-Some.card line c.in-Ok-Some-fault_of.kind kind c.cards.invariant some
-    (sym c.in-Ok-Some-fault_of.field-0-is ∙ c.in-Ok-Some-fault_of.ensures)
-    (sym (ap line_told is) ∙ ap (λ (k : NumberedCard). k.number) c.card.view_is) (sym (ap kind_told is))
-
-pub after-requires-clause-plain : goal.after-requires-clause-plain
-after-requires-clause-plain c =
-    let some = some_case _ _ _ c.in-Ok-Some.card c.in-Ok-Some.field-0-is c.in-Ok-Some.ensures.card in
-    card_plain c.args.text.now c.cards.stage _ _ _ _ _ _ c.in-Ok-Some.card c.cards.invariant some (sym c.in-Ok-None-fault_of.field-0-is ∙ c.in-Ok-None-fault_of.ensures)
+pub push-requires : goal.push-requires
+push-requires c =
+    let reads = subst (λ b. IsNextRead b c.cards.cards c.next.new.card c.next.new.self) c.if-branch.true c.in_ok-next.ensures in
+    card_worded c.cards.invariant reads
 
 pub cards-preserved : goal.cards-preserved
 cards-preserved c =
-    let some = some_case _ _ _ c.in-Ok-Some.card c.in-Ok-Some.field-0-is c.in-Ok-Some.ensures.card in
-    card_added c.args.text.now c.cards.stage _ _ _ _ _ _ _ c.in-Ok-Some.card c.cards.invariant some (c.in-Ok-Some.ensures.ready refl) (sym c.in-Ok-None-fault_of.field-0-is ∙ c.in-Ok-None-fault_of.ensures) c.in-Ok-after.ensures
+    let reads = subst (λ b. IsNextRead b c.cards.cards c.next.new.card c.next.new.self) c.if-branch.true c.in_ok-next.ensures in
+    card_read c.cards.invariant reads c.push.new.self c.in_ok-push.ensures.clean c.in_ok-push.ensures.after
+
+pub returns-in_err-push-clause-fault : goal.returns-in_err-push-clause-fault
+returns-in_err-push-clause-fault c = λ line kind is.
+    let reads = subst (λ b. IsNextRead b c.cards.cards c.next.new.card c.next.new.self) c.if-branch.true c.in_ok-next.ensures in
+    card_fault c.cards.invariant reads line kind (c.in_err-push.ensures.fault line kind (ap Err (sym (handed_on c.from_residual-in_err-push.result _ _ c.from_residual-in_err-push.ensures.1 is))))
 
 pub returns-clause-circuit : goal.returns-clause-circuit
 returns-clause-circuit c =
-    let none = nothing_left c.cards.cards.lines.rest.now c.is_empty.result c.is_empty.ensures c.cards-test.false in
-    IfOk-weaker c.finish-2.result _ _ (λ circuit f. end_accepted c.args.text.now c.cards.stage _ _ circuit (end_empty _ _ _ _ _ c.cards.invariant none) f) c.finish-2.ensures.circuit
+    let ends = subst (λ b. IsNextRead b c.cards.cards c.next.new.card c.next.new.self) c.if-branch.false c.in_ok-next.ensures in
+    let same = ends.1 in
+    let so_far = subst (HasRead c.args.text.now c.cards.subckt) (sym same) c.cards.invariant in
+    IfOk-weaker c.finish.result _ _ (λ circuit f. deck_accepted so_far (ap (λ (r : Reader). r.held) same ∙ ends.0) circuit f) c.finish.ensures.circuit
 
 pub returns-clause-fault : goal.returns-clause-fault
 returns-clause-fault c = λ line kind is.
-    let none = nothing_left c.cards.cards.lines.rest.now c.is_empty.result c.is_empty.ensures c.cards-test.false in
-    end_told c.args.text.now c.cards.stage _ _ line kind (end_empty _ _ _ _ _ c.cards.invariant none) (c.finish-2.ensures.fault line kind is)
+    let ends = subst (λ b. IsNextRead b c.cards.cards c.next.new.card c.next.new.self) c.if-branch.false c.in_ok-next.ensures in
+    let same = ends.1 in
+    let so_far = subst (HasRead c.args.text.now c.cards.subckt) (sym same) c.cards.invariant in
+    deck_end_fault so_far (ap (λ (r : Reader). r.held) same ∙ ends.0) line kind (c.finish.ensures.fault line kind is)

@@ -1,9 +1,9 @@
-use Rattle.std.proofs.Common.{length}
-use Rattle.spice_read.proofs.Reading.{Reads}
+use Rattle.spice_read.specs.Readers.{size_left}
+use Rattle.spice_read.proofs.DeckSoFar.{HasRead}
 use Rattle.spice_read.proofs.reader.read.Given as goal
 
 abbrev pub invariant-cards : goal.invariant-cards
-invariant-cards l = Reads l.fn.text l.stage l.cards.lines.number l.cards.lines.rest.now l.cards.phases.items
+invariant-cards l = HasRead l.fn.text l.subckt l.cards
 
 abbrev pub decreases-cards : goal.decreases-cards
-decreases-cards l = length l.cards.lines.rest.now
+decreases-cards l = size_left l.cards

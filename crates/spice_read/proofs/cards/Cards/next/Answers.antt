@@ -1,15 +1,20 @@
-use Rattle.std.proofs.Common.{◌∙◌, sym, arith}
-use Rattle.spice_read.proofs.Scanning.{cards-next_card, rest-card_line, rest-trans}
+use Rattle.std.proofs.Common.{◌∙◌, ◌++◌, sym, ap, subst, refl, map, Some, None}
+use Rattle.std.specs.Prelude.{option_map}
+use Rattle.std.specs.Str.{str_to_ascii_lowercase}
+use Rattle.dom_base.specs.Lines.{words}
+use Rattle.spice_read.specs.Readers.{Reader}
+use Rattle.spice_read.proofs.CardsRead.{IsInCard, in_first_line, read_to_next}
 use Rattle.spice_read.proofs.cards.Cards.next.Goals as goal
 
-pub returns-in-Ok-clause-card : goal.returns-in-Ok-clause-card
-returns-in-Ok-clause-card c =
-    let before = c.lines.invariant in
-    let line = c.next-line.ensures in
-    let scanned = c.in-Ok.ensures.card in
-    let begins = sym c.begins_card.ensures ∙ c.if-begins_card.true in
-    record {
-      left = rest-trans _ _ _ _ _ _ _ _ _ before.left (rest-trans _ _ _ _ _ _ _ _ _ (rest-card_line _ _ _ _ _ _ line begins) scanned.left);
-      shorter = omega (arith, line.shorter, c.in-Ok.ensures.shorter, before.no_longer);
-      cards_are = before.cards_are ∙ cards-next_card _ _ _ _ _ line begins ∙ scanned.cards_are;
-    }
+pub lines-init : goal.lines-init
+lines-init c =
+    in_first_line c.args.self.now _ (c.in-Some.number, str_to_ascii_lowercase c.in-Some.line.now) _
+    (sym (ap (λ (r : Reader). r.held) c.self.view_is) ∙ ap (option_map (λ p. (p.0, str_to_ascii_lowercase p.1.now))) (sym c.take.ensures.value ∙ c.in-Some.is))
+    (c.in_ok-push_words.ensures ∙ ap (λ l. map (λ w. str_to_ascii_lowercase w.now) l ++ words (str_to_ascii_lowercase c.in-Some.line.now)) c.clear.ensures.items)
+    (ap (λ h. record { held = option_map (λ p. (p.0, str_to_ascii_lowercase p.1.now)) h; left = c.self.inside.lines; phases = c.self.inside.phases.items }) c.take.ensures.after ∙ ap (λ (r : Reader). record r { held = None }) c.self.view_is)
+
+pub returns-then-begins_card : goal.returns-then-begins_card
+returns-then-begins_card c =
+    let inside = subst (IsInCard c.args.self.now _ _) (sym c.self-in-lines.view_is) c.lines.invariant in
+    read_to_next inside (str_to_ascii_lowercase c.in-Some-next.line.now) _ c.in-Some-next.ensures.line (sym c.begins_card.ensures ∙ c.if-begins_card.true)
+    (ap (λ n. Some (n, str_to_ascii_lowercase c.in-Some-next.line.now)) c.in-Some-next.ensures.number) refl

@@ -1,6 +1,0 @@
-use Rattle.std.proofs.Common.{◌≡◌, [], map, take}
-use Rattle.deck.specs.Numbers.{with_all}
-use Rattle.spice_read.proofs.check.count_different.Given as goal
-
-abbrev pub invariant-loop-word : goal.invariant-loop-word
-invariant-loop-word l = l.names.keys ≡ with_all [] (map (λ w. w.now) (take l.word-index l.words))

@@ -1,0 +1,35 @@
+use Rattle.std.proofs.Common.{◌∙◌, ap, sym, arith, subst, length}
+use Rattle.std.specs.List.{AllByRecursion}
+use Rattle.std.specs.Str.{str_to_ascii_lowercase}
+use Rattle.std.proofs.lemmas.List.{length-map}
+use Rattle.dom_base.specs.Names.{IsNetName}
+use Rattle.deck.specs.DeckCards.{port_names}
+use Rattle.deck.specs.Numbers.{with_all}
+use Rattle.dom_base.proofs.Lists.{AllByRecursion-drop}
+use Rattle.spice_read.proofs.AnsweredFaults.{answered}
+use Rattle.spice_read.proofs.Ports.{All-unmapped, good_ports, many_fault, no_fault_of_ports, opened-parts, port_set, twice_fault}
+use Rattle.spice_read.proofs.subckt.open.Goals as goal
+
+pub nets_of-requires : goal.nets_of-requires
+nets_of-requires c =
+    All-unmapped IsNetName (λ w. str_to_ascii_lowercase w.now) _ (subst (AllByRecursion IsNetName) (sym c.ports.ensures) (AllByRecursion-drop IsNetName 2 c.args.card.now.words c.requires.names))
+
+pub returns-then-len-ports-clause-fault : goal.returns-then-len-ports-clause-fault
+returns-then-len-ports-clause-fault c = λ line kind is.
+    let keys = c.in_ok-nets.ensures ∙ ap (with_all _) c.ports.ensures in
+    let all = sym (length-map c.ports-2.result.now (λ w. str_to_ascii_lowercase w.now)) ∙ ap length c.ports-2.ensures in
+    answered c.fault.result c.args.card.now.number line _ kind _ c.fault.ensures (twice_fault c.args.card.now c.in_ok-nets.nets.keys keys _ all (omega (arith, c.if-len-ports.true, c.len.ensures.len))) is
+
+pub returns-then-len-gt-MOST_PORTS-clause-fault : goal.returns-then-len-gt-MOST_PORTS-clause-fault
+returns-then-len-gt-MOST_PORTS-clause-fault c = λ line kind is.
+    let keys = c.in_ok-nets.ensures ∙ ap (with_all _) c.ports.ensures in
+    let all = sym (length-map c.ports-2.result.now (λ w. str_to_ascii_lowercase w.now)) ∙ ap length c.ports-2.ensures in
+    answered c.fault-then-len-gt-MOST_PORTS.result c.args.card.now.number line _ kind _ c.fault-then-len-gt-MOST_PORTS.ensures (many_fault c.args.card.now c.in_ok-nets.nets.keys keys _ all (λ l. omega (arith, c.if-len-ports.false, c.len.ensures.len, l)) (omega (arith, c.if-len-gt-MOST_PORTS.true, c.len-2.ensures.len))) is
+
+pub returns-clause-circuit : goal.returns-clause-circuit
+returns-clause-circuit c =
+    let keys = c.in_ok-nets.ensures ∙ ap (with_all _) c.ports.ensures in
+    let all = sym (length-map c.ports-2.result.now (λ w. str_to_ascii_lowercase w.now)) ∙ ap length c.ports-2.ensures in
+    let clean = no_fault_of_ports c.args.card.now c.in_ok-nets.nets.keys keys _ all (λ l. omega (arith, c.if-len-ports.false, c.len.ensures.len, l)) (λ l. omega (arith, c.if-len-gt-MOST_PORTS.false, c.len-2.ensures.len, l)) in
+    let set = port_set (port_names c.args.card.now) c.in_ok-nets.nets.keys (good_ports c.args.card.now clean) keys in
+    (clean, opened-parts c.args.card.now _ _ _ _ _ (c.in_ok-net_name.ensures ∙ c.word.ensures) c.new.ensures.items c.len-ports.ensures.len set.keys_are c.new-2.ensures.items)

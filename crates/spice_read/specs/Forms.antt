@@ -1,0 +1,44 @@
+-- What a card of a deck is, by its words alone: the forms of cards, and the faults that no other card matters for.
+use Rattle.std.specs.Prelude.{ℕ, Bool, ◌||◌, ◌&&◌, not, nat_eq, nat_lt, if◌then◌else◌, List, [], length, slice_index_or, Option, Some, None, Result, Ok, Err, codes}
+use Rattle.std.specs.List.{list_any}
+use Rattle.std.specs.Cmp.Lexicographic.{pointwise}
+use Rattle.dom_base.specs.Lines.{is_control}
+use Rattle.dom_base.specs.declared.kind.Kind.{Kind}
+use Rattle.dom_base.specs.declared.kind.Kind.TheVariants.{N as nch, P as pch, Keep}
+use Rattle.deck.specs.declared.fault.DeckKind.{DeckKind}
+use Rattle.deck.specs.declared.fault.DeckKind.TheVariants.{ControlByte, UnknownCard, BadCard, UnknownDevice}
+use Rattle.deck.specs.DeckCards.{NumberedCard, begins, subckt_card, ends_card, end_card, model_card, is_device, has_equals, is_model_word}
+use Rattle.spice_read.specs.declared.cards.Form.{Form}
+use Rattle.spice_read.specs.declared.cards.Form.TheVariants.{Device, Subckt, Ends, Skipped}
+
+-- the word of this index of a card, or no bytes where there is none
+abbrev pub word_at : NumberedCard → ℕ → List ℕ
+word_at card index = slice_index_or card.words index []
+
+-- the kind of device of one of the words for kinds
+abbrev pub kind_of : List ℕ → Kind
+kind_of word = if pointwise nat_eq word (codes "nch") then nch else (if pointwise nat_eq word (codes "pch") then pch else Keep)
+
+-- the kind of device of a word, where it is one of the words for kinds
+abbrev pub known_kind : List ℕ → Option Kind
+known_kind word = if is_model_word word then Some (kind_of word) else None
+
+-- a `.subckt` in its form
+abbrev pub is_deck_subckt : NumberedCard → Bool
+is_deck_subckt card = nat_lt 1 (length card.words) && not (list_any has_equals card.words)
+
+-- a card whose first letter is `m`: a device, or its fault
+abbrev pub device_form : NumberedCard → Result Form DeckKind
+device_form card =
+    if nat_lt 5 (length card.words) then (if is_model_word (word_at card 5) then Ok (Device (kind_of (word_at card 5))) else Err UnknownDevice)
+    else Err BadCard
+
+-- what a card is, or the smallest of the faults that it has whatever stands before it
+abbrev pub card_form : NumberedCard → Result Form DeckKind
+card_form card =
+    if list_any (list_any is_control) card.words then Err ControlByte
+    else (if is_device card then device_form card
+    else (if begins subckt_card card then (if is_deck_subckt card then Ok Subckt else Err BadCard)
+    else (if begins ends_card card then (if nat_lt (length card.words) 3 then Ok Ends else Err BadCard)
+    else (if begins end_card card || begins model_card card then Ok Skipped
+    else Err UnknownCard))))

@@ -1,0 +1,98 @@
+//! Words of lines, names out of words, and phases out of comments.
+ghost use Rattle.std.specs.Prelude.{◌≡◌, ◌++◌, IfOk, OnOk, ◌&&◌, not, codes, map, nat_eq};
+ghost use Rattle.std.specs.Cmp.Lexicographic.{pointwise};
+ghost use Rattle.std.specs.List.{AllByRecursion, list_any};
+ghost use Rattle.std.specs.Option.{option_to_list};
+ghost use Rattle.std.specs.Str.{str_to_ascii_lowercase};
+ghost use Rattle.dom_base.specs.Lines.{is_control, words, IsLowerWord};
+ghost use Rattle.dom_base.specs.Names.{IsNetName};
+ghost use Rattle.deck.specs.DeckText.{phase_of, signed_phase};
+ghost use Rattle.spice_read.specs.Readers.{sign_given};
+
+use crate::lines::{front_word, same_letters, unindent};
+use deck::Phase;
+use dom_base::{NetName, OutOfMemory, cut_words, has_control};
+use std::alloc::Global;
+
+/// Appends the words of a line, which blanks and tabs part.
+pub fn push_words<'a>(found: &mut Vec<&'a [u8]>, line: &'a [u8]) -> Result<(), OutOfMemory>
+    ensures { OnOk result (map (λ w. str_to_ascii_lowercase w.now) found.new.items ≡ map (λ w. str_to_ascii_lowercase w.now) found.old.items ++ words (str_to_ascii_lowercase line.now)) }
+{
+    let mut rest = unindent(line);
+    'words: while !rest.is_empty() {
+        let word = front_word(rest);
+        found.push(word)?;
+        rest = unindent(&rest[word.len()..]);
+    }
+    Ok(())
+}
+
+/// The word in lower case, as the name of a net.
+pub fn net_name(alloc: Global, word: &[u8]) -> Result<NetName, OutOfMemory>
+    requires { IsNetName (str_to_ascii_lowercase word.now) }
+    ensures { IfOk result (λ name. name ≡ str_to_ascii_lowercase word.now) }
+{
+    let bytes = word.to_ascii_lowercase(alloc)?;
+    Ok(NetName(bytes))
+}
+
+/// Whether the sign is `+`, where it is `+` or `-`.
+fn sign_given(sign: &[u8]) -> Option<bool>
+    ensures { result ≡ sign_given (str_to_ascii_lowercase sign.now) }
+{
+    if same_letters(sign, b"+") {
+        Some(true)
+    } else if same_letters(sign, b"-") {
+        Some(false)
+    } else {
+        None
+    }
+}
+
+fn signed_phase(alloc: Global, name: &[u8], sign: &[u8]) -> Result<Option<Phase>, OutOfMemory>
+    requires { IsNetName (str_to_ascii_lowercase name.now) }
+    ensures { IfOk result (λ phase. phase ≡ signed_phase (str_to_ascii_lowercase name.now) (str_to_ascii_lowercase sign.now)) }
+{
+    match sign_given(sign) {
+        Some(plus) => {
+            let net = net_name(alloc, name)?;
+            Ok(Some(Phase { net, plus }))
+        }
+        None => Ok(None),
+    }
+}
+
+/// Whether these are the words before the sign of a phase.
+fn is_phase(star: &[u8], word: &[u8], name: &[u8]) -> bool
+    ensures { result ≡ (pointwise nat_eq (str_to_ascii_lowercase star.now) (codes "*") && pointwise nat_eq (str_to_ascii_lowercase word.now) (codes "phase") && not (list_any is_control (str_to_ascii_lowercase name.now))) }
+{
+    same_letters(star, b"*") && same_letters(word, b"phase") && !has_control(name)
+}
+
+/// The phase that the words of a comment give.
+fn phase_of(alloc: Global, words: &[&[u8]]) -> Result<Option<Phase>, OutOfMemory>
+    requires { AllByRecursion IsLowerWord (map (λ w. str_to_ascii_lowercase w.now) words.now) }
+    ensures { IfOk result (λ phase. phase ≡ phase_of (map (λ w. str_to_ascii_lowercase w.now) words.now)) }
+{
+    match words {
+        [star, word, name, sign] => {
+            if is_phase(star, word, name) {
+                signed_phase(alloc, name, sign)
+            } else {
+                Ok(None)
+            }
+        }
+        _ => Ok(None),
+    }
+}
+
+/// Appends the phase of a line, where it gives one.
+pub fn push_phase(alloc: Global, phases: &mut Vec<Phase>, line: &[u8]) -> Result<(), OutOfMemory>
+    ensures { OnOk result (phases.new.items ≡ phases.old.items ++ option_to_list (phase_of (words (str_to_ascii_lowercase line.now)))) }
+{
+    let words = cut_words(alloc, line)?;
+    match phase_of(alloc, &words)? {
+        Some(phase) => Ok(phases.push(phase)?),
+        None => Ok(()),
+    }
+}
