@@ -3,8 +3,8 @@ use Rattle.dom_base.specs.declared.tri.Tri.{Tri}
 use Rattle.dom_base.specs.declared.tri.Tri.TheVariants.{One}
 use Rattle.deck.specs.Roles.{AreRoles, ports_of}
 use Rattle.deck.specs.declared.role.Roles.{Roles}
-use Rattle.spice_read.specs.declared.fault.DeckFault.{DeckFault}
-use Rattle.spice_read.specs.declared.fault.DeckFault.TheVariants as deck_faults
+use Rattle.spice_read.specs.declared.faults.DeckFault.{DeckFault}
+use Rattle.spice_read.specs.declared.faults.DeckFault.TheVariants as deck_faults
 use Rattle.stim_text.specs.declared.fault.StimFault.{StimFault}
 use Rattle.stim_text.specs.declared.fault.StimFault.TheVariants as stim_faults
 use Rattle.switch_model.specs.LinksData.{links_of}
