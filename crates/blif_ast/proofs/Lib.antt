@@ -1,3 +1,4 @@
 pub mod CardLines
 pub mod FileLines
 pub mod LineWords
+pub mod NameBytes

@@ -5,10 +5,11 @@ use Rattle.std.specs.Cmp.Lexicographic.{pointwise}
 use Rattle.dom_base.specs.declared.kind.Kind.{Kind}
 use Rattle.deck.specs.declared.device.Device.{Device}
 use Rattle.deck.specs.CircuitData.{CircuitData}
-use Rattle.deck.specs.NamedDevices.{NamedDevice, device_of, map_device, with_devices}
+use Rattle.deck.specs.NamedDevices.{NamedDevice, with_devices}
 use Rattle.deck.specs.Nets.{net_number, with_net, with_nets}
+use Rattle.deck.specs.NumberedDevices.{IsNumberedDevice, numbered_device}
 use Rattle.deck.specs.Pushes.{added_device, pushed}
-use Rattle.deck.proofs.NetNumbers.{HasNumber, IsDistinct-with_net, Longer, Longer-trans, net_number-kept, with_net-grows}
+use Rattle.deck.proofs.NetNumbers.{IsDistinct-with_net, Longer, Longer-trans, net_number-kept, with_net-grows}
 
 -- a later state of a circuit that only grew
 pub record Grew (old new : CircuitData) : Type 0 where
@@ -64,14 +65,6 @@ with_devices-distinct c [] apart = apart
 with_devices-distinct c (d ∷ ds) apart =
     with_devices-distinct (pushed c d.kind d.drain d.gate d.source) ds
     (IsDistinct-with_net (with_net (with_net c.nets d.drain) d.gate) d.source (IsDistinct-with_net (with_net c.nets d.drain) d.gate (IsDistinct-with_net c.nets d.drain apart)))
-
--- the device by the numbers of its nets
-abbrev pub numbered_device : List (List ℕ) → NamedDevice (List ℕ) → Device
-numbered_device nets d = device_of (map_device (net_number nets) d)
-
--- each net of the device has a number
-abbrev pub IsNumberedDevice : List (List ℕ) → NamedDevice (List ℕ) → Type 0
-IsNumberedDevice nets d = HasNumber nets d.drain × HasNumber nets d.gate × HasNumber nets d.source
 
 -- the device that is added is the device by the numbers in the end
 record IsKept (old new : List (List ℕ)) (d : NamedDevice (List ℕ)) : Type 0 where

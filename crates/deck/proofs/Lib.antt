@@ -4,7 +4,9 @@ pub mod DeckExamples
 pub mod DeckNames
 pub mod DeckUnique
 pub mod DeviceNumbers
+pub mod EscapedNames
 pub mod Escaping
+pub mod NetNames
 pub mod NetNumbers
 pub mod PortDecisions
 pub mod PortLayout

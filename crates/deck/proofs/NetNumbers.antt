@@ -9,6 +9,7 @@ use Rattle.dom_base.proofs.Bools.{or_none}
 use Rattle.dom_base.proofs.Lists.{AllByRecursion-take, slice_get-append}
 use Rattle.dom_base.proofs.Names.{names_equal}
 use Rattle.deck.specs.Nets.{net_name, net_number, with_net}
+use Rattle.deck.specs.NumberedDevices.{HasNumber}
 use Rattle.deck.specs.Numbers.{with_all}
 
 -- a test of names is passed by one of them, or their number is the number of names
@@ -60,10 +61,6 @@ slice_get-with_net (x ∷ xs) name = by (pointwise nat_eq name x) refl (slice_ge
         ap (λ (n : ℕ). slice_get (if list_any (pointwise nat_eq name) xs then x ∷ xs else (x ∷ xs) ++ name ∷ []) n) next
         ∙ ap (λ l. slice_get l (suc (net_number xs name))) (tail_case (list_any (pointwise nat_eq name) xs)) ∙ rest
         )
-
--- the name stands among the nets, at its number
-abbrev pub HasNumber : List (List ℕ) → List ℕ → Type 0
-HasNumber nets name = slice_get nets (net_number nets name) ≡ Some name
 
 -- the nets with more behind them
 abbrev pub Longer : List (List ℕ) → List (List ℕ) → Type 0

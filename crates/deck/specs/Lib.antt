@@ -7,9 +7,11 @@ pub mod Escapes
 pub mod Limits
 pub mod NamedDevices
 pub mod Nets
+pub mod NumberedDevices
 pub mod Numbers
 pub mod Paths
 pub mod PortLayout
+pub mod PortNames
 pub mod Ports
 pub mod Pushes
 pub mod Roles

@@ -1,0 +1,28 @@
+-- Circuits to which the devices of a cell are appended part by part.
+use Rattle.std.proofs.Common.{◌≡◌, ℕ, List, [], ◌∷◌, ◌++◌, refl, sym, ap, ◌∙◌}
+use Rattle.dom_base.specs.declared.kind.Kind.TheVariants.{N as nch, P as pch, Keep}
+use Rattle.deck.specs.CircuitData.{CircuitData}
+use Rattle.deck.specs.NamedDevices.{NamedDevice, with_devices}
+use Rattle.deck.specs.Pushes.{pushed}
+use Rattle.sp_network.specs.Tree.{Tree}
+use Rattle.domino_cell.specs.Cell.{CellNets, cell, dynamic_stage, inverter}
+use Rattle.domino_cell.specs.Spelling.{spell}
+
+pub with_devices-append : (c : CircuitData) (xs ys : List (NamedDevice (List ℕ))) → with_devices c (xs ++ ys) ≡ with_devices (with_devices c xs) ys
+with_devices-append c [] ys = refl
+with_devices-append c (x ∷ xs) ys = with_devices-append (pushed c x.kind x.drain x.gate x.source) xs ys
+
+-- the devices of a cell, appended part by part
+pub cell_devices_pushed : (old a b c d new : CircuitData) (nets : CellNets (List ℕ)) (tree : Tree (List ℕ))
+    → a ≡ pushed old pch nets.dynamic nets.clock nets.vdd → b ≡ pushed a Keep nets.dynamic nets.output nets.vdd
+    → c ≡ with_devices b (spell nch nets.inner tree nets.dynamic nets.foot 0) → d ≡ pushed c nch nets.foot nets.clock nets.vss
+    → new ≡ with_devices d (inverter nets.vdd nets.vss nets.dynamic nets.output) → new ≡ with_devices old (cell nets tree)
+cell_devices_pushed old a b c d new nets tree one two three four five =
+    let inv : List (NamedDevice (List ℕ)) = inverter nets.vdd nets.vss nets.dynamic nets.output in
+    let spelled : List (NamedDevice (List ℕ)) = spell nch nets.inner tree nets.dynamic nets.foot 0 in
+    let foot : NamedDevice (List ℕ) = record { kind = nch; drain = nets.foot; gate = nets.clock; source = nets.vss } in
+    let kept : CircuitData = pushed (pushed old pch nets.dynamic nets.clock nets.vdd) Keep nets.dynamic nets.output nets.vdd in
+    let b_is : b ≡ kept = two ∙ ap (λ x. pushed x Keep nets.dynamic nets.output nets.vdd) one in
+    let c_is : c ≡ with_devices kept spelled = three ∙ ap (λ x. with_devices x spelled) b_is in
+    let d_is : d ≡ with_devices kept (spelled ++ foot ∷ []) = four ∙ ap (λ x. pushed x nch nets.foot nets.clock nets.vss) c_is ∙ sym (with_devices-append kept spelled (foot ∷ [])) in
+    five ∙ ap (λ x. with_devices x inv) d_is ∙ sym (with_devices-append old (dynamic_stage nets tree) inv)

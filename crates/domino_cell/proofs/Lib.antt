@@ -1,0 +1,10 @@
+pub mod CellCircuits
+pub mod CellLaws
+pub mod CellNetNames
+pub mod Cells
+pub mod NamedCells
+pub mod Paths
+pub mod SmallestCell
+pub mod Spellings
+pub mod Stages
+pub mod Trees

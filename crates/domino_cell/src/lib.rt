@@ -1,0 +1,9 @@
+//! Domino cells: the devices of a tree, stages (channel-connected groups of devices: a net and
+//! its branches to the supplies), and cells of domino logic in a circuit (Rabaey, Digital
+//! Integrated Circuits: dynamic logic).
+#![tactic(auto)]
+
+mod laws;
+mod worked;
+
+pub use laws::{cell_pulls_down, tree_joins_foot};

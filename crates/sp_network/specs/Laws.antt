@@ -1,0 +1,17 @@
+-- What the laws of trees say: a tree of known gates is known, and it is One where its formula holds.
+use Rattle.std.specs.Prelude.{◌≡◌, ◌↔◌, ℕ, IsTrue}
+use Rattle.dom_base.specs.declared.kind.Kind.TheVariants.{N as nch}
+use Rattle.dom_base.specs.declared.tri.Tri.{Tri}
+use Rattle.dom_base.specs.declared.tri.Tri.TheVariants.{One}
+use Rattle.sp_network.specs.Known.{IsKnown, is_one}
+use Rattle.sp_network.specs.Tree.{Tree, EachLeaf, joins, tree_conduction}
+
+-- where the value of each leaf's gate is known, so is the conduction of the tree
+abbrev pub KnownTreeIsKnown : Type 0
+KnownTreeIsKnown =
+    (value : ℕ → Tri) (tree : Tree ℕ) → EachLeaf (λ n. IsKnown (value n)) tree → IsKnown (tree_conduction nch value tree)
+
+-- a tree is One exactly where its formula holds: `and` for series, `or` for parallel, for a leaf that its gate is One
+abbrev pub TreeIsFormula : Type 0
+TreeIsFormula =
+    (value : ℕ → Tri) (tree : Tree ℕ) → (tree_conduction nch value tree ≡ One) ↔ IsTrue (joins (λ n. is_one (value n)) tree)

@@ -1,0 +1,4 @@
+pub mod Balanced
+pub mod Known
+pub mod Laws
+pub mod Tree
