@@ -1,15 +1,16 @@
 -- What is promised of the text of circuits: it reads back.
 use Rattle.std.specs.Prelude.{◌≡◌, ℕ, List}
 use Rattle.deck.specs.CircuitData.{CircuitData}
-use Rattle.deck.specs.DeckText.{IsDeckOf, IsGoodCircuit, HasNetNames}
-use Rattle.deck.specs.Nets.{IsCircuit}
+use Rattle.deck.specs.DeckText.{IsDeckOf, IsGoodCircuit}
+use Rattle.deck.specs.Whole.{IsWhole}
 use Rattle.spice_text.specs.Text.{IsWritten}
 
--- the text of a circuit whose name and ports have no byte `=` is a deck, and its circuit is that one, with its phases
+-- the text of a circuit whose name and ports have no byte `=` is a deck, and its circuit is that one, with its phases;
+-- every circuit is whole, as `Circuit::whole` tells
 abbrev pub WrittenReadsBack : Type 0
 WrittenReadsBack =
     (c : CircuitData) (text : List ℕ)
-    → IsCircuit c.ports c.nets c.devices → HasNetNames c → IsGoodCircuit c
+    → IsWhole c → IsGoodCircuit c
     → IsWritten c text → IsDeckOf text c
 
 -- a text is the deck of at most one circuit
