@@ -4,7 +4,7 @@ use Rattle.std.proofs.lemmas.List.{take_more, take_min, drop_min, length-take-le
 use Rattle.std.proofs.lemmas.List.Concat.{flat_map-append}
 use Rattle.std.specs.List.{flat_map, enumerate_from}
 use Rattle.deck.specs.declared.device.Device.{Device}
-use Rattle.spice_text.specs.Text.{deck_line, plus_lines, eights, card, cards}
+use Rattle.spice_text.specs.Text.{deck_line, plus_lines, eights, device_card, device_cards}
 
 -- a list that isn't empty, in its first eight and the rest
 pub eights-step : {X : Type 0} (xs : List X) → 0 < length xs → eights xs ≡ take 8 xs ∷ eights (drop 8 xs)
@@ -38,15 +38,15 @@ enumerate_from-append n (x ∷ xs) ys =
 
 -- one more card
 pub cards-more : (nets : List (List ℕ)) (devices : List Device) (i : ℕ) (d : Device) → i < length devices
-    → cards nets (take (i + 1) devices) ≡ cards nets (take i devices) ++ card nets (i, get_or devices i d)
+    → device_cards nets (take (i + 1) devices) ≡ device_cards nets (take i devices) ++ device_card nets (i, get_or devices i d)
 cards-more nets devices i d lt =
     let le : i ≤ length devices = omega arith in
     let place : 0 + length (take i devices) ≡ i = omega (arith, length-take-le i devices le) in
-    ap (cards nets) (take_more devices i d lt)
-    ∙ ap (flat_map (card nets)) (enumerate_from-append 0 (take i devices) (get_or devices i d ∷ []))
-    ∙ flat_map-append (card nets) (enumerate_from 0 (take i devices)) (enumerate_from (0 + length (take i devices)) (get_or devices i d ∷ []))
-    ∙ ap (λ n. cards nets (take i devices) ++ flat_map (card nets) (enumerate_from n (get_or devices i d ∷ []))) place
-    ∙ ap (λ t. cards nets (take i devices) ++ t) (append-nil (card nets (i, get_or devices i d)))
+    ap (device_cards nets) (take_more devices i d lt)
+    ∙ ap (flat_map (device_card nets)) (enumerate_from-append 0 (take i devices) (get_or devices i d ∷ []))
+    ∙ flat_map-append (device_card nets) (enumerate_from 0 (take i devices)) (enumerate_from (0 + length (take i devices)) (get_or devices i d ∷ []))
+    ∙ ap (λ n. device_cards nets (take i devices) ++ flat_map (device_card nets) (enumerate_from n (get_or devices i d ∷ []))) place
+    ∙ ap (λ t. device_cards nets (take i devices) ++ t) (append-nil (device_card nets (i, get_or devices i d)))
 
 pub ruleset printing = (cards-more)
 

@@ -32,7 +32,7 @@ plain_visible (first ∷ others) h =
     All-weaker IsNetName (All (λ b. is_control b ≡ false)) no_control-name (first ∷ others) (All-from_recursion IsNetName (first ∷ others) h)
 
 -- rows that are no phase
-no_phase : (first : List ℕ) (others : List (List ℕ)) → pointwise nat_eq first (codes "*") ≡ false → phase_of (first ∷ others) ≡ None
+pub no_phase : (first : List ℕ) (others : List (List ℕ)) → pointwise nat_eq first (codes "*") ≡ false → phase_of (first ∷ others) ≡ None
 no_phase first [] h = refl
 no_phase first (a ∷ []) h = refl
 no_phase first (a ∷ b ∷ []) h = refl

@@ -7,7 +7,7 @@ use Rattle.deck.specs.PortLayout.{first_pin}
 use Rattle.deck.specs.Ports.{HasRoles, leading_ports}
 use Rattle.deck.specs.Roles.{AreRoles}
 use Rattle.deck.specs.declared.role.Roles.{Roles}
-use Rattle.spice_text.specs.Text.{phase_line, deck_line, plus_lines, cards, IsWritten}
+use Rattle.spice_text.specs.Text.{phase_line, deck_line, plus_lines, device_cards, IsWritten}
 use Rattle.spice_text.specs.Parts.{ArePortGroups, IsSubckt, subckt_with}
 use Rattle.deck.proofs.PortLayout.{HasRoles-same, joined, length-leading}
 
@@ -50,10 +50,10 @@ subckt-uncut before name text ports none e = record {
 }
 
 pub text-whole : (c : CircuitData) (before middle text : List ℕ) → before ≡ codes "* domsyn deck 1" ++ 10 ∷ [] ++ flat_map phase_line c.phases
-    → IsSubckt before c.name (take c.ports c.nets) middle → text ≡ middle ++ cards c.nets c.devices ++ deck_line (codes ".ends") (c.name ∷ []) → IsWritten c text
+    → IsSubckt before c.name (take c.ports c.nets) middle → text ≡ middle ++ device_cards c.nets c.devices ++ deck_line (codes ".ends") (c.name ∷ []) → IsWritten c text
 text-whole c before middle text eb part et =
     let head : List ℕ = codes "* domsyn deck 1" ++ 10 ∷ [] ++ flat_map phase_line c.phases in
-    let tail : List ℕ → List ℕ = λ m. m ++ cards c.nets c.devices ++ deck_line (codes ".ends") (c.name ∷ []) in
+    let tail : List ℕ → List ℕ = λ m. m ++ device_cards c.nets c.devices ++ deck_line (codes ".ends") (c.name ∷ []) in
     record {
       with_roles = λ clocks pins outs has.
           et ∙ ap tail (part.with_roles clocks pins outs has

@@ -8,7 +8,7 @@ use Rattle.deck.specs.declared.device.Device.{Device}
 use Rattle.deck.specs.declared.phase.Phase.{Phase}
 use Rattle.deck.specs.CircuitData.{CircuitData}
 use Rattle.dom_base.specs.Joined.{ended}
-use Rattle.spice_text.specs.Text.{deck_line, sign_of, phase_line, eights, plus_lines, bulk_of, card, cards, text_with}
+use Rattle.spice_text.specs.Text.{deck_line, sign_of, phase_line, eights, plus_lines, bulk_of, device_card, device_cards, text_with}
 use Rattle.deck.specs.DeckText.{model_word}
 use Rattle.deck.specs.Nets.{net_name}
 use Rattle.spice_text.proofs.ReadRows.{row_line, text_of_rows, plus_rows}
@@ -103,9 +103,9 @@ text_with-rows c leading groups =
     (flat_map phase_line c.phases) (text_of_rows (map phase_row c.phases))
     (deck_line (codes ".subckt") (c.name ∷ leading))
     (flat_map plus_lines groups) (text_of_rows (plus_rows (flat_map eights groups)))
-    (cards c.nets c.devices) (text_of_rows (card_rows c.nets c.devices))
+    (device_cards c.nets c.devices) (text_of_rows (card_rows c.nets c.devices))
     (deck_line (codes ".ends") (c.name ∷ []))
-    header_is (flat_map-rows phase_line phase_row (λ _. refl) c.phases) (plus_lines-rows groups) (flat_map-rows (card c.nets) (card_row c.nets) (λ _. refl) (enumerate_from 0 c.devices))
+    header_is (flat_map-rows phase_line phase_row (λ _. refl) c.phases) (plus_lines-rows groups) (flat_map-rows (device_card c.nets) (card_row c.nets) (λ _. refl) (enumerate_from 0 c.devices))
     ∙ text_of_six header_row (map phase_row c.phases) (opening_row c.name leading) (plus_rows (flat_map eights groups)) (card_rows c.nets c.devices) (ending_row c.name)
 
 -- names in groups of eight, put together again

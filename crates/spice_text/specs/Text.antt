@@ -39,13 +39,13 @@ bulk_of pch = codes "vdd"
 bulk_of Keep = codes "vdd"
 
 -- the card of a device, with its number
-abbrev pub card : List (List ℕ) → ℕ × Device → List ℕ
-card nets p =
+abbrev pub device_card : List (List ℕ) → ℕ × Device → List ℕ
+device_card nets p =
     deck_line (codes "m" ++ decimal p.0)
     (net_name nets p.1.drain ∷ net_name nets p.1.gate ∷ net_name nets p.1.source ∷ bulk_of p.1.kind ∷ model_word p.1.kind ∷ [])
 
-abbrev pub cards : List (List ℕ) → List Device → List ℕ
-cards nets devices = flat_map (card nets) (enumerate_from 0 devices)
+abbrev pub device_cards : List (List ℕ) → List Device → List ℕ
+device_cards nets devices = flat_map (device_card nets) (enumerate_from 0 devices)
 
 -- the whole text, with these ports on the line of `.subckt` and these groups of ports on lines with `+`
 abbrev pub text_with : CircuitData → List (List ℕ) → List (List (List ℕ)) → List ℕ
@@ -54,7 +54,7 @@ text_with c leading groups =
     ++ flat_map phase_line c.phases
     ++ deck_line (codes ".subckt") (c.name ∷ leading)
     ++ flat_map plus_lines groups
-    ++ cards c.nets c.devices
+    ++ device_cards c.nets c.devices
     ++ deck_line (codes ".ends") (c.name ∷ [])
 
 -- the text of a circuit: where its ports stand in the order of roles, those before the first pin

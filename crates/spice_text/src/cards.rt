@@ -1,7 +1,7 @@
 //! The lines of phases and the cards of devices.
 ghost use Rattle.std.specs.Prelude.{◌≡◌, ◌++◌, ◌<◌, All, OnOk, length};
 ghost use Rattle.std.specs.List.{flat_map};
-ghost use Rattle.spice_text.specs.Text.{phase_line, card, cards, bulk_of};
+ghost use Rattle.spice_text.specs.Text.{phase_line, device_card, device_cards, bulk_of};
 ghost use Rattle.deck.specs.DeckText.{model_word};
 ghost use Rattle.deck.specs.Nets.{IsInRange, net_name};
 
@@ -33,7 +33,7 @@ pub fn put_cards(
     devices: &[Device],
 ) -> Result<(), OutOfMemory>
     requires { All (IsInRange (length nets.now)) devices.now }
-    ensures { OnOk result (text.new.items ≡ text.old.items ++ cards nets.now devices.now) }
+    ensures { OnOk result (text.new.items ≡ text.old.items ++ device_cards nets.now devices.now) }
 {
     for (index, device) in devices.iter().enumerate() {
         put_card(text, nets, index, *device)?;
@@ -48,7 +48,7 @@ fn put_card(
     device: Device,
 ) -> Result<(), OutOfMemory>
     requires { IsInRange (length nets.now) device }
-    ensures { OnOk result (text.new.items ≡ text.old.items ++ card nets.now (index, device)) }
+    ensures { OnOk result (text.new.items ≡ text.old.items ++ device_card nets.now (index, device)) }
 {
     append(text, b"m")?;
     append_number(text, index as u64)?;

@@ -3,7 +3,7 @@ use Rattle.std.proofs.lemmas.List.{length-take-le}
 use Rattle.std.specs.List.{flat_map}
 use Rattle.deck.specs.CircuitData.{CircuitData}
 use Rattle.deck.specs.declared.device.Device.{Device}
-use Rattle.spice_text.specs.Text.{phase_line, deck_line, cards, IsWritten}
+use Rattle.spice_text.specs.Text.{phase_line, deck_line, device_cards, IsWritten}
 use Rattle.deck.specs.Nets.{IsInRange}
 use Rattle.deck.proofs.DeviceNumbers.{IsCircuit-in_range, IsCircuit-ports}
 use Rattle.spice_text.specs.Parts.{IsSubckt}
@@ -37,7 +37,7 @@ returns-clause-written c =
     let Q : List ℕ → List (List ℕ) → Type 0 = λ name nets. IsSubckt c.put_phases.new.text.items name (take inside.ports nets) c.put_subckt.new.text.items in
     subst (λ (name : List ℕ). Q name inside.nets) c.as_bytes.ensures.bytes
     (subst (λ (nets : List (List ℕ)). Q c.as_bytes.result.now nets) c.as_slice-nets.ensures.keys (c.in_ok-put_subckt.ensures {u = tt})) in
-    let whole : c.append-3.new.text.items ≡ c.put_subckt.new.text.items ++ cards inside.nets inside.devices ++ deck_line (codes ".ends") (inside.name ∷ []) = search (rules, append_assoc, append-nil) in
+    let whole : c.append-3.new.text.items ≡ c.put_subckt.new.text.items ++ device_cards inside.nets inside.devices ++ deck_line (codes ".ends") (inside.name ∷ []) = search (rules, append_assoc, append-nil) in
     let P : CircuitData → Type 0 = λ v. IsWritten v c.append-3.new.text.items in
     subst P c.circuit.view_is (text-whole inside c.put_phases.new.text.items c.put_subckt.new.text.items c.append-3.new.text.items before part whole)
 
