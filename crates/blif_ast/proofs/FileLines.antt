@@ -4,7 +4,7 @@ use Rattle.std.proofs.lemmas.List.Folds.{flat_map-map}
 use Rattle.std.specs.List.{flat_map}
 use Rattle.blif_ast.specs.BlifModelData.{BlifModelData}
 use Rattle.blif_ast.specs.TableData.{TableData}
-use Rattle.blif_ast.specs.Printed.{line, port_lines, names_words, row_words, table_lines, latch_words, instance_words, model_lines}
+use Rattle.blif_ast.specs.Printed.{printed_line, ports_card, names_words, row_words, table_lines, latch_words, instance_words, model_lines}
 
 -- lists of lists in turn, each element with what it stands for
 pub flat_map_twice : {A B C : Type 0} (g : B → List C) (f : A → List B) (xs : List A) → flat_map g (flat_map f xs) ≡ flat_map (λ x. flat_map g (f x)) xs
@@ -13,8 +13,8 @@ flat_map_twice g f (x ∷ xs) = rw (flat_map-append g (f x) (flat_map f xs)) (ap
 
 -- the lines of a table, by what is appended to a text in turn
 pub table_end : (text : List ℕ) (t : TableData)
-    → (text ++ line (names_words t)) ++ flat_map (λ row. line (row_words t.on row)) t.rows ≡ text ++ flat_map line (table_lines t)
-table_end text t = rw (flat_map-map line (row_words t.on) t.rows) (append_assoc text (line (names_words t)) (flat_map (λ row. line (row_words t.on row)) t.rows))
+    → (text ++ printed_line (names_words t)) ++ flat_map (λ row. printed_line (row_words t.on row)) t.rows ≡ text ++ flat_map printed_line (table_lines t)
+table_end text t = rw (flat_map-map printed_line (row_words t.on) t.rows) (append_assoc text (printed_line (names_words t)) (flat_map (λ row. printed_line (row_words t.on row)) t.rows))
 
 -- pieces, by what is appended to a text in turn
 pieces_end : {A B : Type 0} (g : A → List B) (text : List B) (first last : A) (inputs outputs tables latches instances : List A) {t l i : List B}
@@ -25,11 +25,11 @@ pieces_end g text first last inputs outputs tables latches instances t l i = rw 
 
 -- the lines of a model, by what is appended to a text in turn
 pub model_end : (text : List ℕ) (m : BlifModelData)
-    → ((((((text ++ line (codes ".model" ∷ m.name ∷ [])) ++ flat_map line (port_lines (codes ".inputs") m.inputs))
-    ++ flat_map line (port_lines (codes ".outputs") m.outputs)) ++ flat_map (λ t. flat_map line (table_lines t)) m.tables)
-    ++ flat_map (λ l. line (latch_words l)) m.latches) ++ flat_map (λ i. line (instance_words i)) m.instances) ++ codes ".end\n"
-    ≡ text ++ flat_map line (model_lines m)
+    → ((((((text ++ printed_line (codes ".model" ∷ m.name ∷ [])) ++ flat_map printed_line (ports_card (codes ".inputs") m.inputs))
+    ++ flat_map printed_line (ports_card (codes ".outputs") m.outputs)) ++ flat_map (λ t. flat_map printed_line (table_lines t)) m.tables)
+    ++ flat_map (λ l. printed_line (latch_words l)) m.latches) ++ flat_map (λ i. printed_line (instance_words i)) m.instances) ++ codes ".end\n"
+    ≡ text ++ flat_map printed_line (model_lines m)
 model_end text m =
-    pieces_end line text (codes ".model" ∷ m.name ∷ []) (codes ".end" ∷ []) (port_lines (codes ".inputs") m.inputs) (port_lines (codes ".outputs") m.outputs)
+    pieces_end printed_line text (codes ".model" ∷ m.name ∷ []) (codes ".end" ∷ []) (ports_card (codes ".inputs") m.inputs) (ports_card (codes ".outputs") m.outputs)
     (flat_map table_lines m.tables) (map latch_words m.latches) (map instance_words m.instances)
-    (flat_map_twice line table_lines m.tables) (flat_map-map line latch_words m.latches) (flat_map-map line instance_words m.instances)
+    (flat_map_twice printed_line table_lines m.tables) (flat_map-map printed_line latch_words m.latches) (flat_map-map printed_line instance_words m.instances)

@@ -6,7 +6,7 @@ use Rattle.std.proofs.lemmas.Grind.{flat_map-append}
 use Rattle.std.specs.List.{flat_map, join_with_byte}
 use Rattle.blif_ast.specs.Cards.{last_word}
 use Rattle.blif_ast.specs.LogicalLines.{is_joined}
-use Rattle.blif_ast.specs.Printed.{guard, line, port_lines}
+use Rattle.blif_ast.specs.Printed.{guard, printed_line, ports_card}
 
 -- a blank before each word, and the word
 abbrev pub spaced : List (List ℕ) → List ℕ
@@ -29,14 +29,14 @@ last_word-end words word =
 
 -- a line, by what is appended to a text in turn
 pub line_end : (text first : List ℕ) (words : List (List ℕ)) (last : List ℕ)
-    → (((text ++ first) ++ spaced words) ++ 32 ∷ last) ++ guard last ++ 10 ∷ [] ≡ text ++ line (first ∷ words ++ last ∷ [])
+    → (((text ++ first) ++ spaced words) ++ 32 ∷ last) ++ guard last ++ 10 ∷ [] ≡ text ++ printed_line (first ∷ words ++ last ∷ [])
 line_end text first words last =
     rw (joined_words first (words ++ last ∷ []), last_word-end (first ∷ words) last, flat_map-append (λ word. 32 ∷ word) words (last ∷ [])) (simp (append_assoc, append-nil))
 
 -- names on a card for ports are one line
-pub port_lines-end : (card : List ℕ) (names : List (List ℕ)) (name : List ℕ) → port_lines card (names ++ name ∷ []) ≡ (card ∷ names ++ name ∷ []) ∷ []
-port_lines-end card [] name = refl
-port_lines-end card (first ∷ names) name = refl
+pub ports_card-end : (card : List ℕ) (names : List (List ℕ)) (name : List ℕ) → ports_card card (names ++ name ∷ []) ≡ (card ∷ names ++ name ∷ []) ∷ []
+ports_card-end card [] name = refl
+ports_card-end card (first ∷ names) name = refl
 
 -- a digit does not end with `\`
 pub guard_digit : (digit : ℕ) → digit ≤ 3 → guard ((48 + digit) ∷ []) ≡ []

@@ -7,7 +7,7 @@ use Rattle.dom_base.proofs.Lists.{AllByRecursion-append, AllByRecursion-kept, Al
 use Rattle.dom_base.proofs.WordBytes.{lines_each, without_comment_each, words_each}
 use Rattle.blif_ast.specs.LogicalLines.{LogicalLine, NumberedBytes, in_words, has_words, is_joined, but_last, with_blank, joined_lines, with_line, with_next, logical_lines}
 use Rattle.blif_ast.specs.Cards.{begins, model_card, inputs_card, outputs_card}
-use Rattle.blif_ast.specs.Models.{is_inside, model_of, models_of, names_on}
+use Rattle.blif_ast.specs.Models.{is_inside, blif_model, models_of, names_on}
 use Rattle.blif_ast.specs.BlifModelData.{BlifModelData}
 
 module _ (P : ℕ → Type 0) where
@@ -78,11 +78,11 @@ module _ (P : ℕ → Type 0) where
 
       by : (b : Bool) → begins model_card line ≡ b → AllByRecursion ModelEach (models_of more) → AllByRecursion ModelEach (models_of (line ∷ more))
       by true e rest =
-          subst (λ b. AllByRecursion ModelEach (if b then model_of line (take_while is_inside more) ∷ models_of more else models_of more)) (sym e) (
+          subst (λ b. AllByRecursion ModelEach (if b then blif_model line (take_while is_inside more) ∷ models_of more else models_of more)) (sym e) (
             (second-each line.words h.0, names_on-each inputs_card (take_while is_inside more) inside, names_on-each outputs_card (take_while is_inside more) inside),
             rest,
           )
-      by false e rest = subst (λ b. AllByRecursion ModelEach (if b then model_of line (take_while is_inside more) ∷ models_of more else models_of more)) (sym e) rest
+      by false e rest = subst (λ b. AllByRecursion ModelEach (if b then blif_model line (take_while is_inside more) ∷ models_of more else models_of more)) (sym e) rest
 
   -- the names and the ports of the models of a text
   pub models-each : (text : List ℕ) → P 32 → AllByRecursion P text

@@ -1,3 +1,4 @@
+-- A file of BLIF, the Berkeley Logic Interchange Format, as plain data over lists.
 use Rattle.std.specs.Prelude.{List}
 use Rattle.blif_ast.specs.BlifModelData.{BlifModelData}
 

@@ -1,3 +1,4 @@
+-- A model of BLIF, the Berkeley Logic Interchange Format, as plain data over lists.
 use Rattle.std.specs.Prelude.{ℕ, List}
 use Rattle.blif_ast.specs.declared.latch.Latch.{Latch}
 use Rattle.blif_ast.specs.InstanceData.{InstanceData}

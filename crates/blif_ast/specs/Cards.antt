@@ -70,12 +70,12 @@ card_word Clock = clock_card
 card_word End = end_card
 
 -- the cards that are known
-abbrev pub cards : List Card
-cards = Model ∷ Inputs ∷ Outputs ∷ Names ∷ Latch ∷ Subckt ∷ Clock ∷ End ∷ []
+abbrev pub known_cards : List Card
+known_cards = Model ∷ Inputs ∷ Outputs ∷ Names ∷ Latch ∷ Subckt ∷ Clock ∷ End ∷ []
 
 -- the card of a first word, if it is known
 abbrev pub card_named : List ℕ → Option Card
-card_named word = find (λ card. same word (card_word card)) cards
+card_named word = find (λ card. same word (card_word card)) known_cards
 
 -- the card of a line, if it is known
 abbrev pub card_of : LogicalLine → Option Card

@@ -1,3 +1,4 @@
+-- Files that a text of BLIF, the Berkeley Logic Interchange Format, can hold.
 use Rattle.std.specs.Prelude.{ℕ, ◌≤◌, ◌<◌, ◌≡◌, ◌≢◌, true, List, [], ◌++◌, nat_eq, length, map, codes, All, IfSome}
 use Rattle.std.specs.List.{IsDistinct}
 use Rattle.blif_ast.specs.declared.instance.Binding.{Binding}
@@ -48,8 +49,8 @@ pub record IsGoodInstance (i : InstanceData) : Type 0 where
   pub bindings : All IsGoodBinding i.bindings
 
 -- the lines of all tables, latches and instances of a model
-abbrev pub card_lines : BlifModelData → List ℕ
-card_lines m = map (λ t. t.line) m.tables ++ map (λ l. l.line) m.latches ++ map (λ i. i.line) m.instances
+abbrev pub part_lines : BlifModelData → List ℕ
+part_lines m = map (λ t. t.line) m.tables ++ map (λ l. l.line) m.latches ++ map (λ i. i.line) m.instances
 
 -- a model with names and parts that are good
 pub record IsGoodModel (m : BlifModelData) : Type 0 where
@@ -60,7 +61,7 @@ pub record IsGoodModel (m : BlifModelData) : Type 0 where
   pub latches : All IsGoodLatch m.latches
   pub instances : All IsGoodInstance m.instances
   -- no two cards stand on one line
-  pub apart : IsDistinct nat_eq (card_lines m)
+  pub apart : IsDistinct nat_eq (part_lines m)
 
 -- a file that has a model, and whose models are good: one that a text can hold
 pub record IsGoodFile (f : BlifFileData) : Type 0 where

@@ -1,3 +1,4 @@
+-- An instance of a model of BLIF, the Berkeley Logic Interchange Format, as plain data over lists.
 use Rattle.std.specs.Prelude.{ℕ, List}
 use Rattle.blif_ast.specs.declared.instance.Binding.{Binding}
 

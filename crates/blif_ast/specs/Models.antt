@@ -16,12 +16,12 @@ use Rattle.blif_ast.specs.Cards.{same, begins, is_row, last_word, last_letter, f
 -- What the lines of an accepted text say: each card and row is in its form.
 
 -- the letter of a byte `0`, `1` or `-`
-abbrev pub letter_of : ℕ → Letter
-letter_of b = if b == 48 then Zero else (if b == 49 then One else Any)
+abbrev pub row_letter : ℕ → Letter
+row_letter b = if b == 48 then Zero else (if b == 49 then One else Any)
 
 -- the letters of a row by its words: a row of one word has none
 abbrev pub row_letters : List (List ℕ) → List Letter
-row_letters (letters ∷ value ∷ more) = map letter_of letters
+row_letters (letters ∷ value ∷ more) = map row_letter letters
 row_letters _ = []
 
 -- whether the rows end in 1; it is so without rows
@@ -58,9 +58,12 @@ init_of word = slice_index word 0 - 48
 -- the latch of a card's number and words; an absent start value is 3
 abbrev pub latch_of : ℕ → List (List ℕ) → Option Latch
 latch_of number (card ∷ input ∷ output ∷ []) = Some (record { input = input; output = output; control = None; init = 3; line = number })
-latch_of number (card ∷ input ∷ output ∷ init ∷ []) = Some (record { input = input; output = output; control = None; init = init_of init; line = number })
-latch_of number (card ∷ input ∷ output ∷ type ∷ control ∷ []) = Some (record { input = input; output = output; control = Some (control_of type control); init = 3; line = number })
-latch_of number (card ∷ input ∷ output ∷ type ∷ control ∷ init ∷ []) = Some (record { input = input; output = output; control = Some (control_of type control); init = init_of init; line = number })
+latch_of number (card ∷ input ∷ output ∷ init ∷ []) =
+    Some (record { input = input; output = output; control = None; init = init_of init; line = number })
+latch_of number (card ∷ input ∷ output ∷ type ∷ control ∷ []) =
+    Some (record { input = input; output = output; control = Some (control_of type control); init = 3; line = number })
+latch_of number (card ∷ input ∷ output ∷ type ∷ control ∷ init ∷ []) =
+    Some (record { input = input; output = output; control = Some (control_of type control); init = init_of init; line = number })
 latch_of number _ = None
 
 abbrev pub latches_of : List LogicalLine → List Latch
@@ -80,8 +83,8 @@ abbrev pub names_on : List ℕ → List LogicalLine → List (List ℕ)
 names_on card all = flat_map (λ line. drop 1 line.words) (filter (begins card) all)
 
 -- the model of a card `.model`, with the lines that belong to it
-abbrev pub model_of : LogicalLine → List LogicalLine → BlifModelData
-model_of line all = record {
+abbrev pub blif_model : LogicalLine → List LogicalLine → BlifModelData
+blif_model line all = record {
   name = slice_index_or line.words 1 [];
   inputs = names_on inputs_card all;
   outputs = names_on outputs_card all;
@@ -98,4 +101,4 @@ is_inside line = not (begins model_card line || begins end_card line)
 -- the models of some lines: one for each `.model`, with the lines up to the next `.model` or `.end`
 abbrev pub models_of : List LogicalLine → List BlifModelData
 models_of [] = []
-models_of (line ∷ more) = if begins model_card line then model_of line (take_while is_inside more) ∷ models_of more else models_of more
+models_of (line ∷ more) = if begins model_card line then blif_model line (take_while is_inside more) ∷ models_of more else models_of more

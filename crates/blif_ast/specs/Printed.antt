@@ -20,8 +20,8 @@ abbrev pub guard : List ℕ → List ℕ
 guard word = if is_joined word then 32 ∷ [] else []
 
 -- a line of words: one blank between any two of them, and LF
-abbrev pub line : List (List ℕ) → List ℕ
-line words = join_with_byte 32 words ++ guard (last_word words) ++ 10 ∷ []
+abbrev pub printed_line : List (List ℕ) → List ℕ
+printed_line words = join_with_byte 32 words ++ guard (last_word words) ++ 10 ∷ []
 
 -- the byte of a letter
 abbrev pub letter_byte : Letter → ℕ
@@ -79,15 +79,15 @@ abbrev pub instance_words : InstanceData → List (List ℕ)
 instance_words i = codes ".subckt" ∷ i.unit ∷ map binding_word i.bindings
 
 -- a card for ports, if there are any
-abbrev pub port_lines : List ℕ → List (List ℕ) → List (List (List ℕ))
-port_lines card [] = []
-port_lines card (name ∷ names) = (card ∷ name ∷ names) ∷ []
+abbrev pub ports_card : List ℕ → List (List ℕ) → List (List (List ℕ))
+ports_card card [] = []
+ports_card card (name ∷ names) = (card ∷ name ∷ names) ∷ []
 
 -- the lines of a model, each as its words
 abbrev pub model_lines : BlifModelData → List (List (List ℕ))
 model_lines m =
-    (codes ".model" ∷ m.name ∷ []) ∷ port_lines (codes ".inputs") m.inputs
-    ++ port_lines (codes ".outputs") m.outputs
+    (codes ".model" ∷ m.name ∷ []) ∷ ports_card (codes ".inputs") m.inputs
+    ++ ports_card (codes ".outputs") m.outputs
     ++ flat_map table_lines m.tables
     ++ map latch_words m.latches
     ++ map instance_words m.instances
@@ -99,4 +99,4 @@ file_lines f = flat_map model_lines f.models
 
 -- the text of a file
 abbrev pub printed : BlifFileData → List ℕ
-printed f = flat_map line (file_lines f)
+printed f = flat_map printed_line (file_lines f)

@@ -1,3 +1,4 @@
+-- A table of BLIF, the Berkeley Logic Interchange Format, as plain data over lists.
 use Rattle.std.specs.Prelude.{ℕ, Bool, List}
 use Rattle.blif_ast.specs.declared.letter.Letter.{Letter}
 

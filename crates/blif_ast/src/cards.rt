@@ -1,7 +1,7 @@
 //! The lines of cards and rows.
 ghost use Rattle.std.specs.Prelude.{◌≡◌, ◌++◌, ◌∷◌, ◌≤◌, OnOk, map};
 ghost use Rattle.std.specs.List.{flat_map};
-ghost use Rattle.blif_ast.specs.Printed.{line, letter_byte, row_words, names_words, table_lines, edge_word, signal_word, control_words, latch_words, binding_word, instance_words, port_lines};
+ghost use Rattle.blif_ast.specs.Printed.{printed_line, letter_byte, row_words, names_words, table_lines, edge_word, signal_word, control_words, latch_words, binding_word, instance_words, ports_card};
 
 use crate::line::{end_line, put_words};
 use crate::{Binding, Control, Edge2, Instance, Latch, Letter, Row, Table};
@@ -9,7 +9,7 @@ use dom_base::{Name, OutOfMemory, append, append_word};
 
 /// Appends a card with the names of ports, if there are any.
 pub fn put_ports(text: &mut Vec<u8>, card: &[u8], names: &[Name]) -> Result<(), OutOfMemory>
-    ensures { OnOk result (text.new.items ≡ text.old.items ++ flat_map line (port_lines card.now names.now)) }
+    ensures { OnOk result (text.new.items ≡ text.old.items ++ flat_map printed_line (ports_card card.now names.now)) }
 {
     match names.split_last() {
         None => Ok(()),
@@ -24,14 +24,14 @@ pub fn put_ports(text: &mut Vec<u8>, card: &[u8], names: &[Name]) -> Result<(), 
 
 /// Appends the lines of a table: its card and its rows.
 pub fn put_table(text: &mut Vec<u8>, table: &Table) -> Result<(), OutOfMemory>
-    ensures { OnOk result (text.new.items ≡ text.old.items ++ flat_map line (table_lines table.now)) }
+    ensures { OnOk result (text.new.items ≡ text.old.items ++ flat_map printed_line (table_lines table.now)) }
 {
     put_names(text, table)?;
     put_rows(text, table)
 }
 
 fn put_names(text: &mut Vec<u8>, table: &Table) -> Result<(), OutOfMemory>
-    ensures { OnOk result (text.new.items ≡ text.old.items ++ line (names_words table.now)) }
+    ensures { OnOk result (text.new.items ≡ text.old.items ++ printed_line (names_words table.now)) }
 {
     append(text, b".names")?;
     put_words(text, &table.inputs)?;
@@ -40,7 +40,8 @@ fn put_names(text: &mut Vec<u8>, table: &Table) -> Result<(), OutOfMemory>
 }
 
 fn put_rows(text: &mut Vec<u8>, table: &Table) -> Result<(), OutOfMemory>
-    ensures { OnOk result (text.new.items ≡ text.old.items ++ flat_map (λ row. line (row_words table.now.on row)) table.now.rows) }
+    ensures { OnOk result (text.new.items
+        ≡ text.old.items ++ flat_map (λ row. printed_line (row_words table.now.on row)) table.now.rows) }
 {
     for row in &table.rows {
         put_row(text, table.on, row)?;
@@ -49,7 +50,7 @@ fn put_rows(text: &mut Vec<u8>, table: &Table) -> Result<(), OutOfMemory>
 }
 
 fn put_row(text: &mut Vec<u8>, on: bool, row: &Row) -> Result<(), OutOfMemory>
-    ensures { OnOk result (text.new.items ≡ text.old.items ++ line (row_words on row.now)) }
+    ensures { OnOk result (text.new.items ≡ text.old.items ++ printed_line (row_words on row.now)) }
 {
     put_letters(text, &row.letters)?;
     if !row.letters.is_empty() {
@@ -80,7 +81,7 @@ fn byte_of(letter: Letter) -> u8
 /// Appends the card of a latch.
 pub fn put_latch(text: &mut Vec<u8>, latch: &Latch) -> Result<(), OutOfMemory>
     requires { latch.now.init ≤ 3 }
-    ensures { OnOk result (text.new.items ≡ text.old.items ++ line (latch_words latch.now)) }
+    ensures { OnOk result (text.new.items ≡ text.old.items ++ printed_line (latch_words latch.now)) }
 {
     append(text, b".latch")?;
     append_word(text, latch.input.as_bytes())?;
@@ -121,7 +122,7 @@ fn signal(control: &Control) -> &[u8]
 
 /// Appends the card of an instance.
 pub fn put_instance(text: &mut Vec<u8>, instance: &Instance) -> Result<(), OutOfMemory>
-    ensures { OnOk result (text.new.items ≡ text.old.items ++ line (instance_words instance.now)) }
+    ensures { OnOk result (text.new.items ≡ text.old.items ++ printed_line (instance_words instance.now)) }
 {
     append(text, b".subckt")?;
     append_word(text, instance.unit.as_bytes())?;

@@ -2,7 +2,7 @@
 ghost use Rattle.std.specs.Prelude.{◌≡◌, ◌++◌, ◌∷◌, [], All, OnOk, codes};
 ghost use Rattle.std.specs.List.{flat_map};
 ghost use Rattle.blif_ast.specs.Good.{IsGoodLatch, IsGoodModel};
-ghost use Rattle.blif_ast.specs.Printed.{line, table_lines, latch_words, instance_words, model_lines};
+ghost use Rattle.blif_ast.specs.Printed.{printed_line, table_lines, latch_words, instance_words, model_lines};
 
 use crate::cards::{put_instance, put_latch, put_ports, put_table};
 use crate::line::end_line;
@@ -12,7 +12,7 @@ use dom_base::{OutOfMemory, append, append_word};
 /// Appends the lines of each model.
 pub fn put_models(text: &mut Vec<u8>, models: &[BlifModel]) -> Result<(), OutOfMemory>
     requires { All IsGoodModel models.now }
-    ensures { OnOk result (text.new.items ≡ text.old.items ++ flat_map (λ model. flat_map line (model_lines model)) models.now) }
+    ensures { OnOk result (text.new.items ≡ text.old.items ++ flat_map (λ model. flat_map printed_line (model_lines model)) models.now) }
 {
     for model in models {
         put_model(text, model)?;
@@ -22,7 +22,7 @@ pub fn put_models(text: &mut Vec<u8>, models: &[BlifModel]) -> Result<(), OutOfM
 
 fn put_model(text: &mut Vec<u8>, model: &BlifModel) -> Result<(), OutOfMemory>
     requires { IsGoodModel model.now }
-    ensures { OnOk result (text.new.items ≡ text.old.items ++ flat_map line (model_lines model.now)) }
+    ensures { OnOk result (text.new.items ≡ text.old.items ++ flat_map printed_line (model_lines model.now)) }
 {
     put_head(text, model.name.as_bytes())?;
     put_ports(text, b".inputs", &model.inputs)?;
@@ -34,7 +34,7 @@ fn put_model(text: &mut Vec<u8>, model: &BlifModel) -> Result<(), OutOfMemory>
 }
 
 fn put_head(text: &mut Vec<u8>, name: &[u8]) -> Result<(), OutOfMemory>
-    ensures { OnOk result (text.new.items ≡ text.old.items ++ line (codes ".model" ∷ name.now ∷ [])) }
+    ensures { OnOk result (text.new.items ≡ text.old.items ++ printed_line (codes ".model" ∷ name.now ∷ [])) }
 {
     append(text, b".model")?;
     append_word(text, name)?;
@@ -42,7 +42,7 @@ fn put_head(text: &mut Vec<u8>, name: &[u8]) -> Result<(), OutOfMemory>
 }
 
 fn put_tables(text: &mut Vec<u8>, tables: &[Table]) -> Result<(), OutOfMemory>
-    ensures { OnOk result (text.new.items ≡ text.old.items ++ flat_map (λ table. flat_map line (table_lines table)) tables.now) }
+    ensures { OnOk result (text.new.items ≡ text.old.items ++ flat_map (λ table. flat_map printed_line (table_lines table)) tables.now) }
 {
     for table in tables {
         put_table(text, table)?;
@@ -52,7 +52,7 @@ fn put_tables(text: &mut Vec<u8>, tables: &[Table]) -> Result<(), OutOfMemory>
 
 fn put_latches(text: &mut Vec<u8>, latches: &[Latch]) -> Result<(), OutOfMemory>
     requires { All IsGoodLatch latches.now }
-    ensures { OnOk result (text.new.items ≡ text.old.items ++ flat_map (λ latch. line (latch_words latch)) latches.now) }
+    ensures { OnOk result (text.new.items ≡ text.old.items ++ flat_map (λ latch. printed_line (latch_words latch)) latches.now) }
 {
     for latch in latches {
         put_latch(text, latch)?;
@@ -61,7 +61,8 @@ fn put_latches(text: &mut Vec<u8>, latches: &[Latch]) -> Result<(), OutOfMemory>
 }
 
 fn put_instances(text: &mut Vec<u8>, instances: &[Instance]) -> Result<(), OutOfMemory>
-    ensures { OnOk result (text.new.items ≡ text.old.items ++ flat_map (λ instance. line (instance_words instance)) instances.now) }
+    ensures { OnOk result (text.new.items
+        ≡ text.old.items ++ flat_map (λ instance. printed_line (instance_words instance)) instances.now) }
 {
     for instance in instances {
         put_instance(text, instance)?;

@@ -13,7 +13,7 @@ use Rattle.blif_ast.specs.TableData.{TableData}
 use Rattle.blif_ast.specs.BlifModelData.{BlifModelData}
 use Rattle.blif_ast.specs.LogicalLines.{LogicalLine}
 use Rattle.blif_ast.specs.Cards.{same, begins, card_of, card_word, is_card, is_row, last_letter, model_card, end_card, inputs_card, outputs_card, names_card, latch_card, subckt_card}
-use Rattle.blif_ast.specs.Models.{row_letters, latch_of, instance_of, names_on, tables_of, table_of, latches_of, instances_of, models_of, model_of, is_inside, rows_are_on}
+use Rattle.blif_ast.specs.Models.{row_letters, latch_of, instance_of, names_on, tables_of, table_of, latches_of, instances_of, models_of, blif_model, is_inside, rows_are_on}
 use Rattle.blif_read.specs.Build.{Built, on_after, table_with_row, model_with_table, model_with_card, new_table, closed_models, model_after_card, table_after_card, built_by, built_after, rows_on, table_with_rows, tables_from, model_with_lines, models_from, finished}
 use Rattle.blif_read.proofs.LineContexts.{no_dot, card_begins, known_is_card}
 
@@ -212,8 +212,8 @@ model_with_lines-row m table line body row = λ i. record {
 take_inside : (line : LogicalLine) (more : List LogicalLine) (b : Bool) → is_inside line ≡ b → take_while is_inside (line ∷ more) ≡ cond b (line ∷ take_while is_inside more) []
 take_inside line more b is = take_while-cons is_inside line more ∙ ap (λ c. cond c (line ∷ take_while is_inside more) []) is
 
-models_of-line : (line : LogicalLine) (more : List LogicalLine) (b : Bool) → begins model_card line ≡ b → models_of (line ∷ more) ≡ cond b (model_of line (take_while is_inside more) ∷ models_of more) (models_of more)
-models_of-line line more b is = ap (λ c. cond c (model_of line (take_while is_inside more) ∷ models_of more) (models_of more)) is
+models_of-line : (line : LogicalLine) (more : List LogicalLine) (b : Bool) → begins model_card line ≡ b → models_of (line ∷ more) ≡ cond b (blif_model line (take_while is_inside more) ∷ models_of more) (models_of more)
+models_of-line line more b is = ap (λ c. cond c (blif_model line (take_while is_inside more) ∷ models_of more) (models_of more)) is
 
 inside-false : (line : LogicalLine) → begins model_card line ≡ false → begins end_card line ≡ false → is_inside line ≡ true
 inside-false line model end = ap (λ b. not (b || begins end_card line)) model ∙ ap (λ b. not (false || b)) end

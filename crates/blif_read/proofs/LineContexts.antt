@@ -9,7 +9,7 @@ use Rattle.dom_base.specs.Lines.{first_word}
 use Rattle.blif_ast.specs.declared.card.Card.{Card}
 use Rattle.blif_ast.specs.declared.card.Card.TheVariants.{Model, Inputs, Outputs, Names, Latch, Subckt, Clock, End}
 use Rattle.blif_ast.specs.LogicalLines.{LogicalLine}
-use Rattle.blif_ast.specs.Cards.{same, names_card, table_inputs, begins, is_card, is_row, last_letter, model_card, end_card, card_word, card_named, card_of, cards}
+use Rattle.blif_ast.specs.Cards.{same, names_card, table_inputs, begins, is_card, is_row, last_letter, model_card, end_card, card_word, card_named, card_of, known_cards}
 use Rattle.blif_ast.specs.Context.{is_model_open, is_table_open, open_rows, open_width, words_of}
 use Rattle.blif_read.specs.Steps.{Context, OpenTable, context_of, open_table, first_letter, letter_after, with_letter}
 
@@ -35,7 +35,7 @@ none_of word (card ∷ all) is = ap (λ b. cond b (Some card) (find (λ c. same 
 
 -- a row is no card that is known
 pub row_no_card : (line : LogicalLine) → is_card line ≡ false → card_of line ≡ None
-row_no_card line row = none_of (first_word line.words) cards row
+row_no_card line row = none_of (first_word line.words) known_cards row
 
 found_word : (word : List ℕ) (all : List Card) (card : Card) → find (λ c. same word (card_word c)) all ≡ Some card → word ≡ card_word card
 found_word word [] card is = absurd (cc)
@@ -50,7 +50,7 @@ found_word word (c ∷ all) card is = by (same word (card_word c)) refl (found_w
 
 -- the first word of a card that is known
 pub card_first : (line : LogicalLine) (card : Card) → card_of line ≡ Some card → first_word line.words ≡ card_word card
-card_first line card is = found_word (first_word line.words) cards card is
+card_first line card is = found_word (first_word line.words) known_cards card is
 
 pub card_begins : (other : List ℕ) (line : LogicalLine) (card : Card) → card_of line ≡ Some card → begins other line ≡ same (card_word card) other
 card_begins other line card is = ap (λ word. same word other) (card_first line card is)

@@ -10,10 +10,10 @@ use Rattle.blif_ast.specs.Faults.{blif_kind_number}
 use Rattle.blif_ast.specs.Models.{models_of}
 use Rattle.blif_ast.specs.Reading.{IsBlifFault, IsFaultOfLine, IsBlifFaultAt, IsFileOf}
 use Rattle.blif_read.specs.Laws.{TextHasOneAnswer}
-use Rattle.blif_read.proofs.GoodNumbers.{logical_lines-rise}
-use Rattle.blif_read.proofs.KindNumbers.{blif_kind_number-injective}
-use Rattle.blif_read.proofs.OneFault.{IsFaultOfLine-from, IsFirstIn, first_in}
-use Rattle.blif_read.proofs.Positions.{FaultIn, fault_in}
+use Rattle.blif_read.proofs.LineNumbers.{logical_lines-rise}
+use Rattle.blif_read.proofs.FaultKinds.{blif_kind_number-injective}
+use Rattle.blif_read.proofs.LineFaults.{IsFaultOfLine-from, IsFirstIn, first_in}
+use Rattle.blif_read.proofs.LineFaults.{FaultIn, fault_in}
 
 -- a text that is accepted with one file, or refused for one fault
 abbrev Once : List ℕ → Type 0
@@ -61,18 +61,18 @@ filled_answer text filled (inl none) = accepted_once text by
     by : (number : ℕ) (kind : BlifKind) → IsBlifFault text number kind → ⊥
     by number kind (inl f) = none number kind (fault_in (logical_lines text) number kind f)
     by number kind (inr f) = filled f.empty
-filled_answer text filled (inr found) = refused_once text found.number found.kind (record {
-  fault = inl (IsFaultOfLine-from (logical_lines text) found.number found.kind found.fault);
+filled_answer text filled (inr found) = refused_once text found.line_number found.kind (record {
+  fault = inl (IsFaultOfLine-from (logical_lines text) found.line_number found.kind found.fault);
   first = first;
   smallest = smallest;
 })
   where
-    first : (other : ℕ) (any : BlifKind) → IsBlifFault text other any → found.number ≤ other
+    first : (other : ℕ) (any : BlifKind) → IsBlifFault text other any → found.line_number ≤ other
     first other any (inl f) = found.first other any (fault_in (logical_lines text) other any f)
     first other any (inr f) = absurd (filled f.empty)
 
-    smallest : (other : BlifKind) → IsBlifFault text found.number other → blif_kind_number found.kind ≤ blif_kind_number other
-    smallest other (inl f) = found.smallest other (fault_in (logical_lines text) found.number other f)
+    smallest : (other : BlifKind) → IsBlifFault text found.line_number other → blif_kind_number found.kind ≤ blif_kind_number other
+    smallest other (inl f) = found.smallest other (fault_in (logical_lines text) found.line_number other f)
     smallest other (inr f) = absurd (filled f.empty)
 
 pub one_answer : TextHasOneAnswer

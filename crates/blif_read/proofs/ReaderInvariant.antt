@@ -26,26 +26,26 @@ use Rattle.blif_ast.specs.Models.{models_of, row_letters}
 use Rattle.blif_ast.specs.Reading.{IsBlifFault, IsBlifFaultAt, IsFaultOfLine, IsFileOf}
 use Rattle.blif_read.specs.declared.fault.BlifFault.{BlifFault}
 use Rattle.blif_read.specs.declared.fault.BlifFault.TheVariants.{At}
-use Rattle.blif_read.specs.Build.{Built, built_by, built_after, closed_models, context_in, finished, first_letter_in, is_open, model_after_card, model_with_table, new_model, on_after, opened_by, table_after_card, table_with_row}
-use Rattle.blif_read.specs.Steps.{Context, OpenTable, card_fault, context_of, formed_card_fault, differs, fault_in as fault_by, letter_after, row_fault, with_letter}
+use Rattle.blif_read.specs.Build.{Built, built_by, built_after, closed_models, context_in, finished, first_letter_in, has_model, model_after_card, model_with_table, new_model, on_after, opened_by, table_after_card, table_with_row}
+use Rattle.blif_read.specs.Steps.{Context, OpenTable, card_fault, context_of, formed_card_fault, differs, context_fault, letter_after, row_fault, with_letter}
 use Rattle.blif_read.proofs.BuiltModels.{finished-line, finished-none}
-use Rattle.blif_read.proofs.GoodNumbers.{Rises, logical_lines_from-rise}
-use Rattle.blif_read.proofs.GoodParts.{one_of-all}
-use Rattle.blif_read.proofs.KindNumbers.{smallest_kind}
+use Rattle.blif_read.proofs.LineNumbers.{Rises, logical_lines_from-rise}
+use Rattle.blif_read.proofs.AcceptedIsGoodParts.{one_of-all}
+use Rattle.blif_read.proofs.FaultKinds.{smallest_kind}
 use Rattle.blif_read.proofs.LineContexts.{context_after_row, context_after_card, known_is_card, opened, opens, row_no_card}
-use Rattle.blif_read.proofs.Positions.{FaultIn, fault_in, rising-fault, passed}
-use Rattle.blif_read.proofs.SmallestFault.{fault_in-smallest}
+use Rattle.blif_read.proofs.LineFaults.{FaultIn, fault_in, rising-fault, passed}
+use Rattle.blif_read.proofs.SmallestFault.{context_fault-smallest}
 
 -- the fault that the context gives, and no fault where it gives none
-smallest_is : (before : List LogicalLine) (line : LogicalLine) (context : Context) (found : Option BlifKind) → context_of before ≡ context → found ≡ fault_by context line
+smallest_is : (before : List LogicalLine) (line : LogicalLine) (context : Context) (found : Option BlifKind) → context_of before ≡ context → found ≡ context_fault context line
     → IsSmallest blif_kind_number (λ kind. has_blif_fault kind before line) found
 smallest_is before line context found is by =
-    subst (IsSmallest blif_kind_number (λ kind. has_blif_fault kind before line)) (sym (by ∙ ap (λ c. fault_by c line) (sym is) ∙ fault_in-smallest before line)) (smallest_kind (λ kind. has_blif_fault kind before line))
+    subst (IsSmallest blif_kind_number (λ kind. has_blif_fault kind before line)) (sym (by ∙ ap (λ c. context_fault c line) (sym is) ∙ context_fault-smallest before line)) (smallest_kind (λ kind. has_blif_fault kind before line))
 
 -- A line without fault is a row of the open table or a card that is known, and the built parts say of the next line what the lines do.
 
 -- the fault of a line without control bytes
-clean_by : (context : Context) (line : LogicalLine) → None ≡ fault_by context line
+clean_by : (context : Context) (line : LogicalLine) → None ≡ context_fault context line
     → None ≡ cond (is_card line) (card_fault context.model (card_of line) line.words) (row_fault context.table line.words)
 clean_by context line clean = by (list_any (list_any is_control) line.words) clean
   where
@@ -59,7 +59,7 @@ pub data Readable (context : Context) (line : LogicalLine) : Type 0 where
   Row : is_card line ≡ false → card_of line ≡ None → None ≡ row_fault context.table line.words → Readable context line
   Known : (card : Card) → card_of line ≡ Some card → None ≡ card_fault context.model (Some card) line.words → Readable context line
 
-readable : (context : Context) (line : LogicalLine) → None ≡ fault_by context line → Readable context line
+readable : (context : Context) (line : LogicalLine) → None ≡ context_fault context line → Readable context line
 readable context line clean = by (is_card line) refl (clean_by context line clean)
   where
     known : (o : Option Card) → card_of line ≡ o → None ≡ card_fault context.model o line.words → Readable context line
@@ -74,12 +74,12 @@ readable context line clean = by (is_card line) refl (clean_by context line clea
 value_letter : (word : List ℕ) → is_value word ≡ true → last_letter (word ∷ []) ≡ (if last_letter (word ∷ []) == 49 then 49 else 48)
 value_letter word is = one_of-all (λ w. last_letter (w ∷ []) ≡ (if last_letter (w ∷ []) == 49 then 49 else 48)) (codes "0" ∷ codes "1" ∷ []) word (refl, (refl, tt)) is
 
-row_letter : (width : ℕ) (words : List (List ℕ)) → is_row_form width words ≡ true → last_letter words ≡ (if last_letter words == 49 then 49 else 48)
-row_letter width [] form = absurd (cc)
-row_letter width (value ∷ []) form = value_letter value (and_both (width == 0) (is_value value) form).1
-row_letter width (letters ∷ value ∷ []) form =
+row_letter_value : (width : ℕ) (words : List (List ℕ)) → is_row_form width words ≡ true → last_letter words ≡ (if last_letter words == 49 then 49 else 48)
+row_letter_value width [] form = absurd (cc)
+row_letter_value width (value ∷ []) form = value_letter value (and_both (width == 0) (is_value value) form).1
+row_letter_value width (letters ∷ value ∷ []) form =
     value_letter value (and_both (nat_lt 0 width && (length letters == width) && list_all is_letter letters) (is_value value) form).1
-row_letter width (a ∷ b ∷ c ∷ more) form = absurd (cc)
+row_letter_value width (a ∷ b ∷ c ∷ more) form = absurd (cc)
 
 in_form : (table : OpenTable) (words : List (List ℕ)) → None ≡ row_fault (Some table) words → is_row_form table.width words ≡ true
 in_form table words clean = by (is_row_form table.width words) clean
@@ -98,7 +98,7 @@ opened-row : (table : Option TableData) (words : List (List ℕ)) → None ≡ r
     → opened_by (table_with_row table words) ≡ with_letter (opened_by table) (last_letter words)
 opened-row None words clean = absurd (cc)
 opened-row (Some t) words clean =
-    let letter = row_letter (length t.inputs) words (in_form (record { width = length t.inputs; letter = first_letter_in t.rows t.on }) words clean) in
+    let letter = row_letter_value (length t.inputs) words (in_form (record { width = length t.inputs; letter = first_letter_in t.rows t.on }) words clean) in
     ap (λ l. Some (record { width = length t.inputs; letter = l })) (first_letter-row t.rows t.on (last_letter words) (row_letters words) letter)
 
 opened-card : (card : Card) (line : LogicalLine) → opened_by (table_after_card card line) ≡ opened card line
@@ -111,19 +111,19 @@ opened-card Subckt line = refl
 opened-card Clock line = refl
 opened-card End line = refl
 
-is_open-card : (model : Option BlifModelData) (table : Option TableData) (card : Card) (line : LogicalLine) → is_open (model_after_card model table card line) ≡ is_open model
-is_open-card None table card line = refl
-is_open-card (Some m) table card line = refl
+has_model-card : (model : Option BlifModelData) (table : Option TableData) (card : Card) (line : LogicalLine) → has_model (model_after_card model table card line) ≡ has_model model
+has_model-card None table card line = refl
+has_model-card (Some m) table card line = refl
 
-context_in-card : (b : Built) (card : Card) (line : LogicalLine) → context_in (built_by b (Some card) line) ≡ record { model = opens card (is_open b.model); table = opened card line }
+context_in-card : (b : Built) (card : Card) (line : LogicalLine) → context_in (built_by b (Some card) line) ≡ record { model = opens card (has_model b.model); table = opened card line }
 context_in-card b Model line = refl
 context_in-card b End line = refl
-context_in-card b Inputs line = λ i. record { model = is_open-card b.model b.table Inputs line i; table = None }
-context_in-card b Outputs line = λ i. record { model = is_open-card b.model b.table Outputs line i; table = None }
-context_in-card b Names line = λ i. record { model = is_open-card b.model b.table Names line i; table = opened Names line }
-context_in-card b Latch line = λ i. record { model = is_open-card b.model b.table Latch line i; table = None }
-context_in-card b Subckt line = λ i. record { model = is_open-card b.model b.table Subckt line i; table = None }
-context_in-card b Clock line = λ i. record { model = is_open-card b.model b.table Clock line i; table = None }
+context_in-card b Inputs line = λ i. record { model = has_model-card b.model b.table Inputs line i; table = None }
+context_in-card b Outputs line = λ i. record { model = has_model-card b.model b.table Outputs line i; table = None }
+context_in-card b Names line = λ i. record { model = has_model-card b.model b.table Names line i; table = opened Names line }
+context_in-card b Latch line = λ i. record { model = has_model-card b.model b.table Latch line i; table = None }
+context_in-card b Subckt line = λ i. record { model = has_model-card b.model b.table Subckt line i; table = None }
+context_in-card b Clock line = λ i. record { model = has_model-card b.model b.table Clock line i; table = None }
 
 -- the built parts say of the next line what the lines do
 context_after : (before : List LogicalLine) (b : Built) (line : LogicalLine) → context_of before ≡ context_in b → Readable (context_in b) line
@@ -131,7 +131,7 @@ context_after : (before : List LogicalLine) (b : Built) (line : LogicalLine) →
 context_after before b line is (Row row none clean) =
     context_after_row before line row
     ∙ ap (λ (c : Context). record { model = c.model; table = with_letter c.table (last_letter line.words) }) is
-    ∙ (λ i. record { model = is_open b.model; table = sym (opened-row b.table line.words clean) i })
+    ∙ (λ i. record { model = has_model b.model; table = sym (opened-row b.table line.words clean) i })
     ∙ ap (λ o. context_in (built_by b o line)) (sym none)
 context_after before b line is (Known card known clean) =
     context_after_card before line card known
@@ -236,7 +236,7 @@ row_unless_known context line (Known card known clean) e = let never : Some card
 
 module _ {text : List ℕ} {built : Built} {number : ℕ} {rest : List ℕ} {line : LogicalLine} {next : ℕ} {more : List ℕ} where
   -- a line without a fault
-  pub reads-next : Reads text built number rest → Cuts number rest line next more → None ≡ fault_by (context_in built) line → (after : Built) → after ≡ built_after built line
+  pub reads-next : Reads text built number rest → Cuts number rest line next more → None ≡ context_fault (context_in built) line → (after : Built) → after ≡ built_after built line
       → Reads text after next more
   reads-next r cut clean after push = subst (λ b. Reads text b next more) (sym push) (record {
     before = line ∷ r.before;
@@ -255,7 +255,7 @@ module _ {text : List ℕ} {built : Built} {number : ℕ} {rest : List ℕ} {lin
       line_is = readable (context_in built) line clean
 
   -- a line with a fault
-  pub reads-fault : Reads text built number rest → Cuts number rest line next more → (kind : BlifKind) → Some kind ≡ fault_by (context_in built) line → IsBlifFaultAt text line.number kind
+  pub reads-fault : Reads text built number rest → Cuts number rest line next more → (kind : BlifKind) → Some kind ≡ context_fault (context_in built) line → IsBlifFaultAt text line.number kind
   reads-fault r cut kind by =
       let behind = logical_lines_from next (lines more) in
       let least = smallest_is r.before line (context_in built) (Some kind) r.context_is by in

@@ -11,7 +11,7 @@ use Rattle.blif_ast.specs.declared.kind.BlifKind.TheVariants.{ControlByte, Unkno
 use Rattle.blif_ast.specs.LogicalLines.{LogicalLine}
 use Rattle.blif_ast.specs.Cards.{same, begins, card_word, card_of, is_card, is_known, is_form, is_out_of_form, is_row_form, is_too_wide, is_level_form, is_level_latch, last_letter, model_card, names_card, latch_card, table_inputs}
 use Rattle.blif_ast.specs.Context.{is_model_open, is_table_open, open_rows, open_width, differs_from_first}
-use Rattle.blif_read.specs.Steps.{OpenTable, context_of, open_table, first_letter, fault_in, card_fault, formed_card_fault, row_fault, differs, smallest_fault}
+use Rattle.blif_read.specs.Steps.{OpenTable, context_of, open_table, first_letter, context_fault, card_fault, formed_card_fault, row_fault, differs, smallest_fault}
 use Rattle.blif_read.proofs.LineContexts.{no_dot, row_no_card, card_begins}
 
 row_in_form : (line : LogicalLine) → is_card line ≡ false → is_out_of_form (card_of line) line.words ≡ false
@@ -94,8 +94,8 @@ row_fault-open before line =
     ∙ ap (λ b. cond (is_table_open before) (cond (not (is_row_form (open_width before) line.words)) (Some BadRow) (cond b (Some MixedCover) None)) (Some RowOutsideTable)) (differs-first (last_letter line.words) (open_rows before))
 
 -- the fault that the context gives is the smallest of the line
-pub fault_in-smallest : (before : List LogicalLine) (line : LogicalLine) → fault_in (context_of before) line ≡ smallest_fault before line
-fault_in-smallest before line =
+pub context_fault-smallest : (before : List LogicalLine) (line : LogicalLine) → context_fault (context_of before) line ≡ smallest_fault before line
+context_fault-smallest before line =
     ap (λ fault. cond (list_any (list_any is_control) line.words) (Some ControlByte) (cond (is_card line) fault (row_fault (open_table before) line.words))) (card_fault-tests (is_model_open before) line)
     ∙ ap (λ row. cond (list_any (list_any is_control) line.words) (Some ControlByte) (cond (is_card line) (cond (not (is_known (card_of line))) (Some UnknownCard) (cond (is_out_of_form (card_of line) line.words) (Some BadCard)
     (cond (is_too_wide line) (Some TooWide) (cond (not (begins model_card line) && not (is_model_open before)) (Some NoModel) (cond (is_level_latch line) (Some LatchKind) None))))) row)) (row_fault-open before line)

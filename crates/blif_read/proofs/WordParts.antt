@@ -1,3 +1,4 @@
+-- Parts of words and of lists of words: the sides of a binding, and the inputs of a table.
 use Rattle.std.proofs.Common.{◌≡◌, ℕ, ◌+◌, ◌-◌, List, map, [], length, take, drop, sym, ap, ◌∙◌, arith, Some, None}
 use Rattle.std.proofs.lemmas.List.{drop_all, take_all, take_rest, length-map, take-map, drop-map}
 use Rattle.memchr.specs.Find.{IsFirstByte, is_byte}

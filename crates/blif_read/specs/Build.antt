@@ -28,13 +28,13 @@ abbrev pub opened_by : Option TableData → Option OpenTable
 opened_by None = None
 opened_by (Some t) = Some (record { width = length t.inputs; letter = first_letter_in t.rows t.on })
 
-abbrev pub is_open : Option BlifModelData → Bool
-is_open None = false
-is_open (Some m) = true
+abbrev pub has_model : Option BlifModelData → Bool
+has_model None = false
+has_model (Some m) = true
 
 -- what the built parts say of the next line
 abbrev pub context_in : Built → Context
-context_in b = record { model = is_open b.model; table = opened_by b.table }
+context_in b = record { model = has_model b.model; table = opened_by b.table }
 
 -- whether the rows end in 1, after a row with this last letter
 abbrev pub on_after : List (List Letter) → Bool → ℕ → Bool
@@ -43,7 +43,8 @@ on_after (row ∷ rows) on letter = on
 
 abbrev pub table_with_row : Option TableData → List (List ℕ) → Option TableData
 table_with_row None row = None
-table_with_row (Some t) row = Some (record t { on = on_after t.rows t.on (last_letter row); rows = t.rows ++ row_letters row ∷ [] })
+table_with_row (Some t) row =
+    Some (record t { on = on_after t.rows t.on (last_letter row); rows = t.rows ++ row_letters row ∷ [] })
 
 abbrev pub model_with_table : BlifModelData → Option TableData → BlifModelData
 model_with_table m table = record m { tables = m.tables ++ option_to_list table }
@@ -60,7 +61,8 @@ abbrev pub new_table : LogicalLine → TableData
 new_table line = record { inputs = table_inputs line.words; output = last_word line.words; on = true; rows = []; line = line.number }
 
 abbrev pub new_model : LogicalLine → BlifModelData
-new_model line = record { name = slice_index_or line.words 1 []; inputs = []; outputs = []; tables = []; latches = []; instances = []; line = line.number }
+new_model line =
+    record { name = slice_index_or line.words 1 []; inputs = []; outputs = []; tables = []; latches = []; instances = []; line = line.number }
 
 -- the models with the open model closed
 abbrev pub closed_models : List BlifModelData → Option BlifModelData → Option TableData → List BlifModelData

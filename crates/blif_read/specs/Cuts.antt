@@ -4,8 +4,8 @@ use Rattle.dom_base.specs.Lines.{words, without_comment}
 use Rattle.blif_ast.specs.LogicalLines.{LogicalLine, but_last, in_words, is_joined, joined_lines}
 
 -- a logical line by its number and its words
-abbrev pub line_of : ℕ → List (List ℕ) → LogicalLine
-line_of number all = record { number = number; words = all }
+abbrev pub numbered_line : ℕ → List (List ℕ) → LogicalLine
+numbered_line number all = record { number = number; words = all }
 
 -- logical lines by their words
 abbrev pub worded_lines : ℕ → List (List ℕ) → List LogicalLine

@@ -1,3 +1,4 @@
+-- What holds of each text of BLIF, the Berkeley Logic Interchange Format, and its answer.
 use Rattle.std.specs.Prelude.{List, ℕ}
 use Rattle.dom_base.specs.Answers.{HasOneAnswer}
 use Rattle.blif_ast.specs.BlifFileData.{BlifFileData}

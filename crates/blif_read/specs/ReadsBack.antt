@@ -1,3 +1,4 @@
+-- A printed file of BLIF, the Berkeley Logic Interchange Format, reads back as itself in all but lines.
 use Rattle.std.specs.Prelude.{◌≡◌, map}
 use Rattle.blif_ast.specs.declared.latch.Latch.{Latch}
 use Rattle.blif_ast.specs.TableData.{TableData}
@@ -34,4 +35,5 @@ unlined f = record { models = map model_unlined f.models }
 
 -- the text of a good file is accepted, and its file is that one in all but lines
 abbrev pub PrintedReadsBack : Type 0
-PrintedReadsBack = (file : BlifFileData) → IsGoodFile file → (again : BlifFileData) × IsFileOf (printed file) again × (unlined again ≡ unlined file)
+PrintedReadsBack = (file : BlifFileData) → IsGoodFile file
+    → (again : BlifFileData) × IsFileOf (printed file) again × (unlined again ≡ unlined file)

@@ -68,8 +68,8 @@ card_fault open_model None words = Some UnknownCard
 card_fault open_model (Some card) words = if not (is_form card words) then Some BadCard else formed_card_fault open_model card words
 
 -- the fault of a line by its context
-abbrev pub fault_in : Context → LogicalLine → Option BlifKind
-fault_in context line =
+abbrev pub context_fault : Context → LogicalLine → Option BlifKind
+context_fault context line =
     if list_any (list_any is_control) line.words then Some ControlByte
     else (if is_card line then card_fault context.model (card_of line) line.words else row_fault context.table line.words)
 

@@ -4,7 +4,7 @@ ghost use Rattle.std.specs.Option.{option_to_list};
 ghost use Rattle.blif_ast.specs.Models.{latch_of, instance_of};
 ghost use Rattle.blif_ast.specs.declared.kind.BlifKind.TheVariants.{NoModel};
 ghost use Rattle.blif_read.specs.Build.{built_after, closed_models, context_in, model_after_card, model_with_card, model_with_table, on_after, table_after_card, table_with_row};
-ghost use Rattle.blif_read.specs.Steps.{fault_in};
+ghost use Rattle.blif_read.specs.Steps.{context_fault};
 
 use crate::line::{Line, last_letter};
 use crate::line_fault::{card_fault, row_fault};
@@ -44,7 +44,7 @@ impl Builder {
 
     /// The fault of the next line with the smallest number, where it has one.
     pub fn fault(&self, line: &Line<'_, '_>) -> Option<BlifKind>
-        ensures { result ≡ fault_in (context_in self.now) line.now }
+        ensures { result ≡ context_fault (context_in self.now) line.now }
     {
         if have_control(line.words) {
             return Some(BlifKind::ControlByte);

@@ -4,7 +4,7 @@ ghost use Rattle.dom_base.specs.Cuts.{NumbersFit};
 ghost use Rattle.std.specs.List.{position};
 ghost use Rattle.dom_base.specs.Lines.{is_blank, lines, some_piece, words};
 ghost use Rattle.blif_ast.specs.LogicalLines.{but_last, is_joined, logical_lines_from};
-ghost use Rattle.blif_read.specs.Cuts.{line_of, worded_lines, IsPiece};
+ghost use Rattle.blif_read.specs.Cuts.{numbered_line, worded_lines, IsPiece};
 
 use dom_base::{OutOfMemory, cut_line, strip_comment, strip_last};
 
@@ -27,12 +27,13 @@ impl<'a> Lines<'a> {
     pub fn next(&mut self, words: &mut Vec<&'a [u8]>) -> Result<Option<u64>, OutOfMemory>
         requires { NumbersFit self.old.number self.old.rest.now }
         ensures fit { NumbersFit self.new.number self.new.rest.now }
-        ensures number { IsOk result → self.new.number + length (lines self.new.rest.now) ≡ self.old.number + length (lines self.old.rest.now) }
+        ensures number { IsOk result
+            → self.new.number + length (lines self.new.rest.now) ≡ self.old.number + length (lines self.old.rest.now) }
         ensures shorter { length self.new.rest.now ≤ length self.old.rest.now }
         ensures line { IfOk result (λ r. MatchOption r
             ((self.new.rest.now ≡ []) × (logical_lines_from self.old.number (lines self.old.rest.now) ≡ []))
             (λ number. (length self.new.rest.now < length self.old.rest.now) × (logical_lines_from self.old.number (lines self.old.rest.now)
-            ≡ line_of number (map (λ w. w.now) words.new.items) ∷ logical_lines_from self.new.number (lines self.new.rest.now)))) }
+            ≡ numbered_line number (map (λ w. w.now) words.new.items) ∷ logical_lines_from self.new.number (lines self.new.rest.now)))) }
     {
         'lines: while !self.rest.is_empty() {
             let number = self.next_joined(words)?;
@@ -48,11 +49,12 @@ impl<'a> Lines<'a> {
         requires some { 0 < length self.old.rest.now }
         requires fit { NumbersFit self.old.number self.old.rest.now }
         ensures fit { NumbersFit self.new.number self.new.rest.now }
-        ensures number { IsOk result → self.new.number + length (lines self.new.rest.now) ≡ self.old.number + length (lines self.old.rest.now) }
+        ensures number { IsOk result
+            → self.new.number + length (lines self.new.rest.now) ≡ self.old.number + length (lines self.old.rest.now) }
         ensures shorter { IsOk result → length self.new.rest.now < length self.old.rest.now }
         ensures no_longer { length self.new.rest.now ≤ length self.old.rest.now }
         ensures line { IfOk result (λ number. worded_lines self.old.number (lines self.old.rest.now)
-            ≡ line_of number (map (λ w. w.now) words.new.items) ∷ worded_lines self.new.number (lines self.new.rest.now)) }
+            ≡ numbered_line number (map (λ w. w.now) words.new.items) ∷ worded_lines self.new.number (lines self.new.rest.now)) }
     {
         let number = self.number;
         words.clear();

@@ -1,6 +1,6 @@
 //! The parts of a file out of the words of cards and rows.
 ghost use Rattle.std.specs.Prelude.{◌≡◌, ◌++◌, [], IfOk, OnOk, map, drop, slice_index_or};
-ghost use Rattle.blif_ast.specs.Models.{letter_of, row_letters, control_of, init_of, latch_of, binding_of, instance_of};
+ghost use Rattle.blif_ast.specs.Models.{row_letter, row_letters, control_of, init_of, latch_of, binding_of, instance_of};
 ghost use Rattle.blif_ast.specs.Cards.{table_inputs};
 ghost use Rattle.blif_read.specs.Build.{new_model, new_table};
 
@@ -83,8 +83,8 @@ pub fn new_table(alloc: Global, line: &Line<'_, '_>) -> Result<Table, OutOfMemor
     })
 }
 
-fn letter_of(byte: u8) -> Letter
-    ensures { result ≡ letter_of byte }
+fn row_letter(byte: u8) -> Letter
+    ensures { result ≡ row_letter byte }
 {
     match byte {
         b'0' => Letter::Zero,
@@ -94,9 +94,9 @@ fn letter_of(byte: u8) -> Letter
 }
 
 fn letters_of(alloc: Global, word: &[u8]) -> Result<Vec<Letter>, AllocError>
-    ensures { IfOk result (λ v. v.items ≡ map letter_of word.now) }
+    ensures { IfOk result (λ v. v.items ≡ map row_letter word.now) }
 {
-    word.iter().map(|b| letter_of(*b)).collect(alloc)
+    word.iter().map(|b| row_letter(*b)).collect(alloc)
 }
 
 /// The row of these words.

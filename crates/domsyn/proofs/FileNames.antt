@@ -8,7 +8,7 @@ use Rattle.blif_ast.specs.Good.{IsGoodFile, IsGoodModel, IsGoodName}
 use Rattle.blif_ast.specs.LogicalLines.{logical_lines}
 use Rattle.blif_ast.specs.Models.{models_of}
 use Rattle.blif_ast.specs.Reading.{IsFileOf}
-use Rattle.blif_read.proofs.GoodModels.{accepted_file}
+use Rattle.blif_read.proofs.AcceptedIsGoodModels.{accepted_file}
 use Rattle.domsyn.specs.OneTable.{HasByteNames, IsByteName, IsFileOfTable}
 use Rattle.domsyn.specs.OneTableData.{OneTableData}
 use Rattle.domsyn.proofs.WordBytes.{AreBytes, IsByte, ModelBytes, logical_lines-bytes, models-bytes}

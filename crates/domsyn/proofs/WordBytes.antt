@@ -6,7 +6,7 @@ use Rattle.dom_base.specs.Lines.{is_blank, is_line_feed, is_word, words, lines, 
 use Rattle.dom_base.proofs.Lists.{AllByRecursion-filter, AllByRecursion-append, AllByRecursion-take}
 use Rattle.blif_ast.specs.LogicalLines.{LogicalLine, NumberedBytes, in_words, has_words, is_joined, but_last, with_blank, joined_lines, with_line, with_next, logical_lines}
 use Rattle.blif_ast.specs.Cards.{begins, model_card, inputs_card, outputs_card}
-use Rattle.blif_ast.specs.Models.{is_inside, model_of, models_of, names_on}
+use Rattle.blif_ast.specs.Models.{is_inside, blif_model, models_of, names_on}
 use Rattle.blif_ast.specs.BlifModelData.{BlifModelData}
 
 -- a number that a byte can have
@@ -126,8 +126,8 @@ models-bytes (line ∷ more) h = by (begins model_card line) refl (models-bytes 
 
     by : (b : Bool) → begins model_card line ≡ b → AllByRecursion ModelBytes (models_of more) → AllByRecursion ModelBytes (models_of (line ∷ more))
     by true e rest =
-        subst (λ b. AllByRecursion ModelBytes (if b then model_of line (take_while is_inside more) ∷ models_of more else models_of more)) (sym e) (
+        subst (λ b. AllByRecursion ModelBytes (if b then blif_model line (take_while is_inside more) ∷ models_of more else models_of more)) (sym e) (
           (second-bytes line.words h.0, names_on-bytes inputs_card (take_while is_inside more) inside, names_on-bytes outputs_card (take_while is_inside more) inside),
           rest,
         )
-    by false e rest = subst (λ b. AllByRecursion ModelBytes (if b then model_of line (take_while is_inside more) ∷ models_of more else models_of more)) (sym e) rest
+    by false e rest = subst (λ b. AllByRecursion ModelBytes (if b then blif_model line (take_while is_inside more) ∷ models_of more else models_of more)) (sym e) rest

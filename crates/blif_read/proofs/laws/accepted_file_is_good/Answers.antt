@@ -1,4 +1,4 @@
-use Rattle.blif_read.proofs.GoodModels.{accepted_file}
+use Rattle.blif_read.proofs.AcceptedIsGoodModels.{accepted_file}
 use Rattle.blif_read.proofs.laws.accepted_file_is_good.Goals as goal
 
 pub returns : goal.returns

@@ -1,4 +1,4 @@
-use Rattle.blif_read.proofs.PrintedFiles.{reads_back}
+use Rattle.blif_read.proofs.PrintReadsBackFiles.{reads_back}
 use Rattle.blif_read.proofs.laws.printed_reads_back.Goals as goal
 
 pub returns : goal.returns

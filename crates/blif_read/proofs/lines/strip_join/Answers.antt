@@ -1,4 +1,5 @@
-use Rattle.blif_read.proofs.JoinBytes.{match_weaker, joined-at, not_joined}
+use Rattle.dom_base.proofs.Options.{match_weaker}
+use Rattle.blif_read.proofs.JoinByte.{joined-at, not_joined}
 use Rattle.blif_read.proofs.lines.strip_join.Goals as goal
 
 pub returns : goal.returns

@@ -4,14 +4,14 @@ use Rattle.dom_base.specs.Lines.{lines}
 use Rattle.dom_base.proofs.Options.{none_case, some_case}
 use Rattle.blif_ast.specs.LogicalLines.{LogicalLine, logical_lines_from}
 use Rattle.blif_ast.specs.declared.kind.BlifKind.TheVariants.{NoModel}
-use Rattle.blif_read.specs.Cuts.{line_of}
+use Rattle.blif_read.specs.Cuts.{numbered_line}
 use Rattle.blif_read.proofs.ReaderInvariant.{Cuts, reads-file, reads-fault, reads-next, reads-nothing, same_fault, line_of_fault, kind_of_fault}
 use Rattle.blif_read.proofs.reader.read.Goals as goal
 
 pub returns-in-Some-fault-clause-fault : goal.returns-in-Some-fault-clause-fault
 returns-in-Some-fault-clause-fault c = λ line kind is.
     let some = some_case _ _ _ c.in-Some.number c.in-Some.is c.in_ok-number.ensures.line in
-    let line_is = c.new-line.ensures ∙ ap (λ ws. line_of c.in-Some.number (map (λ w. w.now) ws)) c.deref.ensures.value in
+    let line_is = c.new-line.ensures ∙ ap (λ ws. numbered_line c.in-Some.number (map (λ w. w.now) ws)) c.deref.ensures.value in
     let cut : Cuts c.lines.lines.number c.lines.lines.rest.now c.new-line.result c.next.new.self.number c.next.new.self.rest.now = record {
       lines_are = some.1 ∙ ap (λ l. l ∷ logical_lines_from c.next.new.self.number (lines c.next.new.self.rest.now)) (sym line_is);
       fit = c.in_ok-number.ensures.fit;
@@ -23,7 +23,7 @@ returns-in-Some-fault-clause-fault c = λ line kind is.
 pub lines-preserved : goal.lines-preserved
 lines-preserved c =
     let some = some_case _ _ _ c.in-Some.number c.in-Some.is c.in_ok-number.ensures.line in
-    let line_is = c.new-line.ensures ∙ ap (λ ws. line_of c.in-Some.number (map (λ w. w.now) ws)) c.deref.ensures.value in
+    let line_is = c.new-line.ensures ∙ ap (λ ws. numbered_line c.in-Some.number (map (λ w. w.now) ws)) c.deref.ensures.value in
     let cut : Cuts c.lines.lines.number c.lines.lines.rest.now c.new-line.result c.next.new.self.number c.next.new.self.rest.now = record {
       lines_are = some.1 ∙ ap (λ l. l ∷ logical_lines_from c.next.new.self.number (lines c.next.new.self.rest.now)) (sym line_is);
       fit = c.in_ok-number.ensures.fit;

@@ -1,5 +1,5 @@
 use Rattle.std.proofs.Common.{ap, map, refl, arith, ◌∙◌}
-use Rattle.blif_read.proofs.Joining.{first_piece_of, more_pieces, count_piece}
+use Rattle.blif_read.proofs.JoinedLines.{first_piece_of, more_pieces, count_piece}
 use Rattle.blif_read.proofs.lines.Lines.next_joined.Goals as goal
 
 pub pieces-init : goal.pieces-init

@@ -2,23 +2,22 @@
 use Rattle.std.proofs.Common.{◌≡◌, ℕ, Bool, true, false, if◌then◌else◌, List, [], ◌∷◌, ◌++◌, drop, map, filter, refl, ap, sym, ◌∙◌, append_assoc, append-nil}
 use Rattle.std.specs.List.{AllByRecursion, flat_map, filter_map, cons_option, take_while}
 use Rattle.std.proofs.lemmas.List.Elements.{filter-append, recursion_from_All}
-use Rattle.dom_base.proofs.Lists.{AllByRecursion-append, filter_all}
+use Rattle.dom_base.proofs.Lists.{AllByRecursion-append, filter_all, take_while-keep, take_while-stop}
 use Rattle.blif_ast.specs.declared.letter.Letter.{Letter}
 use Rattle.blif_ast.specs.declared.latch.Latch.{Latch}
 use Rattle.blif_ast.specs.TableData.{TableData}
 use Rattle.blif_ast.specs.InstanceData.{InstanceData}
 use Rattle.blif_ast.specs.BlifModelData.{BlifModelData}
 use Rattle.blif_ast.specs.Good.{IsGoodTable, IsGoodLatch, IsGoodInstance, IsGoodModel}
-use Rattle.blif_ast.specs.Printed.{port_lines, names_words, row_words, model_lines}
+use Rattle.blif_ast.specs.Printed.{ports_card, names_words, row_words, model_lines}
 use Rattle.blif_ast.specs.LogicalLines.{LogicalLine}
 use Rattle.blif_ast.specs.Cards.{same, begins, is_row, model_card, inputs_card, outputs_card, names_card, latch_card, subckt_card}
-use Rattle.blif_ast.specs.Models.{table_of, tables_of, names_on, latch_of, latches_of, instance_of, instances_of, model_of, models_of}
+use Rattle.blif_ast.specs.Models.{table_of, tables_of, names_on, latch_of, latches_of, instance_of, instances_of, blif_model, models_of}
 use Rattle.blif_read.specs.ReadsBack.{table_unlined, latch_unlined, instance_unlined, model_unlined}
-use Rattle.blif_read.proofs.GoodPrefix.{take_while-keep, take_while-stop}
-use Rattle.blif_read.proofs.PrintedLines.{line_at}
-use Rattle.blif_read.proofs.PrintedParts.{inner_lines, tables_lines, latches_lines, instances_lines, ports_all, rows_all, tables_all, latches_all, instances_all, by_rows}
-use Rattle.blif_read.proofs.PrintedData.{zeros, zeros-append, zeros_all, models_printed}
-use Rattle.blif_read.proofs.PrintedCards.{table_back, latch_back, instance_back}
+use Rattle.blif_read.proofs.PrintReadsBackLines.{line_at}
+use Rattle.blif_read.proofs.PrintReadsBackParts.{inner_lines, tables_lines, latches_lines, instances_lines, ports_all, rows_all, tables_all, latches_all, instances_all, by_rows}
+use Rattle.blif_read.proofs.PrintReadsBackData.{zeros, zeros-append, zeros_all, models_printed}
+use Rattle.blif_read.proofs.PrintReadsBackCards.{table_back, latch_back, instance_back}
 
 -- lines that begin with this card
 abbrev of_card : List ℕ → List (List (List ℕ)) → List LogicalLine
@@ -35,23 +34,23 @@ of_card-none card [] h = refl
 of_card-none card (x ∷ xs) h = ap (λ t. if t then line_at 0 x ∷ of_card card xs else of_card card xs) h.0 ∙ of_card-none card xs h.1
 
 inner_of_card : (card : List ℕ) (m : BlifModelData) (inputs outputs tables latches instances : List LogicalLine)
-    → of_card card (port_lines inputs_card m.inputs) ≡ inputs → of_card card (port_lines outputs_card m.outputs) ≡ outputs
+    → of_card card (ports_card inputs_card m.inputs) ≡ inputs → of_card card (ports_card outputs_card m.outputs) ≡ outputs
     → of_card card (tables_lines m.tables) ≡ tables → of_card card (latches_lines m.latches) ≡ latches → of_card card (instances_lines m.instances) ≡ instances
     → of_card card (inner_lines m) ≡ inputs ++ (outputs ++ (tables ++ (latches ++ instances)))
 inner_of_card card m inputs outputs tables latches instances i o t l s =
     let latch = latches_lines m.latches in
     let instance = instances_lines m.instances in
     let table = tables_lines m.tables in
-    let output = port_lines outputs_card m.outputs in
-    let input = port_lines inputs_card m.inputs in
+    let output = ports_card outputs_card m.outputs in
+    let input = ports_card inputs_card m.inputs in
     of_card-append card input (output ++ (table ++ (latch ++ instance)))
     ∙ ap (λ x. of_card card input ++ x) (of_card-append card output (table ++ (latch ++ instance)))
     ∙ ap (λ x. of_card card input ++ (of_card card output ++ x)) (of_card-append card table (latch ++ instance))
     ∙ ap (λ x. of_card card input ++ (of_card card output ++ (of_card card table ++ x))) (of_card-append card latch instance)
     ∙ (λ k. i k ++ (o k ++ (t k ++ (l k ++ s k))))
 
-no_ports : (card other : List ℕ) → same other card ≡ false → (names : List (List ℕ)) → of_card card (port_lines other names) ≡ []
-no_ports card other h names = of_card-none card (port_lines other names) (ports_all (IsOther card) other (λ _. h) names)
+no_ports : (card other : List ℕ) → same other card ≡ false → (names : List (List ℕ)) → of_card card (ports_card other names) ≡ []
+no_ports card other h names = of_card-none card (ports_card other names) (ports_all (IsOther card) other (λ _. h) names)
 
 no_tables : (card : List ℕ) → same names_card card ≡ false → ((on : Bool) (row : List Letter) → IsOther card (row_words on row)) → (tables : List TableData) → of_card card (tables_lines tables) ≡ []
 no_tables card h r tables = of_card-none card (tables_lines tables) (tables_all (IsOther card) (λ _. h) r tables)
@@ -62,14 +61,14 @@ no_latches card h latches = of_card-none card (latches_lines latches) (latches_a
 no_instances : (card : List ℕ) → same subckt_card card ≡ false → (instances : List InstanceData) → of_card card (instances_lines instances) ≡ []
 no_instances card h instances = of_card-none card (instances_lines instances) (instances_all (IsOther card) (λ _. h) instances)
 
-port_names : (card : List ℕ) → same card card ≡ true → (names : List (List ℕ)) → flat_map (λ (line : LogicalLine). drop 1 line.words) (of_card card (port_lines card names)) ≡ names
+port_names : (card : List ℕ) → same card card ≡ true → (names : List (List ℕ)) → flat_map (λ (line : LogicalLine). drop 1 line.words) (of_card card (ports_card card names)) ≡ names
 port_names card h [] = refl
 port_names card h (name ∷ names) =
     ap (λ t. flat_map (λ (line : LogicalLine). drop 1 line.words) (if t then line_at 0 (card ∷ name ∷ names) ∷ [] else [])) h ∙ append-nil (name ∷ names)
 
 inputs_back : (m : BlifModelData) → names_on inputs_card (zeros (inner_lines m)) ≡ m.inputs
 inputs_back m =
-    let own = of_card inputs_card (port_lines inputs_card m.inputs) in
+    let own = of_card inputs_card (ports_card inputs_card m.inputs) in
     ap (flat_map (λ (line : LogicalLine). drop 1 line.words))
     (inner_of_card inputs_card m own [] [] [] [] refl (no_ports inputs_card outputs_card refl m.outputs)
     (no_tables inputs_card refl (by_rows (IsOther inputs_card) (λ _ _. refl) (λ _ _. refl) (λ _ _. refl)) m.tables)
@@ -78,7 +77,7 @@ inputs_back m =
 
 outputs_back : (m : BlifModelData) → names_on outputs_card (zeros (inner_lines m)) ≡ m.outputs
 outputs_back m =
-    let own = of_card outputs_card (port_lines outputs_card m.outputs) in
+    let own = of_card outputs_card (ports_card outputs_card m.outputs) in
     ap (flat_map (λ (line : LogicalLine). drop 1 line.words))
     (inner_of_card outputs_card m [] own [] [] [] (no_ports outputs_card inputs_card refl m.inputs) refl
     (no_tables outputs_card refl (by_rows (IsOther outputs_card) (λ _ _. refl) (λ _ _. refl) (λ _ _. refl)) m.tables)
@@ -168,8 +167,8 @@ tables_back : (m : BlifModelData) → IsGoodModel m → tables_of (zeros (inner_
 tables_back m h =
     let last = latches_lines m.latches ++ instances_lines m.instances in
     let table = tables_lines m.tables in
-    let output = port_lines outputs_card m.outputs in
-    let input = port_lines inputs_card m.inputs in
+    let output = ports_card outputs_card m.outputs in
+    let input = ports_card inputs_card m.inputs in
     let last_none : AllByRecursion (IsOther names_card) last =
     AllByRecursion-append (IsOther names_card) (latches_lines m.latches) (instances_lines m.instances) (latches_all (IsOther names_card) (λ _. refl) m.latches) (instances_all (IsOther names_card) (λ _. refl) m.instances) in
     ap tables_of (zeros-append input (output ++ (table ++ last)))
@@ -184,7 +183,7 @@ tables_back m h =
     append_nil_back xs = sym (append-nil xs)
 
 -- the model of printed lines
-pub model_back : (m : BlifModelData) → IsGoodModel m → model_of (line_at 0 (model_card ∷ m.name ∷ [])) (zeros (inner_lines m)) ≡ model_unlined m
+pub model_back : (m : BlifModelData) → IsGoodModel m → blif_model (line_at 0 (model_card ∷ m.name ∷ [])) (zeros (inner_lines m)) ≡ model_unlined m
 model_back m h =
     let inputs = inputs_back m in
     let outputs = outputs_back m in
@@ -193,10 +192,10 @@ model_back m h =
     let instances = instances_back m h in
     λ k. record { name = m.name; inputs = inputs k; outputs = outputs k; tables = tables k; latches = latches k; instances = instances k; line = 0 }
 
-models_read : (models : List BlifModelData) → AllByRecursion IsGoodModel models → map (λ (m : BlifModelData). model_of (line_at 0 (model_card ∷ m.name ∷ [])) (zeros (inner_lines m))) models ≡ map model_unlined models
+models_read : (models : List BlifModelData) → AllByRecursion IsGoodModel models → map (λ (m : BlifModelData). blif_model (line_at 0 (model_card ∷ m.name ∷ [])) (zeros (inner_lines m))) models ≡ map model_unlined models
 models_read [] h = refl
 models_read (m ∷ models) h =
-    ap (λ x. x ∷ map (λ (n : BlifModelData). model_of (line_at 0 (model_card ∷ n.name ∷ [])) (zeros (inner_lines n))) models) (model_back m h.0)
+    ap (λ x. x ∷ map (λ (n : BlifModelData). blif_model (line_at 0 (model_card ∷ n.name ∷ [])) (zeros (inner_lines n))) models) (model_back m h.0)
     ∙ ap (λ l. model_unlined m ∷ l) (models_read models h.1)
 
 -- the models of printed lines

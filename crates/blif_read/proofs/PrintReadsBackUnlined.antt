@@ -1,14 +1,14 @@
 -- The models of lines don't depend on the numbers of the lines, but for their own lines.
 use Rattle.std.proofs.Common.{◌≡◌, ℕ, ◌+◌, Bool, true, false, List, [], ◌∷◌, drop, map, filter, refl, ap, sym, ◌∙◌}
 use Rattle.std.specs.List.{flat_map, filter_map, cons_option, take_while}
+use Rattle.dom_base.proofs.Lists.{take_while-keep, take_while-stop}
 use Rattle.blif_ast.specs.declared.latch.Latch.{Latch}
 use Rattle.blif_ast.specs.LogicalLines.{LogicalLine}
 use Rattle.blif_ast.specs.Cards.{begins, is_row, model_card, inputs_card, outputs_card, names_card, latch_card, subckt_card}
-use Rattle.blif_ast.specs.Models.{row_letters, rows_are_on, table_of, tables_of, names_on, latch_of, latches_of, instance_of, instances_of, model_of, is_inside, models_of}
+use Rattle.blif_ast.specs.Models.{row_letters, rows_are_on, table_of, tables_of, names_on, latch_of, latches_of, instance_of, instances_of, blif_model, is_inside, models_of}
 use Rattle.blif_read.specs.ReadsBack.{table_unlined, latch_unlined, instance_unlined, model_unlined}
-use Rattle.blif_read.proofs.GoodPrefix.{take_while-keep, take_while-stop}
-use Rattle.blif_read.proofs.PrintedLines.{line_at, numbered}
-use Rattle.blif_read.proofs.PrintedData.{zeros}
+use Rattle.blif_read.proofs.PrintReadsBackLines.{line_at, numbered}
+use Rattle.blif_read.proofs.PrintReadsBackData.{zeros}
 
 -- a line with the number 0
 abbrev pub unnumbered : LogicalLine → LogicalLine
@@ -100,14 +100,14 @@ tables_of-unnumbered (line ∷ all) = by (begins names_card line) refl (tables_o
         )
     by false e rest = rw e rest
 
-model_of-unnumbered : (line : LogicalLine) (all : List LogicalLine) → model_of (unnumbered line) (map unnumbered all) ≡ model_unlined (model_of line all)
-model_of-unnumbered line all =
+blif_model-unnumbered : (line : LogicalLine) (all : List LogicalLine) → blif_model (unnumbered line) (map unnumbered all) ≡ model_unlined (blif_model line all)
+blif_model-unnumbered line all =
     let inputs = names_on-unnumbered inputs_card all in
     let outputs = names_on-unnumbered outputs_card all in
     let tables = tables_of-unnumbered all in
     let latches = latches_of-unnumbered all in
     let instances = instances_of-unnumbered all in
-    let model = model_of line all in
+    let model = blif_model line all in
     λ k. record { name = model.name; inputs = inputs k; outputs = outputs k; tables = tables k; latches = latches k; instances = instances k; line = 0 }
 
 pub models_of-unnumbered : (all : List LogicalLine) → models_of (map unnumbered all) ≡ map model_unlined (models_of all)
@@ -117,8 +117,8 @@ models_of-unnumbered (line ∷ all) = by (begins model_card line) refl (models_o
     by : (b : Bool) → begins model_card line ≡ b → models_of (map unnumbered all) ≡ map model_unlined (models_of all)
         → models_of (map unnumbered (line ∷ all)) ≡ map model_unlined (models_of (line ∷ all))
     by true e rest = rw e (
-        ap (λ l. model_of (unnumbered line) l ∷ models_of (map unnumbered all)) (take_while-unnumbered is_inside (λ _. refl) all)
-        ∙ ap (λ t. t ∷ models_of (map unnumbered all)) (model_of-unnumbered line (take_while is_inside all))
-        ∙ ap (λ l. model_unlined (model_of line (take_while is_inside all)) ∷ l) rest
+        ap (λ l. blif_model (unnumbered line) l ∷ models_of (map unnumbered all)) (take_while-unnumbered is_inside (λ _. refl) all)
+        ∙ ap (λ t. t ∷ models_of (map unnumbered all)) (blif_model-unnumbered line (take_while is_inside all))
+        ∙ ap (λ l. model_unlined (blif_model line (take_while is_inside all)) ∷ l) rest
         )
     by false e rest = rw e rest

@@ -1,14 +1,14 @@
 -- What the printed lines of a model say: the models, in all but lines.
 use Rattle.std.proofs.Common.{◌≡◌, ℕ, Bool, true, false, if◌then◌else◌, List, [], ◌∷◌, ◌++◌, map, refl, ap, ◌∙◌}
 use Rattle.std.specs.List.{AllByRecursion, flat_map, take_while}
+use Rattle.dom_base.proofs.Lists.{take_while-keep, take_while-stop}
 use Rattle.blif_ast.specs.BlifModelData.{BlifModelData}
 use Rattle.blif_ast.specs.Printed.{model_lines}
 use Rattle.blif_ast.specs.LogicalLines.{LogicalLine}
 use Rattle.blif_ast.specs.Cards.{begins, model_card, end_card}
-use Rattle.blif_ast.specs.Models.{model_of, is_inside, models_of}
-use Rattle.blif_read.proofs.GoodPrefix.{take_while-keep, take_while-stop}
-use Rattle.blif_read.proofs.PrintedLines.{line_at}
-use Rattle.blif_read.proofs.PrintedParts.{inner_lines, inner_all, model_lines-inner, by_rows}
+use Rattle.blif_ast.specs.Models.{blif_model, is_inside, models_of}
+use Rattle.blif_read.proofs.PrintReadsBackLines.{line_at}
+use Rattle.blif_read.proofs.PrintReadsBackParts.{inner_lines, inner_all, model_lines-inner, by_rows}
 
 -- lines with the number 0
 abbrev pub zeros : List (List (List ℕ)) → List LogicalLine
@@ -32,7 +32,7 @@ take_while-all test (x ∷ front) line rest h stop = take_while-keep test x (fro
 pub models_of-skip : (front rest : List LogicalLine) → AllByRecursion (λ l. begins model_card l ≡ false) front → models_of (front ++ rest) ≡ models_of rest
 models_of-skip [] rest h = refl
 models_of-skip (line ∷ front) rest h =
-    ap (λ b. if b then model_of line (take_while is_inside (front ++ rest)) ∷ models_of (front ++ rest) else models_of (front ++ rest)) h.0
+    ap (λ b. if b then blif_model line (take_while is_inside (front ++ rest)) ∷ models_of (front ++ rest) else models_of (front ++ rest)) h.0
     ∙ models_of-skip front rest h.1
 
 inner_inside : (m : BlifModelData) → AllByRecursion (λ l. is_inside l ≡ true) (zeros (inner_lines m))
@@ -57,7 +57,7 @@ inner_opens_none m = zeros_all (λ l. begins model_card l ≡ false) (inner_line
 
 -- the models of printed models, each by its own lines
 pub models_printed : (models : List BlifModelData)
-    → models_of (zeros (flat_map model_lines models)) ≡ map (λ m. model_of (line_at 0 (model_card ∷ m.name ∷ [])) (zeros (inner_lines m))) models
+    → models_of (zeros (flat_map model_lines models)) ≡ map (λ m. blif_model (line_at 0 (model_card ∷ m.name ∷ [])) (zeros (inner_lines m))) models
 models_printed [] = refl
 models_printed (m ∷ models) =
     let front = zeros (inner_lines m) in
@@ -66,6 +66,6 @@ models_printed (m ∷ models) =
     let last = line_at 0 (end_card ∷ []) in
     ap (λ l. models_of (zeros l)) (model_lines-inner m (flat_map model_lines models))
     ∙ ap (λ l. models_of (head ∷ l)) (zeros-append (inner_lines m) ((end_card ∷ []) ∷ flat_map model_lines models))
-    ∙ ap (λ l. model_of head l ∷ models_of (front ++ last ∷ rest)) (take_while-all is_inside front last rest (inner_inside m) refl)
-    ∙ ap (λ l. model_of head front ∷ l) (models_of-skip front (last ∷ rest) (inner_opens_none m))
-    ∙ ap (λ l. model_of head front ∷ l) (models_printed models)
+    ∙ ap (λ l. blif_model head l ∷ models_of (front ++ last ∷ rest)) (take_while-all is_inside front last rest (inner_inside m) refl)
+    ∙ ap (λ l. blif_model head front ∷ l) (models_of-skip front (last ∷ rest) (inner_opens_none m))
+    ∙ ap (λ l. blif_model head front ∷ l) (models_printed models)

@@ -3,24 +3,23 @@ use Rattle.std.proofs.Common.{◌≡◌, ◌≢◌, ℕ, ◌+◌, Bool, true, fa
 use Rattle.std.specs.List.{AllByRecursion, IsDistinct, flat_map, take_while, prefix_len}
 use Rattle.std.proofs.lemmas.List.Elements.{All-from_recursion}
 use Rattle.dom_base.specs.Lines.{lines, first_word}
-use Rattle.dom_base.proofs.Lists.{AllByRecursion-append, AllByRecursion-take}
-use Rattle.blif_ast.specs.Good.{IsGoodName, IsGoodTable, IsGoodLatch, IsGoodInstance, IsGoodModel, IsGoodFile, card_lines}
+use Rattle.dom_base.proofs.Lists.{AllByRecursion-append, AllByRecursion-take, AllByRecursion-drop}
+use Rattle.blif_ast.specs.Good.{IsGoodName, IsGoodTable, IsGoodLatch, IsGoodInstance, IsGoodModel, IsGoodFile, part_lines}
 use Rattle.blif_ast.specs.declared.kind.BlifKind.{BlifKind}
 use Rattle.blif_ast.specs.declared.kind.BlifKind.TheVariants.{RowOutsideTable, NoModel}
 use Rattle.blif_ast.specs.declared.card.Card.TheVariants.{Model}
 use Rattle.blif_ast.specs.LogicalLines.{LogicalLine, logical_lines}
 use Rattle.blif_ast.specs.Cards.{begins, is_card, model_card, inputs_card, outputs_card, names_card, latch_card, subckt_card, same}
 use Rattle.blif_ast.specs.Faults.{has_blif_fault}
-use Rattle.blif_ast.specs.Models.{names_on, tables_of, latches_of, instance_of, instances_of, model_of, is_inside, models_of}
+use Rattle.blif_ast.specs.Models.{names_on, tables_of, latches_of, instance_of, instances_of, blif_model, is_inside, models_of}
 use Rattle.blif_read.specs.Laws.{AcceptedFileIsGood}
-use Rattle.blif_read.proofs.GoodPrefix.{AllByRecursion-drop}
-use Rattle.blif_read.proofs.GoodNumbers.{Rises, Rises-take, logical_lines-rise}
-use Rattle.blif_read.proofs.GoodWords.{logical_lines-plain}
-use Rattle.blif_read.proofs.GoodLines.{Free, Free-from, Free-take, IsGoodLine, good_lines, good_lines-filter, good_word-at, card_form, same-true}
-use Rattle.blif_read.proofs.GoodRows.{good_tables}
-use Rattle.blif_read.proofs.GoodParts.{good_latches, good_instances}
-use Rattle.blif_read.proofs.GoodApart.{numbers_of, distinct_numbers, apart_numbers, distinct_append}
-use Rattle.blif_read.proofs.OneFault.{IsFaultOfLine-from}
+use Rattle.blif_read.proofs.LineNumbers.{Rises, Rises-take, logical_lines-rise}
+use Rattle.blif_read.proofs.AcceptedIsGoodWords.{logical_lines-plain}
+use Rattle.blif_read.proofs.AcceptedIsGoodLines.{Free, Free-from, Free-take, IsGoodLine, good_lines, good_lines-filter, good_word-at, card_form, same-true}
+use Rattle.blif_read.proofs.AcceptedIsGoodRows.{good_tables}
+use Rattle.blif_read.proofs.AcceptedIsGoodParts.{good_latches, good_instances}
+use Rattle.blif_read.proofs.AcceptedIsGoodCardLines.{numbers_of, distinct_numbers, apart_numbers, distinct_append}
+use Rattle.blif_read.proofs.LineFaults.{IsFaultOfLine-from}
 
 -- the words of some lines behind their first words
 names_good : (all : List LogicalLine) → AllByRecursion IsGoodLine all → AllByRecursion IsGoodName (flat_map (λ line. drop 1 line.words) all)
@@ -65,7 +64,7 @@ lines_apart n all rises =
 
 -- the model of a card `.model` and of the lines behind it that belong to it
 good_model : (n : ℕ) (before : List LogicalLine) (line : LogicalLine) (all : List LogicalLine) → begins model_card line ≡ true → ((kind : BlifKind) → has_blif_fault kind before line ≡ false)
-    → IsGoodLine line → Free (line ∷ before) all → AllByRecursion IsGoodLine all → Rises n all → IsGoodModel (model_of line all)
+    → IsGoodLine line → Free (line ∷ before) all → AllByRecursion IsGoodLine all → Rises n all → IsGoodModel (blif_model line all)
 good_model n before line all is free good rest goods rises =
     let latches = good_latches (line ∷ before) all rest goods in
     let form : (length line.words == 2) ≡ true = card_form Model before line is free in
@@ -80,7 +79,7 @@ good_model n before line all is free good rest goods rises =
     }
   where
     cards : map (λ l. l.line) (latches_of all) ≡ numbers_of (begins latch_card) all
-        → card_lines (model_of line all) ≡ numbers_of (begins names_card) all ++ numbers_of (begins latch_card) all ++ numbers_of (begins subckt_card) all
+        → part_lines (blif_model line all) ≡ numbers_of (begins names_card) all ++ numbers_of (begins latch_card) all ++ numbers_of (begins subckt_card) all
     cards same_lines = λ i. table_lines all i ++ same_lines i ++ instances_lines (filter (begins subckt_card) all) i
 
 good_models : (n : ℕ) (before all : List LogicalLine) → Free before all → AllByRecursion IsGoodLine all → Rises n all → AllByRecursion IsGoodModel (models_of all)
@@ -92,12 +91,12 @@ good_models n before (line ∷ more) free good rises = by (begins model_card lin
 
     by : (b : Bool) → begins model_card line ≡ b → AllByRecursion IsGoodModel (models_of more) → AllByRecursion IsGoodModel (models_of (line ∷ more))
     by true e rest =
-        subst (λ b. AllByRecursion IsGoodModel (if b then model_of line (take_while is_inside more) ∷ models_of more else models_of more)) (sym e) (
+        subst (λ b. AllByRecursion IsGoodModel (if b then blif_model line (take_while is_inside more) ∷ models_of more else models_of more)) (sym e) (
           good_model (line.number + 1) before line (take_while is_inside more) e free.0 good.0 (Free-take count (line ∷ before) more free.1) (AllByRecursion-take IsGoodLine count more good.1)
               (Rises-take (line.number + 1) count more rises.1),
           rest,
         )
-    by false e rest = subst (λ b. AllByRecursion IsGoodModel (if b then model_of line (take_while is_inside more) ∷ models_of more else models_of more)) (sym e) rest
+    by false e rest = subst (λ b. AllByRecursion IsGoodModel (if b then blif_model line (take_while is_inside more) ∷ models_of more else models_of more)) (sym e) rest
 
 first_is_model : (card model : Bool) → (not card && not false) ≡ false → (card && not model && not false) ≡ false → model ≡ true
 first_is_model true true p q = refl
@@ -109,7 +108,7 @@ some_model : (all : List LogicalLine) → all ≢ [] → Free [] all → models_
 some_model [] some free = absurd (some refl)
 some_model (line ∷ more) some free =
     let is : begins model_card line ≡ true = first_is_model (is_card line) (begins model_card line) (free.0 RowOutsideTable) (free.0 NoModel) in
-    λ e. let never : model_of line (take_while is_inside more) ∷ models_of more ≡ [] = sym (ap (λ b. if b then model_of line (take_while is_inside more) ∷ models_of more else models_of more) is) ∙ e in cc
+    λ e. let never : blif_model line (take_while is_inside more) ∷ models_of more ≡ [] = sym (ap (λ b. if b then blif_model line (take_while is_inside more) ∷ models_of more else models_of more) is) ∙ e in cc
 
 pub accepted_file : AcceptedFileIsGood
 accepted_file text file is = subst IsGoodFile (sym is.file_is) (record {

@@ -6,7 +6,7 @@ use Rattle.std.proofs.lemmas.Bool.{false_from_ne_true}
 use Rattle.std.proofs.lemmas.Bool.Decides.{nat_tests}
 use Rattle.std.proofs.lemmas.List.Elements.{All-from_recursion}
 use Rattle.dom_base.specs.Lines.{is_blank, is_control, is_word, first_word}
-use Rattle.dom_base.proofs.Lists.{AllByRecursion-filter, AllByRecursion-weaker}
+use Rattle.dom_base.proofs.Lists.{AllByRecursion-filter, AllByRecursion-weaker, none-list_any}
 use Rattle.blif_ast.specs.Good.{IsNameByte, IsGoodName}
 use Rattle.blif_ast.specs.declared.kind.BlifKind.{BlifKind}
 use Rattle.blif_ast.specs.declared.kind.BlifKind.TheVariants.{ControlByte, BadCard}
@@ -15,8 +15,8 @@ use Rattle.blif_ast.specs.declared.card.Card.{Card}
 use Rattle.blif_ast.specs.declared.card.Card.TheVariants.{Model, Inputs, Outputs, Names, Latch, Subckt, Clock, End}
 use Rattle.blif_ast.specs.Cards.{same, begins, card_named, card_of, card_word, is_form, is_out_of_form}
 use Rattle.blif_ast.specs.Faults.{has_blif_fault}
-use Rattle.blif_read.proofs.GoodWords.{IsNoMark, IsPlainWord, IsPlainLine}
-use Rattle.blif_read.proofs.Positions.{FaultIn}
+use Rattle.blif_read.proofs.AcceptedIsGoodWords.{IsNoMark, IsPlainWord, IsPlainLine}
+use Rattle.blif_read.proofs.LineFaults.{FaultIn}
 
 -- lines without faults, where these lines stand before them, the nearest first
 abbrev pub Free : List LogicalLine → List LogicalLine → Type 0
@@ -37,14 +37,6 @@ Free-take (suc n) before (line ∷ more) h = (h.0, Free-take n (line ∷ before)
 abbrev pub IsGoodLine : LogicalLine → Type 0
 IsGoodLine line = (0 < length line.words) × AllByRecursion IsGoodName line.words
 
-any_none : {X : Type 0} (test : X → Bool) (xs : List X) → list_any test xs ≡ false → AllByRecursion (λ x. test x ≡ false) xs
-any_none test [] h = tt
-any_none test (x ∷ xs) h = by (test x) refl (any_none test xs)
-  where
-    by : (b : Bool) → test x ≡ b → (list_any test xs ≡ false → AllByRecursion (λ y. test y ≡ false) xs) → AllByRecursion (λ y. test y ≡ false) (x ∷ xs)
-    by true e rest = let never : true ≡ false = sym (ap (λ b. b || list_any test xs) e) ∙ h in absurd cc
-    by false e rest = (e, rest (sym (ap (λ b. b || list_any test xs) e) ∙ h))
-
 name_byte : (b : ℕ) → IsNoMark b → is_blank b ≡ false → is_control b ≡ false → IsNameByte b
 name_byte b mark blank control = (grind (arith, nat_tests), grind (arith, nat_tests), grind (arith, nat_tests))
 
@@ -55,7 +47,7 @@ name_bytes (b ∷ bs) h k = (name_byte b h.0.0 h.0.1 k.0, name_bytes bs h.1 k.1)
 good_word : (word : List ℕ) → IsPlainWord word → list_any is_control word ≡ false → IsGoodName word
 good_word word h k = record {
   some = λ e. let never : true ≡ false = sym h.0 ∙ ap is_word e in cc;
-  bytes = All-from_recursion IsNameByte word (name_bytes word h.1 (any_none is_control word k));
+  bytes = All-from_recursion IsNameByte word (name_bytes word h.1 (none-list_any is_control word k));
 }
 
 good_words : (all : List (List ℕ)) → AllByRecursion IsPlainWord all → AllByRecursion (λ word. list_any is_control word ≡ false) all → AllByRecursion IsGoodName all
@@ -65,7 +57,7 @@ good_words (word ∷ all) h k = (good_word word h.0 k.0, good_words all h.1 k.1)
 pub good_lines : (before all : List LogicalLine) → Free before all → AllByRecursion IsPlainLine all → AllByRecursion IsGoodLine all
 good_lines before [] free h = tt
 good_lines before (line ∷ more) free h =
-    ((h.0.0, good_words line.words h.0.1 (any_none (list_any is_control) line.words (free.0 ControlByte))), good_lines (line ∷ before) more free.1 h.1)
+    ((h.0.0, good_words line.words h.0.1 (none-list_any (list_any is_control) line.words (free.0 ControlByte))), good_lines (line ∷ before) more free.1 h.1)
 
 pub good_lines-filter : (test : LogicalLine → Bool) (all : List LogicalLine) → AllByRecursion IsGoodLine all → AllByRecursion IsGoodLine (filter test all)
 good_lines-filter test all h =

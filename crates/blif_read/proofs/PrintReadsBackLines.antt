@@ -4,10 +4,10 @@ use Rattle.std.proofs.lemmas.Bool.Decides.{nat_tests}
 use Rattle.std.specs.List.{AllByRecursion, flat_map}
 use Rattle.dom_base.specs.Joined.{ended, IsClean}
 use Rattle.dom_base.proofs.Texts.{lines-ended}
-use Rattle.blif_ast.specs.Printed.{line}
+use Rattle.blif_ast.specs.Printed.{printed_line}
 use Rattle.dom_base.specs.Lines.{without_comment}
 use Rattle.blif_ast.specs.LogicalLines.{LogicalLine, in_words, has_words, joined_lines, with_line, with_next, with_blank, logical_lines, logical_lines_from}
-use Rattle.blif_read.proofs.PrintedWords.{body, IsNamesLine, body_words, body_clean, body_not_joined, body_uncommented}
+use Rattle.blif_read.proofs.PrintReadsBackWords.{body, IsNamesLine, body_words, body_clean, body_not_joined, body_uncommented}
 
 -- lines with numbers from this one on
 abbrev pub line_at : ℕ → List (List ℕ) → LogicalLine
@@ -17,13 +17,13 @@ abbrev pub numbered : ℕ → List (List (List ℕ)) → List LogicalLine
 numbered number [] = []
 numbered number (first ∷ more) = line_at number first ∷ numbered (number + 1) more
 
-line_ended : (first : List (List ℕ)) (rest : List ℕ) → line first ++ rest ≡ ended (body first) ++ rest
+line_ended : (first : List (List ℕ)) (rest : List ℕ) → printed_line first ++ rest ≡ ended (body first) ++ rest
 line_ended first rest = simp append_assoc
 
-lines_ended : (all : List (List (List ℕ))) → flat_map line all ≡ flat_map ended (map body all)
+lines_ended : (all : List (List (List ℕ))) → flat_map printed_line all ≡ flat_map ended (map body all)
 lines_ended [] = refl
 lines_ended (first ∷ more) =
-    line_ended first (flat_map line more)
+    line_ended first (flat_map printed_line more)
     ∙ ap (λ l. ended (body first) ++ l) (lines_ended more)
 
 lines_clean : (all : List (List (List ℕ))) → AllByRecursion IsNamesLine all → AllByRecursion IsClean (map body all)
@@ -45,7 +45,7 @@ lines_numbered number ((first ∷ others) ∷ more) h =
     ∙ ap (λ l. line_at number (first ∷ others) ∷ l) (lines_numbered (number + 1) more h.1)
 
 -- the logical lines of lines that are printed
-pub printed_lines : (all : List (List (List ℕ))) → AllByRecursion IsNamesLine all → logical_lines (flat_map line all) ≡ numbered 1 all
+pub printed_lines : (all : List (List (List ℕ))) → AllByRecursion IsNamesLine all → logical_lines (flat_map printed_line all) ≡ numbered 1 all
 printed_lines all h =
     ap logical_lines (lines_ended all)
     ∙ ap (logical_lines_from 1) (lines-ended (map body all) (lines_clean all h))

@@ -10,13 +10,13 @@ use Rattle.blif_ast.specs.LogicalLines.{LogicalLine, logical_lines}
 use Rattle.blif_ast.specs.Models.{models_of}
 use Rattle.blif_ast.specs.Reading.{IsBlifFault}
 use Rattle.blif_read.specs.ReadsBack.{model_unlined, PrintedReadsBack}
-use Rattle.blif_read.proofs.GoodLines.{Free}
-use Rattle.blif_read.proofs.Positions.{FaultIn, fault_in}
-use Rattle.blif_read.proofs.PrintedLines.{numbered, printed_lines}
-use Rattle.blif_read.proofs.PrintedNames.{models_names}
-use Rattle.blif_read.proofs.PrintedModels.{models_back}
-use Rattle.blif_read.proofs.PrintedUnlined.{numbered-zeros, models_of-unnumbered}
-use Rattle.blif_read.proofs.PrintedRows.{models_free}
+use Rattle.blif_read.proofs.AcceptedIsGoodLines.{Free}
+use Rattle.blif_read.proofs.LineFaults.{FaultIn, fault_in}
+use Rattle.blif_read.proofs.PrintReadsBackLines.{numbered, printed_lines}
+use Rattle.blif_read.proofs.PrintReadsBackNames.{models_names}
+use Rattle.blif_read.proofs.PrintReadsBackModels.{models_back}
+use Rattle.blif_read.proofs.PrintReadsBackUnlined.{numbered-zeros, models_of-unnumbered}
+use Rattle.blif_read.proofs.PrintReadsBackRows.{models_free}
 
 Free-none : (before all : List LogicalLine) (number : ℕ) (kind : BlifKind) → Free before all → FaultIn before all number kind → ⊥
 Free-none before [] number kind free h = h

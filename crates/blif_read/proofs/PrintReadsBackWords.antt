@@ -6,15 +6,15 @@ use Rattle.std.proofs.lemmas.Bool.Decides.{nat_tests}
 use Rattle.std.proofs.lemmas.List.Elements.{All-weaker, All-from_recursion, recursion_from_All, filter-append}
 use Rattle.std.proofs.lemmas.List.Splits.{slice_split_at}
 use Rattle.dom_base.specs.Lines.{is_line_feed, is_blank, is_word, words, without_comment}
-use Rattle.dom_base.proofs.Lists.{AllByRecursion-append, AllByRecursion-weaker, filter_all}
+use Rattle.dom_base.proofs.Lists.{AllByRecursion-append, AllByRecursion-weaker, filter_all, take_while-keep}
 use Rattle.dom_base.specs.Joined.{after_blanks, joined, IsClean, IsSolid}
 use Rattle.dom_base.proofs.Texts.{words-joined}
+use Rattle.dom_base.proofs.WordBytes.{some_byte, words-trailing}
 use Rattle.blif_ast.specs.Good.{IsNameByte, IsGoodName}
 use Rattle.blif_ast.specs.Cards.{last_word}
 use Rattle.blif_ast.specs.Printed.{guard}
 use Rattle.blif_ast.proofs.LineWords.{joined_words, last_byte, last-append, joined-last}
 use Rattle.blif_ast.specs.LogicalLines.{is_joined}
-use Rattle.blif_read.proofs.GoodPrefix.{take_while-keep}
 
 -- a printed line without its LF
 abbrev pub body : List (List ℕ) → List ℕ
@@ -49,10 +49,6 @@ last-join (word ∷ next ∷ all) h =
 name_no_blank : (b : ℕ) → IsNameByte b → is_blank b ≡ false
 name_no_blank b h = grind (arith, nat_tests, h.0)
 
-some_byte : (word : List ℕ) → word ≢ [] → is_word word ≡ true
-some_byte [] n = absurd (n refl)
-some_byte (b ∷ bs) n = refl
-
 solid_name : (word : List ℕ) → IsGoodName word → IsSolid word
 solid_name word h = record { some = some_byte word h.some; no_blank = All-weaker IsNameByte (λ b. is_blank b ≡ false) name_no_blank word h.bytes }
 
@@ -73,22 +69,6 @@ body_not_joined all h = joined-last (body all) ∙ by (is_joined (last_word all)
         ∙ ap (λ b. b == 92) (last-join all (solid_names all h))
         ∙ sym (joined-last (last_word all))
         ∙ e
-
-split-trailing : (first : List ℕ) (others : List (List ℕ)) → IsSolid first → AllByRecursion IsSolid others
-    → slice_split is_blank (joined first others ++ 32 ∷ []) ≡ (first ∷ others) ++ [] ∷ []
-split-trailing first [] f h = ap (λ l. slice_split is_blank (l ++ 32 ∷ [])) (append-nil first) ∙ slice_split_at is_blank first 32 [] f.no_blank refl
-split-trailing first (word ∷ others) f h =
-    ap (slice_split is_blank) (append_assoc first (32 ∷ joined word others) (32 ∷ []))
-    ∙ slice_split_at is_blank first 32 (joined word others ++ 32 ∷ []) f.no_blank refl
-    ∙ ap (λ l. first ∷ l) (split-trailing word others h.0 h.1)
-
-words-trailing : (first : List ℕ) (others : List (List ℕ)) → IsSolid first → AllByRecursion IsSolid others
-    → words (joined first others ++ 32 ∷ []) ≡ first ∷ others
-words-trailing first others f h =
-    ap (filter is_word) (split-trailing first others f h)
-    ∙ filter-append is_word (first ∷ others) ([] ∷ [])
-    ∙ append-nil (filter is_word (first ∷ others))
-    ∙ filter_all is_word (first ∷ others) (f.some, AllByRecursion-weaker IsSolid (λ word. is_word word ≡ true) (λ word k. k.some) others h)
 
 -- the words of a printed line
 pub body_words : (first : List ℕ) (others : List (List ℕ)) → IsGoodName first → AllByRecursion IsGoodName others → words (body (first ∷ others)) ≡ first ∷ others

@@ -20,9 +20,9 @@ use Rattle.blif_ast.specs.LogicalLines.{LogicalLine}
 use Rattle.blif_ast.specs.Cards.{is_init, is_type, is_level, is_latch_form, is_binding, model_card, inputs_card, outputs_card, end_card}
 use Rattle.blif_ast.specs.Context.{is_model_open}
 use Rattle.blif_ast.specs.Faults.{has_blif_fault}
-use Rattle.blif_read.proofs.PrintedWords.{IsNamesLine}
-use Rattle.blif_read.proofs.PrintedLines.{line_at}
-use Rattle.blif_read.proofs.PrintedCards.{names_inputs, binding_back}
+use Rattle.blif_read.proofs.PrintReadsBackWords.{IsNamesLine}
+use Rattle.blif_read.proofs.PrintReadsBackLines.{line_at}
+use Rattle.blif_read.proofs.PrintReadsBackCards.{names_inputs, binding_back}
 
 name_no_control : (b : ℕ) → IsNameByte b → is_control b ≡ false
 name_no_control b h = grind (arith, nat_tests, h.0, h.1)

@@ -4,6 +4,7 @@ use Rattle.std.specs.List.{AllByRecursion, flat_map, list_all, find, take_while}
 use Rattle.std.proofs.lemmas.Bool.Decides.{nat_tests}
 use Rattle.std.proofs.lemmas.Grind.{reverse_onto}
 use Rattle.std.proofs.lemmas.List.Elements.{recursion_from_All}
+use Rattle.dom_base.proofs.Lists.{take_while-keep}
 use Rattle.blif_ast.specs.declared.letter.Letter.{Letter}
 use Rattle.blif_ast.specs.declared.letter.Letter.TheVariants.{Zero, One, Any}
 use Rattle.blif_ast.specs.declared.latch.Latch.{Latch}
@@ -11,19 +12,18 @@ use Rattle.blif_ast.specs.TableData.{TableData}
 use Rattle.blif_ast.specs.InstanceData.{InstanceData}
 use Rattle.blif_ast.specs.BlifModelData.{BlifModelData}
 use Rattle.blif_ast.specs.Good.{IsGoodName, IsGoodTable, IsGoodLatch, IsGoodInstance, IsGoodModel}
-use Rattle.blif_ast.specs.Printed.{port_lines, letter_byte, row_words, value_word, names_words, model_lines}
+use Rattle.blif_ast.specs.Printed.{ports_card, letter_byte, row_words, value_word, names_words, model_lines}
 use Rattle.blif_ast.specs.declared.kind.BlifKind.TheVariants.{ControlByte, UnknownCard, BadCard, RowOutsideTable, BadRow, MixedCover, TooWide, NoModel, LatchKind}
 use Rattle.blif_ast.specs.LogicalLines.{LogicalLine}
 use Rattle.blif_ast.specs.Cards.{is_card, is_row, is_letter, is_value, is_row_form, last_letter, model_card, inputs_card, outputs_card, end_card}
 use Rattle.blif_ast.specs.Context.{is_model_open, is_table_open, open_width, open_rows, differs_from_first}
 use Rattle.blif_ast.specs.Faults.{has_blif_fault, is_row_inside}
-use Rattle.blif_read.proofs.GoodPrefix.{take_while-keep}
-use Rattle.blif_read.proofs.GoodLines.{Free}
-use Rattle.blif_read.proofs.PrintedLines.{line_at, numbered}
-use Rattle.blif_read.proofs.PrintedParts.{tables_lines, latches_lines, instances_lines, inner_lines, model_lines-inner, by_rows}
-use Rattle.blif_read.proofs.PrintedCards.{row_last, names_inputs}
-use Rattle.blif_read.proofs.PrintedNames.{name-test, row_names, table_names, latch_names, instance_names}
-use Rattle.blif_read.proofs.PrintedFree.{IsFree, no_control, model_free, end_free, inputs_free, outputs_free, names_free, latch_free, instance_free}
+use Rattle.blif_read.proofs.AcceptedIsGoodLines.{Free}
+use Rattle.blif_read.proofs.PrintReadsBackLines.{line_at, numbered}
+use Rattle.blif_read.proofs.PrintReadsBackParts.{tables_lines, latches_lines, instances_lines, inner_lines, model_lines-inner, by_rows}
+use Rattle.blif_read.proofs.PrintReadsBackCards.{row_last, names_inputs}
+use Rattle.blif_read.proofs.PrintReadsBackNames.{name-test, row_names, table_names, latch_names, instance_names}
+use Rattle.blif_read.proofs.PrintReadsBackNoFault.{IsFree, no_control, model_free, end_free, inputs_free, outputs_free, names_free, latch_free, instance_free}
 
 and_false : (x y : Bool) → y ≡ false → (x && y) ≡ false
 and_false true y h = h
@@ -125,18 +125,18 @@ instances_free : (instances : List InstanceData) → AllByRecursion IsGoodInstan
 instances_free [] h rest next before n o = next before n o
 instances_free (i ∷ instances) h rest next before n o = (instance_free before n i o h.0 (instance_names i h.0), instances_free instances h.1 rest next (_ ∷ before) (n + 1) o)
 
-inputs_lines_free : (names : List (List ℕ)) → AllByRecursion IsGoodName names → Segment (port_lines inputs_card names)
+inputs_lines_free : (names : List (List ℕ)) → AllByRecursion IsGoodName names → Segment (ports_card inputs_card names)
 inputs_lines_free [] h rest next before n o = next before n o
 inputs_lines_free (name ∷ names) h rest next before n o = (inputs_free before n (name ∷ names) o (name-test inputs_card refl, h), next (_ ∷ before) (n + 1) o)
 
-outputs_lines_free : (names : List (List ℕ)) → AllByRecursion IsGoodName names → Segment (port_lines outputs_card names)
+outputs_lines_free : (names : List (List ℕ)) → AllByRecursion IsGoodName names → Segment (ports_card outputs_card names)
 outputs_lines_free [] h rest next before n o = next before n o
 outputs_lines_free (name ∷ names) h rest next before n o = (outputs_free before n (name ∷ names) o (name-test outputs_card refl, h), next (_ ∷ before) (n + 1) o)
 
 inner_free : (m : BlifModelData) → IsGoodModel m → Segment (inner_lines m)
 inner_free m h =
-    let i = port_lines inputs_card m.inputs in
-    let o = port_lines outputs_card m.outputs in
+    let i = ports_card inputs_card m.inputs in
+    let o = ports_card outputs_card m.outputs in
     let t = tables_lines m.tables in
     let l = latches_lines m.latches in
     let s = instances_lines m.instances in

@@ -2,9 +2,8 @@
 use Rattle.std.proofs.Common.{◌≡◌, ℕ, ◌<◌, ◌+◌, ◌-◌, Bool, true, false, ◌==◌, List, [], ◌∷◌, length, nat_lt, map, refl, arith}
 use Rattle.std.specs.List.{AllByRecursion, slice_split}
 use Rattle.dom_base.specs.Lines.{is_blank, is_word, words, lines, without_comment}
-use Rattle.dom_base.proofs.Lists.{AllByRecursion-filter, AllByRecursion-append, AllByRecursion-take}
+use Rattle.dom_base.proofs.Lists.{AllByRecursion-filter, AllByRecursion-append, AllByRecursion-take, before_first-all}
 use Rattle.dom_base.proofs.WordBytes.{pieces_all}
-use Rattle.blif_read.proofs.GoodPrefix.{before_first-all}
 use Rattle.blif_ast.specs.LogicalLines.{LogicalLine, NumberedBytes, in_words, has_words, is_joined, but_last, with_blank, joined_lines, with_line, with_next, logical_lines}
 
 -- a byte that begins no comment

@@ -1,12 +1,12 @@
 -- Numbers of logical lines grow.
 use Rattle.std.proofs.Common.{◌≡◌, ℕ, zero, suc, ◌≤◌, ◌+◌, Bool, true, false, List, [], ◌∷◌, map, filter, take, refl, arith}
 use Rattle.blif_ast.specs.LogicalLines.{LogicalLine, NumberedBytes, in_words, has_words, is_joined, with_blank, joined_lines, with_line, with_next, logical_lines, logical_lines_from}
+use Rattle.dom_base.proofs.Faults.{NumbersRise, NumbersRise-lower}
 use Rattle.dom_base.specs.Lines.{lines, without_comment}
 
 -- logical lines whose numbers grow, from this number on
 abbrev pub Rises : ℕ → List LogicalLine → Type 0
-Rises n [] = Unit {0}
-Rises n (line ∷ more) = (n ≤ line.number) × Rises (line.number + 1) more
+Rises = NumbersRise (λ line. line.number)
 
 abbrev RisesInBytes : ℕ → List NumberedBytes → Type 0
 RisesInBytes n [] = Unit {0}
@@ -17,8 +17,7 @@ bytes_lower n m [] le h = tt
 bytes_lower n m (line ∷ more) le h = (omega (arith, le, h.0), h.1)
 
 pub Rises-lower : (n m : ℕ) (all : List LogicalLine) → m ≤ n → Rises n all → Rises m all
-Rises-lower n m [] le h = tt
-Rises-lower n m (line ∷ more) le h = (omega (arith, le, h.0), h.1)
+Rises-lower n m all le h = NumbersRise-lower (λ line. line.number) n m all le h
 
 next_rises : (n : ℕ) (line : List ℕ) (next : List NumberedBytes) → RisesInBytes (n + 1) next → RisesInBytes n (with_next n line next)
 next_rises n line [] h = (omega arith, tt)

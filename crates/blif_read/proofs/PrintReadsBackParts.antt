@@ -8,7 +8,7 @@ use Rattle.blif_ast.specs.declared.latch.Latch.{Latch}
 use Rattle.blif_ast.specs.TableData.{TableData}
 use Rattle.blif_ast.specs.InstanceData.{InstanceData}
 use Rattle.blif_ast.specs.BlifModelData.{BlifModelData}
-use Rattle.blif_ast.specs.Printed.{port_lines, table_lines, row_words, latch_words, instance_words, model_lines}
+use Rattle.blif_ast.specs.Printed.{ports_card, table_lines, row_words, latch_words, instance_words, model_lines}
 use Rattle.blif_ast.specs.Cards.{model_card, inputs_card, outputs_card, names_card, latch_card, subckt_card, end_card}
 
 -- the lines of a model between its first and its last
@@ -22,7 +22,7 @@ abbrev pub instances_lines : List InstanceData → List (List (List ℕ))
 instances_lines instances = map instance_words instances
 
 abbrev pub inner_lines : BlifModelData → List (List (List ℕ))
-inner_lines m = port_lines inputs_card m.inputs ++ (port_lines outputs_card m.outputs ++ (tables_lines m.tables ++ (latches_lines m.latches ++ instances_lines m.instances)))
+inner_lines m = ports_card inputs_card m.inputs ++ (ports_card outputs_card m.outputs ++ (tables_lines m.tables ++ (latches_lines m.latches ++ instances_lines m.instances)))
 
 pieces : {X : Type 0} (inputs outputs tables latches instances last rest : List X)
     → (((((inputs ++ outputs) ++ tables) ++ latches) ++ instances) ++ last) ++ rest ≡ (inputs ++ (outputs ++ (tables ++ (latches ++ instances)))) ++ (last ++ rest)
@@ -33,7 +33,7 @@ pub model_lines-inner : (m : BlifModelData) (rest : List (List (List ℕ)))
     → model_lines m ++ rest ≡ (model_card ∷ m.name ∷ []) ∷ (inner_lines m ++ (end_card ∷ []) ∷ rest)
 model_lines-inner m rest =
     ap (λ l. (model_card ∷ m.name ∷ []) ∷ l)
-    (pieces (port_lines inputs_card m.inputs) (port_lines outputs_card m.outputs) (tables_lines m.tables) (latches_lines m.latches) (instances_lines m.instances) ((end_card ∷ []) ∷ []) rest)
+    (pieces (ports_card inputs_card m.inputs) (ports_card outputs_card m.outputs) (tables_lines m.tables) (latches_lines m.latches) (instances_lines m.instances) ((end_card ∷ []) ∷ []) rest)
 
 -- a fact of each line that begins with a card, and of each row
 pub record HoldsOfCards (P : List (List ℕ) → Type 0) : Type 0 where
@@ -44,7 +44,7 @@ pub record HoldsOfCards (P : List (List ℕ) → Type 0) : Type 0 where
   pub latch : (words : List (List ℕ)) → P (latch_card ∷ words)
   pub subckt : (words : List (List ℕ)) → P (subckt_card ∷ words)
 
-pub ports_all : (P : List (List ℕ) → Type 0) (card : List ℕ) → ((names : List (List ℕ)) → P (card ∷ names)) → (names : List (List ℕ)) → AllByRecursion P (port_lines card names)
+pub ports_all : (P : List (List ℕ) → Type 0) (card : List ℕ) → ((names : List (List ℕ)) → P (card ∷ names)) → (names : List (List ℕ)) → AllByRecursion P (ports_card card names)
 ports_all P card h [] = tt
 ports_all P card h (name ∷ names) = (h (name ∷ names), tt)
 
@@ -69,8 +69,8 @@ pub inner_all : (P : List (List ℕ) → Type 0) → HoldsOfCards P → (m : Bli
 inner_all P h m =
     let latches = latches_lines m.latches in
     let instances = instances_lines m.instances in
-    AllByRecursion-append P (port_lines inputs_card m.inputs) (port_lines outputs_card m.outputs ++ (tables_lines m.tables ++ (latches ++ instances))) (ports_all P inputs_card h.inputs m.inputs)
-    (AllByRecursion-append P (port_lines outputs_card m.outputs) (tables_lines m.tables ++ (latches ++ instances)) (ports_all P outputs_card h.outputs m.outputs)
+    AllByRecursion-append P (ports_card inputs_card m.inputs) (ports_card outputs_card m.outputs ++ (tables_lines m.tables ++ (latches ++ instances))) (ports_all P inputs_card h.inputs m.inputs)
+    (AllByRecursion-append P (ports_card outputs_card m.outputs) (tables_lines m.tables ++ (latches ++ instances)) (ports_all P outputs_card h.outputs m.outputs)
     (AllByRecursion-append P (tables_lines m.tables) (latches ++ instances) (tables_all P h.names h.row m.tables)
     (AllByRecursion-append P latches instances (latches_all P h.latch m.latches) (instances_all P h.subckt m.instances))))
 

@@ -16,10 +16,10 @@ use Rattle.blif_ast.specs.TableData.{TableData}
 use Rattle.blif_ast.specs.InstanceData.{InstanceData}
 use Rattle.blif_ast.specs.BlifModelData.{BlifModelData}
 use Rattle.blif_ast.specs.Good.{IsNameByte, IsGoodName, IsGoodSignal, IsGoodTable, IsGoodLatch, IsGoodBinding, IsGoodInstance, IsGoodModel}
-use Rattle.blif_ast.specs.Printed.{names_words, row_words, letter_byte, value_word, edge_word, signal_word, control_words, latch_words, instance_words, binding_word, port_lines, model_lines}
+use Rattle.blif_ast.specs.Printed.{names_words, row_words, letter_byte, value_word, edge_word, signal_word, control_words, latch_words, instance_words, binding_word, ports_card, model_lines}
 use Rattle.blif_ast.specs.Cards.{model_card, inputs_card, outputs_card, end_card}
-use Rattle.blif_read.proofs.PrintedWords.{IsNamesLine}
-use Rattle.blif_read.proofs.PrintedParts.{tables_lines, latches_lines, instances_lines, inner_lines, model_lines-inner}
+use Rattle.blif_read.proofs.PrintReadsBackWords.{IsNamesLine}
+use Rattle.blif_read.proofs.PrintReadsBackParts.{tables_lines, latches_lines, instances_lines, inner_lines, model_lines-inner}
 
 -- a test of a name's byte, which computes
 abbrev is_name_byte : ℕ → Bool
@@ -103,7 +103,7 @@ binding_names (b ∷ bindings) h = (binding_name b h.0, binding_names bindings h
 pub instance_names : (i : InstanceData) → IsGoodInstance i → IsNamesLine (instance_words i)
 instance_names i h = (name-test (codes ".subckt") refl, (h.unit, binding_names i.bindings (recursion_from_All IsGoodBinding i.bindings h.bindings)))
 
-ports_names : (card : List ℕ) → IsGoodName card → (names : List (List ℕ)) → AllByRecursion IsGoodName names → AllByRecursion IsNamesLine (port_lines card names)
+ports_names : (card : List ℕ) → IsGoodName card → (names : List (List ℕ)) → AllByRecursion IsGoodName names → AllByRecursion IsNamesLine (ports_card card names)
 ports_names card c [] h = tt
 ports_names card c (name ∷ names) h = ((c, h), tt)
 
@@ -128,9 +128,9 @@ inner_names m h =
     let P = IsNamesLine in
     let latches = latches_lines m.latches in
     let instances = instances_lines m.instances in
-    AllByRecursion-append P (port_lines inputs_card m.inputs) (port_lines outputs_card m.outputs ++ (tables_lines m.tables ++ (latches ++ instances)))
+    AllByRecursion-append P (ports_card inputs_card m.inputs) (ports_card outputs_card m.outputs ++ (tables_lines m.tables ++ (latches ++ instances)))
     (ports_names inputs_card (name-test inputs_card refl) m.inputs (recursion_from_All IsGoodName m.inputs h.inputs))
-    (AllByRecursion-append P (port_lines outputs_card m.outputs) (tables_lines m.tables ++ (latches ++ instances))
+    (AllByRecursion-append P (ports_card outputs_card m.outputs) (tables_lines m.tables ++ (latches ++ instances))
     (ports_names outputs_card (name-test outputs_card refl) m.outputs (recursion_from_All IsGoodName m.outputs h.outputs))
     (AllByRecursion-append P (tables_lines m.tables) (latches ++ instances) (tables_names m.tables (recursion_from_All IsGoodTable m.tables h.tables))
     (AllByRecursion-append P latches instances (latches_names m.latches (recursion_from_All IsGoodLatch m.latches h.latches)) (instances_names m.instances (recursion_from_All IsGoodInstance m.instances h.instances)))))

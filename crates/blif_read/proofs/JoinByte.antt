@@ -28,8 +28,3 @@ last_splits (b ∷ next ∷ bs) is =
 
 pub not_joined : (line : List ℕ) → ((front : List ℕ) → line ≡ front ++ 92 ∷ [] → ⊥) → is_joined line ≡ false
 not_joined line h = false_from_ne_true _ (λ e. let s = last_splits line (eqb-true _ _ (sym (joined_by line) ∙ e)) in h s.0 s.1)
-
--- what holds of the part before a last byte, or where there is none
-pub match_weaker : {X : Type 0} (P R : Type 0) (Q S : X → Type 0) (o : Option X) → (P → R) → ((x : X) → Q x → S x) → MatchOption o P Q → MatchOption o R S
-match_weaker P R Q S None none some m = none m
-match_weaker P R Q S (Some x) none some m = some x m

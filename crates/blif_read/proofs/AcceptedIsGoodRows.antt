@@ -5,7 +5,8 @@ use Rattle.std.proofs.lemmas.Bool.Decides.{nat_tests}
 use Rattle.std.proofs.lemmas.List.{length-map}
 use Rattle.std.proofs.lemmas.List.Elements.{All-from_recursion}
 use Rattle.dom_base.specs.Lines.{first_word}
-use Rattle.dom_base.proofs.Lists.{AllByRecursion-take}
+use Rattle.dom_base.proofs.Bools.{false_from_not}
+use Rattle.dom_base.proofs.Lists.{AllByRecursion-take, take_while-keep, take_while-stop, AllByRecursion-drop}
 use Rattle.blif_ast.specs.Good.{IsGoodName, IsGoodTable}
 use Rattle.blif_ast.specs.declared.kind.BlifKind.{BlifKind}
 use Rattle.blif_ast.specs.declared.kind.BlifKind.TheVariants.{BadRow, TooWide}
@@ -13,9 +14,8 @@ use Rattle.blif_ast.specs.LogicalLines.{LogicalLine}
 use Rattle.blif_ast.specs.Cards.{same, begins, is_card, is_row, is_letter, is_value, is_row_form, table_inputs, names_card}
 use Rattle.blif_ast.specs.Context.{words_of}
 use Rattle.blif_ast.specs.Faults.{has_blif_fault}
-use Rattle.blif_ast.specs.Models.{letter_of, row_letters, rows_are_on, table_of, tables_of}
-use Rattle.blif_read.proofs.GoodPrefix.{take_while-keep, take_while-stop, not_true, AllByRecursion-drop}
-use Rattle.blif_read.proofs.GoodLines.{Free, IsGoodLine, good_word-at, same-true}
+use Rattle.blif_ast.specs.Models.{row_letter, row_letters, rows_are_on, table_of, tables_of}
+use Rattle.blif_read.proofs.AcceptedIsGoodLines.{Free, IsGoodLine, good_word-at, same-true}
 
 and_last : (a b c : Bool) → a ≡ true → b ≡ true → (a && b && not c) ≡ false → c ≡ true
 and_last true true true p q h = refl
@@ -39,7 +39,7 @@ rows_form card before (row ∷ more) found names free = by (is_row row) refl (λ
         → (find is_card (row ∷ before) ≡ Some card → AllByRecursion (λ r. is_row_form (length (table_inputs card.words)) r.words ≡ true) (take_while is_row more))
         → AllByRecursion (λ r. is_row_form (length (table_inputs card.words)) r.words ≡ true) (take_while is_row (row ∷ more))
     by true e rest =
-        let still : find is_card (row ∷ before) ≡ Some card = ap (λ b. cond b (Some row) (find is_card before)) (not_true (is_card row) e) ∙ found in
+        let still : find is_card (row ∷ before) ≡ Some card = ap (λ b. cond b (Some row) (find is_card before)) (false_from_not (is_card row) e) ∙ found in
         subst (AllByRecursion (λ r. is_row_form (length (table_inputs card.words)) r.words ≡ true)) (sym (take_while-keep is_row row more e))
         (row_form card before row found names e (free.0 BadRow), rest still)
     by false e rest = subst (AllByRecursion (λ r. is_row_form (length (table_inputs card.words)) r.words ≡ true)) (sym (take_while-stop is_row row more e)) tt
@@ -59,7 +59,7 @@ row_length width (value ∷ []) h = sym (eqb-true width 0 (and_first (width == 0
 row_length width (letters ∷ value ∷ []) h =
     let wide = and_first (nat_lt 0 width && (length letters == width)) (list_all is_letter letters)
     (and_first (nat_lt 0 width && (length letters == width) && list_all is_letter letters) (is_value value) h) in
-    length-map letters letter_of ∙ eqb-true (length letters) width (and_second (nat_lt 0 width) (length letters == width) wide)
+    length-map letters row_letter ∙ eqb-true (length letters) width (and_second (nat_lt 0 width) (length letters == width) wide)
 row_length width (a ∷ b ∷ c ∷ more) h = absurd (cc)
 
 rows_length : (width : ℕ) (rows : List LogicalLine) → AllByRecursion (λ row. is_row_form width row.words ≡ true) rows

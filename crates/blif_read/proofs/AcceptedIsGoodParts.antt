@@ -4,16 +4,15 @@ use Rattle.std.specs.List.{AllByRecursion, filter_map, cons_option, list_all, po
 use Rattle.std.specs.Cmp.Lexicographic.{other_text}
 use Rattle.std.proofs.lemmas.Bool.{eqb-false}
 use Rattle.std.proofs.lemmas.List.Elements.{All-from_recursion, recursion_from_All}
-use Rattle.dom_base.proofs.Lists.{AllByRecursion-take, AllByRecursion-weaker}
+use Rattle.dom_base.proofs.Lists.{AllByRecursion-take, AllByRecursion-weaker, before_first-all, AllByRecursion-drop}
 use Rattle.blif_ast.specs.declared.latch.Latch.{Latch}
 use Rattle.blif_ast.specs.Good.{IsNameByte, IsGoodName, IsGoodSignal, IsGoodLatch, IsGoodBinding, IsGoodInstance}
 use Rattle.blif_ast.specs.declared.card.Card.TheVariants as card
 use Rattle.blif_ast.specs.LogicalLines.{LogicalLine}
 use Rattle.blif_ast.specs.Cards.{same, begins, is_one_of, is_init, is_type, is_latch_form, is_subckt_form, formal_of, actual_of, is_binding, latch_card, subckt_card}
 use Rattle.blif_ast.specs.Models.{control_of, init_of, latch_of, latches_of, binding_of, instance_of, instances_of}
-use Rattle.blif_read.proofs.GoodPrefix.{before_first-all, AllByRecursion-drop}
-use Rattle.blif_read.proofs.GoodRows.{and_first, and_second}
-use Rattle.blif_read.proofs.GoodLines.{Free, IsGoodLine, card_form, same-true}
+use Rattle.blif_read.proofs.AcceptedIsGoodRows.{and_first, and_second}
+use Rattle.blif_read.proofs.AcceptedIsGoodLines.{Free, IsGoodLine, card_form, same-true}
 
 pub one_of-all : (P : List ℕ → Type 0) (all : List (List ℕ)) (word : List ℕ) → AllByRecursion P all → is_one_of all word ≡ true → P word
 one_of-all P [] word h e = absurd (cc)
