@@ -20,11 +20,11 @@ chain-push order links values step [] event chain at chosen = (at, chosen, tt)
 chain-push order links values step (e ∷ es) event chain at chosen =
     (chain.0, chain.1, chain-push order links (changed values e) (next_step step) es event chain.2 at chosen)
 
-values_after-push : (values : List Tri) (events : List Event) (event : Event) → values_after values (events ++ event ∷ []) ≡ changed (values_after values events) event
+pub values_after-push : (values : List Tri) (events : List Event) (event : Event) → values_after values (events ++ event ∷ []) ≡ changed (values_after values events) event
 values_after-push values [] event = refl
 values_after-push values (e ∷ es) event = values_after-push (changed values e) es event
 
-step_after-push : (step : ℕ) (events : List Event) (event : Event) → step_after step (events ++ event ∷ []) ≡ next_step (step_after step events)
+pub step_after-push : (step : ℕ) (events : List Event) (event : Event) → step_after step (events ++ event ∷ []) ≡ next_step (step_after step events)
 step_after-push step [] event = refl
 step_after-push step (e ∷ es) event = step_after-push (next_step step) es event
 

@@ -72,6 +72,7 @@ impl<F: Fn(u64, u64) -> u64> Sim<F> {
     ) -> Result<Sim<F>, OutOfMemory>
         requires { AreRoles (ports_of circuit.now) roles }
         ensures power { IfOk result (λ sim. sim ≡ power_sim chooser.pick circuit.now roles) }
+        ensures few { IfOk result (λ sim. length sim.values ≤ 2 ^ 26) }
         ensures whole { IfOk result (λ sim. (length sim.values ≡ length circuit.now.nets) × (length sim.values ≡ sim.links.nets)) }
     {
         let links = Links::new(alloc, circuit, roles)?;

@@ -1,12 +1,13 @@
-use Rattle.std.proofs.Common.{◌≡◌, ℕ, zero, suc, ◌≤◌, List, [], ◌∷◌, ◌++◌, replicate, take, refl, arith}
+-- The moves of power and of a cycle, put together from those of their parts.
+use Rattle.std.proofs.Common.{◌≡◌, ℕ, zero, suc, ◌≤◌, Bool, false, List, [], ◌∷◌, ◌++◌, map, replicate, take, refl, arith}
 use Rattle.dom_base.specs.declared.tri.Tri.{Tri}
 use Rattle.dom_base.specs.declared.tri.Tri.TheVariants.{Zero}
 use Rattle.deck.specs.declared.role.Roles.{Roles}
-use Rattle.trace_tool.specs.Inside.{pins_then_clocks, rises}
-use Rattle.trace_tool.specs.Moves.{close_pair, first_clock, first_pin, latching_moves, master_pair, open_pair, power_moves, reset_pair, set_from, slave_pair}
+use Rattle.trace_tool.specs.RunData.{rises}
+use Rattle.trace_tool.specs.Moves.{close_pair, evaluation_moves, first_clock, first_pin, latching_moves, master_pair, open_pair, power_moves, reset_pair, set_bits, set_from, slave_pair, value_of_bit}
 
--- so many of four values
-pub some_of_four : (n : ℕ) → n ≤ 4 → take n (Zero ∷ Zero ∷ Zero ∷ Zero ∷ []) ≡ replicate n Zero
+-- so many of four bits that are off
+pub some_of_four : (n : ℕ) → n ≤ 4 → map value_of_bit (take n (false ∷ false ∷ false ∷ false ∷ [])) ≡ replicate n Zero
 some_of_four zero le = refl
 some_of_four (suc zero) le = refl
 some_of_four (suc (suc zero)) le = refl
@@ -14,13 +15,13 @@ some_of_four (suc (suc (suc zero))) le = refl
 some_of_four (suc (suc (suc (suc zero)))) le = refl
 some_of_four (suc (suc (suc (suc (suc n))))) le = absurd (omega (arith, le))
 
-pub latching_are : (roles : Roles) (m s : ℕ) (values : List Tri) → m ≡ master_pair roles → s ≡ slave_pair roles → values ≡ replicate roles.clocks Zero
-    → (open_pair m ∷ close_pair m ∷ []) ++ (set_from first_clock values ∷ []) ++ (open_pair s ∷ close_pair s ∷ []) ≡ latching_moves roles
-latching_are roles m s values p q z = λ i. open_pair (p i) ∷ close_pair (p i) ∷ set_from first_clock (z i) ∷ open_pair (q i) ∷ close_pair (q i) ∷ []
+pub latching_are : (roles : Roles) (m s : ℕ) (bits : List Bool) → m ≡ master_pair roles → s ≡ slave_pair roles → map value_of_bit bits ≡ replicate roles.clocks Zero
+    → ((open_pair m ∷ close_pair m ∷ []) ++ (set_bits first_clock bits ∷ [])) ++ (open_pair s ∷ close_pair s ∷ []) ≡ latching_moves roles
+latching_are roles m s bits p q z = λ i. open_pair (p i) ∷ close_pair (p i) ∷ set_from first_clock (z i) ∷ open_pair (q i) ∷ close_pair (q i) ∷ []
 
-pub evaluation_are : (roles : Roles) (place : ℕ) (values : List Tri) → place ≡ first_pin roles
-    → (set_from place values ∷ []) ++ rises first_clock roles.clocks ≡ pins_then_clocks roles values
-evaluation_are roles place values p = λ i. set_from (p i) values ∷ rises first_clock roles.clocks
+pub evaluation_are : (roles : Roles) (port : ℕ) (pins : List Bool) → port ≡ first_pin roles
+    → (set_bits port pins ∷ []) ++ rises first_clock roles.clocks ≡ evaluation_moves roles pins
+evaluation_are roles port pins p = λ i. set_bits (p i) pins ∷ rises first_clock roles.clocks
 
-pub power_are : (roles : Roles) (place : ℕ) → place ≡ reset_pair roles → ([] ∷ []) ++ (close_pair place ∷ []) ≡ power_moves roles
-power_are roles place p = λ i. [] ∷ close_pair (p i) ∷ []
+pub power_are : (roles : Roles) (port : ℕ) → port ≡ reset_pair roles → ([] ∷ []) ++ (close_pair port ∷ []) ≡ power_moves roles
+power_are roles port p = λ i. [] ∷ close_pair (p i) ∷ []

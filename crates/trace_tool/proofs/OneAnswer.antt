@@ -11,6 +11,7 @@ use Rattle.deck.proofs.DeckUnique.{IsDeckOf-unique}
 use Rattle.deck.proofs.PortOrder.{LeavesRolesAt-same}
 use Rattle.deck.proofs.PortLayout.{AreRoles-same}
 use Rattle.spice_read.proofs.OneAnswer.{one_answer as deck_answer}
+use Rattle.event_sim.specs.Orders.{By}
 use Rattle.stim_text.specs.Stimuli.{IsStimFaultAt, IsStimulusOf}
 use Rattle.stim_text.specs.declared.fault.StimKind.{StimKind}
 use Rattle.stim_text.proofs.OneAnswer.{one_answer as stimulus_answer}
@@ -19,7 +20,8 @@ use Rattle.trace_tool.specs.declared.fault.TraceFault.TheVariants.{Deck, Ports, 
 use Rattle.trace_tool.specs.Laws.{AnswerIsOne}
 use Rattle.trace_tool.specs.Refusals.{HasBadPorts, HasBadStimulus, IsRefused}
 use Rattle.trace_tool.specs.TraceData.{TraceData, TraceOptionsData}
-use Rattle.trace_tool.specs.Traces.{IsRun, IsTraceOf, Setup, place_of}
+use Rattle.trace_tool.specs.Traces.{IsRun, IsTraceOf, order_of}
+use Rattle.trace_tool.specs.declared.setup.Setup.{Setup}
 use Rattle.trace_tool.proofs.OneTrace.{trace_is_one}
 
 -- a deck that is refused has no circuit
@@ -50,7 +52,7 @@ roles_same deck c d r q x y h k =
     (subst (λ (e : CircuitData). AreRoles (ports_of e) q) (IsDeckOf-unique deck d c y x) k)
 
 abbrev setup_of : TraceOptionsData → CircuitData → Roles → Setup
-setup_of options c r = record { circuit = c; roles = r; place = place_of options.order options.seed; events = options.events }
+setup_of options c r = record { circuit = c; roles = r; events = options.events }
 
 trace_same : (deck stim : List ℕ) (options : TraceOptionsData) (a b : TraceData)
     → IsTraceOf deck stim options a → IsTraceOf deck stim options b → a ≡ b
@@ -59,12 +61,13 @@ trace_same deck stim options a b x y =
     let roles = roles_same deck y.circuit x.circuit y.roles x.roles y.is_deck x.is_deck y.are_roles x.are_roles in
     let cycles = stimulus_same x.roles.pins stim y.cycles x.cycles
     (subst (λ (r : Roles). IsStimulusOf r.pins stim y.cycles) roles y.is_stimulus) x.is_stimulus in
-    trace_is_one (setup_of options x.circuit x.roles) x.cycles a b x.is_run
-    (subst (λ (l : List (List Bool)). IsRun (setup_of options x.circuit x.roles) l b) cycles
-    (subst (λ (r : Roles). IsRun (setup_of options x.circuit r) y.cycles b) roles
-    (subst (λ (c : CircuitData). IsRun (setup_of options c y.roles) y.cycles b) circuits y.is_run)))
+    let order = By (order_of options.order options.seed) in
+    trace_is_one (order_of options.order options.seed) (setup_of options x.circuit x.roles) x.cycles a b x.is_run
+    (subst (λ (l : List (List Bool)). IsRun order (setup_of options x.circuit x.roles) l b) cycles
+    (subst (λ (r : Roles). IsRun order (setup_of options x.circuit r) y.cycles b) roles
+    (subst (λ (c : CircuitData). IsRun order (setup_of options c y.roles) y.cycles b) circuits y.is_run)))
 
--- ports that leave every order of roles are no deck's whose ports are in order
+-- ports that leave every order are no deck's whose ports are in order
 bad_ports_apart : (deck : List ℕ) (place : ℕ) (circuit : CircuitData) (roles : Roles) → HasBadPorts deck place → IsDeckOf deck circuit → AreRoles (ports_of circuit) roles → ⊥
 bad_ports_apart deck place circuit roles bad is are =
     bad.leaves.no_order roles

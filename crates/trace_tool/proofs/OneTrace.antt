@@ -1,107 +1,48 @@
--- Over the same cycles a circuit has one trace in each order.
-use Rattle.std.proofs.Common.{◌≡◌, ℕ, ◌+◌, inl, inr, Bool, false, List, [], ◌∷◌, ◌++◌, length, sym, ap, ◌∙◌, subst}
-use Rattle.switch_model.specs.LinksData.{links_of}
-use Rattle.event_sim.specs.declared.event.Event.{Event}
+-- Over the same cycles a circuit has one trace in each order that is a function.
+use Rattle.std.proofs.Common.{◌≡◌, ℕ, ◌+◌, Bool, List, [], ◌∷◌, ◌++◌, sym, ap, ◌∙◌, subst}
 use Rattle.event_sim.specs.Orders.{By}
-use Rattle.trace_tool.specs.Moves.{Move, evaluation_moves, latching_moves, power_moves}
-use Rattle.trace_tool.specs.Runs.{State}
+use Rattle.trace_tool.specs.Courses.{Course, Settled, State, Unsettled}
+use Rattle.trace_tool.specs.Laws.{TraceIsOne}
+use Rattle.trace_tool.specs.Moves.{cycle_moves, evaluation_moves, power_moves}
 use Rattle.trace_tool.specs.TraceData.{TraceData}
-use Rattle.trace_tool.specs.TraceLines.{event_lines, power_line}
-use Rattle.trace_tool.specs.Traces.{AreCycles, Ends, IsCycle, IsRun, Leads, Setup, cut_lines, power_state, row_line}
-use Rattle.trace_tool.proofs.MovesAreOne.{ends_are_one, ends_from, leads_are_one, leads_join, leads_or_ends}
+use Rattle.trace_tool.specs.TraceLines.{lines_of, power_line}
+use Rattle.trace_tool.specs.Traces.{AreCycles, IsCycle, IsRun, IsTraceFrom, power_state, row_line}
+use Rattle.trace_tool.specs.declared.setup.Setup.{Setup}
+use Rattle.trace_tool.proofs.OneCourse.{course_is_one}
 
-leads_same : (setup : Setup) (s : State) (moves : List Move) (a b : List Event) (t u : State)
-    → Leads setup s moves a t → Leads setup s moves b u → (a ≡ b) × (t ≡ u)
-leads_same setup s moves a b t u x y = leads_are_one setup.place (links_of setup.circuit setup.roles) s moves a b t u x y
+-- two cycles with the same pins from one state have one course, are read in one state and end in one
+cycle_is_one : (place : ℕ → ℕ → ℕ) (setup : Setup) (s : State) (pins : List Bool) (c d : Course) (read last read' last' : State)
+    → IsCycle (By place) setup s pins c read last → IsCycle (By place) setup s pins d read' last' → (c ≡ d) × (read ≡ read') × (last ≡ last')
+cycle_is_one place setup s pins c d read last read' last' x y =
+    let half = course_is_one place setup s (evaluation_moves setup.roles pins) x.evaluated y.evaluated read read' x.evaluation y.evaluation in
+    let all = course_is_one place setup s (cycle_moves setup.roles pins) c d last last' x.whole y.whole in
+    (all.0, half.1, all.1)
 
-ends_same : (setup : Setup) (s : State) (moves : List Move) (a b l k : List Event)
-    → Ends setup s moves a l → Ends setup s moves b k → (a ≡ b) × (l ≡ k)
-ends_same setup s moves a b l k x y =
-    let links = links_of setup.circuit setup.roles in
-    ends_are_one setup.place links s moves a b l k (ends_from (By setup.place) links s moves a l x) (ends_from (By setup.place) links s moves b k y)
+-- two traces that begin with one course are the same where what follows is
+trace_from_same : (setup : Setup) (cycle : ℕ) (line : ℕ → List ℕ) (course : Course) (Rest : TraceData → Type 0) (a b : TraceData)
+    → ((p q : TraceData) → Rest p → Rest q → p ≡ q) → IsTraceFrom setup cycle line course Rest a → IsTraceFrom setup cycle line course Rest b → a ≡ b
+trace_from_same setup cycle line (Settled events) Rest a b one (rest, h, is) (rest', h', is') =
+    is
+    ∙ ap (λ (t : TraceData). record { text = lines_of setup cycle line (Settled events) ++ t.text; settled = t.settled }) (one rest rest' h h')
+    ∙ sym is'
+trace_from_same setup cycle line (Unsettled events last) Rest a b one is is' = is ∙ sym is'
 
-leads_not_ends : (setup : Setup) (s : State) (moves : List Move) (a b last : List Event) (t : State)
-    → Leads setup s moves a t → Ends setup s moves b last → ⊥
-leads_not_ends setup s moves a b last t x y =
-    let links = links_of setup.circuit setup.roles in
-    leads_or_ends setup.place links s moves a b last t x (ends_from (By setup.place) links s moves b last y)
+cycles_are_one : (place : ℕ → ℕ → ℕ) (setup : Setup) (s : State) (cycle : ℕ) (cycles : List (List Bool)) (a b : TraceData)
+    → AreCycles (By place) setup s cycle cycles a → AreCycles (By place) setup s cycle cycles b → a ≡ b
+cycles_are_one place setup s cycle [] a b x y = x ∙ sym y
+cycles_are_one place setup s cycle (pins ∷ more) a b (c, read, last, one, from) (d, read', last', one', from') =
+    let same = cycle_is_one place setup s pins c d read last read' last' one one' in
+    trace_from_same setup cycle (row_line setup cycle pins read) c (AreCycles (By place) setup last (cycle + 1) more) a b
+    (λ p q. cycles_are_one place setup last (cycle + 1) more p q)
+    from
+    (subst (λ (k : Course). IsTraceFrom setup cycle (row_line setup cycle pins read) k (AreCycles (By place) setup last (cycle + 1) more) b) (sym same.0)
+    (subst (λ (r : State). IsTraceFrom setup cycle (row_line setup cycle pins r) d (AreCycles (By place) setup last (cycle + 1) more) b) (sym same.1)
+    (subst (λ (t : State). IsTraceFrom setup cycle (row_line setup cycle pins read') d (AreCycles (By place) setup t (cycle + 1) more) b) (sym same.2) from')))
 
--- two cycles with the same pins from one state are read and end in the same states, with the same events
-cycle_is_one : (setup : Setup) (s : State) (pins : List Bool) (read last read' last' : State) (a b : List Event)
-    → IsCycle setup s pins read last a → IsCycle setup s pins read' last' b → (read ≡ read') × (last ≡ last') × (a ≡ b)
-cycle_is_one setup s pins read last read' last' a b x y =
-    let first = leads_same setup s (evaluation_moves setup.roles pins) x.evaluated y.evaluated read read' x.evaluation y.evaluation in
-    let second = leads_same setup read (latching_moves setup.roles) x.latched y.latched last last' x.latching
-    (subst (λ (r : State). Leads setup r (latching_moves setup.roles) y.latched last') (sym first.1) y.latching) in (
-      first.1,
-      second.1,
-      x.events_are ∙ ap (λ (l : List Event). l ++ x.latched) first.0 ∙ ap (λ (l : List Event). y.evaluated ++ l) second.0 ∙ sym y.events_are,
-    )
-
--- a cycle that comes to rest throughout has no move that ends unsettled
-cycle_not_ends : (setup : Setup) (s : State) (pins : List Bool) (read last : State) (a b l : List Event)
-    → IsCycle setup s pins read last a → Ends setup s (evaluation_moves setup.roles pins ++ latching_moves setup.roles) b l → ⊥
-cycle_not_ends setup s pins read last a b l x y =
-    let whole = leads_join (By setup.place) (links_of setup.circuit setup.roles) s read last
-    (evaluation_moves setup.roles pins) (latching_moves setup.roles) x.evaluated x.latched x.evaluation x.latching in
-    leads_not_ends setup s (evaluation_moves setup.roles pins ++ latching_moves setup.roles) (x.evaluated ++ x.latched) b l last whole y
-
--- the trace that a period leaves that ends unsettled
-abbrev pub cut : Setup → ℕ → List Event → List Event → TraceData
-cut setup cycle events last = record { text = cut_lines setup cycle events last; settled = false }
-
-cut_same : (setup : Setup) (cycle : ℕ) (a b l k : List Event) → a ≡ b → l ≡ k → cut setup cycle a l ≡ cut setup cycle b k
-cut_same setup cycle a b l k e f = ap (λ (x : List Event). cut setup cycle x l) e ∙ ap (λ (x : List Event). cut setup cycle b x) f
-
--- the trace of power, and of a cycle, with what follows
-abbrev pub powered : Setup → List Event → TraceData → TraceData
-powered setup events rest = record {
-  text = event_lines setup.events setup.circuit.nets events ++ power_line (length events) ++ rest.text;
-  settled = rest.settled;
-}
-
-powered_same : (setup : Setup) (a b : List Event) (p q : TraceData) → a ≡ b → p ≡ q → powered setup a p ≡ powered setup b q
-powered_same setup a b p q e f = ap (λ (x : List Event). powered setup x p) e ∙ ap (λ (x : TraceData). powered setup b x) f
-
-abbrev pub cycled : Setup → ℕ → List Bool → State → List Event → TraceData → TraceData
-cycled setup cycle pins read events rest = record {
-  text = event_lines setup.events setup.circuit.nets events ++ row_line setup cycle pins read events ++ rest.text;
-  settled = rest.settled;
-}
-
-cycled_same : (setup : Setup) (cycle : ℕ) (pins : List Bool) (read read' : State) (a b : List Event) (p q : TraceData)
-    → read ≡ read' → a ≡ b → p ≡ q → cycled setup cycle pins read a p ≡ cycled setup cycle pins read' b q
-cycled_same setup cycle pins read read' a b p q r e f =
-    ap (λ (x : State). cycled setup cycle pins x a p) r
-    ∙ ap (λ (x : List Event). cycled setup cycle pins read' x p) e
-    ∙ ap (λ (x : TraceData). cycled setup cycle pins read' b x) f
-
-cycles_are_one : (setup : Setup) (s : State) (cycle : ℕ) (cycles : List (List Bool)) (a b : TraceData)
-    → AreCycles setup s cycle cycles a → AreCycles setup s cycle cycles b → a ≡ b
-cycles_are_one setup s cycle [] a b x y = x ∙ sym y
-cycles_are_one setup s cycle (pins ∷ more) a b (inl (events, last, ends, is)) (inl (events', last', ends', is')) =
-    let same = ends_same setup s (evaluation_moves setup.roles pins ++ latching_moves setup.roles) events events' last last' ends ends' in
-    is ∙ cut_same setup cycle events events' last last' same.0 same.1 ∙ sym is'
-cycles_are_one setup s cycle (pins ∷ more) a b (inl (events, last, ends, is)) (inr (read, end, events', rest, one, others, is')) =
-    absurd (cycle_not_ends setup s pins read end events' events last one ends)
-cycles_are_one setup s cycle (pins ∷ more) a b (inr (read, end, events, rest, one, others, is)) (inl (events', last, ends, is')) =
-    absurd (cycle_not_ends setup s pins read end events events' last one ends)
-cycles_are_one setup s cycle (pins ∷ more) a b (inr (read, end, events, rest, one, others, is)) (inr (read', end', events', rest', one', others', is')) =
-    let same = cycle_is_one setup s pins read end read' end' events events' one one' in
-    let later = cycles_are_one setup end (cycle + 1) more rest rest' others
-    (subst (λ (t : State). AreCycles setup t (cycle + 1) more rest') (sym same.1) others') in
-    is ∙ cycled_same setup cycle pins read read' events events' rest rest' same.0 same.2 later ∙ sym is'
-
-pub trace_is_one : (setup : Setup) (cycles : List (List Bool)) (a b : TraceData) → IsRun setup cycles a → IsRun setup cycles b → a ≡ b
-trace_is_one setup cycles a b (inl (events, last, ends, is)) (inl (events', last', ends', is')) =
-    let same = ends_same setup (power_state setup) (power_moves setup.roles) events events' last last' ends ends' in
-    is ∙ cut_same setup 0 events events' last last' same.0 same.1 ∙ sym is'
-trace_is_one setup cycles a b (inl (events, last, ends, is)) (inr (start, events', rest, leads, others, is')) =
-    absurd (leads_not_ends setup (power_state setup) (power_moves setup.roles) events' events last start leads ends)
-trace_is_one setup cycles a b (inr (start, events, rest, leads, others, is)) (inl (events', last, ends, is')) =
-    absurd (leads_not_ends setup (power_state setup) (power_moves setup.roles) events events' last start leads ends)
-trace_is_one setup cycles a b (inr (start, events, rest, leads, others, is)) (inr (start', events', rest', leads', others', is')) =
-    let same = leads_same setup (power_state setup) (power_moves setup.roles) events events' start start' leads leads' in
-    let later = cycles_are_one setup start 0 cycles rest rest' others
-    (subst (λ (t : State). AreCycles setup t 0 cycles rest') (sym same.1) others') in
-    is ∙ powered_same setup events events' rest rest' same.0 later ∙ sym is'
+pub trace_is_one : TraceIsOne
+trace_is_one place setup cycles a b (c, start, power, from) (d, start', power', from') =
+    let same = course_is_one place setup (power_state setup) (power_moves setup.roles) c d start start' power power' in
+    trace_from_same setup 0 power_line c (AreCycles (By place) setup start 0 cycles) a b (λ p q. cycles_are_one place setup start 0 cycles p q)
+    from
+    (subst (λ (k : Course). IsTraceFrom setup 0 power_line k (AreCycles (By place) setup start 0 cycles) b) (sym same.0)
+    (subst (λ (t : State). IsTraceFrom setup 0 power_line d (AreCycles (By place) setup t 0 cycles) b) (sym same.1) from'))

@@ -1,26 +1,33 @@
+-- What holds of each deck and stimulus and their trace.
 use Rattle.std.specs.Prelude.{◌≡◌, ◌≢◌, ℕ, Bool, List}
 use Rattle.deck.specs.CircuitData.{CircuitData}
 use Rattle.deck.specs.DeckText.{IsDeckOf}
 use Rattle.deck.specs.Roles.{AreRoles, ports_of}
 use Rattle.deck.specs.declared.role.Roles.{Roles}
+use Rattle.event_sim.specs.Orders.{By}
 use Rattle.stim_text.specs.Stimuli.{IsStimulusOf}
 use Rattle.trace_tool.specs.declared.fault.TraceFault.{TraceFault}
 use Rattle.trace_tool.specs.declared.fault.TraceFault.TheVariants.{Memory}
 use Rattle.trace_tool.specs.Refusals.{IsRefused}
 use Rattle.trace_tool.specs.TraceData.{TraceData, TraceOptionsData}
-use Rattle.trace_tool.specs.Traces.{IsRun, IsTraceOf, Setup}
+use Rattle.trace_tool.specs.Traces.{IsRun, IsTraceOf}
+use Rattle.trace_tool.specs.declared.setup.Setup.{Setup}
 
 -- over the same cycles a circuit has at most one trace in each order
 abbrev pub TraceIsOne : Type 0
-TraceIsOne = (setup : Setup) (cycles : List (List Bool)) (a b : TraceData) → IsRun setup cycles a → IsRun setup cycles b → a ≡ b
+TraceIsOne = (order : ℕ → ℕ → ℕ) (setup : Setup) (cycles : List (List Bool)) (a b : TraceData)
+    → IsRun (By order) setup cycles a → IsRun (By order) setup cycles b → a ≡ b
 
 -- a deck and a stimulus have at most one trace, or are refused for at most one cause, and never both
 pub record AnswerIsOne : Type 0 where
-  pub trace : (deck stim : List ℕ) (options : TraceOptionsData) (a b : TraceData) → IsTraceOf deck stim options a → IsTraceOf deck stim options b → a ≡ b
-  pub cause : (deck stim : List ℕ) (a b : TraceFault) → a ≢ Memory → b ≢ Memory → IsRefused deck stim a → IsRefused deck stim b → a ≡ b
-  pub apart : (deck stim : List ℕ) (options : TraceOptionsData) (a : TraceData) (b : TraceFault) → b ≢ Memory → IsTraceOf deck stim options a → IsRefused deck stim b → ⊥
+  pub trace : (deck stim : List ℕ) (options : TraceOptionsData) (a b : TraceData)
+      → IsTraceOf deck stim options a → IsTraceOf deck stim options b → a ≡ b
+  pub cause : (deck stim : List ℕ) (a b : TraceFault) → a ≢ Memory → b ≢ Memory
+      → IsRefused deck stim a → IsRefused deck stim b → a ≡ b
+  pub apart : (deck stim : List ℕ) (options : TraceOptionsData) (a : TraceData) (b : TraceFault) → b ≢ Memory
+      → IsTraceOf deck stim options a → IsRefused deck stim b → ⊥
 
--- a deck whose ports are in the order of roles has a trace over each stimulus for its pins, for all options
+-- a deck whose ports are in order has a trace over each stimulus for its pins, for all options
 abbrev pub TraceIsThere : Type 0
 TraceIsThere = (deck stim : List ℕ) (options : TraceOptionsData) (circuit : CircuitData) (roles : Roles) (cycles : List (List Bool))
     → IsDeckOf deck circuit → AreRoles (ports_of circuit) roles → IsStimulusOf roles.pins stim cycles

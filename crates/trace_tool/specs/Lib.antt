@@ -1,8 +1,8 @@
-pub mod Inside
+pub mod Courses
 pub mod Laws
 pub mod Moves
 pub mod Refusals
-pub mod Runs
+pub mod RunData
 pub mod TraceData
 pub mod TraceLines
 pub mod Traces

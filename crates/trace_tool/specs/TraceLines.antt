@@ -1,7 +1,10 @@
-use Rattle.std.specs.Prelude.{ℕ, Bool, true, false, List, [], ◌∷◌, ◌++◌, codes, flat_map, slice_index_or}
+-- The lines of a trace other than those of cycles.
+use Rattle.std.specs.Prelude.{ℕ, Bool, true, false, List, [], ◌∷◌, ◌++◌, codes, flat_map, length, slice_index_or}
 use Rattle.std.specs.Fmt.{decimal}
 use Rattle.dom_base.specs.Tri.{letter_of}
 use Rattle.event_sim.specs.declared.event.Event.{Event}
+use Rattle.trace_tool.specs.Courses.{Course, Settled, Unsettled}
+use Rattle.trace_tool.specs.declared.setup.Setup.{Setup}
 
 -- the line of an event, over the names of the nets
 abbrev pub event_line : List (List ℕ) → Event → List ℕ
@@ -9,15 +12,24 @@ event_line nets event =
     codes "event " ++ decimal event.step ++ codes " " ++ slice_index_or nets event.net []
     ++ codes " " ++ letter_of event.before ∷ codes " " ++ letter_of event.after ∷ 10 ∷ []
 
--- the lines of events, where they are told
-abbrev pub event_lines : Bool → List (List ℕ) → List Event → List ℕ
-event_lines true nets events = flat_map (event_line nets) events
-event_lines false nets events = []
+-- the lines of events, where they are printed
+abbrev pub lines_where : Bool → List (List ℕ) → List Event → List ℕ
+lines_where true nets events = flat_map (event_line nets) events
+lines_where false nets events = []
+
+abbrev pub event_lines : Setup → List Event → List ℕ
+event_lines setup events = lines_where setup.events setup.circuit.nets events
 
 -- the line of power, with the number of its events
 abbrev pub power_line : ℕ → List ℕ
 power_line events = codes "power events " ++ decimal events ++ 10 ∷ []
 
--- the line of a going to rest that ends unsettled: the cycle, 0 in power, and the number of its events
+-- the line of a settling that ends unsettled: the cycle, 0 in power, and the number of its events
 abbrev pub unsettled_line : ℕ → ℕ → List ℕ
 unsettled_line cycle events = codes "unsettled cycle " ++ decimal cycle ++ codes " events " ++ decimal events ++ 10 ∷ []
+
+-- the lines of a course in a cycle, 0 in power: its events where they are printed, and then its own line, for their
+-- number, or the line of the settling that ended unsettled
+abbrev pub lines_of : Setup → ℕ → (ℕ → List ℕ) → Course → List ℕ
+lines_of setup cycle line (Settled events) = event_lines setup events ++ line (length events)
+lines_of setup cycle line (Unsettled events last) = event_lines setup events ++ unsettled_line cycle (length last)

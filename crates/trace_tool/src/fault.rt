@@ -1,7 +1,7 @@
 //! Why a deck isn't simulated.
 ghost use Rattle.std.specs.Prelude.{◌≡◌};
 ghost use Rattle.trace_tool.specs.declared.fault.TraceFault.TheVariants.{Memory, Ports};
-ghost use Rattle.trace_tool.specs.Inside.{of_deck, of_stim};
+ghost use Rattle.trace_tool.specs.Refusals.{of_deck, of_stim};
 
 use deck::{DeckKind, PortFault};
 use dom_base::OutOfMemory;
@@ -10,7 +10,7 @@ use stim_text::{StimFault, StimKind};
 
 /// Why a deck isn't simulated: the first line of the deck with a fault, from 1, and its kind; the
 /// place, from 0, at which its ports leave the order of roles; the first line of the stimulus with a
-/// fault, and its kind; or want of memory.
+/// fault, and its kind; or out of memory.
 #[derive(Clone, Copy, Debug, PartialEq, Eq)]
 pub enum TraceFault {
     Deck { line: u64, kind: DeckKind },

@@ -1,17 +1,18 @@
 //! The simulation of a deck over a stimulus, and its trace.
 #![tactic(auto)]
 
-mod bench;
+mod cycles;
 mod fault;
+mod halt;
 mod laws;
 mod lines;
+mod moves;
 mod options;
 mod ordered;
 mod ports;
-mod rig;
 mod run;
+mod setup;
 mod simulation;
-mod stop;
 mod trace;
 
 pub use fault::TraceFault;

@@ -1,13 +1,25 @@
-//! The lines of a trace other than those of cycles.
-ghost use Rattle.std.specs.Prelude.{◌≡◌, ◌<◌, ◌++◌, OnOk, [], length, slice_index_or};
-ghost use Rattle.trace_tool.specs.TraceLines.{event_line, power_line, unsettled_line};
+//! The lines of a trace other than those of cycles, which stand in `stim_text`.
+ghost use Rattle.std.specs.Prelude.{◌≡◌, ◌<◌, ◌++◌, OnOk, [], ◌∷◌, length, slice_index_or};
+ghost use Rattle.trace_tool.specs.TraceLines.{event_line, event_lines, power_line, unsettled_line};
 
+use crate::setup::Setup;
 use deck::Circuit;
 use dom_base::{OutOfMemory, append, append_number};
 use event_sim::Event;
 
+/// Appends the line of an event, where events are printed.
+pub fn append_event(text: &mut Vec<u8>, setup: &Setup, event: Event) -> Result<(), OutOfMemory>
+    requires { event.net < length setup.now.circuit.nets }
+    ensures { OnOk result (text.new.items ≡ text.old.items ++ event_lines setup.now (event ∷ [])) }
+{
+    if setup.events {
+        append_event_line(text, &setup.circuit, event)?;
+    }
+    Ok(())
+}
+
 /// Appends the line of an event.
-pub fn put_event(text: &mut Vec<u8>, circuit: &Circuit, event: Event) -> Result<(), OutOfMemory>
+fn append_event_line(text: &mut Vec<u8>, circuit: &Circuit, event: Event) -> Result<(), OutOfMemory>
     requires { event.net < length circuit.now.nets }
     ensures { OnOk result (text.new.items ≡ text.old.items ++ event_line circuit.now.nets event) }
 {
@@ -32,7 +44,7 @@ fn name_of(circuit: &Circuit, net: u32) -> &[u8]
 }
 
 /// Appends the line of power, with the number of its events.
-pub fn put_power(text: &mut Vec<u8>, events: u64) -> Result<(), OutOfMemory>
+pub fn append_power(text: &mut Vec<u8>, events: u64) -> Result<(), OutOfMemory>
     ensures { OnOk result (text.new.items ≡ text.old.items ++ power_line events) }
 {
     append(text, b"power events ")?;
@@ -41,8 +53,8 @@ pub fn put_power(text: &mut Vec<u8>, events: u64) -> Result<(), OutOfMemory>
     Ok(())
 }
 
-/// Appends the line of a going to rest in a cycle that ended without rest after so many events.
-pub fn put_unsettled(text: &mut Vec<u8>, cycle: u64, events: u64) -> Result<(), OutOfMemory>
+/// Appends the line of a settling in a cycle that ended without rest after so many events.
+pub fn append_unsettled(text: &mut Vec<u8>, cycle: u64, events: u64) -> Result<(), OutOfMemory>
     ensures { OnOk result (text.new.items ≡ text.old.items ++ unsettled_line cycle events) }
 {
     append(text, b"unsettled cycle ")?;

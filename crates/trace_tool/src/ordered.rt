@@ -1,11 +1,11 @@
 //! A run in the order that the options name.
 ghost use Rattle.std.specs.Prelude.{◌≡◌, ◌<◌, ◌≤◌, All, IfOk, length};
-ghost use Rattle.event_sim.specs.Orders.{first_place, last_place, seeded_place};
-ghost use Rattle.trace_tool.specs.Inside.{IsRig, setup_of};
-ghost use Rattle.trace_tool.specs.Traces.{IsRun, place_of};
+ghost use Rattle.event_sim.specs.Orders.{By, first_place, last_place, seeded_place};
+ghost use Rattle.deck.specs.Roles.{AreRoles, ports_of};
+ghost use Rattle.trace_tool.specs.Traces.{IsRun, order_of};
 
-use crate::rig::Rig;
-use crate::run::traced;
+use crate::cycles::traced;
+use crate::setup::Setup;
 use crate::{Order, Trace};
 use dom_base::OutOfMemory;
 use event_sim::{Chooser, first, last, seeded};
@@ -15,26 +15,26 @@ use stim_text::Pins;
 /// The trace over these cycles, in an order with a seed.
 pub fn traced_by(
     alloc: Global,
-    rig: &Rig,
+    setup: Setup,
     cycles: &[Pins],
     order: Order,
     seed: u64,
 ) -> Result<Trace, OutOfMemory>
-    requires rig { IsRig rig.now }
-    requires widths { All (λ pins. length pins ≡ rig.now.roles.pins) cycles.now }
-    ensures { IfOk result (λ trace. IsRun (setup_of rig.now (place_of order seed)) cycles.now trace) }
+    requires roles { AreRoles (ports_of setup.circuit) setup.roles }
+    requires widths { All (λ pins. length pins ≡ setup.roles.pins) cycles.now }
+    ensures { IfOk result (λ trace. IsRun (By (order_of order seed)) setup cycles.now trace) }
 {
     match order {
-        Order::First => traced_by_first(alloc, rig, cycles),
-        Order::Last => traced_by_last(alloc, rig, cycles),
-        Order::Seed => traced_by_seed(alloc, rig, cycles, seed),
+        Order::First => traced_by_first(alloc, setup, cycles),
+        Order::Last => traced_by_last(alloc, setup, cycles),
+        Order::Seed => traced_by_seed(alloc, setup, cycles, seed),
     }
 }
 
-fn traced_by_first(alloc: Global, rig: &Rig, cycles: &[Pins]) -> Result<Trace, OutOfMemory>
-    requires rig { IsRig rig.now }
-    requires widths { All (λ pins. length pins ≡ rig.now.roles.pins) cycles.now }
-    ensures { IfOk result (λ trace. IsRun (setup_of rig.now first_place) cycles.now trace) }
+fn traced_by_first(alloc: Global, setup: Setup, cycles: &[Pins]) -> Result<Trace, OutOfMemory>
+    requires roles { AreRoles (ports_of setup.circuit) setup.roles }
+    requires widths { All (λ pins. length pins ≡ setup.roles.pins) cycles.now }
+    ensures { IfOk result (λ trace. IsRun (By first_place) setup cycles.now trace) }
 {
     let chooser = Chooser::new(
         |step: u64, count: u64| -> u64
@@ -43,13 +43,13 @@ fn traced_by_first(alloc: Global, rig: &Rig, cycles: &[Pins]) -> Result<Trace, O
             ensures below { result < count }
         { first(step, count) },
     );
-    traced(alloc, rig, cycles, chooser)
+    traced(alloc, setup, cycles, chooser)
 }
 
-fn traced_by_last(alloc: Global, rig: &Rig, cycles: &[Pins]) -> Result<Trace, OutOfMemory>
-    requires rig { IsRig rig.now }
-    requires widths { All (λ pins. length pins ≡ rig.now.roles.pins) cycles.now }
-    ensures { IfOk result (λ trace. IsRun (setup_of rig.now last_place) cycles.now trace) }
+fn traced_by_last(alloc: Global, setup: Setup, cycles: &[Pins]) -> Result<Trace, OutOfMemory>
+    requires roles { AreRoles (ports_of setup.circuit) setup.roles }
+    requires widths { All (λ pins. length pins ≡ setup.roles.pins) cycles.now }
+    ensures { IfOk result (λ trace. IsRun (By last_place) setup cycles.now trace) }
 {
     let chooser = Chooser::new(
         |step: u64, count: u64| -> u64
@@ -58,18 +58,18 @@ fn traced_by_last(alloc: Global, rig: &Rig, cycles: &[Pins]) -> Result<Trace, Ou
             ensures below { result < count }
         { last(step, count) },
     );
-    traced(alloc, rig, cycles, chooser)
+    traced(alloc, setup, cycles, chooser)
 }
 
 fn traced_by_seed(
     alloc: Global,
-    rig: &Rig,
+    setup: Setup,
     cycles: &[Pins],
     seed: u64,
 ) -> Result<Trace, OutOfMemory>
-    requires rig { IsRig rig.now }
-    requires widths { All (λ pins. length pins ≡ rig.now.roles.pins) cycles.now }
-    ensures { IfOk result (λ trace. IsRun (setup_of rig.now (seeded_place seed)) cycles.now trace) }
+    requires roles { AreRoles (ports_of setup.circuit) setup.roles }
+    requires widths { All (λ pins. length pins ≡ setup.roles.pins) cycles.now }
+    ensures { IfOk result (λ trace. IsRun (By (seeded_place seed)) setup cycles.now trace) }
 {
     let chooser = Chooser::new(
         move |step: u64, count: u64| -> u64
@@ -78,5 +78,5 @@ fn traced_by_seed(
             ensures below { result < count }
         { seeded(seed, step, count) },
     );
-    traced(alloc, rig, cycles, chooser)
+    traced(alloc, setup, cycles, chooser)
 }

@@ -1,116 +1,185 @@
-//! A run of a deck over its cycles.
-ghost use Rattle.std.specs.Prelude.{ℕ, ◌≡◌, ◌<◌, All, IfOk, [], false, length};
+//! A run: a simulation of a setup's circuit, and the text of its trace so far.
+ghost use Rattle.std.specs.Prelude.{◌≡◌, ◌+◌, ◌<◌, ◌≤◌, ◌↔◌, ◌^◌, IfOk, IsTrue, OnOk, [], ◌∷◌, length, true, false};
+ghost use Rattle.deck.specs.Roles.{AreRoles, ports_of};
 ghost use Rattle.event_sim.specs.Choices.{Chooses};
-ghost use Rattle.event_sim.specs.Orders.{Follows, first_place};
-ghost use Rattle.event_sim.specs.SimData.{power_sim};
-ghost use Rattle.trace_tool.specs.Inside.{HasCycles, IsCut, IsReady, IsRig, setup_of, state_of};
-ghost use Rattle.trace_tool.specs.Traces.{IsRun, power_state};
+ghost use Rattle.event_sim.specs.Pending.{IsResting};
+ghost use Rattle.event_sim.specs.Settling.{most_events as most_of};
+ghost use Rattle.stim_text.specs.CycleLines.{cycle_line};
+ghost use Rattle.switch_model.specs.LinksData.{links_of, source_count};
+ghost use Rattle.trace_tool.specs.Moves.{set_bits};
+ghost use Rattle.trace_tool.specs.RunData.{Runs, Settles, Steps, IsHalted, power_run, with_line, with_moved};
+ghost use Rattle.trace_tool.specs.TraceLines.{power_line};
+ghost use Rattle.trace_tool.specs.Traces.{outputs as outputs_of};
 
 use crate::Trace;
-use crate::bench::Bench;
-use crate::lines::{put_power, put_unsettled};
-use crate::rig::Rig;
-use crate::stop::Stop;
-use dom_base::OutOfMemory;
+use crate::halt::Halt;
+use crate::lines::{append_event, append_power, append_unsettled};
+use crate::ports::{read_ports, set_ports};
+use crate::setup::Setup;
+use deck::Roles;
+use dom_base::{OutOfMemory, Tri};
 use event_sim::{Chooser, Sim};
 use std::alloc::Global;
-use stim_text::Pins;
+use std::marker::Model;
+use stim_text::{CycleRow, write_cycle};
 
-/// The trace of power and of these cycles.
-pub fn traced<F: Fn(u64, u64) -> u64>(
-    alloc: Global,
-    rig: &Rig,
-    cycles: &[Pins],
-    chooser: Chooser<F>,
-) -> Result<Trace, OutOfMemory>
-    requires chooses { Chooses (F.pre chooser.pick) (F.post chooser.pick) }
-    requires rig { IsRig rig.now }
-    requires widths { All (λ pins. length pins ≡ rig.now.roles.pins) cycles.now }
-    ensures { IfOk result (λ trace. (place : ℕ → ℕ → ℕ) → Follows place (F.post chooser.pick) → IsRun (setup_of rig.now place) cycles.now trace) }
-{
-    let mut bench = started(alloc, rig, chooser)?;
-    let settled = run(&mut bench, alloc, rig, cycles)?;
-    Ok(Trace {
-        text: bench.text,
-        settled,
-    })
+/// A simulation of the setup's circuit, and the text of its trace so far.
+#[derive(Drop)]
+pub struct Run<F: Fn(u64, u64) -> u64> {
+    setup: Setup,
+    sim: Sim<F>,
+    text: Vec<u8>,
 }
 
-/// The power state, with an empty text.
-fn started<F: Fn(u64, u64) -> u64>(
-    alloc: Global,
-    rig: &Rig,
-    chooser: Chooser<F>,
-) -> Result<Bench<F>, OutOfMemory>
-    requires rig { IsRig rig.now }
-    ensures power { IfOk result (λ bench. bench.sim ≡ power_sim chooser.pick rig.now.circuit rig.now.roles) }
-    ensures ready { IfOk result (λ bench. IsReady rig.now bench.sim) }
-    ensures empty { IfOk result (λ bench. bench.text.items ≡ []) }
-{
-    match Sim::new(alloc, &rig.circuit, chooser) {
-        Ok(sim) => Ok(Bench {
+impl<F: Fn(u64, u64) -> u64> Model for Run<F> {
+    ghost use Rattle.trace_tool.specs.RunData.{IsRunning, RunData};
+
+    ghost Value = { RunData F };
+
+    ghost view = { λ r. record { setup = r.setup; pick = r.sim.pick; state = record { values = r.sim.values; step = r.sim.step }; text = r.text.items } };
+
+    ghost invariant = { λ r. IsRunning r.setup r.sim };
+}
+
+impl<F: Fn(u64, u64) -> u64> Run<F> {
+    /// The power state, with an empty text.
+    pub fn new(alloc: Global, setup: Setup, chooser: Chooser<F>) -> Result<Run<F>, OutOfMemory>
+        requires { AreRoles (ports_of setup.circuit) setup.roles }
+        ensures power { IfOk result (λ run. run ≡ power_run chooser.pick setup) }
+        ensures few { IfOk result (λ run. length run.state.values ≤ 2 ^ 26) }
+    {
+        let sim = Sim::with_roles(alloc, &setup.circuit, setup.roles, chooser)?;
+        Ok(Run {
+            setup,
             sim,
             text: Vec::new(alloc),
-        }),
-        Err(_) => Err(OutOfMemory),
+        })
     }
-}
 
-/// Power, then the cycles. It answers whether each going to rest ended at rest.
-fn run<F: Fn(u64, u64) -> u64>(
-    bench: &mut Bench<F>,
-    alloc: Global,
-    rig: &Rig,
-    cycles: &[Pins],
-) -> Result<bool, OutOfMemory>
-    requires chooses { Chooses (F.pre bench.old.sim.pick) (F.post bench.old.sim.pick) }
-    requires ready { IsReady rig.now bench.old.sim }
-    requires power { state_of bench.old.sim ≡ power_state (setup_of rig.now first_place) }
-    requires empty { bench.old.text.items ≡ [] }
-    requires widths { All (λ pins. length pins ≡ rig.now.roles.pins) cycles.now }
-    ensures { IfOk result (λ settled. (place : ℕ → ℕ → ℕ) → Follows place (F.post bench.old.sim.pick) → IsRun (setup_of rig.now place) cycles.now (record { text = bench.new.text.items; settled = settled })) }
-{
-    match bench.power(rig) {
-        Ok(events) => {
-            put_power(&mut bench.text, events)?;
-            run_cycles(bench, alloc, rig, cycles)
-        }
-        Err(stop) => cut(&mut bench.text, 0, stop),
+    /// What the ports are for.
+    pub fn roles(&self) -> Roles
+        ensures roles { result ≡ self.now.setup.roles }
+        ensures few { result.clocks ≤ 4 }
+    {
+        self.setup.roles
     }
-}
 
-/// The cycles in turn, up to one that ends without rest. It answers whether there is none.
-fn run_cycles<F: Fn(u64, u64) -> u64>(
-    bench: &mut Bench<F>,
-    alloc: Global,
-    rig: &Rig,
-    cycles: &[Pins],
-) -> Result<bool, OutOfMemory>
-    requires chooses { Chooses (F.pre bench.old.sim.pick) (F.post bench.old.sim.pick) }
-    requires ready { IsReady rig.now bench.old.sim }
-    requires widths { All (λ pins. length pins ≡ rig.now.roles.pins) cycles.now }
-    ensures { IfOk result (λ settled. (place : ℕ → ℕ → ℕ) → Follows place (F.post bench.old.sim.pick) → HasCycles (setup_of rig.now place) (state_of bench.old.sim) cycles.now settled bench.old.text.items bench.new.text.items) }
-{
-    let mut number = 0;
-    'cycles: while number < cycles.len() {
-        match bench.cycle(alloc, rig, number as u64, &cycles[number]) {
-            Ok(()) => (),
-            Err(stop) => return cut(&mut bench.text, number as u64, stop),
-        }
-        number += 1;
+    /// Gives the ports from one on the values of these bits, one each, with no event between them.
+    fn set(&mut self, port: u32, bits: &[bool])
+        requires no_supply { 2 ≤ port }
+        requires sources { port + length bits.now ≤ source_count self.old.setup.roles }
+        ensures { self.new ≡ with_moved self.old (set_bits port bits.now) }
+    {
+        set_ports(&mut self.sim, port, bits);
     }
-    Ok(true)
-}
 
-/// Ends the text of a run that stopped in this cycle.
-fn cut(text: &mut Vec<u8>, cycle: u64, stop: Stop) -> Result<bool, OutOfMemory>
-    ensures unsettled { IfOk result (λ settled. (settled ≡ false) × IsCut cycle stop text.old.items text.new.items) }
-{
-    match stop {
-        Stop::Unsettled(events) => {
-            put_unsettled(text, cycle, events)?;
-            Ok(false)
+    /// One event, with its line where events are printed; `false` comes at rest.
+    fn step(&mut self) -> Result<bool, OutOfMemory>
+        requires { Chooses (F.pre self.old.pick) (F.post self.old.pick) }
+        ensures { IfOk result (λ some. Steps F.post self.old some self.new) }
+    {
+        match self.sim.step() {
+            Some(event) => {
+                append_event(&mut self.text, &self.setup, event)?;
+                Ok(true)
+            }
+            None => Ok(false),
         }
-        Stop::Memory => Err(OutOfMemory),
+    }
+
+    /// The most events of one settling.
+    fn most_events(&self) -> u64
+        ensures most { result ≡ most_of (links_of self.now.setup.circuit self.now.setup.roles) }
+        ensures few { result ≤ 2 ^ 53 }
+    {
+        self.sim.most_events()
+    }
+
+    /// Whether there is rest. The run is left as it was.
+    fn at_rest(&mut self) -> bool
+        ensures rest { IsTrue result ↔ IsResting (links_of self.old.setup.circuit self.old.setup.roles) self.old.state.values }
+        ensures same { self.new ≡ self.old }
+    {
+        self.sim.at_rest()
+    }
+
+    /// The values of the outputs.
+    pub fn outputs(&self, alloc: Global) -> Result<Vec<Tri>, OutOfMemory>
+        ensures { IfOk result (λ values. values.items ≡ outputs_of self.now.setup.roles self.now.state.values) }
+    {
+        let roles = self.setup.roles;
+        let first = roles.clocks as u32 + 8 + roles.pins;
+        read_ports(alloc, &self.sim, first, roles.outs)
+    }
+
+    /// Settles, with the lines of the events where they are printed. It answers their number.
+    pub fn settle(&mut self) -> Result<u64, Halt>
+        requires { Chooses (F.pre self.old.pick) (F.post self.old.pick) }
+        ensures { Settles F.post self.old result self.new }
+    {
+        let most = self.most_events();
+        let mut count = 0u64;
+        'events: while count < most {
+            if self.step()? {
+                count += 1;
+            } else {
+                return Ok(count);
+            }
+        }
+        if self.at_rest() {
+            Ok(count)
+        } else {
+            Err(Halt::Unsettled(count))
+        }
+    }
+
+    /// A move, in which the ports from one on take the values of these bits, and its settling.
+    pub fn drive(&mut self, port: u32, bits: &[bool]) -> Result<u64, Halt>
+        requires chooses { Chooses (F.pre self.old.pick) (F.post self.old.pick) }
+        requires no_supply { 2 ≤ port }
+        requires sources { port + length bits.now ≤ source_count self.old.setup.roles }
+        ensures { Runs F.post (set_bits port bits.now ∷ []) self.old result self.new }
+    {
+        self.set(port, bits);
+        self.settle()
+    }
+
+    /// Appends the line of power.
+    pub fn print_power(&mut self, events: u64) -> Result<(), OutOfMemory>
+        ensures { OnOk result (self.new ≡ with_line self.old (power_line events)) }
+    {
+        append_power(&mut self.text, events)
+    }
+
+    /// Appends the line of a cycle.
+    pub fn print_cycle(&mut self, row: &CycleRow) -> Result<(), OutOfMemory>
+        ensures { OnOk result (self.new ≡ with_line self.old (cycle_line row.now)) }
+    {
+        write_cycle(&mut self.text, row)
+    }
+
+    /// Appends the line of the settling that halted the run in a cycle. It answers that the run
+    /// isn't settled.
+    pub fn print_halt(&mut self, cycle: u64, halt: Halt) -> Result<bool, OutOfMemory>
+        ensures settled { IfOk result (λ settled. settled ≡ false) }
+        ensures halted { IfOk result (λ settled. IsHalted cycle halt self.old self.new) }
+    {
+        match halt {
+            Halt::Unsettled(events) => {
+                append_unsettled(&mut self.text, cycle, events)?;
+                Ok(false)
+            }
+            Halt::Memory => Err(OutOfMemory),
+        }
+    }
+
+    /// The trace.
+    pub fn trace(self, settled: bool) -> Trace
+        ensures { result ≡ record { text = self.text; settled = settled } }
+    {
+        Trace {
+            text: self.text,
+            settled,
+        }
     }
 }

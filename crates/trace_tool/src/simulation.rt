@@ -5,7 +5,7 @@ ghost use Rattle.trace_tool.specs.Refusals.{IsRefused};
 ghost use Rattle.trace_tool.specs.Traces.{IsTraceOf};
 
 use crate::ordered::traced_by;
-use crate::rig::Rig;
+use crate::setup::Setup;
 use crate::{Trace, TraceFault, TraceOptions};
 use deck::roles;
 use spice_read::read;
@@ -13,9 +13,9 @@ use std::alloc::Global;
 use stim_text::read_stim;
 
 /// The trace of a deck over a stimulus: the line `power events E`, then a line for each cycle, each
-/// after the lines of its own events where they are asked for. Where a going to rest ends without rest, the last line is
+/// after the lines of its own events where they are asked for. Where a settling ends without rest, the last line is
 /// `unsettled cycle C events K`. The deck is read first, then its ports are looked at, then the
-/// stimulus is read; the first fault in this order is told.
+/// stimulus is read; the first fault in this order is reported.
 pub fn sim(
     alloc: Global,
     deck: &[u8],
@@ -29,7 +29,12 @@ pub fn sim(
     let circuit = read(alloc, deck)?;
     let roles = roles(&circuit)?;
     let cycles = read_stim(alloc, stim, roles.pins)?;
-    let rig = Rig::new(circuit, roles, options.events);
-    let trace = traced_by(alloc, &rig, &cycles, options.order, options.seed)?;
+    let events = options.events;
+    let setup = Setup {
+        circuit,
+        roles,
+        events,
+    };
+    let trace = traced_by(alloc, setup, &cycles, options.order, options.seed)?;
     Ok(trace)
 }

@@ -1,6 +1,6 @@
 use Rattle.std.proofs.Common.{rules}
 use Rattle.event_sim.specs.Orders.{first_place}
-use Rattle.trace_tool.proofs.Running.{if_ok-map}
+use Rattle.trace_tool.proofs.TraceRuns.{if_ok-map}
 use Rattle.trace_tool.proofs.ordered.traced_by_first.Goals as goal
 
 pub returns : goal.returns

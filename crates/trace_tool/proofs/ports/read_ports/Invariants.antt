@@ -1,6 +1,6 @@
 use Rattle.std.proofs.Common.{◌≡◌}
-use Rattle.trace_tool.specs.Inside.{values_from}
+use Rattle.trace_tool.specs.RunData.{values_from}
 use Rattle.trace_tool.proofs.ports.read_ports.Given as goal
 
 abbrev pub invariant-loop-number : goal.invariant-loop-number
-invariant-loop-number g l = l.values.items ≡ values_from l.place l.number l.sim.values
+invariant-loop-number g l = l.values.items ≡ values_from l.port l.number l.sim.values

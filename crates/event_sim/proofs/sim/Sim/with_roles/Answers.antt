@@ -54,3 +54,9 @@ returns-clause-power g c =
     let values : c.in_ok-values.values.items ≡ source_values c.args.roles ++ replicate (c.len-nets.result - source_count c.args.roles) Unknown = c.in_ok-values.ensures in
     let all = values ∙ ap (λ (n : ℕ). source_values c.args.roles ++ replicate (n - source_count c.args.roles) Unknown) nets in
     (λ i. record { pick = c.args.chooser.pick; links = links i; values = all i; step = 0 })
+
+pub returns-clause-few : goal.returns-clause-few
+returns-clause-few g c =
+    let circuit = c.args.circuit.now in
+    let is : IsCircuit circuit.ports circuit.nets circuit.devices = subst (λ (v : CircuitData). IsCircuit v.ports v.nets v.devices) c.circuit.view_is c.circuit.invariant in
+    omega (arith, few_nets circuit is, (returns-clause-whole g c).0)

@@ -1,0 +1,76 @@
+-- Ports that take values: one after the other, and some before others.
+use Rattle.std.proofs.Common.{◌≡◌, ℕ, Bool, suc, ◌+◌, ◌-◌, ◌<◌, ◌≤◌, List, [], ◌∷◌, ◌++◌, length, map, replicate, take, get_or, slice_set, refl, sym, ap, ◌∙◌, arith}
+use Rattle.std.proofs.lemmas.List.{length-map, length-replicate, length-take-le, map-append, replicate-append-replicate, take_more}
+use Rattle.std.specs.List.{enumerate_from}
+use Rattle.std.proofs.lemmas.List.FromFn.{length-enumerate_from}
+use Rattle.dom_base.specs.declared.tri.Tri.{Tri}
+use Rattle.dom_base.specs.declared.tri.Tri.TheVariants.{One}
+use Rattle.event_sim.specs.SimData.{SimData, with_value}
+use Rattle.trace_tool.specs.RunData.{rises, with_move}
+use Rattle.trace_tool.specs.Moves.{Move, PortValue, set_all, set_bits, set_from, value_of_bit}
+
+set_all-append : (values : List Tri) (a b : Move) → set_all values (a ++ b) ≡ set_all (set_all values a) b
+set_all-append values [] b = refl
+set_all-append values (s ∷ a) b = set_all-append (slice_set values s.port s.value) a b
+
+abbrev port_value : ℕ → Tri → PortValue
+port_value port value = record { port = port; value = value }
+
+pub set_from-append : (port : ℕ) (xs ys : List Tri) → set_from port (xs ++ ys) ≡ set_from port xs ++ set_from (port + length xs) ys
+set_from-append port [] ys = let e : port ≡ port + 0 = omega arith in ap (λ (p : ℕ). set_from p ys) e
+set_from-append port (x ∷ xs) ys =
+    let e : port + 1 + length xs ≡ port + suc (length xs) = omega arith in
+    ap (λ (m : Move). port_value port x ∷ m) (set_from-append (port + 1) xs ys ∙ ap (λ (p : ℕ). set_from (port + 1) xs ++ set_from p ys) e)
+
+take-push : (xs : List Bool) (n : ℕ) (x d : Bool) → n < length xs → x ≡ get_or xs n d → take (n + 1) xs ≡ take n xs ++ x ∷ []
+take-push xs n x d lt is = take_more xs n d lt ∙ ap (λ (y : Bool). take n xs ++ y ∷ []) (sym is)
+
+set_bits-push : (port n : ℕ) (bits : List Bool) (bit d : Bool) → n < length bits → bit ≡ get_or bits n d
+    → set_bits port (take (n + 1) bits) ≡ set_bits port (take n bits) ++ port_value (port + n) (value_of_bit bit) ∷ []
+set_bits-push port n bits bit d lt at =
+    let front : length (map value_of_bit (take n bits)) ≡ n = length-map (take n bits) value_of_bit ∙ length-take-le n bits (omega (arith, lt)) in
+    ap (set_bits port) (take-push bits n bit d lt at)
+    ∙ ap (set_from port) (map-append value_of_bit (take n bits) (bit ∷ []))
+    ∙ set_from-append port (map value_of_bit (take n bits)) (value_of_bit bit ∷ [])
+    ∙ ap (λ (k : ℕ). set_bits port (take n bits) ++ port_value (port + k) (value_of_bit bit) ∷ []) front
+
+-- one more port is set
+pub set-more : {F : Type 0} (s now new : SimData F) (port n : ℕ) (bits : List Bool) (bit d : Bool) (value : Tri)
+    → n < length bits → bit ≡ get_or bits n d → value ≡ value_of_bit bit → now ≡ with_move s (set_bits port (take n bits)) → new ≡ with_value now (port + n) value
+    → new ≡ with_move s (set_bits port (take (n + 1) bits))
+set-more {F} s now new port n bits bit d value lt at of was is =
+    is ∙ ap (λ (x : Tri). with_value now (port + n) x) of ∙ ap (λ (x : SimData F). with_value x (port + n) (value_of_bit bit)) was
+    ∙ (λ i. record {
+      pick = s.pick;
+      links = s.links;
+      values = sym (ap (set_all s.values) (set_bits-push port n bits bit d lt at)
+          ∙ set_all-append s.values (set_bits port (take n bits)) (port_value (port + n) (value_of_bit bit) ∷ [])) i;
+      step = s.step;
+    })
+
+-- the first of some ports rise, and then the others
+pub rises-split : (port k n : ℕ) → k ≤ n → rises port n ≡ rises port k ++ rises (port + k) (n - k)
+rises-split port k n le =
+    let e : n ≡ k + (n - k) = omega (arith, le) in
+    let ones : replicate n One ≡ replicate k One ++ replicate (n - k) One = ap (λ (m : ℕ). replicate m One) e ∙ sym (replicate-append-replicate k (n - k) One) in
+    ap (λ (l : List Tri). map (λ (s : PortValue). s ∷ []) (set_from port l)) ones
+    ∙ ap (map (λ (s : PortValue). s ∷ [])) (set_from-append port (replicate k One) (replicate (n - k) One))
+    ∙ map-append (λ (s : PortValue). s ∷ []) (set_from port (replicate k One)) (set_from (port + length (replicate k One)) (replicate (n - k) One))
+    ∙ ap (λ (m : ℕ). rises port k ++ rises (port + m) (n - k)) (length-replicate k One)
+
+pub rises-one : (port k : ℕ) → rises port (k + 1) ≡ rises port k ++ rises (port + k) 1
+rises-one port k =
+    let e : k + 1 - k ≡ 1 = omega arith in
+    rises-split port k (k + 1) (omega arith) ∙ ap (λ (m : ℕ). rises port k ++ rises (port + k) m) e
+
+-- some ports have risen, then the next, and then the others
+pub rises-through : (port k n : ℕ) → k < n → rises port k ++ (set_from (port + k) (One ∷ []) ∷ []) ++ rises (port + (k + 1)) (n - (k + 1)) ≡ rises port n
+rises-through port k n lt =
+    ap (λ (l : List Move). l ++ rises (port + (k + 1)) (n - (k + 1))) (sym (rises-one port k)) ∙ sym (rises-split port (k + 1) n (omega (arith, lt)))
+
+-- there are as many moves as ports
+pub length-rises : (port n : ℕ) → length (rises port n) ≡ n
+length-rises port n =
+    length-map (set_from port (replicate n One)) (λ (s : PortValue). s ∷ [])
+    ∙ length-map (enumerate_from port (replicate n One)) (λ (p : ℕ × Tri). port_value p.0 p.1)
+    ∙ length-enumerate_from port (replicate n One) ∙ length-replicate n One

@@ -1,0 +1,60 @@
+-- The simulation of a setup's circuit: its nets and its step.
+use Rattle.std.proofs.Common.{◌≡◌, ℕ, ◌+◌, ◌<◌, ◌≤◌, ◌^◌, List, [], ◌∷◌, ◌++◌, length, slice_set, refl, ◌∙◌, arith}
+use Rattle.std.proofs.lemmas.List.{length-append, length-set, length-take}
+use Rattle.std.proofs.lemmas.Nat.{mod_below}
+use Rattle.dom_base.specs.declared.tri.Tri.{Tri}
+use Rattle.deck.specs.CircuitData.{CircuitData}
+use Rattle.deck.specs.Ports.{leading_ports}
+use Rattle.deck.specs.Roles.{AreRoles, ports_of}
+use Rattle.deck.specs.declared.role.Roles.{Roles}
+use Rattle.deck.proofs.PortLayout.{joined, length-leading}
+use Rattle.switch_model.specs.LinksData.{source_count}
+use Rattle.event_sim.specs.Chains.{next_step, step_after}
+use Rattle.event_sim.specs.SimData.{SimData, ran}
+use Rattle.event_sim.specs.declared.event.Event.{Event}
+use Rattle.event_sim.proofs.Chaining.{length-values_after}
+use Rattle.trace_tool.specs.RunData.{IsRunning, with_move}
+use Rattle.trace_tool.specs.Moves.{Move, set_all}
+use Rattle.trace_tool.specs.declared.setup.Setup.{Setup}
+
+joined_length : (l xs ys zs : List (List ℕ)) → l ≡ xs ++ (ys ++ zs) → length xs + (length ys + length zs) ≡ length l
+joined_length l xs ys zs e = rw e (omega (arith, length-append xs (ys ++ zs), length-append ys zs))
+
+outs_within : (l a b c n p d o : ℕ) → a + (b + c) ≡ l → a ≡ d + 8 → b ≡ p → c ≡ o → l ≤ n → d + 8 + p + o ≤ n
+outs_within l a b c n p d o e f g h i = omega arith
+
+-- the ports that are outputs are nets
+pub outputs_within : (c : CircuitData) (roles : Roles) → AreRoles (ports_of c) roles → source_count roles + roles.outs ≤ length c.nets
+outputs_within c roles are =
+    outs_within (length (ports_of c)) (length (leading_ports roles.clocks)) (length are.pins) (length are.outs) (length c.nets) roles.pins roles.clocks roles.outs
+    (joined_length (ports_of c) (leading_ports roles.clocks) are.pins are.outs (joined are.in_order))
+    (length-leading roles.clocks are.in_order.few_clocks) are.pin_count are.out_count (omega (arith, length-take c.ports c.nets))
+
+pub step_after-fits : (step : ℕ) (events : List Event) → step < 2 ^ 64 → step_after step events < 2 ^ 64
+step_after-fits step [] fits = fits
+step_after-fits step (e ∷ es) fits = step_after-fits (next_step step) es (mod_below (step + 1) (2 ^ 64) (omega arith))
+
+pub length-set_all : (values : List Tri) (move : Move) → length (set_all values move) ≡ length values
+length-set_all values [] = refl
+length-set_all values (s ∷ more) = length-set_all (slice_set values s.port s.value) more ∙ length-set values s.port s.value
+
+module _ {F : Type 0} where
+  -- events leave a simulation of the setup's circuit
+  pub running-ran : (setup : Setup) (s : SimData F) (events : List Event) → IsRunning setup s → IsRunning setup (ran s events)
+  running-ran setup s events running = record {
+    are_roles = running.are_roles;
+    links_are = running.links_are;
+    whole = length-values_after s.values events ∙ running.whole;
+    few = omega (arith, length-values_after s.values events, running.few);
+    fits = step_after-fits s.step events running.fits;
+  }
+
+  -- and so do moves
+  pub running-set : (setup : Setup) (s : SimData F) (move : Move) → IsRunning setup s → IsRunning setup (with_move s move)
+  running-set setup s move running = record {
+    are_roles = running.are_roles;
+    links_are = running.links_are;
+    whole = length-set_all s.values move ∙ running.whole;
+    few = omega (arith, length-set_all s.values move, running.few);
+    fits = running.fits;
+  }

@@ -1,9 +1,0 @@
-use Rattle.std.proofs.Common.{codes}
-use Rattle.std.specs.Fmt.{decimal}
-use Rattle.trace_tool.proofs.Texts.{piece}
-use Rattle.trace_tool.proofs.lines.put_power.Goals as goal
-
-pub returns : goal.returns
-returns c =
-    piece _ _ _ (codes "power events ") _ c.in_ok-append.ensures.bytes
-    (piece _ _ _ (decimal c.args.events) (codes "\n") c.in_ok-append_number.ensures.digits c.in_ok-append-2.ensures.bytes)

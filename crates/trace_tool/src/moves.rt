@@ -1,0 +1,80 @@
+//! The moves of power and of a cycle.
+ghost use Rattle.std.specs.Prelude.{◌≡◌, ◌+◌, ◌≤◌, ◌^◌, [], ◌∷◌, IfOk, length};
+ghost use Rattle.event_sim.specs.Choices.{Chooses};
+ghost use Rattle.switch_model.specs.LinksData.{source_count};
+ghost use Rattle.trace_tool.specs.Moves.{close_pair, evaluation_moves, first_clock, latching_moves, open_pair, power_moves};
+ghost use Rattle.trace_tool.specs.RunData.{Runs, rises};
+
+use crate::halt::Halt;
+use crate::run::Run;
+
+/// The bits of a pair that is open, and of one that is closed.
+const OPEN: [bool; 2] = [true, false];
+
+const CLOSED: [bool; 2] = [false, true];
+
+/// The bits of clocks that have fallen.
+const FALLEN: [bool; 4] = [false, false, false, false];
+
+const FIRST_CLOCK: u32 = 2;
+
+impl<F: Fn(u64, u64) -> u64> Run<F> {
+    /// Power: settles, then the reset ends.
+    pub fn power_up(&mut self) -> Result<u64, Halt>
+        requires { Chooses (F.pre self.old.pick) (F.post self.old.pick) }
+        ensures { Runs F.post (power_moves self.old.setup.roles) self.old result self.new }
+    {
+        let held = self.settle()?;
+        let released = self.drive(self.roles().clocks as u32 + 6, &CLOSED)?;
+        Ok(held + released)
+    }
+
+    /// A cycle up to its reading: the pins take these bits, then the clocks rise.
+    pub fn evaluate(&mut self, pins: &[bool]) -> Result<u64, Halt>
+        requires chooses { Chooses (F.pre self.old.pick) (F.post self.old.pick) }
+        requires width { length pins.now ≡ self.old.setup.roles.pins }
+        ensures runs { Runs F.post (evaluation_moves self.old.setup.roles pins.now) self.old result self.new }
+        ensures few { IfOk result (λ count. count ≤ 2 ^ 56) }
+    {
+        let set = self.drive(self.roles().clocks as u32 + 8, pins)?;
+        let raised = self.raise_clocks()?;
+        Ok(set + raised)
+    }
+
+    /// The clocks rise one after the other.
+    fn raise_clocks(&mut self) -> Result<u64, Halt>
+        requires { Chooses (F.pre self.old.pick) (F.post self.old.pick) }
+        ensures { Runs F.post (rises first_clock self.old.setup.roles.clocks) self.old result self.new }
+    {
+        let mut events = 0u64;
+        for clock in 0..self.roles().clocks {
+            events += self.drive(FIRST_CLOCK + clock as u32, &[true])?;
+        }
+        Ok(events)
+    }
+
+    /// A cycle from its reading on: the masters are opened and closed, all clocks fall together, the
+    /// slaves are opened and closed.
+    pub fn latch(&mut self) -> Result<u64, Halt>
+        requires { Chooses (F.pre self.old.pick) (F.post self.old.pick) }
+        ensures { Runs F.post (latching_moves self.old.setup.roles) self.old result self.new }
+    {
+        let clocks = self.roles().clocks;
+        let master = self.open_and_close(clocks as u32 + 2)?;
+        let fallen = self.drive(FIRST_CLOCK, &FALLEN[..clocks as usize])?;
+        let slave = self.open_and_close(clocks as u32 + 4)?;
+        Ok(master + fallen + slave)
+    }
+
+    /// A pair is opened and closed.
+    fn open_and_close(&mut self, pair: u32) -> Result<u64, Halt>
+        requires chooses { Chooses (F.pre self.old.pick) (F.post self.old.pick) }
+        requires no_supply { 2 ≤ pair }
+        requires sources { pair + 2 ≤ source_count self.old.setup.roles }
+        ensures { Runs F.post (open_pair pair ∷ close_pair pair ∷ []) self.old result self.new }
+    {
+        let opened = self.drive(pair, &OPEN)?;
+        let closed = self.drive(pair, &CLOSED)?;
+        Ok(opened + closed)
+    }
+}
