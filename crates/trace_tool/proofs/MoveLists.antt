@@ -1,10 +1,10 @@
 -- The moves of power and of a cycle, put together from those of their parts.
 use Rattle.std.proofs.Common.{◌≡◌, ℕ, zero, suc, ◌≤◌, Bool, false, List, [], ◌∷◌, ◌++◌, map, replicate, take, refl, arith}
-use Rattle.dom_base.specs.declared.tri.Tri.{Tri}
 use Rattle.dom_base.specs.declared.tri.Tri.TheVariants.{Zero}
+use Rattle.deck.specs.PortLayout.{first_clock, first_pin, master_pair, reset_pair, slave_pair}
 use Rattle.deck.specs.declared.role.Roles.{Roles}
 use Rattle.trace_tool.specs.RunData.{rises}
-use Rattle.trace_tool.specs.Moves.{close_pair, evaluation_moves, first_clock, first_pin, latching_moves, master_pair, open_pair, power_moves, reset_pair, set_bits, set_from, slave_pair, value_of_bit}
+use Rattle.trace_tool.specs.Moves.{close_pair, evaluation_moves, latching_moves, open_pair, power_moves, set_bits, set_from, value_of_bit}
 
 -- so many of four bits that are off
 pub some_of_four : (n : ℕ) → n ≤ 4 → map value_of_bit (take n (false ∷ false ∷ false ∷ false ∷ [])) ≡ replicate n Zero
@@ -15,9 +15,9 @@ some_of_four (suc (suc (suc zero))) le = refl
 some_of_four (suc (suc (suc (suc zero)))) le = refl
 some_of_four (suc (suc (suc (suc (suc n))))) le = absurd (omega (arith, le))
 
-pub latching_are : (roles : Roles) (m s : ℕ) (bits : List Bool) → m ≡ master_pair roles → s ≡ slave_pair roles → map value_of_bit bits ≡ replicate roles.clocks Zero
-    → ((open_pair m ∷ close_pair m ∷ []) ++ (set_bits first_clock bits ∷ [])) ++ (open_pair s ∷ close_pair s ∷ []) ≡ latching_moves roles
-latching_are roles m s bits p q z = λ i. open_pair (p i) ∷ close_pair (p i) ∷ set_from first_clock (z i) ∷ open_pair (q i) ∷ close_pair (q i) ∷ []
+pub latching_are : (roles : Roles) (m f s : ℕ) (bits : List Bool) → m ≡ master_pair roles → f ≡ first_clock → s ≡ slave_pair roles → map value_of_bit bits ≡ replicate roles.clocks Zero
+    → ((open_pair m ∷ close_pair m ∷ []) ++ (set_bits f bits ∷ [])) ++ (open_pair s ∷ close_pair s ∷ []) ≡ latching_moves roles
+latching_are roles m f s bits p c q z = λ i. open_pair (p i) ∷ close_pair (p i) ∷ set_from (c i) (z i) ∷ open_pair (q i) ∷ close_pair (q i) ∷ []
 
 pub evaluation_are : (roles : Roles) (port : ℕ) (pins : List Bool) → port ≡ first_pin roles
     → (set_bits port pins ∷ []) ++ rises first_clock roles.clocks ≡ evaluation_moves roles pins

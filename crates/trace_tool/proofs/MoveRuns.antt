@@ -1,5 +1,5 @@
 -- Runs of moves: of one move, of moves that follow others.
-use Rattle.std.proofs.Common.{◌≡◌, ℕ, ◌+◌, ◌*◌, ◌≤◌, ◌^◌, List, [], ◌∷◌, ◌++◌, length, refl, sym, ap, ◌∙◌, subst, arith, append-nil, length-append, Result, Ok, Err}
+use Rattle.std.proofs.Common.{◌≡◌, ℕ, ◌+◌, List, [], ◌∷◌, ◌++◌, refl, sym, ap, ◌∙◌, subst, arith, append-nil, length-append, Result, Ok, Err}
 use Rattle.std.specs.Result.{IsErrAnd}
 use Rattle.event_sim.specs.declared.event.Event.{Event}
 use Rattle.switch_model.specs.LinksData.{links_of}

@@ -6,7 +6,7 @@ use Rattle.trace_tool.specs.Laws.{TraceIsOne}
 use Rattle.trace_tool.specs.Moves.{cycle_moves, evaluation_moves, power_moves}
 use Rattle.trace_tool.specs.TraceData.{TraceData}
 use Rattle.trace_tool.specs.TraceLines.{lines_of, power_line}
-use Rattle.trace_tool.specs.Traces.{AreCycles, IsCycle, IsRun, IsTraceFrom, power_state, row_line}
+use Rattle.trace_tool.specs.Traces.{AreCycles, IsCycle, IsTraceFrom, power_state, row_line}
 use Rattle.trace_tool.specs.declared.setup.Setup.{Setup}
 use Rattle.trace_tool.proofs.OneCourse.{course_is_one}
 

@@ -8,7 +8,7 @@ use Rattle.deck.specs.Ports.{leading_ports}
 use Rattle.deck.specs.Roles.{AreRoles, ports_of}
 use Rattle.deck.specs.declared.role.Roles.{Roles}
 use Rattle.deck.proofs.PortLayout.{joined, length-leading}
-use Rattle.switch_model.specs.LinksData.{source_count}
+use Rattle.deck.specs.PortLayout.{source_count}
 use Rattle.event_sim.specs.Chains.{next_step, step_after}
 use Rattle.event_sim.specs.SimData.{SimData, ran}
 use Rattle.event_sim.specs.declared.event.Event.{Event}

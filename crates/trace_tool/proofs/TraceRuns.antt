@@ -1,8 +1,10 @@
 -- Runs over cycles: the invariant of the loop over them, and the trace at its end.
 use Rattle.std.proofs.Common.{◌≡◌, ℕ, ◌+◌, ◌<◌, ◌≤◌, ◌^◌, Bool, true, false, List, [], ◌∷◌, ◌++◌, length, drop, get_or, refl, sym, ap, ◌∙◌, subst, arith, append_assoc, append-nil, length-drop, IfOk, Result, Ok, Err}
 use Rattle.std.proofs.lemmas.List.{drop_more}
+use Rattle.deck.specs.CircuitData.{CircuitData}
+use Rattle.deck.specs.declared.role.Roles.{Roles}
 use Rattle.event_sim.specs.Orders.{By, Follows}
-use Rattle.trace_tool.specs.Courses.{Course, IsCourse, Settled, State, Unsettled}
+use Rattle.trace_tool.specs.Courses.{Course, Settled, State, Unsettled}
 use Rattle.trace_tool.specs.Moves.{cycle_moves, evaluation_moves, power_moves}
 use Rattle.trace_tool.specs.RunData.{HasCycles, IsPrinted, RunData, RunsCycle, RunsPower, power_run}
 use Rattle.trace_tool.specs.TraceData.{TraceData, TraceOptionsData}
@@ -208,9 +210,11 @@ module _ {F : Type 0} (P : F → ℕ → ℕ → ℕ → Type 0) where
       (run-halted P pick setup new cycles settled (subst (λ (r : RunData F). RunsPower P r settled new) is power) off))
 
 -- a run in the order of the options
-pub run_is : (setup : Setup) (read options : TraceOptionsData) (cycles items : List (List Bool)) (trace : TraceData)
-    → read ≡ options → cycles ≡ items → IsRun (By (order_of read.order read.seed)) setup cycles trace
-    → IsRun (By (order_of options.order options.seed)) setup items trace
-run_is setup read options cycles items trace o c run =
-    subst (λ (all : List (List Bool)). IsRun (By (order_of options.order options.seed)) setup all trace) c
-    (subst (λ (x : TraceOptionsData). IsRun (By (order_of x.order x.seed)) setup cycles trace) o run)
+pub run_is : (circuit : CircuitData) (roles : Roles) (read options : TraceOptionsData) (cycles items : List (List Bool)) (trace : TraceData)
+    → read ≡ options → cycles ≡ items
+    → IsRun (By (order_of read.order read.seed)) (record { circuit = circuit; roles = roles; events = read.events }) cycles trace
+    → IsRun (By (order_of options.order options.seed)) (record { circuit = circuit; roles = roles; events = options.events }) items trace
+run_is circuit roles read options cycles items trace o c run =
+    let setup : TraceOptionsData → Setup = λ x. record { circuit = circuit; roles = roles; events = x.events } in
+    subst (λ (all : List (List Bool)). IsRun (By (order_of options.order options.seed)) (setup options) all trace) c
+    (subst (λ (x : TraceOptionsData). IsRun (By (order_of x.order x.seed)) (setup x) cycles trace) o run)

@@ -1,8 +1,9 @@
 -- Moves: the ports of a circuit that take values together, in power and in a cycle.
-use Rattle.std.specs.Prelude.{ℕ, ◌+◌, Bool, true, false, List, [], ◌∷◌, ◌++◌, map, replicate, slice_set}
+use Rattle.std.specs.Prelude.{ℕ, Bool, true, false, List, [], ◌∷◌, ◌++◌, map, replicate, slice_set}
 use Rattle.std.specs.List.{enumerate_from}
 use Rattle.dom_base.specs.declared.tri.Tri.{Tri}
 use Rattle.dom_base.specs.declared.tri.Tri.TheVariants.{Zero, One}
+use Rattle.deck.specs.PortLayout.{first_clock, first_pin, master_pair, reset_pair, slave_pair}
 use Rattle.deck.specs.declared.role.Roles.{Roles}
 
 -- a port takes a value
@@ -22,22 +23,6 @@ set_all values (s ∷ more) = set_all (slice_set values s.port s.value) more
 -- the ports from one on take these values, one each
 abbrev pub set_from : ℕ → List Tri → Move
 set_from port values = map (λ p. record { port = p.0; value = p.1 }) (enumerate_from port values)
-
--- the places of ports with these roles: `vdd` and `vss`, the clocks, `lm lmb ls lsb rs rsb`, the pins
-abbrev pub first_clock : ℕ
-first_clock = 2
-
-abbrev pub master_pair : Roles → ℕ
-master_pair roles = roles.clocks + 2
-
-abbrev pub slave_pair : Roles → ℕ
-slave_pair roles = roles.clocks + 4
-
-abbrev pub reset_pair : Roles → ℕ
-reset_pair roles = roles.clocks + 6
-
-abbrev pub first_pin : Roles → ℕ
-first_pin roles = roles.clocks + 8
 
 -- the value of a bit
 abbrev pub value_of_bit : Bool → Tri

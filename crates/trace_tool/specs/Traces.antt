@@ -3,9 +3,9 @@ use Rattle.std.specs.Prelude.{ℕ, ◌≡◌, ◌+◌, Bool, true, false, List, 
 use Rattle.dom_base.specs.declared.tri.Tri.{Tri}
 use Rattle.deck.specs.CircuitData.{CircuitData}
 use Rattle.deck.specs.DeckText.{IsDeckOf}
+use Rattle.deck.specs.PortLayout.{first_output}
 use Rattle.deck.specs.Roles.{AreRoles, ports_of}
 use Rattle.deck.specs.declared.role.Roles.{Roles}
-use Rattle.switch_model.specs.LinksData.{source_count}
 use Rattle.switch_model.specs.Power.{power_values}
 use Rattle.event_sim.specs.Orders.{By, first_place, last_place, seeded_place}
 use Rattle.stim_text.specs.CycleLines.{cycle_line}
@@ -20,7 +20,7 @@ use Rattle.trace_tool.specs.TraceLines.{lines_of, power_line}
 
 -- the values of the outputs, in order
 abbrev pub outputs : Roles → List Tri → List Tri
-outputs roles values = take roles.outs (drop (source_count roles) values)
+outputs roles values = take roles.outs (drop (first_output roles) values)
 
 -- the line of a cycle with these pins, read in this state, for the number of its events
 abbrev pub row_line : Setup → ℕ → List Bool → State → ℕ → List ℕ

@@ -1,8 +1,8 @@
 //! The moves of power and of a cycle.
 ghost use Rattle.std.specs.Prelude.{◌≡◌, ◌+◌, ◌≤◌, ◌^◌, [], ◌∷◌, IfOk, length};
 ghost use Rattle.event_sim.specs.Choices.{Chooses};
-ghost use Rattle.switch_model.specs.LinksData.{source_count};
-ghost use Rattle.trace_tool.specs.Moves.{close_pair, evaluation_moves, first_clock, latching_moves, open_pair, power_moves};
+ghost use Rattle.deck.specs.PortLayout.{first_clock, source_count};
+ghost use Rattle.trace_tool.specs.Moves.{close_pair, evaluation_moves, latching_moves, open_pair, power_moves};
 ghost use Rattle.trace_tool.specs.RunData.{Runs, rises};
 
 use crate::halt::Halt;
@@ -16,8 +16,6 @@ const CLOSED: [bool; 2] = [false, true];
 /// The bits of clocks that have fallen.
 const FALLEN: [bool; 4] = [false, false, false, false];
 
-const FIRST_CLOCK: u32 = 2;
-
 impl<F: Fn(u64, u64) -> u64> Run<F> {
     /// Power: settles, then the reset ends.
     pub fn power_up(&mut self) -> Result<u64, Halt>
@@ -25,7 +23,7 @@ impl<F: Fn(u64, u64) -> u64> Run<F> {
         ensures { Runs F.post (power_moves self.old.setup.roles) self.old result self.new }
     {
         let held = self.settle()?;
-        let released = self.drive(self.roles().clocks as u32 + 6, &CLOSED)?;
+        let released = self.drive(self.roles().reset_pair(), &CLOSED)?;
         Ok(held + released)
     }
 
@@ -36,7 +34,7 @@ impl<F: Fn(u64, u64) -> u64> Run<F> {
         ensures runs { Runs F.post (evaluation_moves self.old.setup.roles pins.now) self.old result self.new }
         ensures few { IfOk result (λ count. count ≤ 2 ^ 56) }
     {
-        let set = self.drive(self.roles().clocks as u32 + 8, pins)?;
+        let set = self.drive(self.roles().first_pin(), pins)?;
         let raised = self.raise_clocks()?;
         Ok(set + raised)
     }
@@ -47,8 +45,9 @@ impl<F: Fn(u64, u64) -> u64> Run<F> {
         ensures { Runs F.post (rises first_clock self.old.setup.roles.clocks) self.old result self.new }
     {
         let mut events = 0u64;
-        for clock in 0..self.roles().clocks {
-            events += self.drive(FIRST_CLOCK + clock as u32, &[true])?;
+        let roles = self.roles();
+        for clock in 0..roles.clocks {
+            events += self.drive(roles.first_clock() + clock as u32, &[true])?;
         }
         Ok(events)
     }
@@ -59,10 +58,10 @@ impl<F: Fn(u64, u64) -> u64> Run<F> {
         requires { Chooses (F.pre self.old.pick) (F.post self.old.pick) }
         ensures { Runs F.post (latching_moves self.old.setup.roles) self.old result self.new }
     {
-        let clocks = self.roles().clocks;
-        let master = self.open_and_close(clocks as u32 + 2)?;
-        let fallen = self.drive(FIRST_CLOCK, &FALLEN[..clocks as usize])?;
-        let slave = self.open_and_close(clocks as u32 + 4)?;
+        let roles = self.roles();
+        let master = self.open_and_close(roles.master_pair())?;
+        let fallen = self.drive(roles.first_clock(), &FALLEN[..roles.clocks as usize])?;
+        let slave = self.open_and_close(roles.slave_pair())?;
         Ok(master + fallen + slave)
     }
 

@@ -5,7 +5,8 @@ ghost use Rattle.event_sim.specs.Choices.{Chooses};
 ghost use Rattle.event_sim.specs.Pending.{IsResting};
 ghost use Rattle.event_sim.specs.Settling.{most_events as most_of};
 ghost use Rattle.stim_text.specs.CycleLines.{cycle_line};
-ghost use Rattle.switch_model.specs.LinksData.{links_of, source_count};
+ghost use Rattle.deck.specs.PortLayout.{source_count};
+ghost use Rattle.switch_model.specs.LinksData.{links_of};
 ghost use Rattle.trace_tool.specs.Moves.{set_bits};
 ghost use Rattle.trace_tool.specs.RunData.{Runs, Settles, Steps, IsHalted, power_run, with_line, with_moved};
 ghost use Rattle.trace_tool.specs.TraceLines.{power_line};
@@ -108,8 +109,7 @@ impl<F: Fn(u64, u64) -> u64> Run<F> {
         ensures { IfOk result (λ values. values.items ≡ outputs_of self.now.setup.roles self.now.state.values) }
     {
         let roles = self.setup.roles;
-        let first = roles.clocks as u32 + 8 + roles.pins;
-        read_ports(alloc, &self.sim, first, roles.outs)
+        read_ports(alloc, &self.sim, roles.first_output(), roles.outs)
     }
 
     /// Settles, with the lines of the events where they are printed. It answers their number.

@@ -1,6 +1,7 @@
-use Rattle.std.proofs.Common.{[], ◌∷◌, ◌++◌, ◌+◌, ap, ◌∙◌, arith}
+use Rattle.std.proofs.Common.{[], ◌∷◌, ◌++◌, ap, ◌∙◌, arith}
+use Rattle.deck.specs.PortLayout.{first_clock, first_pin}
 use Rattle.deck.specs.declared.role.Roles.{Roles}
-use Rattle.trace_tool.specs.Moves.{evaluation_moves, first_clock, first_pin, set_bits}
+use Rattle.trace_tool.specs.Moves.{evaluation_moves, set_bits}
 use Rattle.trace_tool.specs.RunData.{rises}
 use Rattle.trace_tool.specs.declared.setup.Setup.{Setup}
 use Rattle.trace_tool.proofs.MoveLists.{evaluation_are}
@@ -12,17 +13,17 @@ pub returns-in_err-set-clause-runs : goal.returns-in_err-set-clause-runs
 returns-in_err-set-clause-runs g c =
     let roles = c.args.self.now.setup.roles in
     halts-before (λ pick step count place. g.F.Fn.post pick (step, (count, tt)) place) c.args.self.now c.drive.new.self
-    (set_bits (c.roles.result.clocks + 8) c.args.pins.now ∷ []) (rises first_clock roles.clocks) (evaluation_moves roles c.args.pins.now) c.in_err-set.field-0.0 c.from_residual.result
-    (evaluation_are roles (c.roles.result.clocks + 8) c.args.pins.now (ap (λ (r : Roles). r.clocks + 8) c.roles.ensures.roles)) c.from_residual.ensures.1 c.in_err-set.ensures
+    (set_bits c.first_pin.result c.args.pins.now ∷ []) (rises first_clock roles.clocks) (evaluation_moves roles c.args.pins.now) c.in_err-set.field-0.0 c.from_residual.result
+    (evaluation_are roles c.first_pin.result c.args.pins.now (c.first_pin.ensures ∙ ap (λ (r : Roles). first_pin r) c.roles.ensures.roles)) c.from_residual.ensures.1 c.in_err-set.ensures
 
 pub returns-in_err-raised-clause-runs : goal.returns-in_err-raised-clause-runs
 returns-in_err-raised-clause-runs g c =
     let roles = c.args.self.now.setup.roles in
-    let set = set_bits (c.roles.result.clocks + 8) c.args.pins.now ∷ [] in
+    let set = set_bits c.first_pin.result c.args.pins.now ∷ [] in
     halts-after (λ pick step count place. g.F.Fn.post pick (step, (count, tt)) place) c.args.self.now c.drive.new.self c.raise_clocks.new.self
     set (rises first_clock c.drive.new.self.setup.roles.clocks) (evaluation_moves roles c.args.pins.now) c.in_ok-set.set c.in_err-raised.field-0.0 c.from_residual-in_err-raised.result
     (ap (λ (x : Setup). set ++ rises first_clock x.roles.clocks) c.in_ok-set.ensures.1.same_setup
-    ∙ evaluation_are roles (c.roles.result.clocks + 8) c.args.pins.now (ap (λ (r : Roles). r.clocks + 8) c.roles.ensures.roles))
+    ∙ evaluation_are roles c.first_pin.result c.args.pins.now (c.first_pin.ensures ∙ ap (λ (r : Roles). first_pin r) c.roles.ensures.roles))
     c.from_residual-in_err-raised.ensures.1 c.in_ok-set.ensures c.in_err-raised.ensures
 
 pub overflow_add-result : goal.overflow_add-result
@@ -52,9 +53,9 @@ returns-clause-few g c =
 pub returns-clause-runs : goal.returns-clause-runs
 returns-clause-runs g c =
     let roles = c.args.self.now.setup.roles in
-    let set = set_bits (c.roles.result.clocks + 8) c.args.pins.now ∷ [] in
+    let set = set_bits c.first_pin.result c.args.pins.now ∷ [] in
     runs-all (λ pick step count place. g.F.Fn.post pick (step, (count, tt)) place) c.args.self.now c.drive.new.self c.raise_clocks.new.self
     set (rises first_clock c.drive.new.self.setup.roles.clocks) (evaluation_moves roles c.args.pins.now) c.in_ok-set.set c.in_ok-raised.raised
     (ap (λ (x : Setup). set ++ rises first_clock x.roles.clocks) c.in_ok-set.ensures.1.same_setup
-    ∙ evaluation_are roles (c.roles.result.clocks + 8) c.args.pins.now (ap (λ (r : Roles). r.clocks + 8) c.roles.ensures.roles))
+    ∙ evaluation_are roles c.first_pin.result c.args.pins.now (c.first_pin.ensures ∙ ap (λ (r : Roles). first_pin r) c.roles.ensures.roles))
     c.in_ok-set.ensures c.in_ok-raised.ensures

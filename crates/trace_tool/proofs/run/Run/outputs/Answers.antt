@@ -3,14 +3,14 @@ use Rattle.event_sim.proofs.Made.{sources_within}
 use Rattle.trace_tool.proofs.SetupNets.{outputs_within}
 use Rattle.trace_tool.proofs.run.Run.outputs.Goals as goal
 
-pub overflow_add-first-2 : goal.overflow_add-first-2
-overflow_add-first-2 g c =
+pub first_output-requires : goal.first_output-requires
+first_output-requires g c =
     omega (arith, c.self.invariant.whole, c.self.invariant.few, sources_within c.self.inside.setup.circuit c.self.inside.setup.roles c.self.invariant.are_roles)
 
 pub read_ports-requires-clause-within : goal.read_ports-requires-clause-within
 read_ports-requires-clause-within g c =
-    omega (arith, c.self.invariant.whole, outputs_within c.self.inside.setup.circuit c.self.inside.setup.roles c.self.invariant.are_roles)
+    omega (arith, c.first_output.ensures, c.self.invariant.whole, outputs_within c.self.inside.setup.circuit c.self.inside.setup.roles c.self.invariant.are_roles)
 
 pub read_ports-requires-clause-few : goal.read_ports-requires-clause-few
 read_ports-requires-clause-few g c =
-    omega (arith, c.self.invariant.whole, c.self.invariant.few, outputs_within c.self.inside.setup.circuit c.self.inside.setup.roles c.self.invariant.are_roles)
+    omega (arith, c.first_output.ensures, c.self.invariant.whole, c.self.invariant.few, outputs_within c.self.inside.setup.circuit c.self.inside.setup.roles c.self.invariant.are_roles)

@@ -1,5 +1,5 @@
 use Rattle.std.proofs.Common.{Ok}
-use Rattle.trace_tool.specs.Moves.{first_clock}
+use Rattle.deck.specs.PortLayout.{first_clock}
 use Rattle.trace_tool.specs.RunData.{Runs, rises}
 use Rattle.trace_tool.proofs.run.Run.raise_clocks.Given as goal
 

@@ -1,5 +1,5 @@
 use Rattle.std.proofs.Common.{sym, ap, subst, arith}
-use Rattle.switch_model.specs.LinksData.{source_count}
+use Rattle.deck.specs.PortLayout.{source_count}
 use Rattle.event_sim.specs.SimData.{SimData}
 use Rattle.event_sim.proofs.Made.{sources_within}
 use Rattle.trace_tool.specs.Moves.{set_bits}
