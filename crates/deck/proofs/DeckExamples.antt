@@ -6,7 +6,7 @@ use Rattle.std.proofs.lemmas.Map.Made.{IsDistinct-from_count}
 use Rattle.dom_base.specs.Lines.{is_control}
 use Rattle.dom_base.specs.declared.kind.Kind.TheVariants.{N as nch, P as pch, Keep}
 use Rattle.deck.specs.CircuitData.{CircuitData}
-use Rattle.deck.specs.DeckText.{is_skipped, deck_cards, deck_phases, card_lines, BeginsACard, bare_circuit, HasNoEquals, IsDeckOf}
+use Rattle.deck.specs.DeckText.{is_skipped, deck_cards, deck_phases, deck_card_lines, BeginsACard, bare_circuit, HasNoEquals, IsDeckOf}
 use Rattle.deck.specs.NamedDevices.{NamedDevice, with_devices}
 use Rattle.deck.specs.Worked.{and_devices}
 use Rattle.dom_base.proofs.Names.{names_equal}
@@ -212,9 +212,9 @@ mixed_kept = refl
 mixed_phases : deck_phases mixed_text ≡ record { net = codes "y"; plus = false } ∷ record { net = codes "a"; plus = true } ∷ []
 mixed_phases = refl
 
-mixed_begins : BeginsACard (card_lines mixed_text)
+mixed_begins : BeginsACard (deck_card_lines mixed_text)
 mixed_begins = refl
 
 -- a line with `+` before the first card
-stray : BeginsACard (card_lines (codes "* phase x +" ++ 10 ∷ codes " + a")) → ⊥
+stray : BeginsACard (deck_card_lines (codes "* phase x +" ++ 10 ∷ codes " + a")) → ⊥
 stray e = cc

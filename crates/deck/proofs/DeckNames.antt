@@ -11,7 +11,7 @@ use Rattle.dom_base.proofs.WordBytes.{lower_bytes, lower_words}
 use Rattle.dom_base.proofs.Names.{IsNetName-word}
 use Rattle.deck.specs.declared.phase.Phase.{Phase}
 use Rattle.deck.specs.CircuitData.{CircuitData}
-use Rattle.deck.specs.DeckText.{read_line, is_end, through_end, deck_lines, is_of_card, continues, card_lines, added_words, cards_of, deck_cards, is_skipped, signed_phase, phase_of, deck_phases, IsDeviceCard, bare_circuit, IsDeckOf, HasNetNames}
+use Rattle.deck.specs.DeckText.{read_line, is_end, through_end, deck_lines, is_of_card, continues, deck_card_lines, added_words, cards_of, deck_cards, is_skipped, signed_phase, phase_of, deck_phases, IsDeviceCard, bare_circuit, IsDeckOf, HasNetNames}
 use Rattle.deck.specs.NamedDevices.{NamedDevice, with_devices}
 use Rattle.deck.specs.Nets.{with_net}
 use Rattle.deck.specs.Pushes.{pushed}
@@ -70,7 +70,7 @@ cards-plain (card ∷ cards) h k = (words-plain card h.0 (recursion_from_All (Al
 -- the words of cards without control bytes are names of nets
 pub deck_cards-plain : (text : List ℕ) → All (All (All (λ b. is_control b ≡ false))) (deck_cards text) → AllByRecursion (AllByRecursion IsNetName) (deck_cards text)
 deck_cards-plain text visible =
-    cards-plain (deck_cards text) (cards-lower (card_lines text) (kept (AllByRecursion IsLower) is_of_card (deck_lines text) (deck_lines-lower text)))
+    cards-plain (deck_cards text) (cards-lower (deck_card_lines text) (kept (AllByRecursion IsLower) is_of_card (deck_lines text) (deck_lines-lower text)))
     (recursion_from_All (All (All (λ b. is_control b ≡ false))) (deck_cards text) visible)
 
 no_control_from : (word : List ℕ) → list_any is_control word ≡ false → AllByRecursion (λ b. is_control b ≡ false) word

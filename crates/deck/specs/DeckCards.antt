@@ -30,29 +30,29 @@ abbrev pub numbered_cards : List ℕ → List NumberedCard
 numbered_cards text = numbered_cards_of (numbered_lines text)
 
 -- the cards, each as its first word
-abbrev pub subckt_card : List ℕ
-subckt_card = codes ".subckt"
+abbrev pub dot_subckt : List ℕ
+dot_subckt = codes ".subckt"
 
-abbrev pub ends_card : List ℕ
-ends_card = codes ".ends"
+abbrev pub dot_ends : List ℕ
+dot_ends = codes ".ends"
 
-abbrev pub end_card : List ℕ
-end_card = codes ".end"
+abbrev pub dot_end : List ℕ
+dot_end = codes ".end"
 
-abbrev pub model_card : List ℕ
-model_card = codes ".model"
+abbrev pub dot_model : List ℕ
+dot_model = codes ".model"
 
 -- a card that begins with this word
-abbrev pub begins : List ℕ → NumberedCard → Bool
-begins word card = pointwise nat_eq (first_word card.words) word
+abbrev pub has_first_word : List ℕ → NumberedCard → Bool
+has_first_word word card = pointwise nat_eq (first_word card.words) word
 
 -- the card of a device: its first letter is `m`
 abbrev pub is_device : NumberedCard → Bool
 is_device card = slice_index (first_word card.words) 0 == 109
 
 -- a card that is known
-abbrev pub is_known : NumberedCard → Bool
-is_known card = is_device card || begins subckt_card card || begins ends_card card || begins end_card card || begins model_card card
+abbrev pub is_deck_card : NumberedCard → Bool
+is_deck_card card = is_device card || has_first_word dot_subckt card || has_first_word dot_ends card || has_first_word dot_end card || has_first_word dot_model card
 
 -- a word with the byte `=`
 abbrev pub has_equals : List ℕ → Bool
@@ -60,11 +60,11 @@ has_equals word = list_any (λ b. b == 61) word
 
 -- a known card in its form: a device has at least six words, `.subckt` has a name and no word with `=`,
 -- `.ends` has at most one word behind it, and `.end` and `.model` have any words
-abbrev pub is_form : NumberedCard → Bool
-is_form card =
+abbrev pub is_deck_form : NumberedCard → Bool
+is_deck_form card =
     if is_device card then nat_lt 5 (length card.words)
-    else (if begins subckt_card card then nat_lt 1 (length card.words) && not (list_any has_equals card.words)
-    else (if begins ends_card card then nat_lt (length card.words) 3
+    else (if has_first_word dot_subckt card then nat_lt 1 (length card.words) && not (list_any has_equals card.words)
+    else (if has_first_word dot_ends card then nat_lt (length card.words) 3
     else true))
 
 -- a word for a kind of device
@@ -84,15 +84,15 @@ names_twice card = nat_lt (distinct_count (pointwise nat_eq) (port_names card)) 
 -- the first of some cards, if there is one, begins with this word
 abbrev pub begins_some : List ℕ → Option NumberedCard → Bool
 begins_some word None = false
-begins_some word (Some card) = begins word card
+begins_some word (Some card) = has_first_word word card
 
 -- a subcircuit is open: the nearest `.subckt` or `.ends` before is a `.subckt`
 abbrev pub is_open : List NumberedCard → Bool
-is_open before = begins_some subckt_card (find (λ card. begins subckt_card card || begins ends_card card) before)
+is_open before = begins_some dot_subckt (find (λ card. has_first_word dot_subckt card || has_first_word dot_ends card) before)
 
 -- a `.subckt` stands before
 abbrev pub has_subckt : List NumberedCard → Bool
-has_subckt before = list_any (begins subckt_card) before
+has_subckt before = list_any (has_first_word dot_subckt) before
 
 -- how many devices stand before
 abbrev pub device_count : List NumberedCard → ℕ

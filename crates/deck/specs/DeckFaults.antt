@@ -6,21 +6,21 @@ use Rattle.deck.specs.declared.fault.DeckKind.{DeckKind}
 use Rattle.deck.specs.declared.fault.DeckKind.TheVariants.{ControlByte, UnknownCard, BadCard, UnknownDevice, NoSubckt, SecondSubckt, NotClosed, DuplicatePort, TooMany}
 use Rattle.deck.specs.DeckKinds.{deck_kind_number}
 use Rattle.deck.specs.DeckText.{deck_lines, is_end, continues}
-use Rattle.deck.specs.DeckCards.{NumberedCard, numbered_lines, numbered_cards_of, numbered_cards, begins, subckt_card, ends_card, is_device, is_known, is_form, is_model_word, port_names, names_twice, is_open, has_subckt, device_count}
+use Rattle.deck.specs.DeckCards.{NumberedCard, numbered_lines, numbered_cards_of, numbered_cards, has_first_word, dot_subckt, dot_ends, is_device, is_deck_card, is_deck_form, is_model_word, port_names, names_twice, is_open, has_subckt, device_count}
 use Rattle.deck.specs.Limits.{most_devices, most_ports}
 
 -- a card has a fault of this kind, where the cards before it, the nearest first, are these
-abbrev pub has_fault : DeckKind → List NumberedCard → NumberedCard → Bool
+abbrev pub has_deck_fault : DeckKind → List NumberedCard → NumberedCard → Bool
 -- blanks and tabs are no control bytes, so each control byte of a card stands in a word
-has_fault ControlByte before card = list_any (list_any is_control) card.words
-has_fault UnknownCard before card = not (is_known card)
-has_fault BadCard before card = is_known card && not (is_form card)
-has_fault UnknownDevice before card = is_device card && nat_lt 5 (length card.words) && not (is_model_word (slice_index_or card.words 5 []))
-has_fault NoSubckt before card = (is_device card || begins ends_card card) && not (is_open before)
-has_fault SecondSubckt before card = begins subckt_card card && has_subckt before
-has_fault NotClosed before card = false
-has_fault DuplicatePort before card = begins subckt_card card && names_twice card
-has_fault TooMany before card = (is_device card && (device_count before == most_devices)) || (begins subckt_card card && nat_lt most_ports (length (port_names card)))
+has_deck_fault ControlByte before card = list_any (list_any is_control) card.words
+has_deck_fault UnknownCard before card = not (is_deck_card card)
+has_deck_fault BadCard before card = is_deck_card card && not (is_deck_form card)
+has_deck_fault UnknownDevice before card = is_device card && nat_lt 5 (length card.words) && not (is_model_word (slice_index_or card.words 5 []))
+has_deck_fault NoSubckt before card = (is_device card || has_first_word dot_ends card) && not (is_open before)
+has_deck_fault SecondSubckt before card = has_first_word dot_subckt card && has_subckt before
+has_deck_fault NotClosed before card = false
+has_deck_fault DuplicatePort before card = has_first_word dot_subckt card && names_twice card
+has_deck_fault TooMany before card = (is_device card && (device_count before == most_devices)) || (has_first_word dot_subckt card && nat_lt most_ports (length (port_names card)))
 
 -- a deck ends with a fault of this kind, where its cards, the last first, are these
 abbrev pub has_end_fault : DeckKind → List NumberedCard → Bool
@@ -40,10 +40,10 @@ pub record IsFaultOfCard (text : List ℕ) (number : ℕ) (kind : DeckKind) : Ty
   pub after : List NumberedCard
   pub cards_are : numbered_cards text ≡ reverse before ++ card ∷ after
   pub number_is : card.number ≡ number
-  pub fault : has_fault kind before card ≡ true
+  pub fault : has_deck_fault kind before card ≡ true
 
 -- the line of this number begins with `+` and no card stands before it
-pub record IsLooseLine (text : List ℕ) (number : ℕ) (kind : DeckKind) : Type 0 where
+pub record IsStrayLine (text : List ℕ) (number : ℕ) (kind : DeckKind) : Type 0 where
   pub before : List (ℕ × List ℕ)
   pub line : List ℕ
   pub after : List (ℕ × List ℕ)
@@ -59,7 +59,7 @@ pub record IsFaultOfEnd (text : List ℕ) (number : ℕ) (kind : DeckKind) : Typ
 
 -- the text has a fault of this kind at the line of this number
 abbrev pub IsDeckFault : List ℕ → ℕ → DeckKind → Type 0
-IsDeckFault text number kind = IsFaultOfCard text number kind ⊎ IsLooseLine text number kind ⊎ IsFaultOfEnd text number kind
+IsDeckFault text number kind = IsFaultOfCard text number kind ⊎ IsStrayLine text number kind ⊎ IsFaultOfEnd text number kind
 
 -- the text is refused at this line for this kind: the first line with a fault, and the smallest kind of it there
 abbrev pub IsDeckFaultAt : List ℕ → ℕ → DeckKind → Type 0

@@ -38,8 +38,8 @@ continues [] = false
 continues (b ∷ bs) = b == 43
 
 -- the lines of a deck's cards, without empty lines and comments
-abbrev pub card_lines : List ℕ → List (List ℕ)
-card_lines text = filter is_of_card (deck_lines text)
+abbrev pub deck_card_lines : List ℕ → List (List ℕ)
+deck_card_lines text = filter is_of_card (deck_lines text)
 
 -- the words that the lines with `+` at the front of a list add to the card before them
 abbrev pub added_words : List (List ℕ) → List (List ℕ)
@@ -53,7 +53,7 @@ cards_of (line ∷ more) = if continues line then cards_of more else (words line
 
 -- the cards of a deck, up to `.end`, with it
 abbrev pub deck_cards : List ℕ → List (List (List ℕ))
-deck_cards text = cards_of (card_lines text)
+deck_cards text = cards_of (deck_card_lines text)
 
 -- the first line, if there is one, continues no card
 abbrev pub BeginsACard : List (List ℕ) → Type 0
@@ -111,7 +111,7 @@ pub record IsDeckOf (text : List ℕ) (circuit : CircuitData) : Type 0 where
   -- the words behind `.ends`
   pub closing : List (List ℕ)
   -- no line with `+` stands before the first card
-  pub begins : BeginsACard (card_lines text)
+  pub begins : BeginsACard (deck_card_lines text)
   -- no card has a control byte
   pub visible : All (All (All (λ b. is_control b ≡ false))) (deck_cards text)
   -- but for `.model` and `.end`, the cards are `.subckt`, those of the devices, and `.ends`

@@ -10,7 +10,7 @@ use Rattle.dom_base.specs.declared.kind.Kind.{Kind}
 use Rattle.dom_base.proofs.Names.{IsNetName-word}
 use Rattle.deck.specs.declared.fault.DeckKind.{DeckKind}
 use Rattle.deck.specs.declared.fault.DeckKind.TheVariants.{ControlByte, UnknownCard, BadCard, UnknownDevice}
-use Rattle.deck.specs.DeckCards.{NumberedCard, begins, subckt_card, ends_card, end_card, model_card, is_device, is_model_word, has_equals}
+use Rattle.deck.specs.DeckCards.{NumberedCard, has_first_word, dot_subckt, dot_ends, dot_end, dot_model, is_device, is_model_word, has_equals}
 use Rattle.spice_read.specs.declared.cards.Form.{Form}
 use Rattle.spice_read.specs.declared.cards.Form.TheVariants.{Device, Subckt as Opening, Ends, Skipped}
 use Rattle.spice_read.specs.declared.subckt.Subckt.{Subckt}
@@ -33,15 +33,15 @@ abbrev pub fault_tests : Subckt → NumberedCard → Option DeckKind
 fault_tests subckt card =
     if list_any (list_any is_control) card.words then Some ControlByte
     else (if is_device card then device_fault subckt card
-    else (if begins subckt_card card then subckt_fault subckt card
-    else (if begins ends_card card then ends_fault subckt card
-    else (if begins end_card card || begins model_card card then None
+    else (if has_first_word dot_subckt card then subckt_fault subckt card
+    else (if has_first_word dot_ends card then ends_fault subckt card
+    else (if has_first_word dot_end card || has_first_word dot_model card then None
     else Some UnknownCard))))
 
 -- what was read after a card without a fault, by these tests
 abbrev pub after_tests : Subckt → NumberedCard → Subckt
-after_tests Before card = if begins subckt_card card then Open (opened card) else Before
-after_tests (Open c) card = if is_device card then Open (with_device c (kind_of (word_at card 5)) card) else (if begins ends_card card then Closed c else Open c)
+after_tests Before card = if has_first_word dot_subckt card then Open (opened card) else Before
+after_tests (Open c) card = if is_device card then Open (with_device c (kind_of (word_at card 5)) card) else (if has_first_word dot_ends card then Closed c else Open c)
 after_tests (Closed c) card = Closed c
 
 -- the answers of the tests
@@ -62,11 +62,11 @@ tests_of card = record {
   device = is_device card;
   long = nat_lt 5 (length card.words);
   known = is_model_word (word_at card 5);
-  subckt = begins subckt_card card;
+  subckt = has_first_word dot_subckt card;
   form = is_deck_subckt card;
-  ends = begins ends_card card;
+  ends = has_first_word dot_ends card;
   short = nat_lt (length card.words) 3;
-  skipped = begins end_card card || begins model_card card;
+  skipped = has_first_word dot_end card || has_first_word dot_model card;
 }
 
 abbrev form_by : Kind → Tests → Result Form DeckKind
@@ -147,7 +147,7 @@ is_opening_form (Ok Opening) = true
 is_opening_form _ = false
 
 device_long : (card : NumberedCard) → is_device_form (card_form card) ≡ true → IsLong 5 card
-device_long card is = by (list_any (list_any is_control) card.words) (is_device card) (nat_lt 5 (length card.words)) (begins subckt_card card) (is_deck_subckt card) (begins ends_card card) (nat_lt (length card.words) 3) (begins end_card card || begins model_card card) refl refl is
+device_long card is = by (list_any (list_any is_control) card.words) (is_device card) (nat_lt 5 (length card.words)) (has_first_word dot_subckt card) (is_deck_subckt card) (has_first_word dot_ends card) (nat_lt (length card.words) 3) (has_first_word dot_end card || has_first_word dot_model card) refl refl is
   where
     no : {P : Type 0} → false ≡ true → P
     no e = absurd (let never : ⊥ = cc in never)
@@ -166,7 +166,7 @@ device_long card is = by (list_any (list_any is_control) card.words) (is_device 
     by false false l false f false h false x y g = no g
 
 opening_long : (card : NumberedCard) → is_opening_form (card_form card) ≡ true → IsLong 1 card
-opening_long card is = by (list_any (list_any is_control) card.words) (is_device card) (nat_lt 5 (length card.words)) (is_model_word (word_at card 5)) (begins subckt_card card) (nat_lt 1 (length card.words)) (list_any has_equals card.words) (begins ends_card card) (nat_lt (length card.words) 3) (begins end_card card || begins model_card card) refl refl is
+opening_long card is = by (list_any (list_any is_control) card.words) (is_device card) (nat_lt 5 (length card.words)) (is_model_word (word_at card 5)) (has_first_word dot_subckt card) (nat_lt 1 (length card.words)) (list_any has_equals card.words) (has_first_word dot_ends card) (nat_lt (length card.words) 3) (has_first_word dot_end card || has_first_word dot_model card) refl refl is
   where
     no : {P : Type 0} → false ≡ true → P
     no e = absurd (let never : ⊥ = cc in never)

@@ -12,7 +12,7 @@ use Rattle.deck.specs.declared.fault.DeckKind.TheVariants.{ControlByte, UnknownC
 use Rattle.deck.specs.CircuitData.{CircuitData}
 use Rattle.deck.specs.DeckText.{model_word, HasNoEquals, IsDeviceCard}
 use Rattle.deck.specs.NamedDevices.{NamedDevice}
-use Rattle.deck.specs.DeckCards.{NumberedCard, begins, subckt_card, ends_card, end_card, model_card, is_device, is_model_word, has_equals, port_names}
+use Rattle.deck.specs.DeckCards.{NumberedCard, has_first_word, dot_subckt, dot_ends, dot_end, dot_model, is_device, is_model_word, has_equals, port_names}
 use Rattle.deck.specs.Limits.{most_devices}
 use Rattle.spice_read.specs.declared.subckt.Subckt.{Subckt}
 use Rattle.spice_read.specs.declared.subckt.Subckt.TheVariants.{Before, Open, Closed}
@@ -23,9 +23,9 @@ use Rattle.spice_read.proofs.CardForms.{after_tests, device_fault, ends_fault, f
 -- what a card without a fault is, by what was read before it
 pub data CleanCard : Subckt → NumberedCard → Type 0 where
   device : {c : CircuitData} {card : NumberedCard} → is_device card ≡ true → 5 < length card.words → is_model_word (word_at card 5) ≡ true → (length c.devices == most_devices) ≡ false → CleanCard (Open c) card
-  opening : {card : NumberedCard} → is_device card ≡ false → begins subckt_card card ≡ true → is_deck_subckt card ≡ true → ports_fault card ≡ None → CleanCard Before card
-  ending : {c : CircuitData} {card : NumberedCard} → is_device card ≡ false → begins subckt_card card ≡ false → begins ends_card card ≡ true → length card.words < 3 → CleanCard (Open c) card
-  skipped : {subckt : Subckt} {card : NumberedCard} → is_device card ≡ false → begins subckt_card card ≡ false → begins ends_card card ≡ false → (begins end_card card || begins model_card card) ≡ true → CleanCard subckt card
+  opening : {card : NumberedCard} → is_device card ≡ false → has_first_word dot_subckt card ≡ true → is_deck_subckt card ≡ true → ports_fault card ≡ None → CleanCard Before card
+  ending : {c : CircuitData} {card : NumberedCard} → is_device card ≡ false → has_first_word dot_subckt card ≡ false → has_first_word dot_ends card ≡ true → length card.words < 3 → CleanCard (Open c) card
+  skipped : {subckt : Subckt} {card : NumberedCard} → is_device card ≡ false → has_first_word dot_subckt card ≡ false → has_first_word dot_ends card ≡ false → (has_first_word dot_end card || has_first_word dot_model card) ≡ true → CleanCard subckt card
 
 some_fault : {P : Type 0} {k : DeckKind} → Some k ≡ None → P
 some_fault e = absurd (cc)
@@ -48,7 +48,7 @@ clean_device subckt card d clean = by (nat_lt 5 (length card.words)) (is_model_w
     by true false e f h = some_fault h
     by false t e f h = some_fault h
 
-clean_subckt : (subckt : Subckt) (card : NumberedCard) → is_device card ≡ false → begins subckt_card card ≡ true → subckt_fault subckt card ≡ None → CleanCard subckt card
+clean_subckt : (subckt : Subckt) (card : NumberedCard) → is_device card ≡ false → has_first_word dot_subckt card ≡ true → subckt_fault subckt card ≡ None → CleanCard subckt card
 clean_subckt Before card d s clean = by (is_deck_subckt card) refl clean
   where
     by : (t : Bool) → is_deck_subckt card ≡ t → (if t then ports_fault card else Some BadCard) ≡ None → CleanCard Before card
@@ -65,7 +65,7 @@ clean_subckt (Closed c) card d s clean = by (is_deck_subckt card) clean
     by true h = some_fault h
     by false h = some_fault h
 
-clean_ends : (subckt : Subckt) (card : NumberedCard) → is_device card ≡ false → begins subckt_card card ≡ false → begins ends_card card ≡ true → ends_fault subckt card ≡ None → CleanCard subckt card
+clean_ends : (subckt : Subckt) (card : NumberedCard) → is_device card ≡ false → has_first_word dot_subckt card ≡ false → has_first_word dot_ends card ≡ true → ends_fault subckt card ≡ None → CleanCard subckt card
 clean_ends Before card d s e clean = by (nat_lt (length card.words) 3) clean
   where
     by : (t : Bool) → (if t then Some NoSubckt else Some BadCard) ≡ None → CleanCard Before card
@@ -85,7 +85,7 @@ clean_ends (Closed c) card d s e clean = by (nat_lt (length card.words) 3) clean
 pub clean_card : (subckt : Subckt) (card : NumberedCard) → fault_in subckt card ≡ None → CleanCard subckt card
 clean_card subckt card clean = control (list_any (list_any is_control) card.words) (sym (fault_in-tests subckt card) ∙ clean)
   where
-    other : (s t u v : Bool) → is_device card ≡ s → begins subckt_card card ≡ t → begins ends_card card ≡ u → (begins end_card card || begins model_card card) ≡ v
+    other : (s t u v : Bool) → is_device card ≡ s → has_first_word dot_subckt card ≡ t → has_first_word dot_ends card ≡ u → (has_first_word dot_end card || has_first_word dot_model card) ≡ v
         → (if s then device_fault subckt card else (if t then subckt_fault subckt card else (if u then ends_fault subckt card else (if v then None else Some UnknownCard)))) ≡ None
         → CleanCard subckt card
     other true t u v d s e f h = clean_device subckt card d h
@@ -94,9 +94,9 @@ clean_card subckt card clean = control (list_any (list_any is_control) card.word
     other false false false true d s e f h = skipped d s e f
     other false false false false d s e f h = some_fault h
 
-    control : (w : Bool) → (if w then Some ControlByte else (if is_device card then device_fault subckt card else (if begins subckt_card card then subckt_fault subckt card else (if begins ends_card card then ends_fault subckt card else (if begins end_card card || begins model_card card then None else Some UnknownCard))))) ≡ None → CleanCard subckt card
+    control : (w : Bool) → (if w then Some ControlByte else (if is_device card then device_fault subckt card else (if has_first_word dot_subckt card then subckt_fault subckt card else (if has_first_word dot_ends card then ends_fault subckt card else (if has_first_word dot_end card || has_first_word dot_model card then None else Some UnknownCard))))) ≡ None → CleanCard subckt card
     control true h = some_fault h
-    control false h = other (is_device card) (begins subckt_card card) (begins ends_card card) (begins end_card card || begins model_card card) refl refl refl refl h
+    control false h = other (is_device card) (has_first_word dot_subckt card) (has_first_word dot_ends card) (has_first_word dot_end card || has_first_word dot_model card) refl refl refl refl h
 
 -- what was read after such a card, which has no control byte
 pub after_clean_card : (subckt : Subckt) (card : NumberedCard) → CleanCard subckt card → list_any (list_any is_control) card.words ≡ false → subckt_after subckt card ≡ after_tests subckt card
@@ -116,7 +116,7 @@ pub no_control_byte : (subckt : Subckt) (card : NumberedCard) → fault_in subck
 no_control_byte subckt card clean = by (list_any (list_any is_control) card.words) refl (sym (fault_in-tests subckt card) ∙ clean)
   where
     others : Option DeckKind
-    others = if is_device card then device_fault subckt card else (if begins subckt_card card then subckt_fault subckt card else (if begins ends_card card then ends_fault subckt card else (if begins end_card card || begins model_card card then None else Some UnknownCard)))
+    others = if is_device card then device_fault subckt card else (if has_first_word dot_subckt card then subckt_fault subckt card else (if has_first_word dot_ends card then ends_fault subckt card else (if has_first_word dot_end card || has_first_word dot_model card then None else Some UnknownCard)))
 
     by : (t : Bool) → list_any (list_any is_control) card.words ≡ t → (if t then Some ControlByte else others) ≡ None → list_any (list_any is_control) card.words ≡ false
     by true e h = some_fault h
@@ -179,7 +179,7 @@ words_no_equals (word ∷ all) h = by (has_equals word) refl h (λ rest. words_n
     by true e f rest = absurd (true≢false f)
     by false e f rest = (All-from_recursion (λ b. b ≢ 61) word (byte_no_equals word e), rest f)
 
-pub subckt_words : (card : NumberedCard) → begins subckt_card card ≡ true → is_deck_subckt card ≡ true → IsSubcktCard card
+pub subckt_words : (card : NumberedCard) → has_first_word dot_subckt card ≡ true → is_deck_subckt card ≡ true → IsSubcktCard card
 subckt_words card is form = by (nat_lt 1 (length card.words)) (list_any has_equals card.words) refl refl form
   where
     shape : (all : List (List ℕ)) → card.words ≡ all → 1 < length all → pointwise nat_eq (first_word all) (codes ".subckt") ≡ true → AllByRecursion HasNoEquals all → IsSubcktCard card
@@ -198,7 +198,7 @@ subckt_words card is form = by (nat_lt 1 (length card.words)) (list_any has_equa
     by false t e f h = absurd (true≢false (sym h))
 
 -- the words of a `.ends` in its form
-pub ends_words : (card : NumberedCard) → begins ends_card card ≡ true → length card.words < 3 → (closing : List (List ℕ)) × (card.words ≡ codes ".ends" ∷ closing) × (length closing ≤ 1)
+pub ends_words : (card : NumberedCard) → has_first_word dot_ends card ≡ true → length card.words < 3 → (closing : List (List ℕ)) × (card.words ≡ codes ".ends" ∷ closing) × (length closing ≤ 1)
 ends_words card is short = by card.words is short
   where
     by : (all : List (List ℕ)) → pointwise nat_eq (first_word all) (codes ".ends") ≡ true → length all < 3 → (closing : List (List ℕ)) × (all ≡ codes ".ends" ∷ closing) × (length closing ≤ 1)

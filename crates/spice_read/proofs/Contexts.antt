@@ -6,7 +6,7 @@ use Rattle.std.proofs.lemmas.Bool.{true≢false}
 use Rattle.dom_base.specs.Lines.{is_control, first_word}
 use Rattle.deck.specs.declared.fault.DeckKind.{DeckKind}
 use Rattle.deck.specs.declared.fault.DeckKind.TheVariants.{ControlByte, UnknownCard, BadCard, UnknownDevice, NoSubckt, SecondSubckt, NotClosed, DuplicatePort, TooMany}
-use Rattle.deck.specs.DeckCards.{NumberedCard, begins, subckt_card, ends_card, end_card, model_card, is_device, is_form, is_model_word, names_twice, port_names, is_open, has_subckt, device_count}
+use Rattle.deck.specs.DeckCards.{NumberedCard, has_first_word, dot_subckt, dot_ends, dot_end, dot_model, is_device, is_deck_form, is_model_word, names_twice, port_names, is_open, has_subckt, device_count}
 use Rattle.deck.specs.Limits.{most_devices, most_ports}
 use Rattle.spice_read.specs.declared.subckt.Subckt.{Subckt}
 use Rattle.spice_read.specs.declared.subckt.Subckt.TheVariants.{Before, Open, Closed}
@@ -73,25 +73,25 @@ decide false false false false false false long known form short opened begun tw
 abbrev told : List NumberedCard → NumberedCard → Bool → Bool → ℕ → Option DeckKind
 told before card opened begun count =
     cond (list_any (list_any is_control) card.words) (Some ControlByte)
-    (cond (not (is_device card || begins subckt_card card || begins ends_card card || begins end_card card || begins model_card card)) (Some UnknownCard)
-    (cond ((is_device card || begins subckt_card card || begins ends_card card || begins end_card card || begins model_card card) && not (is_form card)) (Some BadCard)
+    (cond (not (is_device card || has_first_word dot_subckt card || has_first_word dot_ends card || has_first_word dot_end card || has_first_word dot_model card)) (Some UnknownCard)
+    (cond ((is_device card || has_first_word dot_subckt card || has_first_word dot_ends card || has_first_word dot_end card || has_first_word dot_model card) && not (is_deck_form card)) (Some BadCard)
     (cond (is_device card && nat_lt 5 (length card.words) && not (is_model_word (word_at card 5))) (Some UnknownDevice)
-    (cond ((is_device card || begins ends_card card) && not opened) (Some NoSubckt)
-    (cond (begins subckt_card card && begun) (Some SecondSubckt)
+    (cond ((is_device card || has_first_word dot_ends card) && not opened) (Some NoSubckt)
+    (cond (has_first_word dot_subckt card && begun) (Some SecondSubckt)
     (cond false (Some NotClosed)
-    (cond (begins subckt_card card && names_twice card) (Some DuplicatePort)
-    (cond ((is_device card && (count == most_devices)) || (begins subckt_card card && nat_lt most_ports (length (port_names card)))) (Some TooMany) None))))))))
+    (cond (has_first_word dot_subckt card && names_twice card) (Some DuplicatePort)
+    (cond ((is_device card && (count == most_devices)) || (has_first_word dot_subckt card && nat_lt most_ports (length (port_names card)))) (Some TooMany) None))))))))
 
 -- a word that begins with `m` is no other card
-pub not_device : (card : NumberedCard) (word : List ℕ) → is_device card ≡ true → (slice_index word 0 == 109) ≡ false → begins word card ≡ false
-not_device card word is other = by (begins word card) refl
+pub not_device : (card : NumberedCard) (word : List ℕ) → is_device card ≡ true → (slice_index word 0 == 109) ≡ false → has_first_word word card ≡ false
+not_device card word is other = by (has_first_word word card) refl
   where
-    by : (t : Bool) → begins word card ≡ t → begins word card ≡ false
+    by : (t : Bool) → has_first_word word card ≡ t → has_first_word word card ≡ false
     by true e = absurd (true≢false (sym is ∙ ap (λ (w : List ℕ). slice_index w 0 == 109) ((bytes_decides (first_word card.words) word).0 e) ∙ other))
     by false e = e
 
 -- a card begins with one word
-pub begins_one : (card : NumberedCard) (word other : List ℕ) → begins word card ≡ true → pointwise nat_eq word other ≡ false → begins other card ≡ false
+pub begins_one : (card : NumberedCard) (word other : List ℕ) → has_first_word word card ≡ true → pointwise nat_eq word other ≡ false → has_first_word other card ≡ false
 begins_one card word other is apart = ap (λ (w : List ℕ). pointwise nat_eq w other) ((bytes_decides (first_word card.words) word).0 is) ∙ apart
 
 -- the fault by what was read is the smallest
@@ -100,13 +100,13 @@ fault_in-smallest before subckt card is =
     fault_in-tests subckt card
     ∙ ap (λ room. cond (list_any (list_any is_control) card.words) (Some ControlByte)
     (cond (is_device card) (cond (nat_lt 5 (length card.words)) (cond (is_model_word (word_at card 5)) room (Some UnknownDevice)) (Some BadCard))
-    (cond (begins subckt_card card) (cond (is_deck_subckt card) (cond (has_begun subckt) (Some SecondSubckt) (cond (names_twice card) (Some DuplicatePort) (cond (nat_lt most_ports (length (port_names card))) (Some TooMany) None))) (Some BadCard))
-    (cond (begins ends_card card) (cond (nat_lt (length card.words) 3) (cond (is_open_subckt subckt) None (Some NoSubckt)) (Some BadCard))
-    (cond (begins end_card card || begins model_card card) None (Some UnknownCard)))))) (room_is subckt)
-    ∙ decide (list_any (list_any is_control) card.words) (is_device card) (begins subckt_card card) (begins ends_card card) (begins end_card card) (begins model_card card)
+    (cond (has_first_word dot_subckt card) (cond (is_deck_subckt card) (cond (has_begun subckt) (Some SecondSubckt) (cond (names_twice card) (Some DuplicatePort) (cond (nat_lt most_ports (length (port_names card))) (Some TooMany) None))) (Some BadCard))
+    (cond (has_first_word dot_ends card) (cond (nat_lt (length card.words) 3) (cond (is_open_subckt subckt) None (Some NoSubckt)) (Some BadCard))
+    (cond (has_first_word dot_end card || has_first_word dot_model card) None (Some UnknownCard)))))) (room_is subckt)
+    ∙ decide (list_any (list_any is_control) card.words) (is_device card) (has_first_word dot_subckt card) (has_first_word dot_ends card) (has_first_word dot_end card) (has_first_word dot_model card)
     (nat_lt 5 (length card.words)) (is_model_word (word_at card 5)) (is_deck_subckt card) (nat_lt (length card.words) 3) (is_open_subckt subckt) (has_begun subckt)
     (names_twice card) (nat_lt most_ports (length (port_names card))) (devices_of subckt == most_devices)
-    (λ e. not_device card subckt_card e refl) (λ e. begins_one card subckt_card ends_card e refl)
+    (λ e. not_device card dot_subckt e refl) (λ e. begins_one card dot_subckt dot_ends e refl)
     ∙ ap (λ opened. told before card opened (has_begun subckt) (devices_of subckt)) (sym is.open_is)
     ∙ ap (λ begun. told before card (is_open before) begun (devices_of subckt)) (sym is.begun_is)
     ∙ ap (λ (count : ℕ). told before card (is_open before) (has_subckt before) count) (sym is.count_is)

@@ -8,9 +8,9 @@ use Rattle.dom_base.specs.Lines.{is_blank, lines, words, first_word}
 use Rattle.deck.specs.declared.fault.DeckKind.{DeckKind}
 use Rattle.deck.specs.declared.fault.DeckKind.TheVariants.{ControlByte, UnknownCard, BadCard, UnknownDevice, NoSubckt, SecondSubckt, NotClosed, DuplicatePort, TooMany}
 use Rattle.deck.specs.DeckText.{added_words, continues, is_end, is_of_card, read_line, through_end}
-use Rattle.deck.specs.DeckCards.{NumberedCard, begins, end_card, ends_card, model_card, subckt_card, is_device, numbered_cards, numbered_cards_of, numbered_lines, numbered_lines_from, has_equals, has_subckt, is_model_word, is_open, device_count, names_twice, port_names}
+use Rattle.deck.specs.DeckCards.{NumberedCard, has_first_word, dot_end, dot_ends, dot_model, dot_subckt, is_device, numbered_cards, numbered_cards_of, numbered_lines, numbered_lines_from, has_equals, has_subckt, is_model_word, is_open, device_count, names_twice, port_names}
 use Rattle.deck.specs.Limits.{most_devices, most_ports}
-use Rattle.deck.specs.DeckFaults.{has_fault, has_end_fault, end_line, IsDeckFault, IsDeckFaultAt, IsFaultOfCard, IsLooseLine}
+use Rattle.deck.specs.DeckFaults.{has_deck_fault, has_end_fault, end_line, IsDeckFault, IsDeckFaultAt, IsFaultOfCard, IsStrayLine}
 use Rattle.deck.specs.DeckKinds.{deck_kind_number}
 use Rattle.deck.specs.CircuitData.{CircuitData}
 use Rattle.spice_read.specs.declared.subckt.Subckt.{Subckt}
@@ -34,7 +34,7 @@ LinesRise n last (p ∷ ps) = (n ≤ p.0) × Within p.0 last (is_end p.1) × Lin
 -- and so do those of cards
 abbrev CardsRise : ℕ → ℕ → List NumberedCard → Type 0
 CardsRise n last [] = Unit {0}
-CardsRise n last (card ∷ cards) = (n ≤ card.number) × Within card.number last (begins end_card card) × CardsRise (card.number + 1) last cards
+CardsRise n last (card ∷ cards) = (n ≤ card.number) × Within card.number last (has_first_word dot_end card) × CardsRise (card.number + 1) last cards
 
 lines-weaker : (m n last : ℕ) (ps : List (ℕ × List ℕ)) → m ≤ n → LinesRise n last ps → LinesRise m last ps
 lines-weaker m n last [] le h = tt
@@ -74,7 +74,7 @@ cards-rise : (n last : ℕ) (ps : List (ℕ × List ℕ)) → LinesRise n last p
 cards-rise n last [] h = tt
 cards-rise n last (p ∷ ps) h = by (continues p.1) (cards-rise (p.0 + 1) last ps h.2)
   where
-    within : Within p.0 last (is_end p.1) → Within p.0 last (begins end_card (record { number = p.0; words = words p.1 ++ added_words (map (λ q. q.1) ps) }))
+    within : Within p.0 last (is_end p.1) → Within p.0 last (has_first_word dot_end (record { number = p.0; words = words p.1 ++ added_words (map (λ q. q.1) ps) }))
     within (inl lt) = inl lt
     within (inr both) = inr (both.0, ends-first (words p.1) (added_words (map (λ q. q.1) ps)) both.1)
 
@@ -92,7 +92,7 @@ cards_of_text-rise text = cards-rise 1 (end_line text) (numbered_lines text) (li
 -- one of these cards has this number and a fault of this kind, where these cards stand before them, the nearest first
 abbrev pub FaultIn : List NumberedCard → List NumberedCard → ℕ → DeckKind → Type 0
 FaultIn before [] number kind = ⊥
-FaultIn before (card ∷ more) number kind = ((card.number ≡ number) × (has_fault kind before card ≡ true)) ⊎ FaultIn (card ∷ before) more number kind
+FaultIn before (card ∷ more) number kind = ((card.number ≡ number) × (has_deck_fault kind before card ≡ true)) ⊎ FaultIn (card ∷ before) more number kind
 
 reverse-onto : (x : NumberedCard) (xs before : List NumberedCard) → reverse (x ∷ xs) ++ before ≡ reverse xs ++ x ∷ before
 reverse-onto x xs before = ap (λ l. l ++ before) (reverse-append (x ∷ []) xs) ∙ append_assoc (reverse xs) (x ∷ []) before
@@ -147,29 +147,29 @@ no_card-continues (q ∷ ps) p after none is starts = by (continues q.1) starts 
     by false e f = absurd (omega (arith, ap length f))
 
 -- a deck that begins with a card has no loose line
-pub no_stray : (text : List ℕ) → BeginsNumbered (numbered_lines text) → (n : ℕ) (kind : DeckKind) → IsLooseLine text n kind → ⊥
+pub no_stray : (text : List ℕ) → BeginsNumbered (numbered_lines text) → (n : ℕ) (kind : DeckKind) → IsStrayLine text n kind → ⊥
 no_stray text starts n kind l = no_card-continues l.before (n, l.line) l.after l.no_card l.line_continues (subst BeginsNumbered l.lines_are starts)
 
 -- a card `.end` has no fault but a control byte
-end_card_fault : (before : List NumberedCard) (card : NumberedCard) (kind : DeckKind) → begins end_card card ≡ true → has_fault kind before card ≡ true → deck_kind_number kind ≤ 1
+end_card_fault : (before : List NumberedCard) (card : NumberedCard) (kind : DeckKind) → has_first_word dot_end card ≡ true → has_deck_fault kind before card ≡ true → deck_kind_number kind ≤ 1
 end_card_fault before card kind n h = of kind h
   where
     d : is_device card ≡ false
     d = ap (λ (w : List ℕ). slice_index w 0 == 109) ((bytes_decides (first_word card.words) (codes ".end")).0 n)
 
-    s : begins subckt_card card ≡ false
-    s = begins_one card end_card subckt_card n refl
+    s : has_first_word dot_subckt card ≡ false
+    s = begins_one card dot_end dot_subckt n refl
 
-    e : begins ends_card card ≡ false
-    e = begins_one card end_card ends_card n refl
+    e : has_first_word dot_ends card ≡ false
+    e = begins_one card dot_end dot_ends n refl
 
-    never : {P : Type 0} (k : DeckKind) → has_fault k before card ≡ true → has_fault k before card ≡ false → P
+    never : {P : Type 0} (k : DeckKind) → has_deck_fault k before card ≡ true → has_deck_fault k before card ≡ false → P
     never k g none = absurd (true≢false (sym g ∙ none))
 
-    of : (k : DeckKind) → has_fault k before card ≡ true → deck_kind_number k ≤ 1
+    of : (k : DeckKind) → has_deck_fault k before card ≡ true → deck_kind_number k ≤ 1
     of ControlByte g = omega arith
-    of UnknownCard g = never UnknownCard g (λ i. not (d i || s i || e i || n i || begins model_card card))
-    of BadCard g = never BadCard g (λ i. (d i || s i || e i || n i || begins model_card card) && not (if d i then nat_lt 5 (length card.words) else (if s i then nat_lt 1 (length card.words) && not (list_any has_equals card.words) else (if e i then nat_lt (length card.words) 3 else true))))
+    of UnknownCard g = never UnknownCard g (λ i. not (d i || s i || e i || n i || has_first_word dot_model card))
+    of BadCard g = never BadCard g (λ i. (d i || s i || e i || n i || has_first_word dot_model card) && not (if d i then nat_lt 5 (length card.words) else (if s i then nat_lt 1 (length card.words) && not (list_any has_equals card.words) else (if e i then nat_lt (length card.words) 3 else true))))
     of UnknownDevice g = never UnknownDevice g (λ i. d i && nat_lt 5 (length card.words) && not (is_model_word (slice_index_or card.words 5 [])))
     of NoSubckt g = never NoSubckt g (λ i. (d i || e i) && not (is_open before))
     of SecondSubckt g = never SecondSubckt g (λ i. s i && has_subckt before)
@@ -197,7 +197,7 @@ fault_at_card text before card rest kind starts p found = record {
   smallest = smallest;
 }
   where
-    before_end : Within card.number (end_line text) (begins end_card card) → card.number ≤ end_line text
+    before_end : Within card.number (end_line text) (has_first_word dot_end card) → card.number ≤ end_line text
     before_end (inl lt) = omega (arith, lt)
     before_end (inr both) = omega (arith, both.0)
 
@@ -210,7 +210,7 @@ fault_at_card text before card rest kind starts p found = record {
     here other (inl h) = found.1 other h.1
     here other (inr later) = absurd (omega (arith, rising-fault (card.number + 1) (end_line text) (card ∷ before) rest card.number other p.rise.2 later))
 
-    at_end : (other : DeckKind) → card.number ≡ end_line text → Within card.number (end_line text) (begins end_card card) → deck_kind_number kind ≤ deck_kind_number other
+    at_end : (other : DeckKind) → card.number ≡ end_line text → Within card.number (end_line text) (has_first_word dot_end card) → deck_kind_number kind ≤ deck_kind_number other
     at_end other same (inl lt) = absurd (omega (arith, lt, same))
     at_end other same (inr both) = omega (arith, end_card_fault before card kind both.1 found.0, kind_number-ge other)
 
@@ -337,7 +337,7 @@ fault_at_stray text n h = record {
     later : (other : ℕ) (any : DeckKind) → IsFaultOfCard text other any → n + 1 ≤ other
     later other any f = rising-fault (n + 1) (end_line text) [] (numbered_cards_of facts.more) other any (cards-rise (n + 1) (end_line text) facts.more rise.2) (subst (λ l. FaultIn [] l other any) cards_are (fault_in text other any f))
 
-    loose : (other : ℕ) (any : DeckKind) → IsLooseLine text other any → n ≤ other
+    loose : (other : ℕ) (any : DeckKind) → IsStrayLine text other any → n ≤ other
     loose other any l = lines-least n (end_line text) l.before (other, l.line) l.after (subst (LinesRise n (end_line text)) (sym facts.lines_are ∙ l.lines_are) (omega arith, rise.1, rise.2))
 
     ends_later : Within n (end_line text) (is_end facts.line) → n < end_line text

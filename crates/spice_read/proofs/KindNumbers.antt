@@ -5,7 +5,7 @@ use Rattle.dom_base.proofs.Faults.{IsAmong, IsSmallest, Rises, number_of-injecti
 use Rattle.deck.specs.declared.fault.DeckKind.{DeckKind}
 use Rattle.deck.specs.declared.fault.DeckKind.TheVariants.{ControlByte, UnknownCard, BadCard, UnknownDevice, NoSubckt, SecondSubckt, NotClosed, DuplicatePort, TooMany}
 use Rattle.deck.specs.DeckCards.{NumberedCard}
-use Rattle.deck.specs.DeckFaults.{has_fault}
+use Rattle.deck.specs.DeckFaults.{has_deck_fault}
 use Rattle.deck.specs.DeckKinds.{deck_kind_number}
 
 -- the kinds by rising number
@@ -32,11 +32,11 @@ kind_number-injective a b e = number_of-injective deck_kind_number 0 kinds a b k
 
 -- the fault of a card with the smallest number, where the cards before it, the nearest first, are these
 abbrev pub smallest_fault : List NumberedCard → NumberedCard → Option DeckKind
-smallest_fault before card = find (λ kind. has_fault kind before card) kinds
+smallest_fault before card = find (λ kind. has_deck_fault kind before card) kinds
 
 -- no kind of fault, or the smallest one
 abbrev pub IsFound : List NumberedCard → NumberedCard → Option DeckKind → Type 0
-IsFound before card found = IsSmallest deck_kind_number (λ kind. has_fault kind before card) found
+IsFound before card found = IsSmallest deck_kind_number (λ kind. has_deck_fault kind before card) found
 
 pub smallest_is : (before : List NumberedCard) (card : NumberedCard) → IsFound before card (smallest_fault before card)
-smallest_is before card = smallest_found deck_kind_number 0 kinds kinds_rise is_kind (λ kind. has_fault kind before card)
+smallest_is before card = smallest_found deck_kind_number 0 kinds kinds_rise is_kind (λ kind. has_deck_fault kind before card)

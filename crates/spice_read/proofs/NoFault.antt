@@ -13,7 +13,7 @@ use Rattle.deck.specs.declared.fault.DeckKind.{DeckKind}
 use Rattle.deck.specs.CircuitData.{CircuitData}
 use Rattle.deck.specs.DeckText.{HasNoEquals, IsDeckOf, IsDeviceCard, deck_cards, is_skipped, model_word}
 use Rattle.deck.specs.NamedDevices.{NamedDevice}
-use Rattle.deck.specs.DeckCards.{NumberedCard, begins, end_card, ends_card, has_equals, is_device, is_model_word, model_card, names_twice, numbered_cards, port_names, subckt_card}
+use Rattle.deck.specs.DeckCards.{NumberedCard, has_first_word, dot_end, dot_ends, has_equals, is_device, is_model_word, dot_model, names_twice, numbered_cards, port_names, dot_subckt}
 use Rattle.deck.specs.Limits.{most_ports}
 use Rattle.deck.specs.DeckFaults.{IsDeckFault}
 use Rattle.dom_base.proofs.Names.{names_equal}
@@ -70,7 +70,7 @@ ports_clean card good =
 
 opening_card : (card : NumberedCard) (name : List ℕ) (ports : List (List ℕ)) → card.words ≡ codes ".subckt" ∷ name ∷ ports → All HasNoEquals (name ∷ ports) → HasGoodPorts ports → CleanCard Before card
 opening_card card name ports is no_equals good =
-    let first : begins subckt_card card ≡ true = ap (λ ws. pointwise nat_eq (first_word ws) (codes ".subckt")) is in
+    let first : has_first_word dot_subckt card ≡ true = ap (λ ws. pointwise nat_eq (first_word ws) (codes ".subckt")) is in
     let not_m : is_device card ≡ false = ap (λ ws. slice_index (first_word ws) 0 == 109) is in
     let none : list_any has_equals (name ∷ ports) ≡ false = list_any-none has_equals (name ∷ ports) (no_equals_words (name ∷ ports) (recursion_from_All HasNoEquals (name ∷ ports) no_equals)) in
     let form : is_deck_subckt card ≡ true = ap (λ ws. nat_lt 1 (length ws) && not (list_any has_equals ws)) is ∙ form_of name ports none in
@@ -99,21 +99,21 @@ device_card c card d is room =
 
 -- what a card is not that is skipped
 abbrev SkippedParts : NumberedCard → Type 0
-SkippedParts card = (is_device card ≡ false) × (begins subckt_card card ≡ false) × (begins ends_card card ≡ false)
+SkippedParts card = (is_device card ≡ false) × (has_first_word dot_subckt card ≡ false) × (has_first_word dot_ends card ≡ false)
 
-parts_of : (card : NumberedCard) (word : List ℕ) → begins word card ≡ true → (slice_index word 0 == 109) ≡ false → pointwise nat_eq word subckt_card ≡ false → pointwise nat_eq word ends_card ≡ false → SkippedParts card
+parts_of : (card : NumberedCard) (word : List ℕ) → has_first_word word card ≡ true → (slice_index word 0 == 109) ≡ false → pointwise nat_eq word dot_subckt ≡ false → pointwise nat_eq word dot_ends ≡ false → SkippedParts card
 parts_of card word is m s e = (
   ap (λ (w : List ℕ). slice_index w 0 == 109) ((bytes_decides (first_word card.words) word).0 is) ∙ m,
-  begins_one card word subckt_card is s,
-  begins_one card word ends_card is e,
+  begins_one card word dot_subckt is s,
+  begins_one card word dot_ends is e,
 )
 
 skipped_parts : (card : NumberedCard) → is_skipped card.words ≡ true → SkippedParts card
-skipped_parts card h = by (begins model_card card) refl h
+skipped_parts card h = by (has_first_word dot_model card) refl h
   where
-    by : (t : Bool) → begins model_card card ≡ t → (t || begins end_card card) ≡ true → SkippedParts card
-    by true e f = parts_of card model_card e refl refl refl
-    by false e f = parts_of card end_card f refl refl refl
+    by : (t : Bool) → has_first_word dot_model card ≡ t → (t || has_first_word dot_end card) ≡ true → SkippedParts card
+    by true e f = parts_of card dot_model e refl refl refl
+    by false e f = parts_of card dot_end f refl refl refl
 
 or_swap : (a b : Bool) → (a || b) ≡ true → (b || a) ≡ true
 or_swap true true e = refl
@@ -124,7 +124,7 @@ or_swap false false e = e
 skipped_card : (subckt : Subckt) (card : NumberedCard) → is_skipped card.words ≡ true → CleanCard subckt card
 skipped_card subckt card h =
     let parts = skipped_parts card h in
-    skipped parts.0 parts.1 parts.2 (or_swap (begins model_card card) (begins end_card card) h)
+    skipped parts.0 parts.1 parts.2 (or_swap (has_first_word dot_model card) (has_first_word dot_end card) h)
 
 -- the words of the cards that are left and add to the circuit
 abbrev left : List NumberedCard → List (List (List ℕ))
@@ -174,7 +174,7 @@ after_opening h card rest e l =
     let all = sym (left-more card rest e) ∙ l in
     let words : card.words ≡ codes ".subckt" ∷ h.name ∷ h.ports = cc in
     let more : left rest ≡ h.device_cards ++ (codes ".ends" ∷ h.closing) ∷ [] = cc in
-    let first : begins subckt_card card ≡ true = ap (λ ws. pointwise nat_eq (first_word ws) (codes ".subckt")) words in
+    let first : has_first_word dot_subckt card ≡ true = ap (λ ws. pointwise nat_eq (first_word ws) (codes ".subckt")) words in
     record {
       clean = opening_card card h.name h.ports words h.no_equals (record { differ = h.ports_differ; few = h.few_ports });
       rest_left = subst (λ s. IsLeft h s rest) (sym (ap (λ (t : Bool). if t then Open (opened card) else Before) first))
@@ -187,7 +187,7 @@ after_open h c card rest [] devices all zip few =
     let words : card.words ≡ codes ".ends" ∷ h.closing = cc in
     let more : left rest ≡ [] = cc in
     let not_m : is_device card ≡ false = ap (λ ws. slice_index (first_word ws) 0 == 109) words in
-    let first : begins ends_card card ≡ true = ap (λ ws. pointwise nat_eq (first_word ws) (codes ".ends")) words in
+    let first : has_first_word dot_ends card ≡ true = ap (λ ws. pointwise nat_eq (first_word ws) (codes ".ends")) words in
     record {
       clean = ending_card c card h.closing words h.few_closing;
       rest_left = subst (λ s. IsLeft h s rest) (λ i. if sym not_m i then Open (with_device c (kind_of (word_at card 5)) card) else (if sym first i then Closed c else Open c)) more;
@@ -201,7 +201,7 @@ after_open h c card rest (one ∷ cards) (d ∷ devices) all zip few =
     let count : length (with_device c (kind_of (word_at card 5)) card).devices ≡ length c.devices + 1 = length-append c.devices _ in
     record {
       clean = device_card c card d is (omega (arith, few));
-      rest_left = subst (λ s. IsLeft h s rest) (sym (ap (λ (t : Bool). if t then Open (with_device c (kind_of (word_at card 5)) card) else (if begins ends_card card then Closed c else Open c)) m))
+      rest_left = subst (λ s. IsLeft h s rest) (sym (ap (λ (t : Bool). if t then Open (with_device c (kind_of (word_at card 5)) card) else (if has_first_word dot_ends card then Closed c else Open c)) m))
           (record { cards = cards; devices = devices; order = more; cards_are = zip.1; few = omega (arith, few, count) });
     }
 

@@ -4,7 +4,7 @@ use Rattle.std.specs.List.{AllByRecursion}
 use Rattle.dom_base.specs.Lines.{lines, unindented, words, IsLower, IsLowerWord}
 use Rattle.dom_base.proofs.Lists.{AllByRecursion-append}
 use Rattle.dom_base.proofs.WordBytes.{lower_bytes, lower_words}
-use Rattle.deck.specs.DeckText.{BeginsACard, added_words, card_lines, cards_of, continues, deck_cards, deck_lines, is_end, is_of_card, read_line, through_end}
+use Rattle.deck.specs.DeckText.{BeginsACard, added_words, deck_card_lines, cards_of, continues, deck_cards, deck_lines, is_end, is_of_card, read_line, through_end}
 use Rattle.deck.specs.DeckCards.{numbered_cards, numbered_cards_of, numbered_lines, numbered_lines_from}
 use Rattle.spice_read.specs.Readers.{BeginsNumbered}
 use Rattle.spice_read.specs.Subckts.{IsWordedCard}
@@ -42,10 +42,10 @@ lines-begin : (ps : List (ℕ × List ℕ)) → BeginsACard (map (λ p. p.1) ps)
 lines-begin [] h = tt
 lines-begin (p ∷ ps) h = h
 
-pub begins_a_card : (text : List ℕ) → BeginsNumbered (numbered_lines text) → BeginsACard (card_lines text)
+pub begins_a_card : (text : List ℕ) → BeginsNumbered (numbered_lines text) → BeginsACard (deck_card_lines text)
 begins_a_card text h = subst BeginsACard (numbered-lines 1 (deck_lines text)) (begins-lines (numbered_lines text) h)
 
-pub begins_numbered : (text : List ℕ) → BeginsACard (card_lines text) → BeginsNumbered (numbered_lines text)
+pub begins_numbered : (text : List ℕ) → BeginsACard (deck_card_lines text) → BeginsNumbered (numbered_lines text)
 begins_numbered text h = lines-begin (numbered_lines text) (subst BeginsACard (sym (numbered-lines 1 (deck_lines text))) h)
 
 -- the words of a deck's cards have no upper-case letters

@@ -7,7 +7,7 @@ use Rattle.std.proofs.lemmas.List.Elements.{filter-append}
 use Rattle.deck.specs.CircuitData.{CircuitData}
 use Rattle.deck.specs.DeckText.{HasNoEquals, IsDeviceCard, bare_circuit, is_skipped}
 use Rattle.deck.specs.NamedDevices.{NamedDevice, with_devices}
-use Rattle.deck.specs.DeckCards.{NumberedCard, begins, subckt_card, ends_card, end_card, model_card, is_device, begins_some, is_open, has_subckt, device_count, port_names}
+use Rattle.deck.specs.DeckCards.{NumberedCard, has_first_word, dot_subckt, dot_ends, dot_end, dot_model, is_device, begins_some, is_open, has_subckt, device_count, port_names}
 use Rattle.deck.specs.Limits.{most_devices}
 use Rattle.deck.proofs.CircuitGrowth.{with_devices-push}
 use Rattle.spice_read.specs.declared.subckt.Subckt.{Subckt}
@@ -67,10 +67,10 @@ pub record Stands (before : List NumberedCard) (subckt : Subckt) : Type 0 where
 pub starts : Stands [] Before
 starts = record { context = record { open_is = refl; begun_is = refl; count_is = refl }; parts = refl }
 
-is_open-cons : (card : NumberedCard) (before : List NumberedCard) → is_open (card ∷ before) ≡ cond (begins subckt_card card || begins ends_card card) (begins subckt_card card) (is_open before)
-is_open-cons card before = by (begins subckt_card card || begins ends_card card)
+is_open-cons : (card : NumberedCard) (before : List NumberedCard) → is_open (card ∷ before) ≡ cond (has_first_word dot_subckt card || has_first_word dot_ends card) (has_first_word dot_subckt card) (is_open before)
+is_open-cons card before = by (has_first_word dot_subckt card || has_first_word dot_ends card)
   where
-    by : (t : Bool) → begins_some subckt_card (cond t (Some card) (find (λ one. begins subckt_card one || begins ends_card one) before)) ≡ cond t (begins subckt_card card) (is_open before)
+    by : (t : Bool) → begins_some dot_subckt (cond t (Some card) (find (λ one. has_first_word dot_subckt one || has_first_word dot_ends one) before)) ≡ cond t (has_first_word dot_subckt card) (is_open before)
     by true = refl
     by false = refl
 
@@ -88,14 +88,14 @@ AllZip-push (one ∷ cards) [] card d h k = absurd h
 AllZip-push (one ∷ cards) (e ∷ ds) card d h k = (h.0, AllZip-push cards ds card d h.1 k)
 
 -- cards that begin otherwise are not skipped
-not_skipped : (card : NumberedCard) → begins model_card card ≡ false → begins end_card card ≡ false → is_skipped card.words ≡ false
-not_skipped card e f = ap (λ b. b || begins end_card card) e ∙ f
+not_skipped : (card : NumberedCard) → has_first_word dot_model card ≡ false → has_first_word dot_end card ≡ false → is_skipped card.words ≡ false
+not_skipped card e f = ap (λ b. b || has_first_word dot_end card) e ∙ f
 
 after_device : (before : List NumberedCard) (c : CircuitData) (card : NumberedCard) → Stands before (Open c) → is_device card ≡ true → CleanCard (Open c) card
     → IsDeviceCard card.words (device_of card) → (length c.devices == most_devices) ≡ false → Stands (card ∷ before) (Open (with_device c (kind_of (word_at card 5)) card))
 after_device before c card s d clean is room =
-    let no_subckt = not_device card subckt_card d refl in
-    let no_ends = not_device card ends_card d refl in
+    let no_subckt = not_device card dot_subckt d refl in
+    let no_ends = not_device card dot_ends d refl in
     let more = length-append c.devices _ in
     let h = s.parts in
     let count : length (with_device c (kind_of (word_at card 5)) card).devices ≡ length c.devices + 1 = more in
@@ -110,7 +110,7 @@ after_device before c card s d clean is room =
         ports = h.ports;
         device_cards = h.device_cards ++ card.words ∷ [];
         devices = h.devices ++ device_of card ∷ [];
-        order = kept-more card before (not_skipped card (not_device card model_card d refl) (not_device card end_card d refl))
+        order = kept-more card before (not_skipped card (not_device card dot_model d refl) (not_device card dot_end d refl))
             ∙ ap (λ l. l ++ card.words ∷ []) (h.order ∙ ap (λ l. (codes ".subckt" ∷ h.name ∷ h.ports) ∷ l) (append-nil h.device_cards))
             ∙ ap (λ l. (codes ".subckt" ∷ h.name ∷ h.ports) ∷ l) (sym (append-nil (h.device_cards ++ card.words ∷ [])));
         no_equals = h.no_equals;
@@ -122,12 +122,12 @@ after_device before c card s d clean is room =
       };
     }
 
-after_opening : (before : List NumberedCard) (card : NumberedCard) → Stands before Before → is_device card ≡ false → begins subckt_card card ≡ true
+after_opening : (before : List NumberedCard) (card : NumberedCard) → Stands before Before → is_device card ≡ false → has_first_word dot_subckt card ≡ true
     → (card.words ≡ codes ".subckt" ∷ word_at card 1 ∷ port_names card) → All HasNoEquals (word_at card 1 ∷ port_names card) → HasGoodPorts (port_names card)
     → Stands (card ∷ before) (Open (opened card))
 after_opening before card s d is words_are no_equals good = record {
   context = record {
-    open_is = is_open-cons card before ∙ (λ i. cond (is i || begins ends_card card) (is i) (is_open before));
+    open_is = is_open-cons card before ∙ (λ i. cond (is i || has_first_word dot_ends card) (is i) (is_open before));
     begun_is = ap (λ b. b || has_subckt before) is;
     count_is = count-cons card before ∙ ap (λ b. cond b (device_count before + 1) (device_count before)) d ∙ s.context.count_is;
   };
@@ -136,7 +136,7 @@ after_opening before card s d is words_are no_equals good = record {
     ports = port_names card;
     device_cards = [];
     devices = [];
-    order = kept-more card before (not_skipped card (begins_one card subckt_card model_card is refl) (begins_one card subckt_card end_card is refl))
+    order = kept-more card before (not_skipped card (begins_one card dot_subckt dot_model is refl) (begins_one card dot_subckt dot_end is refl))
         ∙ ap (λ l. l ++ card.words ∷ []) s.parts ∙ ap (λ w. w ∷ []) words_are;
     no_equals = no_equals;
     good = good;
@@ -147,7 +147,7 @@ after_opening before card s d is words_are no_equals good = record {
   };
 }
 
-after_ending : (before : List NumberedCard) (c : CircuitData) (card : NumberedCard) → Stands before (Open c) → is_device card ≡ false → begins subckt_card card ≡ false → begins ends_card card ≡ true
+after_ending : (before : List NumberedCard) (c : CircuitData) (card : NumberedCard) → Stands before (Open c) → is_device card ≡ false → has_first_word dot_subckt card ≡ false → has_first_word dot_ends card ≡ true
     → (closing : List (List ℕ)) → card.words ≡ codes ".ends" ∷ closing → length closing ≤ 1 → Stands (card ∷ before) (Closed c)
 after_ending before c card s d no_subckt is closing words_are few = let h = s.parts in record {
   context = record {
@@ -163,7 +163,7 @@ after_ending before c card s d no_subckt is closing words_are few = let h = s.pa
       ports = h.ports;
       device_cards = h.device_cards;
       devices = h.devices;
-      order = kept-more card before (not_skipped card (begins_one card ends_card model_card is refl) (begins_one card ends_card end_card is refl))
+      order = kept-more card before (not_skipped card (begins_one card dot_ends dot_model is refl) (begins_one card dot_ends dot_end is refl))
           ∙ ap (λ l. l ++ card.words ∷ []) (h.order ∙ ap (λ l. (codes ".subckt" ∷ h.name ∷ h.ports) ∷ l) (append-nil h.device_cards))
           ∙ ap (λ w. ((codes ".subckt" ∷ h.name ∷ h.ports) ∷ h.device_cards) ++ w ∷ []) words_are;
       no_equals = h.no_equals;
@@ -182,7 +182,7 @@ or_swap true false e = refl
 or_swap false true e = refl
 or_swap false false e = e
 
-context_skipped : (before : List NumberedCard) (subckt : Subckt) (card : NumberedCard) → IsContext before subckt → is_device card ≡ false → begins subckt_card card ≡ false → begins ends_card card ≡ false
+context_skipped : (before : List NumberedCard) (subckt : Subckt) (card : NumberedCard) → IsContext before subckt → is_device card ≡ false → has_first_word dot_subckt card ≡ false → has_first_word dot_ends card ≡ false
     → IsContext (card ∷ before) subckt
 context_skipped before subckt card is d s e = record {
   open_is = is_open-cons card before ∙ (λ i. cond (s i || e i) (s i) (is_open before)) ∙ is.open_is;
@@ -210,14 +210,14 @@ parts_skipped Before before card same h = same ∙ h
 parts_skipped (Open c) before card same h = parts_again before (card ∷ before) [] c same h
 parts_skipped (Closed c) before card same h = record { closing = h.closing; few_closing = h.few_closing; parts = parts_again before (card ∷ before) _ c same h.parts }
 
-pub tests_skipped : (subckt : Subckt) (card : NumberedCard) → is_device card ≡ false → begins subckt_card card ≡ false → begins ends_card card ≡ false → after_tests subckt card ≡ subckt
+pub tests_skipped : (subckt : Subckt) (card : NumberedCard) → is_device card ≡ false → has_first_word dot_subckt card ≡ false → has_first_word dot_ends card ≡ false → after_tests subckt card ≡ subckt
 tests_skipped Before card d s e = ap (λ (t : Bool). if t then Open (opened card) else Before) s
 tests_skipped (Open c) card d s e = λ i. if d i then Open (with_device c (kind_of (word_at card 5)) card) else (if e i then Closed c else Open c)
 tests_skipped (Closed c) card d s e = refl
 
 after_clean : (before : List NumberedCard) (subckt : Subckt) (card : NumberedCard) → Stands before subckt → CleanCard subckt card → Stands (card ∷ before) (after_tests subckt card)
 after_clean before (Open c) card s (device d long known room) =
-    subst (Stands (card ∷ before)) (sym (ap (λ (t : Bool). if t then Open (with_device c (kind_of (word_at card 5)) card) else (if begins ends_card card then Closed c else Open c)) d))
+    subst (Stands (card ∷ before)) (sym (ap (λ (t : Bool). if t then Open (with_device c (kind_of (word_at card 5)) card) else (if has_first_word dot_ends card then Closed c else Open c)) d))
     (after_device before c card s d (device d long known room) (device_card card d long known) room)
 after_clean before Before card s (opening d is form ports) =
     let all = subckt_words card is form in
@@ -230,7 +230,7 @@ after_clean before (Open c) card s (ending d no_subckt is short) =
 after_clean before subckt card s (skipped d no_subckt no_ends is) =
     subst (Stands (card ∷ before)) (sym (tests_skipped subckt card d no_subckt no_ends)) (record {
       context = context_skipped before subckt card s.context d no_subckt no_ends;
-      parts = parts_skipped subckt before card (kept-same card before (or_swap (begins end_card card) (begins model_card card) is)) s.parts;
+      parts = parts_skipped subckt before card (kept-same card before (or_swap (has_first_word dot_end card) (has_first_word dot_model card) is)) s.parts;
     })
 
 -- a card without a fault

@@ -7,7 +7,7 @@ use Rattle.dom_base.specs.declared.kind.Kind.{Kind}
 use Rattle.dom_base.specs.declared.kind.Kind.TheVariants.{N as nch, P as pch, Keep}
 use Rattle.deck.specs.declared.fault.DeckKind.{DeckKind}
 use Rattle.deck.specs.declared.fault.DeckKind.TheVariants.{ControlByte, UnknownCard, BadCard, UnknownDevice}
-use Rattle.deck.specs.DeckCards.{NumberedCard, begins, subckt_card, ends_card, end_card, model_card, is_device, has_equals, is_model_word}
+use Rattle.deck.specs.DeckCards.{NumberedCard, has_first_word, dot_subckt, dot_ends, dot_end, dot_model, is_device, has_equals, is_model_word}
 use Rattle.spice_read.specs.declared.cards.Form.{Form}
 use Rattle.spice_read.specs.declared.cards.Form.TheVariants.{Device, Subckt, Ends, Skipped}
 
@@ -38,7 +38,7 @@ abbrev pub card_form : NumberedCard → Result Form DeckKind
 card_form card =
     if list_any (list_any is_control) card.words then Err ControlByte
     else (if is_device card then device_form card
-    else (if begins subckt_card card then (if is_deck_subckt card then Ok Subckt else Err BadCard)
-    else (if begins ends_card card then (if nat_lt (length card.words) 3 then Ok Ends else Err BadCard)
-    else (if begins end_card card || begins model_card card then Ok Skipped
+    else (if has_first_word dot_subckt card then (if is_deck_subckt card then Ok Subckt else Err BadCard)
+    else (if has_first_word dot_ends card then (if nat_lt (length card.words) 3 then Ok Ends else Err BadCard)
+    else (if has_first_word dot_end card || has_first_word dot_model card then Ok Skipped
     else Err UnknownCard))))

@@ -8,7 +8,7 @@ ghost use Rattle.dom_base.specs.Lines.{is_control, words};
 ghost use Rattle.deck.specs.declared.fault.DeckKind.{DeckKind};
 ghost use Rattle.deck.specs.declared.fault.DeckKind.TheVariants.{BadCard};
 ghost use Rattle.deck.specs.DeckText.{phase_of};
-ghost use Rattle.deck.specs.DeckCards.{begins, has_equals, is_device, numbered_lines, port_names};
+ghost use Rattle.deck.specs.DeckCards.{has_first_word, has_equals, is_device, numbered_lines, port_names};
 ghost use Rattle.spice_read.specs.Forms.{card_form, device_form, known_kind, word_at};
 ghost use Rattle.spice_read.specs.Readers.{continued_words, IsAtFirstCard, IsNextRead, IsStrayAt};
 
@@ -100,8 +100,8 @@ impl<'a> Card<'a> {
         }
     }
 
-    fn begins(&self, word: &[u8]) -> bool
-        ensures { result ≡ begins (str_to_ascii_lowercase word.now) self.now }
+    fn has_first_word(&self, word: &[u8]) -> bool
+        ensures { result ≡ has_first_word (str_to_ascii_lowercase word.now) self.now }
     {
         same_letters(self.word(0), word)
     }
@@ -151,19 +151,19 @@ impl<'a> Card<'a> {
         if self.is_device() {
             return self.device_form();
         }
-        if self.begins(b".subckt") {
+        if self.has_first_word(b".subckt") {
             if 1 < self.words.len() && !self.has_equals() {
                 return Ok(Form::Subckt);
             }
             return Err(DeckKind::BadCard);
         }
-        if self.begins(b".ends") {
+        if self.has_first_word(b".ends") {
             if self.words.len() < 3 {
                 return Ok(Form::Ends);
             }
             return Err(DeckKind::BadCard);
         }
-        if self.begins(b".end") || self.begins(b".model") {
+        if self.has_first_word(b".end") || self.has_first_word(b".model") {
             Ok(Form::Skipped)
         } else {
             Err(DeckKind::UnknownCard)

@@ -11,7 +11,7 @@ use Rattle.dom_base.proofs.Names.{IsNetName-from_test, no_control-name, no_contr
 use Rattle.deck.specs.declared.device.Device.{Device}
 use Rattle.deck.specs.declared.phase.Phase.{Phase}
 use Rattle.deck.specs.CircuitData.{CircuitData}
-use Rattle.deck.specs.DeckText.{deck_cards, deck_phases, card_lines, cards_of, is_skipped, phase_of, bare_circuit, BeginsACard, HasNoEquals, IsDeckOf, IsGoodCircuit, HasNetNames}
+use Rattle.deck.specs.DeckText.{deck_cards, deck_phases, deck_card_lines, cards_of, is_skipped, phase_of, bare_circuit, BeginsACard, HasNoEquals, IsDeckOf, IsGoodCircuit, HasNetNames}
 use Rattle.deck.specs.NamedDevices.{with_devices}
 use Rattle.deck.specs.Nets.{ends, used, IsCircuit}
 use Rattle.deck.specs.Ports.{leading_ports, HasRoles}
@@ -160,9 +160,9 @@ written_phases c w leading groups text r e =
 
 -- the line of the first card continues no card
 written_begins : (c : CircuitData) (leading : List (List ℕ)) (groups : List (List (List ℕ))) (text : List ℕ)
-    → AreWrittenRows c leading groups → text ≡ text_of_rows (comment_rows c ++ rows_of_cards c leading groups) → BeginsACard (card_lines text)
+    → AreWrittenRows c leading groups → text ≡ text_of_rows (comment_rows c ++ rows_of_cards c leading groups) → BeginsACard (deck_card_lines text)
 written_begins c leading groups text r e =
-    let same = ap card_lines e ∙ card_lines-rows (comment_rows c) (rows_of_cards c leading groups) r.plain r.no_end r.comments r.of_cards in
+    let same = ap deck_card_lines e ∙ card_lines-rows (comment_rows c) (rows_of_cards c leading groups) r.plain r.no_end r.comments r.of_cards in
     let first : BeginsACard (map row_line (rows_of_cards c leading groups)) = refl in
     subst BeginsACard (sym same) first
 

@@ -9,7 +9,7 @@ use Rattle.dom_base.specs.Joined.{ended, joined, IsClean, IsSolid}
 use Rattle.dom_base.proofs.Texts.{lines-ended, words-joined, words-after_blanks, unindented-none}
 use Rattle.dom_base.proofs.WordBytes.{IsSolid-name, AllSolid-names, IsClean-joined, lowercase-joined}
 use Rattle.std.proofs.lemmas.List.Elements.{All-head}
-use Rattle.deck.specs.DeckText.{read_line, is_end, through_end, deck_lines, is_of_card, continues, card_lines, added_words, cards_of, phase_of, deck_phases}
+use Rattle.deck.specs.DeckText.{read_line, is_end, through_end, deck_lines, is_of_card, continues, deck_card_lines, added_words, cards_of, phase_of, deck_phases}
 
 -- the line of some words, with one blank between any two
 abbrev pub row_line : List (List ℕ) → List ℕ
@@ -106,7 +106,7 @@ filter-comments (comment ∷ comments) rows c h = rw c.0 (filter-comments commen
 
 pub card_lines-rows : (comments rows : List (List (List ℕ))) → AllByRecursion IsPlainRow (comments ++ rows) → AllByRecursion IsNoEnd (comments ++ rows)
     → AllByRecursion IsComment comments → AllByRecursion IsOfCard rows
-    → card_lines (text_of_rows (comments ++ rows)) ≡ map row_line rows
+    → deck_card_lines (text_of_rows (comments ++ rows)) ≡ map row_line rows
 card_lines-rows comments rows h n c o =
     ap (filter is_of_card) (deck_lines-rows (comments ++ rows) h n) ∙ filter-comments comments rows c o
 
