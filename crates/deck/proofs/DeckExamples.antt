@@ -1,7 +1,6 @@
 -- Texts of decks, and what they are read as.
-use Rattle.std.proofs.Common.{◌≡◌, ◌≢◌, ℕ, Bool, true, false, not, ◌&&◌, ◌==◌, List, [], ◌∷◌, ◌++◌, filter, codes, refl, ap, sym, ◌∙◌, All, lit≤}
-use Rattle.std.specs.List.{flat_map, list_all, AllByRecursion}
-use Rattle.std.proofs.lemmas.List.Elements.{All-from_recursion}
+use Rattle.std.proofs.Common.{◌≡◌, ◌≢◌, ℕ, Bool, true, false, not, ◌==◌, List, [], ◌∷◌, ◌++◌, filter, codes, refl, ap, sym, ◌∙◌, All, lit≤}
+use Rattle.std.specs.List.{flat_map, list_all}
 use Rattle.std.proofs.lemmas.Map.Made.{IsDistinct-from_count}
 use Rattle.dom_base.specs.Lines.{is_control}
 use Rattle.dom_base.specs.declared.kind.Kind.TheVariants.{N as nch, P as pch, Keep}
@@ -10,6 +9,7 @@ use Rattle.deck.specs.DeckText.{is_skipped, deck_cards, deck_phases, deck_card_l
 use Rattle.deck.specs.NamedDevices.{NamedDevice, with_devices}
 use Rattle.deck.specs.Worked.{and_devices}
 use Rattle.dom_base.proofs.Names.{names_equal}
+use Rattle.dom_base.proofs.Lists.{All-from_test}
 
 -- lines that each end in LF
 abbrev text_of : List (List ℕ) → List ℕ
@@ -74,18 +74,6 @@ and_circuit = record {
   nets = and_ports ++ codes "d0" ∷ codes "z0" ∷ codes "t0_0" ∷ codes "f0" ∷ [];
   devices = and_devices;
 }
-
--- what a test says of each element
-all_from_test : {X : Type 0} (P : X → Type 0) (test : X → Bool) → ((x : X) → test x ≡ true → P x) → (xs : List X) → list_all test xs ≡ true → AllByRecursion P xs
-all_from_test P test f [] h = tt
-all_from_test P test f (x ∷ xs) h = by (test x) refl h (λ rest. all_from_test P test f xs rest)
-  where
-    by : (b : Bool) → test x ≡ b → (b && list_all test xs) ≡ true → (list_all test xs ≡ true → AllByRecursion P xs) → AllByRecursion P (x ∷ xs)
-    by true e both rest = (f x e, rest both)
-    by false e both rest = absurd (cc)
-
-All-from_test : {X : Type 0} (P : X → Type 0) (test : X → Bool) → ((x : X) → test x ≡ true → P x) → (xs : List X) → list_all test xs ≡ true → All P xs
-All-from_test P test f xs h = All-from_recursion P xs (all_from_test P test f xs h)
 
 no_control_byte : (b : ℕ) → not (is_control b) ≡ true → is_control b ≡ false
 no_control_byte b h = by (is_control b) h

@@ -1,14 +1,14 @@
 -- The names of a deck's circuit are names of nets.
-use Rattle.std.proofs.Common.{◌≡◌, ℕ, Bool, true, false, not, ◌&&◌, ◌||◌, if◌then◌else◌, nat_eq, List, [], ◌∷◌, ◌++◌, map, filter, drop, codes, refl, ap, sym, ◌∙◌, subst, Option, Some, None, All}
+use Rattle.std.proofs.Common.{◌≡◌, ℕ, Bool, true, false, not, ◌&&◌, if◌then◌else◌, nat_eq, List, [], ◌∷◌, ◌++◌, map, drop, codes, refl, ap, sym, ◌∙◌, subst, Option, Some, None, All}
 use Rattle.std.specs.Cmp.Lexicographic.{pointwise}
 use Rattle.std.specs.List.{AllByRecursion, AllZip, filter_map, cons_option, list_any}
 use Rattle.std.specs.Option.{IfSome}
 use Rattle.std.proofs.lemmas.List.Elements.{All-from_recursion, recursion_from_All}
 use Rattle.dom_base.specs.Lines.{is_control, lines, words, unindented, IsLower, IsLowerWord}
 use Rattle.dom_base.specs.Names.{IsNetName}
-use Rattle.dom_base.proofs.Lists.{AllByRecursion-append, AllByRecursion-left, AllByRecursion-filter, AllByRecursion-weaker}
-use Rattle.dom_base.proofs.WordBytes.{lower_bytes, lower_words}
-use Rattle.dom_base.proofs.Names.{IsNetName-word}
+use Rattle.dom_base.proofs.Lists.{AllByRecursion-append, AllByRecursion-left, AllByRecursion-kept}
+use Rattle.dom_base.proofs.WordBytes.{lower_bytes, lower_words, lower-drop}
+use Rattle.dom_base.proofs.Names.{IsNetName-word, plain_words, visible_word}
 use Rattle.deck.specs.declared.phase.Phase.{Phase}
 use Rattle.deck.specs.CircuitData.{CircuitData}
 use Rattle.deck.specs.DeckText.{read_line, is_end, through_end, deck_lines, is_of_card, continues, deck_card_lines, added_words, cards_of, deck_cards, is_skipped, signed_phase, phase_of, deck_phases, IsDeviceCard, bare_circuit, IsDeckOf, HasNetNames}
@@ -16,10 +16,6 @@ use Rattle.deck.specs.NamedDevices.{NamedDevice, with_devices}
 use Rattle.deck.specs.Nets.{with_net}
 use Rattle.deck.specs.Pushes.{pushed}
 use Rattle.deck.proofs.DeckCircuits.{IsDeckOf-phases}
-
--- what a filter keeps
-kept : {X : Type 0} (P : X → Type 0) (test : X → Bool) (xs : List X) → AllByRecursion P xs → AllByRecursion P (filter test xs)
-kept P test xs h = AllByRecursion-weaker (λ x. (test x ≡ true) × P x) P (λ x both. both.1) (filter test xs) (AllByRecursion-filter P test xs h)
 
 all_through_end : (P : List ℕ → Type 0) (all : List (List ℕ)) → AllByRecursion P all → AllByRecursion P (through_end all)
 all_through_end P [] h = tt
@@ -36,10 +32,6 @@ lower_lines (line ∷ all) = (lower_bytes (unindented line), lower_lines all)
 -- the lines of a deck have no upper-case letters
 deck_lines-lower : (text : List ℕ) → AllByRecursion (AllByRecursion IsLower) (deck_lines text)
 deck_lines-lower text = all_through_end (AllByRecursion IsLower) (map read_line (lines text)) (lower_lines (lines text))
-
-lower-drop : (line : List ℕ) → AllByRecursion IsLower line → AllByRecursion IsLower (drop 1 line)
-lower-drop [] h = tt
-lower-drop (b ∷ bs) h = h.1
 
 added-lower : (all : List (List ℕ)) → AllByRecursion (AllByRecursion IsLower) all → AllByRecursion IsLowerWord (added_words all)
 added-lower [] h = tt
@@ -58,29 +50,16 @@ cards-lower (line ∷ all) h = by (continues line) (cards-lower all h.1)
     by true rest = rest
     by false rest = (AllByRecursion-append IsLowerWord (words line) (added_words all) (lower_words line h.0) (added-lower all h.1), rest)
 
-words-plain : (card : List (List ℕ)) → AllByRecursion IsLowerWord card → AllByRecursion (All (λ b. is_control b ≡ false)) card → AllByRecursion IsNetName card
-words-plain [] h k = tt
-words-plain (word ∷ card) h k = (IsNetName-word word h.0 k.0, words-plain card h.1 k.1)
-
 cards-plain : (cards : List (List (List ℕ))) → AllByRecursion (AllByRecursion IsLowerWord) cards → AllByRecursion (All (All (λ b. is_control b ≡ false))) cards
     → AllByRecursion (AllByRecursion IsNetName) cards
 cards-plain [] h k = tt
-cards-plain (card ∷ cards) h k = (words-plain card h.0 (recursion_from_All (All (λ b. is_control b ≡ false)) card k.0), cards-plain cards h.1 k.1)
+cards-plain (card ∷ cards) h k = (plain_words card h.0 (recursion_from_All (All (λ b. is_control b ≡ false)) card k.0), cards-plain cards h.1 k.1)
 
 -- the words of cards without control bytes are names of nets
 pub deck_cards-plain : (text : List ℕ) → All (All (All (λ b. is_control b ≡ false))) (deck_cards text) → AllByRecursion (AllByRecursion IsNetName) (deck_cards text)
 deck_cards-plain text visible =
-    cards-plain (deck_cards text) (cards-lower (deck_card_lines text) (kept (AllByRecursion IsLower) is_of_card (deck_lines text) (deck_lines-lower text)))
+    cards-plain (deck_cards text) (cards-lower (deck_card_lines text) (AllByRecursion-kept (AllByRecursion IsLower) is_of_card (deck_lines text) (deck_lines-lower text)))
     (recursion_from_All (All (All (λ b. is_control b ≡ false))) (deck_cards text) visible)
-
-no_control_from : (word : List ℕ) → list_any is_control word ≡ false → AllByRecursion (λ b. is_control b ≡ false) word
-no_control_from [] h = tt
-no_control_from (b ∷ bs) h = by (is_control b) refl h (λ rest. no_control_from bs rest)
-  where
-    by : (t : Bool) → is_control b ≡ t → (t || list_any is_control bs) ≡ false
-        → (list_any is_control bs ≡ false → AllByRecursion (λ c. is_control c ≡ false) bs) → AllByRecursion (λ c. is_control c ≡ false) (b ∷ bs)
-    by true e both rest = absurd (let none : ⊥ = cc in none)
-    by false e both rest = (e, rest both)
 
 -- the name of a phase
 abbrev IsPlainPhase : Phase → Type 0
@@ -103,7 +82,7 @@ phase-plain (a ∷ b ∷ c ∷ d ∷ e ∷ more) h = tt
 phase-plain (star ∷ word ∷ name ∷ sign ∷ []) h = by (pointwise nat_eq star (codes "*")) (pointwise nat_eq word (codes "phase")) (list_any is_control name) refl
   where
     by : (s t u : Bool) → list_any is_control name ≡ u → IfSome (if (s && t && not u) then signed_phase name sign else None) IsPlainPhase
-    by true true false e = signed-plain name sign (IsNetName-word name h.1.1.0 (All-from_recursion (λ b. is_control b ≡ false) name (no_control_from name e)))
+    by true true false e = signed-plain name sign (IsNetName-word name h.1.1.0 (All-from_recursion (λ b. is_control b ≡ false) name (visible_word name e)))
     by true true true e = tt
     by true false u e = tt
     by false t u e = tt
@@ -151,7 +130,7 @@ with_devices-name c (d ∷ ds) = with_devices-name (pushed c d.kind d.drain d.ga
 -- the names of a deck's circuit are names of nets
 pub IsDeckOf-names : (text : List ℕ) (c : CircuitData) → IsDeckOf text c → HasNetNames c
 IsDeckOf-names text c h =
-    let few = kept (AllByRecursion IsNetName) (λ card. not (is_skipped card)) (deck_cards text) (deck_cards-plain text h.visible) in
+    let few = AllByRecursion-kept (AllByRecursion IsNetName) (λ card. not (is_skipped card)) (deck_cards text) (deck_cards-plain text h.visible) in
     let cards = subst (AllByRecursion (AllByRecursion IsNetName)) h.order few in
     let devices = devices-plain h.device_cards h.devices h.cards_are (AllByRecursion-left (AllByRecursion IsNetName) h.device_cards ((codes ".ends" ∷ h.closing) ∷ []) cards.1) in
     let bare = bare_circuit h.name (deck_phases text) h.ports in

@@ -1,3 +1,4 @@
+-- The cards of a deck, each with the number of its first line (SPICE subcircuit and M cards).
 use Rattle.std.specs.Prelude.{ℕ, Bool, true, false, ◌==◌, ◌||◌, ◌&&◌, not, nat_eq, nat_lt, if◌then◌else◌, List, [], ◌∷◌, ◌++◌, map, filter, length, drop, slice_index, Option, Some, None, codes}
 use Rattle.std.specs.List.{list_any, find, enumerate_from}
 use Rattle.std.specs.Set.{distinct_count}

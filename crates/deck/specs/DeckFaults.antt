@@ -1,3 +1,4 @@
+-- Why the text of a deck is refused: the faults of its cards and of its end.
 use Rattle.std.specs.Prelude.{ℕ, ◌≡◌, ◌+◌, ◌⊎◌, Bool, true, false, ◌==◌, ◌||◌, ◌&&◌, not, nat_lt, if◌then◌else◌, List, [], ◌∷◌, ◌++◌, length, reverse, slice_index_or}
 use Rattle.std.specs.List.{list_any}
 use Rattle.dom_base.specs.Answers.{IsFirstFault}

@@ -1,3 +1,4 @@
+-- The circuit of a deck, the text of one subcircuit of transistors (SPICE subcircuit and M cards).
 use Rattle.std.specs.Prelude.{ℕ, ◌≤◌, ◌≡◌, ◌≢◌, ◌^◌, Bool, true, false, ◌==◌, ◌||◌, ◌&&◌, not, if◌then◌else◌, List, [], ◌∷◌, ◌++◌, length, map, filter, take, drop, Option, Some, None, All, nat_eq, codes}
 use Rattle.std.specs.List.{AllZip, IsDistinct, filter_map, list_any}
 use Rattle.std.specs.Str.{str_to_ascii_lowercase}

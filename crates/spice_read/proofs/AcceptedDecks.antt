@@ -14,7 +14,7 @@ use Rattle.deck.specs.Pushes.{pushed}
 use Rattle.deck.specs.DeckCards.{NumberedCard, numbered_cards, numbered_lines}
 use Rattle.spice_read.specs.declared.subckt.Subckt.TheVariants.{Closed}
 use Rattle.spice_read.specs.Readers.{BeginsNumbered}
-use Rattle.spice_read.proofs.CardForms.{visible_words}
+use Rattle.dom_base.proofs.Names.{visible_words}
 use Rattle.spice_read.proofs.KindNumbers.{IsFound}
 use Rattle.spice_read.proofs.NumberedCards.{begins_a_card, deck_cards-numbered}
 use Rattle.spice_read.proofs.FaultPlaces.{IsPassed}

@@ -1,13 +1,10 @@
 -- What a card is and its fault, by tests of its words one after the other.
-use Rattle.std.proofs.Common.{◌≡◌, ◌<◌, ℕ, Bool, true, false, ◌||◌, ◌&&◌, not, ap, nat_lt, if◌then◌else◌, List, [], ◌∷◌, length, refl, arith, Option, Some, None, Result, Ok, Err, All}
-use Rattle.std.specs.List.{AllByRecursion, list_any}
-use Rattle.std.proofs.lemmas.Bool.{true≢false}
+use Rattle.std.proofs.Common.{◌≡◌, ◌<◌, ℕ, Bool, true, false, ◌||◌, ◌&&◌, not, ap, nat_lt, if◌then◌else◌, length, refl, arith, Option, Some, None, Result, Ok, Err}
+use Rattle.std.specs.List.{list_any}
 use Rattle.std.proofs.lemmas.Bool.Decides.{nat_tests}
-use Rattle.std.proofs.lemmas.List.Elements.{All-from_recursion}
-use Rattle.dom_base.specs.Lines.{is_control, IsLowerWord}
-use Rattle.dom_base.specs.Names.{IsNetName}
+use Rattle.dom_base.specs.Lines.{is_control}
 use Rattle.dom_base.specs.declared.kind.Kind.{Kind}
-use Rattle.dom_base.proofs.Names.{IsNetName-word}
+use Rattle.dom_base.proofs.Names.{plain_words, visible_words}
 use Rattle.deck.specs.declared.fault.DeckKind.{DeckKind}
 use Rattle.deck.specs.declared.fault.DeckKind.TheVariants.{ControlByte, UnknownCard, BadCard, UnknownDevice}
 use Rattle.deck.specs.DeckCards.{NumberedCard, has_first_word, dot_subckt, dot_ends, dot_end, dot_model, is_device, is_model_word, has_equals}
@@ -108,30 +105,9 @@ fault_in-tests subckt card =
     let t = tests_of card in
     same_fault subckt card (kind_of (word_at card 5)) t.control t.device t.long t.known t.subckt t.form t.ends t.short t.skipped
 
-visible_byte : (word : List ℕ) → list_any is_control word ≡ false → AllByRecursion (λ b. is_control b ≡ false) word
-visible_byte [] h = tt
-visible_byte (b ∷ bs) h = by (is_control b) refl h (λ rest. visible_byte bs rest)
-  where
-    by : (t : Bool) → is_control b ≡ t → (t || list_any is_control bs) ≡ false → (list_any is_control bs ≡ false → AllByRecursion (λ c. is_control c ≡ false) bs) → AllByRecursion (λ c. is_control c ≡ false) (b ∷ bs)
-    by true e f rest = absurd (true≢false f)
-    by false e f rest = (e, rest f)
-
-pub visible_words : (all : List (List ℕ)) → list_any (list_any is_control) all ≡ false → AllByRecursion (All (λ b. is_control b ≡ false)) all
-visible_words [] h = tt
-visible_words (word ∷ all) h = by (list_any is_control word) refl h (λ rest. visible_words all rest)
-  where
-    by : (t : Bool) → list_any is_control word ≡ t → (t || list_any (list_any is_control) all) ≡ false → (list_any (list_any is_control) all ≡ false → AllByRecursion (All (λ b. is_control b ≡ false)) all)
-        → AllByRecursion (All (λ b. is_control b ≡ false)) (word ∷ all)
-    by true e f rest = absurd (true≢false f)
-    by false e f rest = (All-from_recursion (λ b. is_control b ≡ false) word (visible_byte word e), rest f)
-
-net_names : (all : List (List ℕ)) → AllByRecursion IsLowerWord all → AllByRecursion (All (λ b. is_control b ≡ false)) all → AllByRecursion IsNetName all
-net_names [] h k = tt
-net_names (word ∷ all) h k = (IsNetName-word word h.0 k.0, net_names all h.1 k.1)
-
 -- the words of a card without control bytes are names of nets
 has_names : (card : NumberedCard) (count : ℕ) → IsWordedCard card → list_any (list_any is_control) card.words ≡ false → count < length card.words → HasNames count card
-has_names card count worded clean more = record { more = more; names = net_names card.words worded (visible_words card.words clean) }
+has_names card count worded clean more = record { more = more; names = plain_words card.words worded (visible_words card.words clean) }
 
 -- the facts of a card of a device, or of a `.subckt`
 record IsLong (count : ℕ) (card : NumberedCard) : Type 0 where

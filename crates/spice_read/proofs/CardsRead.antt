@@ -1,7 +1,7 @@
 -- Reading the lines of a card, and those before the first card.
 use Rattle.std.proofs.Common.{◌≡◌, ◌<◌, ℕ, ◌+◌, Bool, true, false, ◌==◌, ◌&&◌, not, cond, nat_eq, if◌then◌else◌, List, [], ◌∷◌, ◌++◌, length, map, drop, filter, codes, Option, Some, None, refl, sym, ap, ◌∙◌, subst, arith, append_assoc, append-nil, eqb-true}
 use Rattle.std.specs.Prelude.{is_some}
-use Rattle.std.specs.List.{cons_option, before_first}
+use Rattle.std.specs.List.{before_first}
 use Rattle.std.specs.Option.{option_to_list}
 use Rattle.std.specs.Cmp.Lexicographic.{pointwise}
 use Rattle.dom_base.specs.Lines.{is_blank, words, unindented}
@@ -12,6 +12,8 @@ use Rattle.deck.specs.DeckFaults.{end_line}
 use Rattle.spice_read.specs.Readers.{begins_card, card_lines_left, cards_behind, cards_left, continued_card, continued_words, end_from, phases_from, size_left, size_with, BeginsNumbered, IsAtFirstCard, IsSameText, IsStrayAt, LinesLeft, Reader, ReadsCard, ReadsLine}
 use Rattle.spice_read.proofs.DeckEnds.{end_line-from}
 use Rattle.spice_read.proofs.FirstWords.{words-front, no_blank}
+use Rattle.dom_base.proofs.Lists.{cons_option-list}
+use Rattle.spice_text.proofs.ReadBack.{no_phase}
 
 -- a comment or an empty line continues no card
 apart : (line : List ℕ) → is_of_card line ≡ false → continues line ≡ false
@@ -54,10 +56,6 @@ module _ {before : LinesLeft} {line : List ℕ} {after : LinesLeft} (reads : Rea
   line-skipped : is_of_card line ≡ false → card_lines_left before ≡ card_lines_left after
   line-skipped e = ap (filter (λ p. is_of_card p.1)) reads.numbered ∙ ap (λ (t : Bool). cond t ((before.number, line) ∷ card_lines_left after) (card_lines_left after)) e
 
-cons_option-list : {X : Type 0} (o : Option X) (xs : List X) → cons_option o xs ≡ option_to_list o ++ xs
-cons_option-list None xs = refl
-cons_option-list (Some x) xs = refl
-
 -- the phase of a line that is read
 phases-line : {before : LinesLeft} {line : List ℕ} {after : LinesLeft} → ReadsLine before line after → (phases : List Phase)
     → phases ++ phases_from (deck_lines before.rest) ≡ (phases ++ option_to_list (phase_of (words line))) ++ phases_from (deck_lines after.rest)
@@ -69,20 +67,13 @@ phases-line {line = line} {after = after} reads phases =
 no_star : (rest : List ℕ) (b : ℕ) → (b == 42) ≡ false → pointwise nat_eq (b ∷ rest) (codes "*") ≡ false
 no_star rest b e = ap (λ (t : Bool). t && pointwise nat_eq rest []) e
 
-starless : (first : List ℕ) (others : List (List ℕ)) → pointwise nat_eq first (codes "*") ≡ false → phase_of (first ∷ others) ≡ None
-starless first [] e = refl
-starless first (a ∷ []) e = refl
-starless first (a ∷ b ∷ []) e = refl
-starless first (a ∷ b ∷ c ∷ []) e = rw e refl
-starless first (a ∷ b ∷ c ∷ d ∷ more) e = refl
-
 -- the line of a card gives no phase
 card_no_phase : (line : List ℕ) → is_of_card line ≡ true → unindented line ≡ line → phase_of (words line) ≡ None
 card_no_phase [] e is = absurd (let never : false ≡ true = e in cc)
 card_no_phase (b ∷ bs) e is =
     let all = words-front b bs (no_blank b bs is) in
     let clean : (b == 42) ≡ false = by (b == 42) refl e in
-    ap phase_of all ∙ starless (b ∷ before_first is_blank bs) _ (no_star (before_first is_blank bs) b clean)
+    ap phase_of all ∙ no_phase (b ∷ before_first is_blank bs) _ (no_star (before_first is_blank bs) b clean)
   where
     by : (t : Bool) → (b == 42) ≡ t → not t ≡ true → (b == 42) ≡ false
     by true f g = absurd (let never : false ≡ true = g in cc)

@@ -30,6 +30,7 @@ use Rattle.spice_read.proofs.KindNumbers.{IsFound, smallest_is}
 use Rattle.spice_read.proofs.NumberedCards.{begins_numbered, deck_cards-numbered}
 use Rattle.spice_read.proofs.Ports.{HasGoodPorts}
 use Rattle.spice_read.proofs.SubcktSoFar.{Stands, tests_skipped, stands_after, starts}
+use Rattle.dom_base.proofs.Bools.{or_swap}
 
 -- a card without a fault, by what it is
 clean_fault : (subckt : Subckt) (card : NumberedCard) → CleanCard subckt card → list_any (list_any is_control) card.words ≡ false → fault_in subckt card ≡ None
@@ -114,12 +115,6 @@ skipped_parts card h = by (has_first_word dot_model card) refl h
     by : (t : Bool) → has_first_word dot_model card ≡ t → (t || has_first_word dot_end card) ≡ true → SkippedParts card
     by true e f = parts_of card dot_model e refl refl refl
     by false e f = parts_of card dot_end f refl refl refl
-
-or_swap : (a b : Bool) → (a || b) ≡ true → (b || a) ≡ true
-or_swap true true e = refl
-or_swap true false e = refl
-or_swap false true e = refl
-or_swap false false e = e
 
 skipped_card : (subckt : Subckt) (card : NumberedCard) → is_skipped card.words ≡ true → CleanCard subckt card
 skipped_card subckt card h =

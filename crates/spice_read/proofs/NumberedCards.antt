@@ -3,7 +3,7 @@ use Rattle.std.proofs.Common.{◌≡◌, ℕ, ◌+◌, Bool, true, false, cond, 
 use Rattle.std.specs.List.{AllByRecursion}
 use Rattle.dom_base.specs.Lines.{lines, unindented, words, IsLower, IsLowerWord}
 use Rattle.dom_base.proofs.Lists.{AllByRecursion-append}
-use Rattle.dom_base.proofs.WordBytes.{lower_bytes, lower_words}
+use Rattle.dom_base.proofs.WordBytes.{lower_bytes, lower_words, lower-drop}
 use Rattle.deck.specs.DeckText.{BeginsACard, added_words, deck_card_lines, cards_of, continues, deck_cards, deck_lines, is_end, is_of_card, read_line, through_end}
 use Rattle.deck.specs.DeckCards.{numbered_cards, numbered_cards_of, numbered_lines, numbered_lines_from}
 use Rattle.spice_read.specs.Readers.{BeginsNumbered}
@@ -64,10 +64,6 @@ lower-lines n (line ∷ all) = by (is_of_card (read_line line)) (is_end (read_li
     by true false rest = (lower_bytes (unindented line), rest)
     by false true rest = tt
     by false false rest = rest
-
-lower-drop : (line : List ℕ) → AllByRecursion IsLower line → AllByRecursion IsLower (drop 1 line)
-lower-drop [] h = tt
-lower-drop (b ∷ bs) h = h.1
 
 lower-added : (ps : List (ℕ × List ℕ)) → AllByRecursion LowerLine ps → AllByRecursion IsLowerWord (added_words (map (λ q. q.1) ps))
 unfolding LowerLine

@@ -18,18 +18,7 @@ use Rattle.spice_read.specs.Forms.{word_at}
 use Rattle.spice_read.specs.Subckts.{opened, ports_fault}
 use Rattle.dom_base.proofs.Names.{names_equal}
 use Rattle.deck.proofs.NetNumbers.{IsDistinct-with_net}
-
-or_assoc : (a b c : Bool) → ((a || b) || c) ≡ (a || (b || c))
-or_assoc true b c = refl
-or_assoc false b c = refl
-
-or_true : (a : Bool) → (a || true) ≡ true
-or_true true = refl
-or_true false = refl
-
-or_false : (a : Bool) → (a || false) ≡ a
-or_false true = refl
-or_false false = refl
+use Rattle.dom_base.proofs.Bools.{or_false, or_true, or_assoc}
 
 any-append : (p : List ℕ → Bool) (xs ys : List (List ℕ)) → list_any p (xs ++ ys) ≡ (list_any p xs || list_any p ys)
 any-append p [] ys = refl

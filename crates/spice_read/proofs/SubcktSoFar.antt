@@ -18,6 +18,7 @@ use Rattle.spice_read.proofs.CardForms.{after_tests}
 use Rattle.spice_read.proofs.Ports.{HasGoodPorts, good_ports}
 use Rattle.spice_read.proofs.CleanCards.{CleanCard, device, opening, ending, skipped, after_clean_card, clean_card, no_control_byte, device_card, device_of, subckt_words, ends_words}
 use Rattle.spice_read.proofs.Contexts.{IsContext, begins_one, not_device}
+use Rattle.dom_base.proofs.Bools.{or_swap}
 
 -- the words of the cards that add to the circuit, where these cards were read, the last first
 abbrev pub kept : List NumberedCard → List (List (List ℕ))
@@ -175,12 +176,6 @@ after_ending before c card s d no_subckt is closing words_are few = let h = s.pa
     };
   };
 }
-
-or_swap : (a b : Bool) → (a || b) ≡ true → (b || a) ≡ true
-or_swap true true e = refl
-or_swap true false e = refl
-or_swap false true e = refl
-or_swap false false e = e
 
 context_skipped : (before : List NumberedCard) (subckt : Subckt) (card : NumberedCard) → IsContext before subckt → is_device card ≡ false → has_first_word dot_subckt card ≡ false → has_first_word dot_ends card ≡ false
     → IsContext (card ∷ before) subckt

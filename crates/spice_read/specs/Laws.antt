@@ -1,3 +1,4 @@
+-- What holds of each text and its answer, and of each text that is written.
 use Rattle.std.specs.Prelude.{ℕ, List}
 use Rattle.dom_base.specs.Answers.{HasOneAnswer, IsOnlyAnswer}
 use Rattle.deck.specs.CircuitData.{CircuitData}

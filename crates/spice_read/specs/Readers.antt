@@ -1,8 +1,8 @@
 -- Where the reader of a deck stands, and what one step of it reads: lines and cards, in lower case.
 use Rattle.std.specs.Prelude.{ℕ, ◌≡◌, ◌<◌, ◌+◌, Bool, true, false, ◌&&◌, not, nat_eq, if◌then◌else◌, List, [], ◌∷◌, ◌++◌, length, map, drop, codes, Option, Some, None, IsNone}
 use Rattle.std.specs.Cmp.Lexicographic.{pointwise}
-use Rattle.std.specs.List.{enumerate_from, filter_map}
-use Rattle.dom_base.specs.Lines.{unindented, words}
+use Rattle.std.specs.List.{enumerate_from, filter_map, list_any}
+use Rattle.dom_base.specs.Lines.{is_control, unindented, words}
 use Rattle.deck.specs.declared.phase.Phase.{Phase}
 use Rattle.deck.specs.DeckText.{deck_lines, deck_phases, added_words, is_of_card, continues, is_end, phase_of}
 use Rattle.deck.specs.DeckCards.{NumberedCard, numbered_lines, numbered_lines_from, numbered_cards, numbered_cards_of}
@@ -112,3 +112,7 @@ pub record IsAtFirstCard (text : List ℕ) (reader : Reader) : Type 0 where
 -- whether a sign is `+`, where it is `+` or `-`
 abbrev pub sign_given : List ℕ → Option Bool
 sign_given sign = if pointwise nat_eq sign (codes "+") then Some true else (if pointwise nat_eq sign (codes "-") then Some false else None)
+
+-- the words before the sign of a phase
+abbrev pub begins_phase : List ℕ → List ℕ → List ℕ → Bool
+begins_phase star word name = pointwise nat_eq star (codes "*") && pointwise nat_eq word (codes "phase") && not (list_any is_control name)

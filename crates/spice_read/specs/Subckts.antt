@@ -1,5 +1,6 @@
 -- What was read of a deck's subcircuit: the fault of a card by what was read before it, and what is read with it.
 use Rattle.std.specs.Prelude.{ℕ, ◌≡◌, ◌<◌, Bool, true, false, ◌==◌, nat_lt, if◌then◌else◌, List, [], length, Option, Some, None, Result, Ok, Err}
+use Rattle.std.specs.Prelude.{IsErrOf}
 use Rattle.std.specs.List.{AllByRecursion}
 use Rattle.dom_base.specs.Names.{IsNetName}
 use Rattle.dom_base.specs.declared.kind.Kind.{Kind}
@@ -14,6 +15,8 @@ use Rattle.deck.specs.DeckCards.{NumberedCard, port_names, names_twice}
 use Rattle.deck.specs.Limits.{most_devices, most_ports}
 use Rattle.spice_read.specs.declared.cards.Form.{Form}
 use Rattle.spice_read.specs.declared.cards.Form.TheVariants.{Device, Subckt as Opening, Ends, Skipped}
+use Rattle.spice_read.specs.declared.faults.DeckFault.{DeckFault}
+use Rattle.spice_read.specs.declared.faults.DeckFault.TheVariants.{At}
 use Rattle.spice_read.specs.declared.subckt.Subckt.{Subckt}
 use Rattle.spice_read.specs.declared.subckt.Subckt.TheVariants.{Before, Open, Closed}
 use Rattle.spice_read.specs.Forms.{card_form, word_at}
@@ -112,3 +115,7 @@ pub record HasNames (count : ℕ) (card : NumberedCard) : Type 0 where
 -- a card whose words have a byte each, and no blank, no tab and no upper-case letter
 abbrev pub IsWordedCard : NumberedCard → Type 0
 IsWordedCard card = AllByRecursion IsLowerWord card.words
+
+-- a fault that a call answers stands at the line of this number, and is this one
+abbrev pub AnswersFault : {T : Type 0} → Result T DeckFault → ℕ → Option DeckKind → Type 0
+AnswersFault result number fault = (line : ℕ) (kind : DeckKind) → IsErrOf result (At line kind) → (line ≡ number) × (fault ≡ Some kind)

@@ -3,8 +3,8 @@ ghost use Rattle.std.specs.Prelude.{◌≡◌, ◌<◌, ◌^◌, ℕ, [], All, I
 ghost use Rattle.std.specs.Str.{str_to_ascii_lowercase};
 ghost use Rattle.dom_base.specs.Names.{IsNetName};
 ghost use Rattle.deck.specs.Numbers.{with_all};
-ghost use Rattle.deck.specs.declared.fault.DeckKind.{DeckKind};
-ghost use Rattle.spice_read.specs.Subckts.{after_device, after_ends, end_fault, ending_fault, fault_in, opened, opening_fault, ports_fault, room_fault, subckt_after, with_device, IsFinished, HasNames, IsWordedCard};
+ghost use Rattle.spice_read.specs.Subckts.{end_fault, ending_fault, fault_in, opening_fault, ports_fault, room_fault, AnswersFault};
+ghost use Rattle.spice_read.specs.Subckts.{after_device, after_ends, opened, subckt_after, with_device, HasNames, IsFinished, IsWordedCard};
 ghost use Rattle.spice_read.specs.declared.subckt.Subckt.TheVariants.{Open};
 
 use crate::DeckFault;
@@ -44,7 +44,7 @@ fn nets_of(alloc: Global, words: &[&[u8]]) -> Result<IndexSet<NetName>, OutOfMem
 fn open(alloc: Global, card: &Card<'_>) -> Result<Circuit, DeckFault>
     requires { HasNames 1 card.now }
     ensures circuit { IfOk result (λ c. (ports_fault card.now ≡ None) × (c ≡ opened card.now)) }
-    ensures fault { (line : ℕ) (kind : DeckKind) → IsErrOf result (DeckFault.At line kind) → (line ≡ card.now.number) × (ports_fault card.now ≡ Some kind) }
+    ensures fault { AnswersFault result card.now.number (ports_fault card.now) }
 {
     let nets = nets_of(alloc, card.ports())?;
     if nets.len() < card.ports().len() {
@@ -86,7 +86,7 @@ impl Subckt {
         requires { IsWordedCard card.now }
         ensures clean { OnOk result (fault_in self.old card.now ≡ None) }
         ensures after { OnOk result (self.new ≡ subckt_after self.old card.now) }
-        ensures fault { (line : ℕ) (kind : DeckKind) → IsErrOf result (DeckFault.At line kind) → (line ≡ card.now.number) × (fault_in self.old card.now ≡ Some kind) }
+        ensures fault { AnswersFault result card.now.number (fault_in self.old card.now) }
     {
         match card.form() {
             Ok(Form::Device(kind)) => self.push_device(alloc, kind, card),
@@ -101,7 +101,7 @@ impl Subckt {
         requires { HasNames 5 card.now }
         ensures clean { OnOk result (room_fault self.old ≡ None) }
         ensures after { OnOk result (self.new ≡ after_device self.old kind card.now) }
-        ensures fault { (line : ℕ) (fault : DeckKind) → IsErrOf result (DeckFault.At line fault) → (line ≡ card.now.number) × (room_fault self.old ≡ Some fault) }
+        ensures fault { AnswersFault result card.now.number (room_fault self.old) }
     {
         let Subckt::Open(circuit) = self else {
             return Err(card.fault(DeckKind::NoSubckt));
@@ -117,7 +117,7 @@ impl Subckt {
         requires { HasNames 1 card.now }
         ensures clean { OnOk result (opening_fault self.old card.now ≡ None) }
         ensures after { OnOk result (self.new ≡ Open (opened card.now)) }
-        ensures fault { (line : ℕ) (kind : DeckKind) → IsErrOf result (DeckFault.At line kind) → (line ≡ card.now.number) × (opening_fault self.old card.now ≡ Some kind) }
+        ensures fault { AnswersFault result card.now.number (opening_fault self.old card.now) }
     {
         match self {
             Subckt::Before => {
@@ -131,7 +131,7 @@ impl Subckt {
     fn close(&mut self, card: &Card<'_>) -> Result<(), DeckFault>
         ensures clean { OnOk result (ending_fault self.old ≡ None) }
         ensures after { OnOk result (self.new ≡ after_ends self.old) }
-        ensures fault { (line : ℕ) (kind : DeckKind) → IsErrOf result (DeckFault.At line kind) → (line ≡ card.now.number) × (ending_fault self.old ≡ Some kind) }
+        ensures fault { AnswersFault result card.now.number (ending_fault self.old) }
     {
         match mem::replace(self, Subckt::Before) {
             Subckt::Open(circuit) => {
@@ -145,7 +145,7 @@ impl Subckt {
     /// The circuit of a text whose cards were all read, or the fault of its end.
     pub fn finish(self, cards: Cards<'_>) -> Result<Circuit, DeckFault>
         ensures circuit { IfOk result (λ c. IsFinished self cards.entry.phases c) }
-        ensures fault { (line : ℕ) (kind : DeckKind) → IsErrOf result (DeckFault.At line kind) → (line ≡ cards.entry.left.number) × (end_fault self ≡ Some kind) }
+        ensures fault { AnswersFault result cards.entry.left.number (end_fault self) }
     {
         let Cards { lines, phases, .. } = cards;
         let line = lines.number;

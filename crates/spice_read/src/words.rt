@@ -1,13 +1,12 @@
 //! Words of lines, names out of words, and phases out of comments.
-ghost use Rattle.std.specs.Prelude.{◌≡◌, ◌++◌, IfOk, OnOk, ◌&&◌, not, codes, map, nat_eq};
-ghost use Rattle.std.specs.Cmp.Lexicographic.{pointwise};
-ghost use Rattle.std.specs.List.{AllByRecursion, list_any};
+ghost use Rattle.std.specs.Prelude.{◌≡◌, ◌++◌, IfOk, OnOk, map};
+ghost use Rattle.std.specs.List.{AllByRecursion};
 ghost use Rattle.std.specs.Option.{option_to_list};
 ghost use Rattle.std.specs.Str.{str_to_ascii_lowercase};
-ghost use Rattle.dom_base.specs.Lines.{is_control, words, IsLowerWord};
+ghost use Rattle.dom_base.specs.Lines.{words, IsLowerWord};
 ghost use Rattle.dom_base.specs.Names.{IsNetName};
 ghost use Rattle.deck.specs.DeckText.{phase_of, signed_phase};
-ghost use Rattle.spice_read.specs.Readers.{sign_given};
+ghost use Rattle.spice_read.specs.Readers.{begins_phase, sign_given};
 
 use crate::lines::{front_word, same_letters, unindent};
 use deck::Phase;
@@ -64,7 +63,7 @@ fn signed_phase(alloc: Global, name: &[u8], sign: &[u8]) -> Result<Option<Phase>
 
 /// Whether these are the words before the sign of a phase.
 fn is_phase(star: &[u8], word: &[u8], name: &[u8]) -> bool
-    ensures { result ≡ (pointwise nat_eq (str_to_ascii_lowercase star.now) (codes "*") && pointwise nat_eq (str_to_ascii_lowercase word.now) (codes "phase") && not (list_any is_control (str_to_ascii_lowercase name.now))) }
+    ensures { result ≡ begins_phase (str_to_ascii_lowercase star.now) (str_to_ascii_lowercase word.now) (str_to_ascii_lowercase name.now) }
 {
     same_letters(star, b"*") && same_letters(word, b"phase") && !has_control(name)
 }
