@@ -6,7 +6,7 @@ use Rattle.dom_base.specs.declared.kind.Kind.{Kind}
 use Rattle.deck.specs.declared.device.Device.{Device}
 use Rattle.deck.specs.CircuitData.{CircuitData}
 use Rattle.deck.specs.NamedDevices.{NamedDevice, with_devices}
-use Rattle.deck.specs.Nets.{net_number, with_net, with_nets}
+use Rattle.deck.specs.Nets.{with_net, with_nets}
 use Rattle.deck.specs.NumberedDevices.{IsNumberedDevice, numbered_device}
 use Rattle.deck.specs.Pushes.{added_device, pushed}
 use Rattle.deck.proofs.NetNumbers.{IsDistinct-with_net, Longer, Longer-trans, net_number-kept, with_net-grows}

@@ -3,6 +3,7 @@ use Rattle.std.proofs.Common.{◌≡◌, ℕ, ◌≤◌, zero, suc, Bool, true, 
 use Rattle.std.specs.Cmp.Lexicographic.{pointwise, bytes_decides}
 use Rattle.std.specs.List.{starts_with}
 use Rattle.std.proofs.lemmas.List.Elements.{All-nil, All-cons, All-head, All-tail, All-same}
+use Rattle.deck.specs.Limits.{most_clocks}
 use Rattle.deck.specs.Ports.{IsPin, IsOutput, leading_ports, HasRoles}
 
 -- either a fact or its contrary
@@ -82,7 +83,7 @@ same_rest : (lead xs ys : List (List ℕ)) → lead ++ xs ≡ lead ++ ys → xs 
 same_rest [] xs ys e = e
 same_rest (x ∷ lead) xs ys e = same_rest lead xs ys (cc)
 
-has_roles_at : (ports : List (List ℕ)) (clocks : ℕ) → 1 ≤ clocks → clocks ≤ 4 → Decided (HasRolesAt ports clocks)
+has_roles_at : (ports : List (List ℕ)) (clocks : ℕ) → 1 ≤ clocks → clocks ≤ most_clocks → Decided (HasRolesAt ports clocks)
 has_roles_at ports clocks some few = by (leading_ports clocks) refl (is_behind (leading_ports clocks) ports)
   where
     behind : (lead : List (List ℕ)) → leading_ports clocks ≡ lead → (h : HasRolesAt ports clocks) → ports ≡ lead ++ (h.pins ++ h.outs)

@@ -9,6 +9,7 @@ use Rattle.std.proofs.lemmas.List.Elements.{All-head, All-tail, All-same}
 use Rattle.std.proofs.lemmas.Map.Made.{IsDistinct-from_count}
 use Rattle.dom_base.proofs.Lists.{AreApart, AreApart-append, IsDistinct-append}
 use Rattle.dom_base.proofs.Names.{AreApart-from_start, names_equal}
+use Rattle.deck.specs.Limits.{most_clocks, unclocked_count}
 use Rattle.deck.specs.CircuitData.{CircuitData}
 use Rattle.deck.specs.Nets.{IsCircuit}
 use Rattle.deck.specs.Numbers.{with_all}
@@ -27,7 +28,7 @@ pin-no_output (c ∷ cs) pin out =
     let o : 111 ≡ c = eqb-true _ _ (and_parts _ _ out).0 in
     omega arith
 
-pub length-leading : (clocks : ℕ) → clocks ≤ 4 → length (leading_ports clocks) ≡ clocks + 8
+pub length-leading : (clocks : ℕ) → clocks ≤ most_clocks → length (leading_ports clocks) ≡ clocks + unclocked_count
 length-leading clocks few = simp (length-append, length-take) (omega arith)
 
 -- where a list begins with some of these names and then with another name, their number is decided
@@ -54,17 +55,17 @@ clocks-apart =
     )
 
 -- the ports before the first pin decide the number of clocks
-pub leading-same : (a b : ℕ) (x y : List (List ℕ)) → a ≤ 4 → b ≤ 4 → leading_ports a ++ x ≡ leading_ports b ++ y → a ≡ b
+pub leading-same : (a b : ℕ) (x y : List (List ℕ)) → a ≤ most_clocks → b ≤ most_clocks → leading_ports a ++ x ≡ leading_ports b ++ y → a ≡ b
 leading-same a b x y la lb e =
     same_count clock_ports (codes "lm") a b (drop 1 latch_ports ++ x) (drop 1 latch_ports ++ y) clocks-apart la lb
     (sym (append_assoc (take a clock_ports) latch_ports x) ∙ ap (drop 2) e ∙ append_assoc (take b clock_ports) latch_ports y)
 
 -- what stands behind them is the same too
-pub behind-same : (a b : ℕ) (x y : List (List ℕ)) → a ≤ 4 → b ≤ 4 → leading_ports a ++ x ≡ leading_ports b ++ y → x ≡ y
+pub behind-same : (a b : ℕ) (x y : List (List ℕ)) → a ≤ most_clocks → b ≤ most_clocks → leading_ports a ++ x ≡ leading_ports b ++ y → x ≡ y
 behind-same a b x y la lb e =
     let count : a ≡ b = leading-same a b x y la lb e in
-    let long : length (leading_ports b) ≡ a + 8 = length-leading b lb ∙ ap (λ n. n + 8) (sym count) in
-    sym (drop_at (leading_ports a) x (a + 8) (length-leading a la)) ∙ ap (drop (a + 8)) e ∙ drop_at (leading_ports b) y (a + 8) long
+    let long : length (leading_ports b) ≡ a + unclocked_count = length-leading b lb ∙ ap (λ n. n + unclocked_count) (sym count) in
+    sym (drop_at (leading_ports a) x (a + unclocked_count) (length-leading a la)) ∙ ap (drop (a + unclocked_count)) e ∙ drop_at (leading_ports b) y (a + unclocked_count) long
 
 -- the pins and outputs of a list of names
 pub groups-same : (p o q r : List (List ℕ)) → All IsPin p → All IsOutput o → All IsPin q → All IsOutput r → p ++ o ≡ q ++ r → (p ≡ q) × (o ≡ r)
@@ -105,7 +106,7 @@ record LeadingAreApart (clocks : ℕ) : Type 0 where
   no_output : list_any (λ x. starts_with nat_eq x (codes "o_")) (leading_ports clocks) ≡ false
   distinct : distinct_count (pointwise nat_eq) (leading_ports clocks) ≡ length (leading_ports clocks)
 
-leading_are_apart : (clocks : ℕ) → clocks ≤ 4 → LeadingAreApart clocks
+leading_are_apart : (clocks : ℕ) → clocks ≤ most_clocks → LeadingAreApart clocks
 leading_are_apart zero few = record { no_pin = refl; no_output = refl; distinct = refl }
 leading_are_apart (suc zero) few = record { no_pin = refl; no_output = refl; distinct = refl }
 leading_are_apart (suc (suc zero)) few = record { no_pin = refl; no_output = refl; distinct = refl }
@@ -114,7 +115,7 @@ leading_are_apart (suc (suc (suc (suc zero)))) few = record { no_pin = refl; no_
 leading_are_apart (suc (suc (suc (suc (suc n))))) few = absurd (omega arith)
 
 -- the ports of a new circuit differ
-pub ports_differ : (clocks : ℕ) (pins outs : List (List ℕ)) → clocks ≤ 4 → All IsPin pins → All IsOutput outs
+pub ports_differ : (clocks : ℕ) (pins outs : List (List ℕ)) → clocks ≤ most_clocks → All IsPin pins → All IsOutput outs
     → IsDistinct (pointwise nat_eq) (pins ++ outs) → IsDistinct (pointwise nat_eq) (leading_ports clocks ++ pins ++ outs)
 ports_differ clocks pins outs few pins_begin outs_begin apart =
     let lead = leading_are_apart clocks few in
@@ -123,13 +124,13 @@ ports_differ clocks pins outs few pins_begin outs_begin apart =
     (AreApart-from_start (codes "o_") (leading_ports clocks) outs lead.no_output outs_begin) in
     subst (IsDistinct (pointwise nat_eq)) (sym (append_assoc (leading_ports clocks) pins outs)) (IsDistinct-append (pointwise nat_eq) (leading_ports clocks) (pins ++ outs) (IsDistinct-from_count names_equal (leading_ports clocks) lead.distinct) apart from_all)
 
-pub length-ports : (clocks : ℕ) (pins outs : List (List ℕ)) → clocks ≤ 4
-    → length (leading_ports clocks ++ pins ++ outs) ≡ clocks + 8 + length pins + length outs
+pub length-ports : (clocks : ℕ) (pins outs : List (List ℕ)) → clocks ≤ most_clocks
+    → length (leading_ports clocks ++ pins ++ outs) ≡ clocks + unclocked_count + length pins + length outs
 length-ports clocks pins outs few =
     omega (arith, length-append (leading_ports clocks ++ pins) outs, length-append (leading_ports clocks) pins, length-leading clocks few)
 
 -- the nets after the ports are added in order
-pub new_nets : (nets : List (List ℕ)) (clocks : ℕ) (pins outs : List (List ℕ)) → clocks ≤ 4 → All IsPin pins → All IsOutput outs
+pub new_nets : (nets : List (List ℕ)) (clocks : ℕ) (pins outs : List (List ℕ)) → clocks ≤ most_clocks → All IsPin pins → All IsOutput outs
     → IsDistinct (pointwise nat_eq) (pins ++ outs) → nets ≡ with_all (with_all (with_all [] (leading_ports clocks)) pins) outs
     → nets ≡ leading_ports clocks ++ pins ++ outs
 new_nets nets clocks pins outs few pins_begin outs_begin apart added =

@@ -3,6 +3,7 @@ use Rattle.std.proofs.Common.{◌≡◌, ℕ, zero, suc, ◌+◌, ◌-◌, ◌<�
 use Rattle.std.specs.Ordering.{ord_max, nat_cmp}
 use Rattle.std.proofs.lemmas.List.{take-append-drop, get_or-take, get_or_append_left, ext_get_or, length-take-le, get_or-drop, take_at, take_all, take_more}
 use Rattle.std.proofs.lemmas.List.Elements.{All-head, All-tail, All-same}
+use Rattle.deck.specs.Limits.{most_clocks, unclocked_count}
 use Rattle.deck.specs.Ports.{IsPin, IsOutput, leading_ports, HasRoles}
 use Rattle.deck.specs.declared.role.Roles.{Roles}
 use Rattle.deck.specs.Roles.{AreRoles, BeginsRoles, LeavesRolesAt}
@@ -33,10 +34,10 @@ LeavesRolesAt-same ports a b h k =
     omega (arith, not_before, not_behind)
 
 -- an order has the names of its leading ports
-at_leading : {ports pins outs : List (List ℕ)} {clocks : ℕ} → HasRoles ports clocks pins outs → (k : ℕ) → k < clocks + 8
+at_leading : {ports pins outs : List (List ℕ)} {clocks : ℕ} → HasRoles ports clocks pins outs → (k : ℕ) → k < clocks + unclocked_count
     → (k < length ports) × (get_or ports k [] ≡ get_or (leading_ports clocks) k [])
 at_leading {ports = ports} {pins = pins} {outs = outs} {clocks = clocks} h k lt =
-    let long : length (leading_ports clocks) ≡ clocks + 8 = length-leading clocks h.few_clocks in
+    let long : length (leading_ports clocks) ≡ clocks + unclocked_count = length-leading clocks h.few_clocks in
     let whole : length ports ≡ length (leading_ports clocks) + length (pins ++ outs) = ap length (joined h) ∙ length-append (leading_ports clocks) (pins ++ outs) in
     (omega arith, ap (λ l. get_or l k []) (joined h) ∙ get_or_append_left (leading_ports clocks) (pins ++ outs) [] k (omega arith))
 
@@ -44,22 +45,22 @@ at_leading {ports = ports} {pins = pins} {outs = outs} {clocks = clocks} h k lt 
 pub record LeavesLeading (ports : List (List ℕ)) (port clocks : ℕ) : Type 0 where
   pub at : ℕ
   pub not_behind : at ≤ port
-  pub leading : at < clocks + 8
+  pub leading : at < clocks + unclocked_count
   pub differs : at < length ports → get_or ports at [] ≡ get_or (leading_ports clocks) at [] → ⊥
 
 -- some number of clocks with which the names before this port are leading ports
 pub record BeginsLeading (ports : List (List ℕ)) (port : ℕ) : Type 0 where
   pub clocks : ℕ
   pub some_clock : 1 ≤ clocks
-  pub few_clocks : clocks ≤ 4
-  pub leading : port ≤ clocks + 8
+  pub few_clocks : clocks ≤ most_clocks
+  pub leading : port ≤ clocks + unclocked_count
   pub within : port ≤ length ports
   pub agrees : (k : ℕ) → k < port → get_or ports k [] ≡ get_or (leading_ports clocks) k []
 
 begins_with : (ports : List (List ℕ)) (port : ℕ) → BeginsLeading ports port → BeginsRoles (take port ports)
 begins_with ports port b =
     let lead = leading_ports b.clocks in
-    let long : length lead ≡ b.clocks + 8 = length-leading b.clocks b.few_clocks in
+    let long : length lead ≡ b.clocks + unclocked_count = length-leading b.clocks b.few_clocks in
     let short : length (take port ports) ≡ port = length-take-le port ports b.within in
     let short' : length (take port lead) ≡ port = length-take-le port lead (omega (arith, long, b.leading)) in
     let same : take port ports ≡ take port lead =
@@ -86,7 +87,7 @@ begins_with ports port b =
     All-none : (P : List ℕ → Type 0) → All P []
     All-none P = λ k d lt. absurd (omega arith)
 
-pub leaves_leading : (ports : List (List ℕ)) (port : ℕ) → BeginsLeading ports port → ((clocks : ℕ) → 1 ≤ clocks → clocks ≤ 4 → LeavesLeading ports port clocks) → LeavesRolesAt ports port
+pub leaves_leading : (ports : List (List ℕ)) (port : ℕ) → BeginsLeading ports port → ((clocks : ℕ) → 1 ≤ clocks → clocks ≤ most_clocks → LeavesLeading ports port clocks) → LeavesRolesAt ports port
 leaves_leading ports port b each = record {
   no_order = λ roles h. none ports roles h (λ at lt. refl) (λ at le lt. lt);
   within = b.within;
@@ -105,12 +106,12 @@ leaves_leading ports port b each = record {
         l.differs (there l.at l.not_behind k.0) (sym (same l.at l.not_behind) ∙ k.1)
 
 -- names that agree with the leading ports at each index
-pub leading_from : (ports : List (List ℕ)) (clocks : ℕ) → clocks ≤ 4 → clocks + 8 ≤ length ports
-    → ((k : ℕ) → k < clocks + 8 → get_or ports k [] ≡ get_or (leading_ports clocks) k []) → take (clocks + 8) ports ≡ leading_ports clocks
+pub leading_from : (ports : List (List ℕ)) (clocks : ℕ) → clocks ≤ most_clocks → clocks + unclocked_count ≤ length ports
+    → ((k : ℕ) → k < clocks + unclocked_count → get_or ports k [] ≡ get_or (leading_ports clocks) k []) → take (clocks + unclocked_count) ports ≡ leading_ports clocks
 leading_from ports clocks few le each =
-    let short : length (take (clocks + 8) ports) ≡ clocks + 8 = length-take-le (clocks + 8) ports le in
-    ext_get_or [] (take (clocks + 8) ports) (leading_ports clocks) (short ∙ sym (length-leading clocks few))
-    (λ k lt. let h : k < clocks + 8 = omega (arith, short, lt) in get_or-take (clocks + 8) ports k [] h ∙ each k h)
+    let short : length (take (clocks + unclocked_count) ports) ≡ clocks + unclocked_count = length-take-le (clocks + unclocked_count) ports le in
+    ext_get_or [] (take (clocks + unclocked_count) ports) (leading_ports clocks) (short ∙ sym (length-leading clocks few))
+    (λ k lt. let h : k < clocks + unclocked_count = omega (arith, short, lt) in get_or-take (clocks + unclocked_count) ports k [] h ∙ each k h)
 
 -- the greater of two numbers
 pub greater : (a b : ℕ) → ((ord_max nat_cmp a b ≡ a) × (b ≤ a)) ⊎ ((ord_max nat_cmp a b ≡ b) × (a ≤ b))
@@ -119,8 +120,8 @@ greater a b = grind arith
 -- how many ports, before all of them, are the leading ports with so many clocks
 pub record IsCount (ports : List (List ℕ)) (clocks count : ℕ) : Type 0 where
   pub some_clock : 1 ≤ clocks
-  pub few_clocks : clocks ≤ 4
-  pub short : count < clocks + 8
+  pub few_clocks : clocks ≤ most_clocks
+  pub short : count < clocks + unclocked_count
   pub within : count ≤ length ports
   pub agrees : (k : ℕ) → k < count → get_or ports k [] ≡ get_or (leading_ports clocks) k []
   pub differs : count < length ports → get_or ports count [] ≡ get_or (leading_ports clocks) count [] → ⊥
@@ -176,57 +177,57 @@ parts names p o = sym (take-append-drop p names) ∙ ap (λ l. take p names ++ l
 -- the ports begin with the leading ports, then come pins, then outputs
 pub record BeginsGroups (ports : List (List ℕ)) (clocks p o : ℕ) : Type 0 where
   pub some_clock : 1 ≤ clocks
-  pub few_clocks : clocks ≤ 4
-  pub leading : take (clocks + 8) ports ≡ leading_ports clocks
-  pub long : clocks + 8 ≤ length ports
-  pub pins_within : p ≤ length (drop (clocks + 8) ports)
-  pub outs_within : o ≤ length (drop p (drop (clocks + 8) ports))
-  pub pins_are : All IsPin (take p (drop (clocks + 8) ports))
-  pub outs_are : All IsOutput (take o (drop p (drop (clocks + 8) ports)))
+  pub few_clocks : clocks ≤ most_clocks
+  pub leading : take (clocks + unclocked_count) ports ≡ leading_ports clocks
+  pub long : clocks + unclocked_count ≤ length ports
+  pub pins_within : p ≤ length (drop (clocks + unclocked_count) ports)
+  pub outs_within : o ≤ length (drop p (drop (clocks + unclocked_count) ports))
+  pub pins_are : All IsPin (take p (drop (clocks + unclocked_count) ports))
+  pub outs_are : All IsOutput (take o (drop p (drop (clocks + unclocked_count) ports)))
 
 -- the names of these groups are in order
 groups_in_order : (ports : List (List ℕ)) (clocks p o : ℕ) → BeginsGroups ports clocks p o → (names : List (List ℕ))
-    → names ≡ leading_ports clocks ++ (take p (drop (clocks + 8) ports) ++ take o (drop p (drop (clocks + 8) ports)))
+    → names ≡ leading_ports clocks ++ (take p (drop (clocks + unclocked_count) ports) ++ take o (drop p (drop (clocks + unclocked_count) ports)))
     → AreRoles names (record { clocks = clocks; pins = p; outs = o })
 groups_in_order ports clocks p o b names e = record {
-  pins = take p (drop (clocks + 8) ports);
-  outs = take o (drop p (drop (clocks + 8) ports));
+  pins = take p (drop (clocks + unclocked_count) ports);
+  outs = take o (drop p (drop (clocks + unclocked_count) ports));
   in_order = record {
     some_clock = b.some_clock;
     few_clocks = b.few_clocks;
     pins_are = b.pins_are;
     outs_are = b.outs_are;
-    order = e ∙ sym (append_assoc (leading_ports clocks) (take p (drop (clocks + 8) ports)) (take o (drop p (drop (clocks + 8) ports))));
+    order = e ∙ sym (append_assoc (leading_ports clocks) (take p (drop (clocks + unclocked_count) ports)) (take o (drop p (drop (clocks + unclocked_count) ports))));
   };
-  pin_count = length-take-le p (drop (clocks + 8) ports) b.pins_within;
-  out_count = length-take-le o (drop p (drop (clocks + 8) ports)) b.outs_within;
+  pin_count = length-take-le p (drop (clocks + unclocked_count) ports) b.pins_within;
+  out_count = length-take-le o (drop p (drop (clocks + unclocked_count) ports)) b.outs_within;
 }
 
 whole : (ports : List (List ℕ)) (clocks p o : ℕ) → BeginsGroups ports clocks p o
-    → ports ≡ leading_ports clocks ++ (take p (drop (clocks + 8) ports) ++ (take o (drop p (drop (clocks + 8) ports)) ++ drop o (drop p (drop (clocks + 8) ports))))
+    → ports ≡ leading_ports clocks ++ (take p (drop (clocks + unclocked_count) ports) ++ (take o (drop p (drop (clocks + unclocked_count) ports)) ++ drop o (drop p (drop (clocks + unclocked_count) ports))))
 whole ports clocks p o b =
-    sym (take-append-drop (clocks + 8) ports) ∙ ap (λ l. l ++ drop (clocks + 8) ports) b.leading
-    ∙ ap (λ l. leading_ports clocks ++ l) (parts (drop (clocks + 8) ports) p o)
+    sym (take-append-drop (clocks + unclocked_count) ports) ∙ ap (λ l. l ++ drop (clocks + unclocked_count) ports) b.leading
+    ∙ ap (λ l. leading_ports clocks ++ l) (parts (drop (clocks + unclocked_count) ports) p o)
 
-pub groups_found : (ports : List (List ℕ)) (clocks p o : ℕ) → BeginsGroups ports clocks p o → length ports ≤ clocks + 8 + (p + o)
+pub groups_found : (ports : List (List ℕ)) (clocks p o : ℕ) → BeginsGroups ports clocks p o → length ports ≤ clocks + unclocked_count + (p + o)
     → AreRoles ports (record { clocks = clocks; pins = p; outs = o })
 groups_found ports clocks p o b le =
-    let rest = drop p (drop (clocks + 8) ports) in
-    let all : take o rest ++ drop o rest ≡ take o rest = take-append-drop o rest ∙ sym (take_all o rest (omega (arith, length-drop p (drop (clocks + 8) ports), length-drop (clocks + 8) ports, le, b.pins_within, b.outs_within, b.long))) in
-    groups_in_order ports clocks p o b ports (whole ports clocks p o b ∙ ap (λ l. leading_ports clocks ++ (take p (drop (clocks + 8) ports) ++ l)) all)
+    let rest = drop p (drop (clocks + unclocked_count) ports) in
+    let all : take o rest ++ drop o rest ≡ take o rest = take-append-drop o rest ∙ sym (take_all o rest (omega (arith, length-drop p (drop (clocks + unclocked_count) ports), length-drop (clocks + unclocked_count) ports, le, b.pins_within, b.outs_within, b.long))) in
+    groups_in_order ports clocks p o b ports (whole ports clocks p o b ∙ ap (λ l. leading_ports clocks ++ (take p (drop (clocks + unclocked_count) ports) ++ l)) all)
 
 begins : (names : List (List ℕ)) (roles : Roles) → AreRoles names roles → BeginsRoles names
 begins names roles h = record { more = []; roles = roles; in_order = subst (λ l. AreRoles l roles) (sym (append-nil names)) h }
 
 -- with the name behind these groups no order begins
 groups_stop : (ports : List (List ℕ)) (clocks p o : ℕ) → BeginsGroups ports clocks p o
-    → (IsOutput (get_or (drop p (drop (clocks + 8) ports)) o []) → ⊥) → (o ≡ 0 → IsPin (get_or (drop (clocks + 8) ports) p []) → ⊥)
+    → (IsOutput (get_or (drop p (drop (clocks + unclocked_count) ports)) o []) → ⊥) → (o ≡ 0 → IsPin (get_or (drop (clocks + unclocked_count) ports) p []) → ⊥)
     → (names : List (List ℕ))
-    → names ≡ (leading_ports clocks ++ (take p (drop (clocks + 8) ports) ++ take o (drop p (drop (clocks + 8) ports)))) ++ get_or (drop p (drop (clocks + 8) ports)) o [] ∷ []
+    → names ≡ (leading_ports clocks ++ (take p (drop (clocks + unclocked_count) ports) ++ take o (drop p (drop (clocks + unclocked_count) ports)))) ++ get_or (drop p (drop (clocks + unclocked_count) ports)) o [] ∷ []
     → BeginsRoles names → ⊥
 groups_stop ports clocks p o b not_o not_p names e c =
     let lead = leading_ports clocks in
-    let after = drop (clocks + 8) ports in
+    let after = drop (clocks + unclocked_count) ports in
     let rest = drop p after in
     let ps = take p after in
     let os = take o rest in
@@ -243,31 +244,31 @@ groups_stop ports clocks p o b not_o not_p names e c =
     plus_none : (n : ℕ) → n + 0 ≡ n
     plus_none n = omega arith
 
-pub leaves_groups : (ports : List (List ℕ)) (clocks p o : ℕ) → BeginsGroups ports clocks p o → clocks + 8 + (p + o) < length ports
-    → (IsOutput (get_or (drop p (drop (clocks + 8) ports)) o []) → ⊥) → (o ≡ 0 → IsPin (get_or (drop (clocks + 8) ports) p []) → ⊥)
-    → LeavesRolesAt ports (clocks + 8 + (p + o))
+pub leaves_groups : (ports : List (List ℕ)) (clocks p o : ℕ) → BeginsGroups ports clocks p o → clocks + unclocked_count + (p + o) < length ports
+    → (IsOutput (get_or (drop p (drop (clocks + unclocked_count) ports)) o []) → ⊥) → (o ≡ 0 → IsPin (get_or (drop (clocks + unclocked_count) ports) p []) → ⊥)
+    → LeavesRolesAt ports (clocks + unclocked_count + (p + o))
 leaves_groups ports clocks p o b lt not_o not_p =
     let lead = leading_ports clocks in
-    let names = drop (clocks + 8) ports in
+    let names = drop (clocks + unclocked_count) ports in
     let rest = drop p names in
     let ps = take p names in
     let os = take o rest in
     let x = get_or rest o [] in
-    let few_names : length names ≡ length ports - (clocks + 8) = length-drop (clocks + 8) ports in
+    let few_names : length names ≡ length ports - (clocks + unclocked_count) = length-drop (clocks + unclocked_count) ports in
     let few_rest : length rest ≡ length names - p = length-drop p names in
-    let long : length (lead ++ (ps ++ os)) ≡ clocks + 8 + (p + o) =
+    let long : length (lead ++ (ps ++ os)) ≡ clocks + unclocked_count + (p + o) =
     length-append lead (ps ++ os) ∙ omega (arith, length-append ps os, length-leading clocks b.few_clocks, length-take-le p names b.pins_within, length-take-le o rest b.outs_within) in
-    let front : take (clocks + 8 + (p + o)) ports ≡ lead ++ (ps ++ os) =
-    ap (take (clocks + 8 + (p + o))) (whole ports clocks p o b ∙ ap (λ l. lead ++ l) (sym (append_assoc ps os (drop o rest))) ∙ sym (append_assoc lead (ps ++ os) (drop o rest)))
-    ∙ take_at (lead ++ (ps ++ os)) (drop o rest) (clocks + 8 + (p + o)) long in
-    let at : get_or ports (clocks + 8 + (p + o)) [] ≡ x =
-    sym (get_or-drop (clocks + 8) ports (p + o) []) ∙ sym (get_or-drop p names o []) in
-    let longer : take (clocks + 8 + (p + o) + 1) ports ≡ (lead ++ (ps ++ os)) ++ x ∷ [] =
-    take_more ports (clocks + 8 + (p + o)) [] lt ∙ cc (front, at) in
-    let stops : BeginsRoles (take (clocks + 8 + (p + o) + 1) ports) → ⊥ =
-    λ c. groups_stop ports clocks p o b not_o not_p (take (clocks + 8 + (p + o) + 1) ports) longer c in
+    let front : take (clocks + unclocked_count + (p + o)) ports ≡ lead ++ (ps ++ os) =
+    ap (take (clocks + unclocked_count + (p + o))) (whole ports clocks p o b ∙ ap (λ l. lead ++ l) (sym (append_assoc ps os (drop o rest))) ∙ sym (append_assoc lead (ps ++ os) (drop o rest)))
+    ∙ take_at (lead ++ (ps ++ os)) (drop o rest) (clocks + unclocked_count + (p + o)) long in
+    let at : get_or ports (clocks + unclocked_count + (p + o)) [] ≡ x =
+    sym (get_or-drop (clocks + unclocked_count) ports (p + o) []) ∙ sym (get_or-drop p names o []) in
+    let longer : take (clocks + unclocked_count + (p + o) + 1) ports ≡ (lead ++ (ps ++ os)) ++ x ∷ [] =
+    take_more ports (clocks + unclocked_count + (p + o)) [] lt ∙ cc (front, at) in
+    let stops : BeginsRoles (take (clocks + unclocked_count + (p + o) + 1) ports) → ⊥ =
+    λ c. groups_stop ports clocks p o b not_o not_p (take (clocks + unclocked_count + (p + o) + 1) ports) longer c in
     record {
-      no_order = λ roles h. stops (BeginsRoles-front ports (clocks + 8 + (p + o) + 1) (begins ports roles h));
+      no_order = λ roles h. stops (BeginsRoles-front ports (clocks + unclocked_count + (p + o) + 1) (begins ports roles h));
       within = omega arith;
       before = rw front (begins (lead ++ (ps ++ os)) (record { clocks = clocks; pins = p; outs = o }) (groups_in_order ports clocks p o b (lead ++ (ps ++ os)) refl));
       first = λ _ c. stops c;

@@ -1,9 +1,9 @@
 -- The rows of devices are plain, and they are the cards of the devices.
-use Rattle.std.proofs.Common.{◌≡◌, ℕ, ◌<◌, ◌≤◌, ◌+◌, ◌%◌, ◌^◌, List, [], ◌∷◌, map, length, codes, refl, ap, arith, inl, inr, All}
+use Rattle.std.proofs.Common.{ℕ, ◌<◌, ◌≤◌, ◌+◌, ◌^◌, List, [], ◌∷◌, map, length, codes, refl, arith, inr, All}
 use Rattle.std.specs.List.{AllByRecursion, AllZip, enumerate_from}
 use Rattle.std.specs.Fmt.{decimal}
 use Rattle.dom_base.proofs.Decimals.{decimal_is_net}
-use Rattle.std.proofs.lemmas.List.Elements.{All-nil, All-cons, All-append, All-get_or}
+use Rattle.std.proofs.lemmas.List.Elements.{All-cons, All-get_or}
 use Rattle.dom_base.specs.Names.{IsNetByte, IsNetName}
 use Rattle.dom_base.specs.declared.kind.Kind.{Kind}
 use Rattle.dom_base.specs.declared.kind.Kind.TheVariants.{N as nch, P as pch, Keep}

@@ -1,5 +1,5 @@
 -- The text of a circuit is a deck, and its circuit is that one.
-use Rattle.std.proofs.Common.{◌≡◌, ℕ, ◌≤◌, Bool, true, false, not, nat_eq, List, [], ◌∷◌, ◌++◌, map, filter, length, take, codes, refl, ap, sym, ◌∙◌, subst, arith, append-nil, append_assoc, Option, Some, None, All, ◌⊎◌, inl, inr}
+use Rattle.std.proofs.Common.{◌≡◌, ℕ, ◌≤◌, Bool, true, false, not, nat_eq, List, [], ◌∷◌, ◌++◌, map, filter, length, take, codes, refl, ap, sym, ◌∙◌, subst, arith, append-nil, append_assoc, Some, None, All, ◌⊎◌, inl, inr}
 use Rattle.std.specs.Cmp.Lexicographic.{pointwise}
 use Rattle.std.specs.List.{AllByRecursion, flat_map, filter_map}
 use Rattle.std.proofs.lemmas.List.{take_all, length-take-le, length-map}
