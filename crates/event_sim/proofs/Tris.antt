@@ -1,3 +1,4 @@
+-- Values that differ.
 use Rattle.std.proofs.Common.{◌≡◌, true, false, not, refl, sym, ap, ◌∙◌}
 use denote.Enum.Bare.{sameb}
 use Rattle.dom_base.specs.contracts.tri.Tri.{the_type}

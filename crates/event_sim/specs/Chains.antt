@@ -1,3 +1,4 @@
+-- Chosen events in turn.
 use Rattle.std.specs.Prelude.{ℕ, ◌≡◌, ◌+◌, ◌%◌, ◌^◌, List, [], ◌∷◌, length, Some, slice_get, slice_set}
 use Rattle.dom_base.specs.declared.tri.Tri.{Tri}
 use Rattle.deck.specs.Switches.{value_of}

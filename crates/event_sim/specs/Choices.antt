@@ -1,3 +1,4 @@
+-- What a chooser may be asked and answers.
 use Rattle.std.specs.Prelude.{ℕ, ◌<◌, ◌≤◌, ◌^◌}
 
 -- it may be asked at every step and every count of at least 1, and answers below the count

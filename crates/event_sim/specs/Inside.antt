@@ -1,3 +1,4 @@
+-- The invariant of a simulation.
 use Rattle.std.specs.Prelude.{ℕ, ◌≡◌, ◌≤◌, ◌^◌, List, length}
 use Rattle.dom_base.specs.declared.tri.Tri.{Tri}
 use Rattle.switch_model.specs.LinksData.{LinksData}

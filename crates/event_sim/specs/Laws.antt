@@ -1,3 +1,4 @@
+-- What holds of all chains and settlings.
 use Rattle.std.specs.Prelude.{ℕ, ◌≡◌, ◌≤◌, ◌<◌, ◌+◌, ◌%◌, ◌^◌, List, length}
 use Rattle.dom_base.specs.declared.tri.Tri.{Tri}
 use Rattle.switch_model.specs.LinksData.{LinksData}
@@ -19,7 +20,7 @@ ChainIsOne = (place : ℕ → ℕ → ℕ) (links : LinksData) (values : List Tr
     → IsChain (By place) links values step a → IsChain (By place) links values step b
     → length a ≡ length b → a ≡ b
 
--- an order that is a function has at most one going to rest, with one answer
+-- an order that is a function has at most one settling, with one answer
 abbrev pub SettlingIsOne : Type 0
 SettlingIsOne = (place : ℕ → ℕ → ℕ) (links : LinksData) (values : List Tri) (step : ℕ) (a b : List Event) (r s : Settled)
     → IsSettling (By place) links values step a r → IsSettling (By place) links values step b s
@@ -29,13 +30,13 @@ SettlingIsOne = (place : ℕ → ℕ → ℕ) (links : LinksData) (values : List
 abbrev pub IsBelow : (ℕ → ℕ → ℕ) → Type 0
 IsBelow place = (step count : ℕ) → 1 ≤ count → place step count < count
 
--- a function that answers below the count has a going to rest from each list of values: it leads to rest, or makes as
+-- a function that answers below the count has a settling from each list of values: it leads to rest, or makes as
 -- many events as it may without rest
 abbrev pub SettlingIsThere : Type 0
 SettlingIsThere = (place : ℕ → ℕ → ℕ) (links : LinksData) (values : List Tri) (step : ℕ)
     → IsBelow place → (events : List Event) × ((settled : Settled) × IsSettling (By place) links values step events settled)
 
--- where the order follows a function its chains and its goings to rest are those of the function
+-- where the order follows a function its chains and its settlings are those of the function
 pub record FollowingIsBy (order : ℕ → ℕ → ℕ → Type 0) : Type 0 where
   pub chain : (place : ℕ → ℕ → ℕ) (links : LinksData) (values : List Tri) (step : ℕ) (events : List Event)
       → Follows place order → step < 2 ^ 64 → length values < 2 ^ 64

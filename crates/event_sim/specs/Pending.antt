@@ -1,3 +1,4 @@
+-- The nets that differ from their targets.
 use Rattle.std.specs.Prelude.{ℕ, ◌<◌, ◌↔◌, List, length, Contains}
 use Rattle.std.specs.List.Sorted.{IsStrictlyIncreasing}
 use Rattle.dom_base.specs.declared.tri.Tri.{Tri}

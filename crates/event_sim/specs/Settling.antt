@@ -1,3 +1,4 @@
+-- Settlings: chosen events up to rest, or as many as there may be.
 use Rattle.std.specs.Prelude.{ℕ, ◌≡◌, ◌≤◌, ◌+◌, ◌-◌, ◌*◌, List, length}
 use Rattle.dom_base.specs.declared.tri.Tri.{Tri}
 use Rattle.switch_model.specs.LinksData.{LinksData}
@@ -7,7 +8,7 @@ use Rattle.event_sim.specs.declared.event.Settled.TheVariants.{Rest, Unsettled}
 use Rattle.event_sim.specs.Chains.{IsChain, values_after}
 use Rattle.event_sim.specs.Pending.{IsResting}
 
--- the most events of one going to rest: the square of one more than the number of nets that are no sources
+-- the most events of one settling: the square of one more than the number of nets that are no sources
 abbrev pub most_events : LinksData → ℕ
 most_events links = (links.nets - links.sources + 1) * (links.nets - links.sources + 1)
 
@@ -23,7 +24,7 @@ pub record EndsUnsettled (order : ℕ → ℕ → ℕ → Type 0) (links : Links
   pub count : length events ≡ most_events links
   pub unrest : IsResting links (values_after values events) → ⊥
 
--- a going to rest has these events and this answer, which has their number
+-- a settling has these events and this answer, which has their number
 abbrev pub IsSettling : (ℕ → ℕ → ℕ → Type 0) → LinksData → List Tri → ℕ → List Event → Settled → Type 0
 IsSettling order links values step events (Rest k) = EndsAtRest order links values step events × (k ≡ length events)
 IsSettling order links values step events (Unsettled k) = EndsUnsettled order links values step events × (k ≡ length events)

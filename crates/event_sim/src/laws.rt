@@ -21,17 +21,17 @@ pub fn chain_is_one()
     ensures { ChainIsOne }
 {}
 
-/// From one state an order that is a function has at most one going to rest, with one answer.
+/// From one state an order that is a function has at most one settling, with one answer.
 pub fn settling_is_one()
     ensures { SettlingIsOne }
 {}
 
-/// From each list of values a function that answers below the count has a going to rest.
+/// From each list of values a function that answers below the count has a settling.
 pub fn settling_is_there()
     ensures { SettlingIsThere }
 {}
 
-/// Where all answers of a chooser are those of a function, the chains and the goings to rest that it
+/// Where all answers of a chooser are those of a function, the chains and the settlings that it
 /// chooses are those of the function.
 pub fn following_is_by<F: Fn(u64, u64) -> u64>(chooser: &Chooser<F>)
     ensures { FollowingIsBy (F.post chooser.now.pick) }

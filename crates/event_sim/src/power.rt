@@ -1,7 +1,7 @@
 //! The values of nets at power on.
 ghost use Rattle.std.specs.Prelude.{◌≡◌, ◌+◌, ◌-◌, ◌<◌, ◌≤◌, ◌^◌, ◌++◌, IfOk, OnOk, replicate, vec_len};
 ghost use Rattle.dom_base.specs.declared.tri.Tri.TheVariants.{One, Unknown, Zero};
-ghost use Rattle.switch_model.specs.LinksData.{source_count};
+ghost use Rattle.deck.specs.PortLayout.{source_count};
 ghost use Rattle.switch_model.specs.Power.{source_values};
 
 use deck::Roles;
@@ -31,7 +31,11 @@ pub fn power_values(alloc: Global, roles: Roles, nets: usize) -> Result<Vec<Tri>
     fill(&mut values, Tri::Zero, clocks)?;
     values.extend_from_slice(&LATCH_VALUES)?;
     fill(&mut values, Tri::Zero, pins)?;
-    fill(&mut values, Tri::Unknown, nets - (clocks + 8 + pins))?;
+    fill(
+        &mut values,
+        Tri::Unknown,
+        nets - (roles.first_pin() as usize + pins),
+    )?;
     Ok(values)
 }
 

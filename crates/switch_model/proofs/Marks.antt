@@ -4,8 +4,8 @@ use Rattle.std.specs.Prelude.{Contains, Some, slice_get}
 use Rattle.std.proofs.lemmas.Option.{slice_get_read}
 use Rattle.std.proofs.lemmas.List.{get_or-set_same, get_or-set_other, length-set, length-append}
 use Rattle.std.proofs.lemmas.List.Elements.{Contains-append_left, Contains-push}
-use Rattle.switch_model.specs.declared.search.Stop.{Stop}
-use Rattle.switch_model.specs.Search.{SearchData, IsListed, IsReached, IsReady, count_set, is_marked, with_mark}
+use Rattle.switch_model.specs.declared.search.Reached.{Reached}
+use Rattle.switch_model.specs.Search.{SearchData, IsListed, IsReached, IsCleared, count_set, is_marked, with_mark}
 use Rattle.switch_model.proofs.Decided.{Dec, dec_and, dec_nat, dec_bool}
 
 count_set-le : (marks : List Bool) → count_set marks ≤ length marks
@@ -43,10 +43,10 @@ has_room s net true h lt e = omega (arith, h.counted, h.room, h.weak_long, count
 has_room s net false h lt e = omega (arith, h.counted, h.room, h.weak_long, count_set-le s.weak, count_set-less s.strong net lt e)
 
 -- the search with one more stop, marked and listed
-abbrev pub with_stop : SearchData → Stop → ℕ → SearchData
+abbrev pub with_stop : SearchData → Reached → ℕ → SearchData
 with_stop s stop room = record (with_mark s stop.net stop.weak true) { reached = s.reached ++ stop ∷ []; room = room }
 
-marked-with_stop : (s : SearchData) (stop : Stop) (room : ℕ) (n : ℕ) (w : Bool) → is_marked (with_stop s stop room) n w ≡ is_marked (with_mark s stop.net stop.weak true) n w
+marked-with_stop : (s : SearchData) (stop : Reached) (room : ℕ) (n : ℕ) (w : Bool) → is_marked (with_stop s stop room) n w ≡ is_marked (with_mark s stop.net stop.weak true) n w
 marked-with_stop s stop room n true = refl
 marked-with_stop s stop room n false = refl
 
@@ -59,7 +59,7 @@ counted-with_mark : (s : SearchData) (net : ℕ) (weak : Bool) → net < length 
 counted-with_mark s net true ls lw e = omega (arith, count_set-more s.weak net lw e)
 counted-with_mark s net false ls lw e = omega (arith, count_set-more s.strong net ls e)
 
-pub reached-new : (s : SearchData) (stop : Stop) (room : ℕ) → IsListed s → stop.net < length s.strong → is_marked s stop.net stop.weak ≡ false → s.room ≤ room
+pub reached-new : (s : SearchData) (stop : Reached) (room : ℕ) → IsListed s → stop.net < length s.strong → is_marked s stop.net stop.weak ≡ false → s.room ≤ room
     → IsListed (with_stop s stop room) × IsReached s (with_stop s stop room) stop
 reached-new s stop room h lt e le = (
   record {
@@ -105,14 +105,14 @@ pub reached-with_mark : (s : SearchData) (net : ℕ) (weak on : Bool) → (with_
 reached-with_mark s net true on = refl
 reached-with_mark s net false on = refl
 
-abbrev search_data : List Bool → List Bool → List Stop → ℕ → SearchData
+abbrev search_data : List Bool → List Bool → List Reached → ℕ → SearchData
 search_data strong weak reached room = record { strong = strong; weak = weak; reached = reached; room = room }
 
 -- searches with the same parts
 pub data_same : (s t : SearchData) → s.strong ≡ t.strong → s.weak ≡ t.weak → s.reached ≡ t.reached → s.room ≡ t.room → s ≡ t
 data_same s t = same s.strong t.strong s.weak t.weak s.reached t.reached s.room t.room
   where
-    same : (a a' b b' : List Bool) (r r' : List Stop) (m m' : ℕ) → a ≡ a' → b ≡ b' → r ≡ r' → m ≡ m' → search_data a b r m ≡ search_data a' b' r' m'
+    same : (a a' b b' : List Bool) (r r' : List Reached) (m m' : ℕ) → a ≡ a' → b ≡ b' → r ≡ r' → m ≡ m' → search_data a b r m ≡ search_data a' b' r' m'
     same a a' b b' r r' m m' e f g h = cc (e, f, g, h)
 
 -- the marks of the stops before a place in the list are cleared, and no other mark is set
@@ -122,7 +122,7 @@ pub record IsClearing (before now : SearchData) (place : ℕ) : Type 0 where
   pub same_list : now.reached ≡ before.reached
   pub same_room : now.room ≡ before.room
   pub fewer : (n : ℕ) (w : Bool) → is_marked now n w ≡ true → is_marked before n w ≡ true
-  pub cleared : (k : ℕ) (stop : Stop) → k < place → slice_get before.reached k ≡ Some stop → is_marked now stop.net stop.weak ≡ false
+  pub cleared : (k : ℕ) (stop : Reached) → k < place → slice_get before.reached k ≡ Some stop → is_marked now stop.net stop.weak ≡ false
 
 pub clearing-none : (s : SearchData) → IsListed s → IsClearing s s 0
 clearing-none s h = record { strong_long = refl; weak_long = h.weak_long; same_list = refl; same_room = refl; fewer = λ n w e. e; cleared = λ k stop lt is. absurd (omega arith) }
@@ -131,7 +131,7 @@ not_true : (b : Bool) → (b ≡ true → ⊥) → b ≡ false
 not_true true h = absurd (h refl)
 not_true false h = refl
 
-pub clearing-more : (before now after : SearchData) (place : ℕ) (stop : Stop) → IsClearing before now place → slice_get before.reached place ≡ Some stop
+pub clearing-more : (before now after : SearchData) (place : ℕ) (stop : Reached) → IsClearing before now place → slice_get before.reached place ≡ Some stop
     → stop.net < length before.strong → after ≡ with_mark now stop.net stop.weak false → IsClearing before after (place + 1)
 clearing-more before now after place stop h is lt e = rw e (record {
   strong_long = long.0 ∙ h.strong_long;
@@ -158,7 +158,7 @@ clearing-more before now after place stop h is lt e = rw e (record {
       | inr ne ↦ sym (marked-other now stop.net stop.weak false n w ne) ∙ m
     ]
 
-    cleared : (k : ℕ) (t : Stop) → k < place + 1 → slice_get before.reached k ≡ Some t → is_marked (with_mark now stop.net stop.weak false) t.net t.weak ≡ false
+    cleared : (k : ℕ) (t : Reached) → k < place + 1 → slice_get before.reached k ≡ Some t → is_marked (with_mark now stop.net stop.weak false) t.net t.weak ≡ false
     cleared k t below at = elim (dec_nat k place) [
       | inl z ↦ let same : stop ≡ t = the_same (sym is ∙ subst (λ j. slice_get before.reached j ≡ Some t) z at) in
           subst (λ x. is_marked (with_mark now stop.net stop.weak false) x.net x.weak ≡ false) same off
@@ -169,7 +169,7 @@ clearing-more before now after place stop h is lt e = rw e (record {
         the_same e = cc
 
 pub clearing-done : (before now after : SearchData) (place : ℕ) → IsListed before → IsClearing before now place → length before.reached ≤ place
-    → after.strong ≡ now.strong → after.weak ≡ now.weak → after.reached ≡ [] → now.room ≤ after.room → IsReady (length before.strong) after
+    → after.strong ≡ now.strong → after.weak ≡ now.weak → after.reached ≡ [] → now.room ≤ after.room → IsCleared (length before.strong) after
 clearing-done before now after place l h le es ew er room = record {
   strong_long = ap length es ∙ h.strong_long;
   weak_long = ap length ew ∙ h.weak_long;
@@ -187,7 +187,7 @@ clearing-done before now after place l h le es ew er room = record {
 
     marked : (n : ℕ) (w : Bool) → is_marked now n w ≡ true → ⊥
     marked n w m =
-        let stop : Stop = record { net = n; weak = w } in
+        let stop : Reached = record { net = n; weak = w } in
         let c = l.listed n w (h.fewer n w m) in
         clash (is_marked now n w) m (h.cleared c.0 stop (omega (arith, c.1, le)) (slice_get_read before.reached (length before.reached) c.0 stop refl c.1 (sym c.2)))
 
@@ -201,7 +201,7 @@ count_set-none (true ∷ marks) h = let z = h 0 in absurd (cc)
 count_set-none (false ∷ marks) h = count_set-none marks (λ n. h (suc n))
 
 -- a search that is ready has its list in order
-pub listed-ready : (nets : ℕ) (s : SearchData) → IsReady nets s → IsListed s
+pub listed-ready : (nets : ℕ) (s : SearchData) → IsCleared nets s → IsListed s
 listed-ready nets s h = record {
   weak_long = h.weak_long ∙ sym h.strong_long;
   room = omega (arith, h.strong_long, h.room);

@@ -14,9 +14,9 @@ use Rattle.switch_model.specs.declared.drive.Drive.{Drive}
 use Rattle.switch_model.specs.declared.drive.Drive.TheVariants.{Nothing, Only, Mixed}
 use Rattle.switch_model.specs.declared.drive.Drives.{Drives}
 use Rattle.switch_model.specs.declared.crossing.Paths.{Paths}
-use Rattle.switch_model.specs.declared.search.Stop.{Stop}
-use Rattle.switch_model.specs.Search.{Admits, Grows, IsAdded, IsCrossed, IsDrive, IsDriveOfSome, IsEnd, IsFound, IsListed, IsMet, IsReached, IsReady, IsUnderWay, IsVisited, SearchData, Tells, Walk, stay, go, drive_of, is_keeper, is_marked}
-use Rattle.switch_model.specs.Wiring.{IsInRange}
+use Rattle.switch_model.specs.declared.search.Reached.{Reached}
+use Rattle.switch_model.specs.Search.{Admits, Grows, IsAdded, IsCrossed, IsDrive, IsDriveOfSome, IsEnd, IsFound, IsListed, IsMet, IsReached, IsCleared, IsUnderWay, IsVisited, SearchData, Covers, Walk, stay, go, drive_of, is_keeper, is_marked}
+use Rattle.deck.specs.Nets.{IsInRange}
 
 pub clash : (b : Bool) → b ≡ true → b ≡ false → ⊥
 clash b h k = absurd_of (sym h ∙ k)
@@ -46,16 +46,16 @@ end-in_range nets d a b r (inr e) = subst (λ n. n < nets) e.1 r.drain
 
 -- a walk to a stop goes on by a device
 pub next_walk : (devices : List Device) (paths : Paths) (values : List Tri) (sources from : ℕ) (s : SearchData) (drives : Drives) → IsUnderWay devices paths values sources from s drives
-    → (stop : Stop) (d : Device) (net : ℕ) → Contains s.reached stop → IsCrossed devices paths values d → Ends d stop.net net
+    → (stop : Reached) (d : Device) (net : ℕ) → Contains s.reached stop → IsCrossed devices paths values d → Ends d stop.net net
     → Walk (IsCrossed devices paths values) (is_first sources) from net (stop.weak || is_keeper d.kind)
 next_walk devices paths values sources from s drives u stop d net c q e = let w = u.walks stop c in go w.2 w.1 q e
 
 -- a drive with one more source
-pub tells-added : (before after : Drive) (v : Tri) → IsAdded before v after → Tells after v
-tells-added Nothing after v e = subst (λ d. Tells d v) (sym e) refl
-tells-added (Only u) after v (inl h) = subst (λ d. Tells d v) (sym h.1) (sym h.0)
-tells-added (Only u) after v (inr h) = subst (λ d. Tells d v) (sym h.1) tt
-tells-added Mixed after v e = subst (λ d. Tells d v) (sym e) tt
+pub tells-added : (before after : Drive) (v : Tri) → IsAdded before v after → Covers after v
+tells-added Nothing after v e = subst (λ d. Covers d v) (sym e) refl
+tells-added (Only u) after v (inl h) = subst (λ d. Covers d v) (sym h.1) (sym h.0)
+tells-added (Only u) after v (inr h) = subst (λ d. Covers d v) (sym h.1) tt
+tells-added Mixed after v e = subst (λ d. Covers d v) (sym e) tt
 
 some-added : (S : ℕ → Type 0) (values : List Tri) (before after : Drive) (v : Tri) (s : ℕ) → S s → value_of values s ≡ v
     → IsAdded before v after → IsDriveOfSome S values before → IsDriveOfSome S values after
@@ -84,14 +84,14 @@ Grows-trans a b c d e f g h = record {
   marks = λ n w m. h.marks n w (g.marks n w m);
   more = g.more ++ h.more;
   list = h.list ∙ ap (λ l. l ++ h.more) g.list ∙ append_assoc a.reached g.more h.more;
-  tells = λ w v t. h.tells w v (g.tells w v t);
+  covers = λ w v t. h.covers w v (g.covers w v t);
 }
 
 pub met-grows : (sources : ℕ) (values : List Tri) (a b : SearchData) (d e : Drives) (net : ℕ) (weak : Bool) → Grows a b d e → IsMet sources values a d net weak → IsMet sources values b e net weak
-met-grows sources values a b d e net weak g m = record { source = λ h. g.tells weak (value_of values net) (m.source h); inner = λ h. g.marks net weak (m.inner h) }
+met-grows sources values a b d e net weak g m = record { source = λ h. g.covers weak (value_of values net) (m.source h); inner = λ h. g.marks net weak (m.inner h) }
 
 -- a search begins at a net that is no source
-pub under_way-start : (devices : List Device) (paths : Paths) (values : List Tri) (sources from nets : ℕ) (s s' : SearchData) → IsReady nets s → length values ≡ nets → IsListed s'
+pub under_way-start : (devices : List Device) (paths : Paths) (values : List Tri) (sources from nets : ℕ) (s s' : SearchData) → IsCleared nets s → length values ≡ nets → IsListed s'
     → IsReached s s' (record { net = from; weak = false }) → from < nets → is_first sources from ≡ false
     → IsUnderWay devices paths values sources from s' (record { strong = Nothing; weak = Nothing })
 under_way-start devices paths values sources from nets s s' ready whole listed r lt free = record {
@@ -102,13 +102,13 @@ under_way-start devices paths values sources from nets s s' ready whole listed r
     | inl e ↦ absurd (empty t (subst (λ l. Contains l t) (e ∙ ready.none) c))
     | inr e ↦ elim (Contains-push_cases s.reached (record { net = from; weak = false }) t (subst (λ l. Contains l t) e c)) [
       | inl h ↦ absurd (empty t (subst (λ l. Contains l t) ready.none h))
-      | inr h ↦ subst (λ (x : Stop). (x.net < length values) × (is_first sources x.net ≡ false) × Walk (IsCrossed devices paths values) (is_first sources) from x.net x.weak) h (omega (arith, lt, whole), free, stay)
+      | inr h ↦ subst (λ (x : Reached). (x.net < length values) × (is_first sources x.net ≡ false) × Walk (IsCrossed devices paths values) (is_first sources) from x.net x.weak) h (omega (arith, lt, whole), free, stay)
     ]
   ];
   drives_are = none;
 }
   where
-    empty : (t : Stop) → Contains [] t → ⊥
+    empty : (t : Reached) → Contains [] t → ⊥
     empty t c = let z = c.1 in omega (arith, z)
 
     none : (w : Bool) → IsDriveOfSome (IsEnd devices paths values sources from w) values (drive_of (record { strong = Nothing; weak = Nothing }) w)
@@ -140,7 +140,7 @@ module _ (devices : List Device) (paths : Paths) (values : List Tri) (sources fr
           (subst (IsDriveOfSome (IsEnd devices paths values sources from (not weak)) values) (sym other) (u.drives_are (not weak)))
 
   -- a stop at the end of a walk is reached
-  pub under_way-stop : (s s' : SearchData) (drives : Drives) (stop : Stop) → IsUnderWay devices paths values sources from s drives
+  pub under_way-stop : (s s' : SearchData) (drives : Drives) (stop : Reached) → IsUnderWay devices paths values sources from s drives
       → IsListed s' → IsReached s s' stop → stop.net < length values → is_first sources stop.net ≡ false
       → Walk (IsCrossed devices paths values) (is_first sources) from stop.net stop.weak → IsUnderWay devices paths values sources from s' drives
   under_way-stop s s' drives stop u listed r lt free walk = record {
@@ -151,7 +151,7 @@ module _ (devices : List Device) (paths : Paths) (values : List Tri) (sources fr
     drives_are = u.drives_are;
   }
     where
-      walks : (t : Stop) → Contains s'.reached t → (t.net < length values) × (is_first sources t.net ≡ false) × Walk (IsCrossed devices paths values) (is_first sources) from t.net t.weak
+      walks : (t : Reached) → Contains s'.reached t → (t.net < length values) × (is_first sources t.net ≡ false) × Walk (IsCrossed devices paths values) (is_first sources) from t.net t.weak
       walks t c = elim r.list [
         | inl e ↦ u.walks t (subst (λ l. Contains l t) e c)
         | inr e ↦ elim (Contains-push_cases s.reached stop t (subst (λ l. Contains l t) e c)) [
@@ -161,25 +161,25 @@ module _ (devices : List Device) (paths : Paths) (values : List Tri) (sources fr
       ]
 
   -- a drive that tells of all sources is exact
-  exact : (S : ℕ → Type 0) (d : Drive) → IsDriveOfSome S values d → ((s : ℕ) → S s → Tells d (value_of values s)) → IsDrive S values d
+  exact : (S : ℕ → Type 0) (d : Drive) → IsDriveOfSome S values d → ((s : ℕ) → S s → Covers d (value_of values s)) → IsDrive S values d
   exact S Nothing some all = all
   exact S (Only v) some all = (some, all)
   exact S Mixed some all = some
 
   module _ (s : SearchData) (drives : Drives) (u : IsUnderWay devices paths values sources from s drives) (free : is_first sources from ≡ false)
-      (visited : (stop : Stop) → Contains s.reached stop → IsVisited devices paths values sources s drives stop) where
+      (visited : (stop : Reached) → Contains s.reached stop → IsVisited devices paths values sources s drives stop) where
     -- each net that is no source and at the end of a walk is marked
     closed : {n : ℕ} {w : Bool} → Walk (IsCrossed devices paths values) (is_first sources) from n w → is_first sources n ≡ false → is_marked s n w ≡ true
     closed stay h = u.started
     closed (go {d = d} {m = m} {n = n} {weak = weak} walk f q e) h =
         (visited (record { net = m; weak = weak }) ((u.listed).listed m weak (closed walk f)) d n q e).inner h
 
-    tells : {n : ℕ} {w : Bool} → Walk (IsCrossed devices paths values) (is_first sources) from n w → is_first sources n ≡ true → Tells (drive_of drives w) (value_of values n)
+    tells : {n : ℕ} {w : Bool} → Walk (IsCrossed devices paths values) (is_first sources) from n w → is_first sources n ≡ true → Covers (drive_of drives w) (value_of values n)
     tells stay h = absurd (clash (is_first sources from) h free)
     tells (go {d = d} {m = m} {n = n} {weak = weak} walk f q e) h =
         (visited (record { net = m; weak = weak }) ((u.listed).listed m weak (closed walk f)) d n q e).source h
 
-    pub found : (alike : Bool) → (alike ≡ true) ↔ ((stop : Stop) → Contains s.reached stop → value_of values stop.net ≡ value_of values from)
+    pub found : (alike : Bool) → (alike ≡ true) ↔ ((stop : Reached) → Contains s.reached stop → value_of values stop.net ≡ value_of values from)
         → IsFound devices paths values sources from drives alike
     found alike is = record {
       drives_are = λ w. exact (IsEnd devices paths values sources from w) (drive_of drives w) (u.drives_are w) (λ n z. tells z.0 z.1);

@@ -14,7 +14,8 @@ use Rattle.deck.specs.Sources.{is_source}
 use Rattle.deck.specs.declared.role.Roles.{Roles}
 use Rattle.deck.proofs.DeviceNumbers.{used-ge}
 use Rattle.deck.proofs.PortLayout.{joined, length-leading, pin-no_output}
-use Rattle.switch_model.specs.LinksData.{is_first, source_count}
+use Rattle.deck.specs.PortLayout.{source_count}
+use Rattle.switch_model.specs.LinksData.{is_first}
 use Rattle.switch_model.specs.Targets.{IsTarget}
 use Rattle.switch_model.proofs.Decided.{lt_or_ge}
 use Rattle.dom_base.proofs.Lists.{AllByRecursion-append}

@@ -9,7 +9,8 @@ use Rattle.deck.specs.declared.device.Device.{Device}
 use Rattle.switch_model.specs.Laws.{EndsAt}
 use Rattle.deck.specs.Nets.{IsCircuit, IsNumbered, ends, used}
 use Rattle.deck.proofs.DeviceNumbers.{used-ge, used-le}
-use Rattle.switch_model.specs.Wiring.{IsEndPlace, IsInRange, IsTouching}
+use Rattle.deck.specs.Nets.{IsInRange}
+use Rattle.switch_model.specs.Wiring.{IsEndPlace, IsTouching}
 use Rattle.switch_model.proofs.Decided.{dec_nat}
 
 -- the places below k are at the nets where their devices end

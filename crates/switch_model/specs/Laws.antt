@@ -1,3 +1,4 @@
+-- What holds of all targets (Bryant, A switch-level model and simulator for MOS digital systems, 1984).
 use Rattle.std.specs.Prelude.{◌≡◌, ℕ, ◌≤◌, Bool, false, List, ◌⊎◌, ◌↔◌, length, Contains}
 use Rattle.dom_base.specs.declared.tri.Tri.{Tri}
 use Rattle.deck.specs.declared.device.Device.{Device}
@@ -8,7 +9,8 @@ use Rattle.deck.specs.Paths.{Possible}
 use Rattle.deck.specs.Roles.{AreRoles, ports_of}
 use Rattle.deck.specs.Sources.{is_source}
 use Rattle.deck.specs.Switches.{IsOff, value_of}
-use Rattle.switch_model.specs.LinksData.{is_first, source_count}
+use Rattle.deck.specs.PortLayout.{source_count}
+use Rattle.switch_model.specs.LinksData.{is_first}
 use Rattle.switch_model.specs.Targets.{IsTarget}
 
 -- each net that is no source has a target

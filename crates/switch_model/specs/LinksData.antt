@@ -1,5 +1,7 @@
-use Rattle.std.specs.Prelude.{ℕ, ◌+◌, Bool, List, length, nat_lt}
+-- A circuit without names, as its links hold it.
+use Rattle.std.specs.Prelude.{ℕ, Bool, List, length, nat_lt}
 use Rattle.deck.specs.declared.device.Device.{Device}
+use Rattle.deck.specs.PortLayout.{source_count}
 use Rattle.deck.specs.declared.role.Roles.{Roles}
 use Rattle.deck.specs.CircuitData.{CircuitData}
 
@@ -12,10 +14,6 @@ pub record LinksData : Type 0 where
 -- whether a net is one of the first so many
 abbrev pub is_first : ℕ → ℕ → Bool
 is_first count net = nat_lt net count
-
--- how many ports stand before the outputs: the supplies, the clocks, the clocks and resets of latches, the pins
-abbrev pub source_count : Roles → ℕ
-source_count roles = roles.clocks + 8 + roles.pins
 
 -- a circuit whose ports have these roles
 abbrev pub links_of : CircuitData → Roles → LinksData

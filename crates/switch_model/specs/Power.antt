@@ -1,9 +1,10 @@
+-- The values of the nets at power on.
 use Rattle.std.specs.Prelude.{◌-◌, List, [], ◌∷◌, ◌++◌, length, replicate}
 use Rattle.dom_base.specs.declared.tri.Tri.{Tri}
 use Rattle.dom_base.specs.declared.tri.Tri.TheVariants.{Zero, One, Unknown}
 use Rattle.deck.specs.declared.role.Roles.{Roles}
 use Rattle.deck.specs.CircuitData.{CircuitData}
-use Rattle.switch_model.specs.LinksData.{source_count}
+use Rattle.deck.specs.PortLayout.{source_count}
 
 -- at power on `vdd` is One, `vss` and all clocks are Zero; `lm`, `lmb`, `ls`, `lsb` are Zero, One, Zero, One;
 -- `rs` is One and `rsb` Zero; all pins are Zero

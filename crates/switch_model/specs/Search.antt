@@ -1,3 +1,4 @@
+-- The search of the nets that paths reach: its marks, its drives and what it finds.
 use Rattle.std.specs.Prelude.{◌≡◌, ◌≢◌, ◌≤◌, ◌<◌, ℕ, ◌+◌, Bool, true, false, ◌||◌, List, [], ◌∷◌, ◌++◌, ◌⊎◌, ◌↔◌, length, slice_index_or, slice_set, Contains, Option, Some, None}
 use Rattle.dom_base.specs.Conduction.{conduction}
 use Rattle.dom_base.specs.declared.kind.Kind.{Kind}
@@ -13,7 +14,7 @@ use Rattle.switch_model.specs.declared.drive.Drive.TheVariants.{Nothing, Only, M
 use Rattle.switch_model.specs.declared.drive.Drives.{Drives}
 use Rattle.switch_model.specs.declared.crossing.Paths.{Paths}
 use Rattle.switch_model.specs.declared.crossing.Paths.TheVariants.{Definite, Possible as possible}
-use Rattle.switch_model.specs.declared.search.Stop.{Stop}
+use Rattle.switch_model.specs.declared.search.Reached.{Reached}
 
 -- definite paths go through devices that are on, possible ones through devices that are not off
 abbrev pub Admits : Paths → Tri → Type 0
@@ -56,7 +57,7 @@ drive_of drives false = drives.strong
 pub record SearchData : Type 0 where
   pub strong : List Bool
   pub weak : List Bool
-  pub reached : List Stop
+  pub reached : List Reached
   pub room : ℕ
 
 -- whether a stop is marked
@@ -65,7 +66,7 @@ is_marked s net true = slice_index_or s.weak net false
 is_marked s net false = slice_index_or s.strong net false
 
 -- no stop is marked, and there is room for all
-pub record IsReady (nets : ℕ) (s : SearchData) : Type 0 where
+pub record IsCleared (nets : ℕ) (s : SearchData) : Type 0 where
   pub strong_long : length s.strong ≡ nets
   pub weak_long : length s.weak ≡ nets
   pub clear : (net : ℕ) (weak : Bool) → is_marked s net weak ≡ false
@@ -91,7 +92,7 @@ pub record IsListed (s : SearchData) : Type 0 where
   pub listed : (net : ℕ) (weak : Bool) → is_marked s net weak ≡ true → Contains s.reached (record { net = net; weak = weak })
 
 -- a search after one more stop
-pub record IsReached (before after : SearchData) (stop : Stop) : Type 0 where
+pub record IsReached (before after : SearchData) (stop : Reached) : Type 0 where
   pub sized : length after.strong ≡ length before.strong
   pub marked : is_marked after stop.net stop.weak ≡ true
   pub kept : (net : ℕ) (weak : Bool) → is_marked before net weak ≡ true → is_marked after net weak ≡ true
@@ -103,40 +104,40 @@ IsDriveOfSome S values Nothing = Unit {0}
 IsDriveOfSome S values (Only v) = (s : ℕ) × S s × (value_of values s ≡ v)
 IsDriveOfSome S values Mixed = (s : ℕ) × (t : ℕ) × S s × S t × (value_of values s ≢ value_of values t)
 
--- the drive tells of a source with this value
-abbrev pub Tells : Drive → Tri → Type 0
-Tells Nothing v = ⊥
-Tells (Only u) v = v ≡ u
-Tells Mixed v = Unit {0}
+-- the drive covers a source with this value
+abbrev pub Covers : Drive → Tri → Type 0
+Covers Nothing v = ⊥
+Covers (Only u) v = v ≡ u
+Covers Mixed v = Unit {0}
 
 -- a source at the end of a walk
 abbrev pub IsEnd : List Device → Paths → List Tri → ℕ → ℕ → Bool → ℕ → Type 0
 IsEnd devices paths values sources from weak s =
     Walk (IsCrossed devices paths values) (is_first sources) from s weak × (is_first sources s ≡ true)
 
--- a search on its way: each stop in the list is the end of a walk, and the drives tell of sources at ends of walks
+-- a search on its way: each stop in the list is the end of a walk, and the drives cover sources at ends of walks
 pub record IsUnderWay (devices : List Device) (paths : Paths) (values : List Tri) (sources from : ℕ) (s : SearchData) (drives : Drives) : Type 0 where
   pub listed : IsListed s
   pub sized : length s.strong ≡ length values
   pub started : is_marked s from false ≡ true
-  pub walks : (stop : Stop) → Contains s.reached stop
+  pub walks : (stop : Reached) → Contains s.reached stop
       → (stop.net < length values) × (is_first sources stop.net ≡ false) × Walk (IsCrossed devices paths values) (is_first sources) from stop.net stop.weak
   pub drives_are : (weak : Bool) → IsDriveOfSome (IsEnd devices paths values sources from weak) values (drive_of drives weak)
 
 -- nothing is lost from one state of a search to a later one
 pub record Grows (before after : SearchData) (drives drives' : Drives) : Type 0 where
   pub marks : (net : ℕ) (weak : Bool) → is_marked before net weak ≡ true → is_marked after net weak ≡ true
-  pub more : List Stop
+  pub more : List Reached
   pub list : after.reached ≡ before.reached ++ more
-  pub tells : (weak : Bool) (v : Tri) → Tells (drive_of drives weak) v → Tells (drive_of drives' weak) v
+  pub covers : (weak : Bool) (v : Tri) → Covers (drive_of drives weak) v → Covers (drive_of drives' weak) v
 
 -- the search has met the net at the other end of a device: it tells of a source, and another net is marked
 pub record IsMet (sources : ℕ) (values : List Tri) (s : SearchData) (drives : Drives) (net : ℕ) (weak : Bool) : Type 0 where
-  pub source : is_first sources net ≡ true → Tells (drive_of drives weak) (value_of values net)
+  pub source : is_first sources net ≡ true → Covers (drive_of drives weak) (value_of values net)
   pub inner : is_first sources net ≡ false → is_marked s net weak ≡ true
 
 -- the search has met all nets behind a stop
-abbrev pub IsVisited : List Device → Paths → List Tri → ℕ → SearchData → Drives → Stop → Type 0
+abbrev pub IsVisited : List Device → Paths → List Tri → ℕ → SearchData → Drives → Reached → Type 0
 IsVisited devices paths values sources s drives stop = (d : Device) (net : ℕ) → IsCrossed devices paths values d → Ends d stop.net net
     → IsMet sources values s drives net (stop.weak || is_keeper d.kind)
 

@@ -1,3 +1,4 @@
+-- Devices as switches (Bryant, A switch-level model and simulator for MOS digital systems, 1984).
 use Rattle.dom_base.specs.declared.tri.Tri.{Tri}
 use Rattle.dom_base.specs.declared.tri.Tri.TheVariants.{Zero, One, Unknown}
 use Rattle.switch_model.specs.declared.switch.Switch.{Switch}

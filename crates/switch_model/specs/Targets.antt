@@ -1,3 +1,4 @@
+-- The target of a net, in six rules (Bryant, A switch-level model and simulator for MOS digital systems, 1984).
 use Rattle.std.specs.Prelude.{◌≡◌, ◌≢◌, ℕ, ◌<◌, Bool, true, false, List, ◌⊎◌, length, slice_set}
 use Rattle.dom_base.specs.declared.tri.Tri.{Tri}
 use Rattle.dom_base.specs.declared.tri.Tri.TheVariants.{Unknown}

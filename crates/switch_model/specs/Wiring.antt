@@ -1,4 +1,6 @@
+-- Where the devices of a circuit end.
 use Rattle.std.specs.Prelude.{◌≡◌, ◌<◌, ◌^◌, ℕ, List, [], Some, length, slice_get, slice_index_or, Contains, All}
+use Rattle.deck.specs.Nets.{IsInRange}
 use Rattle.deck.specs.declared.device.Device.{Device}
 use Rattle.switch_model.specs.Laws.{EndsAt}
 
@@ -10,12 +12,6 @@ IsEndPlace devices net place = (d : Device) × (slice_get devices place ≡ Some
 pub record IsTouching (devices : List Device) (touching : List (List ℕ)) : Type 0 where
   pub ends : (net place : ℕ) → Contains (slice_index_or touching net []) place → IsEndPlace devices net place
   pub all : (net place : ℕ) → net < length touching → IsEndPlace devices net place → Contains (slice_index_or touching net []) place
-
--- the nets of a device are among so many
-pub record IsInRange (nets : ℕ) (d : Device) : Type 0 where
-  pub drain : d.drain < nets
-  pub gate : d.gate < nets
-  pub source : d.source < nets
 
 -- all nets of the devices are in range, and the devices stand at the nets where they end
 pub record IsWired (devices : List Device) (touching : List (List ℕ)) : Type 0 where

@@ -4,13 +4,13 @@
 
 mod crossing;
 mod drive;
-mod law;
+mod laws;
 mod links;
 mod places;
 mod search;
 mod switch;
 mod wiring;
 
-pub use law::{depends_on_near_nets, has_one_target, keeps_where_off, sources_stand_first};
+pub use laws::{depends_on_near_nets, has_one_target, keeps_where_off, sources_stand_first};
 pub use links::Links;
 pub use switch::{Switch, conducts};

@@ -22,18 +22,18 @@ pub struct Links {
 
 impl Model for Links {
     ghost use Rattle.switch_model.specs.LinksData.{LinksData};
-    ghost use Rattle.switch_model.specs.Search.{IsReady};
+    ghost use Rattle.switch_model.specs.Search.{IsCleared};
 
     ghost Value = { LinksData };
 
     ghost view = { λ l. l.wiring };
 
-    ghost invariant = { λ l. IsReady l.wiring.nets l.search };
+    ghost invariant = { λ l. IsCleared l.wiring.nets l.search };
 }
 
 impl Links {
     /// The links of a circuit whose ports have these roles. The sources are the ports before the
-    /// outputs. The one error is want of memory.
+    /// outputs. The one error is out of memory.
     pub fn new(alloc: Global, circuit: &Circuit, roles: Roles) -> Result<Links, OutOfMemory>
         requires { AreRoles (ports_of circuit.now) roles }
         ensures { IfOk result (λ links. links ≡ links_of circuit.now roles) }

@@ -25,7 +25,7 @@ impl Places {
         Places(Vec::new(alloc))
     }
 
-    /// Adds a place at the end. The one error is want of memory.
+    /// Adds a place at the end. The one error is out of memory.
     pub fn add(&mut self, place: u32) -> Result<(), OutOfMemory>
         ensures { OnOk result (self.new ≡ self.old ++ place ∷ []) }
     {

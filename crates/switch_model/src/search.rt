@@ -4,8 +4,8 @@ ghost use Rattle.dom_base.specs.Conduction.{conduction};
 ghost use Rattle.deck.specs.Paths.{Ends};
 ghost use Rattle.deck.specs.Switches.{value_of};
 ghost use Rattle.switch_model.specs.Laws.{EndsAt};
-ghost use Rattle.switch_model.specs.Search.{Admits, Grows, IsFound, IsListed, IsMet, IsReached, IsReady, IsUnderWay, IsVisited, is_keeper, is_marked, with_mark};
-ghost use Rattle.switch_model.specs.Wiring.{IsInRange};
+ghost use Rattle.switch_model.specs.Search.{Admits, Grows, IsFound, IsListed, IsMet, IsReached, IsCleared, IsUnderWay, IsVisited, is_keeper, is_marked, with_mark};
+ghost use Rattle.deck.specs.Nets.{IsInRange};
 
 use crate::crossing::{Paths, other_end};
 use crate::drive::{Drive, Drives};
@@ -17,7 +17,7 @@ use std::marker::Model;
 
 /// A net that a path reached, and whether the path went through a keeper.
 #[derive(Clone, Copy, Debug, PartialEq, Eq)]
-pub struct Stop {
+pub struct Reached {
     pub net: u32,
     pub weak: bool,
 }
@@ -27,7 +27,7 @@ pub struct Stop {
 pub struct Search {
     strong: Vec<bool>,
     weak: Vec<bool>,
-    reached: Vec<Stop>,
+    reached: Vec<Reached>,
 }
 
 impl Model for Search {
@@ -40,9 +40,9 @@ impl Model for Search {
 }
 
 impl Search {
-    /// A search with room for this many nets. The one error is want of memory.
+    /// A search with room for this many nets. The one error is out of memory.
     pub fn new(alloc: Global, nets: u32) -> Result<Search, OutOfMemory>
-        ensures { IfOk result (λ s. IsReady nets s) }
+        ensures { IfOk result (λ s. IsCleared nets s) }
     {
         Ok(Search {
             strong: unmarked(alloc, nets)?,
@@ -53,18 +53,18 @@ impl Search {
 
     /// Searches all such paths from a net that is no source, and clears the marks.
     pub fn run(&mut self, wiring: &Wiring, values: &[Tri], paths: Paths, net: u32) -> Found
-        requires ready { IsReady wiring.now.nets self.old }
+        requires ready { IsCleared wiring.now.nets self.old }
         requires whole { length values.now ≡ wiring.now.nets }
         requires within { net < wiring.now.nets }
         requires free { wiring.now.sources ≤ net }
-        ensures ready { IsReady wiring.now.nets self.new }
+        ensures ready { IsCleared wiring.now.nets self.new }
         ensures found { IsFound wiring.now.devices paths values.now wiring.now.sources net result.drives result.alike }
     {
         let mut drives = Drives {
             strong: Drive::Nothing,
             weak: Drive::Nothing,
         };
-        self.reach(Stop { net, weak: false });
+        self.reach(Reached { net, weak: false });
         let mut done = 0;
         'stops: while done < self.reached.len() {
             let stop = self.reached[done];
@@ -83,7 +83,7 @@ impl Search {
         values: &[Tri],
         paths: Paths,
         from: u32,
-        stop: Stop,
+        stop: Reached,
         drives: &mut Drives,
     )
         requires whole { length values.now ≡ wiring.now.nets }
@@ -106,7 +106,7 @@ impl Search {
         values: &[Tri],
         paths: Paths,
         from: u32,
-        stop: Stop,
+        stop: Reached,
         device: Device,
         drives: &mut Drives,
     )
@@ -127,12 +127,12 @@ impl Search {
         if net < wiring.sources {
             drives.add(weak, values[net as usize]);
         } else {
-            self.reach(Stop { net, weak });
+            self.reach(Reached { net, weak });
         }
     }
 
     /// Marks a stop and adds it to the list, where it is not marked.
-    fn reach(&mut self, stop: Stop)
+    fn reach(&mut self, stop: Reached)
         requires listed { IsListed self.old }
         requires within { stop.net < length self.old.strong }
         ensures listed { IsListed self.new }
@@ -145,7 +145,7 @@ impl Search {
         self.reached.push(stop).unwrap();
     }
 
-    fn is_marked(&self, stop: Stop) -> bool
+    fn is_marked(&self, stop: Reached) -> bool
         requires strong { stop.net < length self.now.strong }
         requires weak { stop.net < length self.now.weak }
         ensures { result ≡ is_marked self.now stop.net stop.weak }
@@ -158,7 +158,7 @@ impl Search {
     }
 
     /// Sets or clears the mark of a stop.
-    fn mark(&mut self, stop: Stop, on: bool)
+    fn mark(&mut self, stop: Reached, on: bool)
         requires strong { stop.net < length self.old.strong }
         requires weak { stop.net < length self.old.weak }
         ensures { self.new ≡ with_mark self.old stop.net stop.weak on }
@@ -187,7 +187,7 @@ impl Search {
     fn clear(&mut self)
         requires listed { IsListed self.old }
         requires within { (stop : _) → Contains self.old.reached stop → stop.net < length self.old.strong }
-        ensures { IsReady (length self.old.strong) self.new }
+        ensures { IsCleared (length self.old.strong) self.new }
     {
         for place in 0..self.reached.len() {
             let stop = self.reached[place];
@@ -206,7 +206,7 @@ pub struct Found {
 }
 
 /// Whether a path to a stop has a keeper with one more device of this kind.
-fn stays_weak(stop: Stop, kind: Kind) -> bool
+fn stays_weak(stop: Reached, kind: Kind) -> bool
     ensures { result ≡ (stop.weak || is_keeper kind) }
 {
     stop.weak || kind == Kind::Keep

@@ -1,6 +1,7 @@
 //! The devices of a circuit by the nets at which they end.
 ghost use Rattle.std.specs.Prelude.{◌≡◌, ◌<◌, ◌≤◌, ◌^◌, All, Contains, IfOk, OnOk, Some, [], length, ℕ, replicate, slice_get, slice_index_or, slice_set, ◌++◌, ◌∷◌};
-ghost use Rattle.switch_model.specs.Wiring.{IsEndPlace, IsInRange, IsTouching};
+ghost use Rattle.deck.specs.Nets.{IsInRange};
+ghost use Rattle.switch_model.specs.Wiring.{IsEndPlace, IsTouching};
 
 use crate::places::Places;
 use deck::{Circuit, Device};
@@ -30,7 +31,7 @@ impl Model for Wiring {
 }
 
 impl Wiring {
-    /// The wiring of a circuit with so many sources. The one error is want of memory.
+    /// The wiring of a circuit with so many sources. The one error is out of memory.
     pub fn new(alloc: Global, circuit: &Circuit, sources: u32) -> Result<Wiring, OutOfMemory>
         ensures { IfOk result (λ w. w ≡ record { nets = length circuit.now.nets; sources = sources; devices = circuit.now.devices }) }
     {

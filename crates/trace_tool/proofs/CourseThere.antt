@@ -6,7 +6,7 @@ use Rattle.event_sim.specs.declared.event.Settled.TheVariants as answers
 use Rattle.event_sim.specs.Laws.{IsBelow}
 use Rattle.event_sim.specs.Orders.{By}
 use Rattle.event_sim.specs.Settling.{IsSettling}
-use Rattle.event_sim.proofs.GoingsThere.{settling_there}
+use Rattle.event_sim.proofs.SettlingThere.{settling_there}
 use Rattle.switch_model.specs.LinksData.{links_of}
 use Rattle.trace_tool.specs.Courses.{Course, IsCourse, Settled, State, Unsettled, after, moved}
 use Rattle.trace_tool.specs.Moves.{Move}

@@ -4,8 +4,8 @@ use Rattle.switch_model.specs.LinksData.{LinksData, links_of}
 use Rattle.event_sim.specs.declared.event.Event.{Event}
 use Rattle.event_sim.specs.declared.event.Settled.TheVariants as answers
 use Rattle.event_sim.specs.Orders.{By, Follows}
-use Rattle.event_sim.proofs.Chaining.{length-values_after}
-use Rattle.event_sim.proofs.Following.{settling_by}
+use Rattle.event_sim.proofs.EventChains.{length-values_after}
+use Rattle.event_sim.proofs.FollowedOrders.{settling_by}
 use Rattle.trace_tool.specs.Courses.{Course, EndsWithin, IsCourse, LeadsTo, Settled, State, Unsettled, after, moved}
 use Rattle.trace_tool.specs.Moves.{Move}
 use Rattle.trace_tool.specs.RunData.{events_of}

@@ -7,7 +7,7 @@ use Rattle.event_sim.specs.declared.event.Event.{Event}
 use Rattle.event_sim.specs.declared.event.Settled.TheVariants as answers
 use Rattle.event_sim.specs.Orders.{By}
 use Rattle.event_sim.specs.Settling.{EndsAtRest, EndsUnsettled}
-use Rattle.event_sim.proofs.Choosing.{settling_has_one_chain}
+use Rattle.event_sim.proofs.OneSettling.{settling_has_one_chain}
 use Rattle.trace_tool.specs.Moves.{Move}
 use Rattle.trace_tool.specs.Courses.{Course, EndsWithin, IsCourse, LeadsTo, Settled, State, Unsettled, after, moved}
 use Rattle.trace_tool.specs.declared.setup.Setup.{Setup}

@@ -6,7 +6,7 @@ use Rattle.event_sim.specs.declared.event.Event.{Event}
 use Rattle.event_sim.specs.Chains.{IsChain, IsChosen}
 use Rattle.event_sim.specs.Pending.{IsResting}
 use Rattle.event_sim.specs.Settling.{most_events}
-use Rattle.event_sim.proofs.Chaining.{chain-push, step_after-push, values_after-push}
+use Rattle.event_sim.proofs.EventChains.{chain-push, step_after-push, values_after-push}
 use Rattle.trace_tool.specs.RunData.{RunData, Settles, Steps, with_events}
 use Rattle.trace_tool.specs.TraceLines.{event_lines}
 use Rattle.trace_tool.specs.declared.halt.Halt.TheVariants as halts

@@ -12,7 +12,7 @@ use Rattle.deck.specs.PortLayout.{source_count}
 use Rattle.event_sim.specs.Chains.{next_step, step_after}
 use Rattle.event_sim.specs.SimData.{SimData, ran}
 use Rattle.event_sim.specs.declared.event.Event.{Event}
-use Rattle.event_sim.proofs.Chaining.{length-values_after}
+use Rattle.event_sim.proofs.EventChains.{length-values_after}
 use Rattle.trace_tool.specs.RunData.{IsRunning, with_move}
 use Rattle.trace_tool.specs.Moves.{Move, set_all}
 use Rattle.trace_tool.specs.declared.setup.Setup.{Setup}

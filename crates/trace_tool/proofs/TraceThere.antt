@@ -2,7 +2,7 @@
 use Rattle.std.proofs.Common.{ℕ, ◌+◌, Bool, true, false, List, [], ◌∷◌, ◌++◌, refl}
 use Rattle.event_sim.specs.Laws.{IsBelow}
 use Rattle.event_sim.specs.Orders.{By}
-use Rattle.event_sim.proofs.Ordering.{orders_are_below}
+use Rattle.event_sim.proofs.ThreeOrders.{orders_are_below}
 use Rattle.trace_tool.specs.Courses.{Course, Settled, State, Unsettled}
 use Rattle.trace_tool.specs.Laws.{TraceIsThere}
 use Rattle.trace_tool.specs.Moves.{cycle_moves, evaluation_moves, power_moves}

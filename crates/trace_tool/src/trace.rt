@@ -1,7 +1,7 @@
 //! What a simulation tells.
 use std::marker::Model;
 
-/// The text of a trace, and whether each going to rest ended at rest.
+/// The text of a trace, and whether each settling ended at rest.
 #[derive(Debug, Drop)]
 pub struct Trace {
     pub text: Vec<u8>,

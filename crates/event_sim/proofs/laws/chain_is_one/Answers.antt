@@ -1,4 +1,4 @@
-use Rattle.event_sim.proofs.Choosing.{chain_is_one}
+use Rattle.event_sim.proofs.OneSettling.{chain_is_one}
 use Rattle.event_sim.proofs.laws.chain_is_one.Goals as goal
 
 pub returns : goal.returns

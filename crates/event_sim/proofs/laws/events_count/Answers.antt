@@ -1,4 +1,4 @@
-use Rattle.event_sim.proofs.Chaining.{length-values_after, step_after-count}
+use Rattle.event_sim.proofs.EventChains.{length-values_after, step_after-count}
 use Rattle.event_sim.proofs.laws.events_count.Goals as goal
 
 pub returns : goal.returns

@@ -1,4 +1,4 @@
-use Rattle.event_sim.proofs.Following.{following_is_by}
+use Rattle.event_sim.proofs.FollowedOrders.{following_is_by}
 use Rattle.event_sim.proofs.laws.following_is_by.Goals as goal
 
 pub returns : goal.returns

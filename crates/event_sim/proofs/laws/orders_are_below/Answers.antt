@@ -1,4 +1,4 @@
-use Rattle.event_sim.proofs.Ordering.{orders_are_below}
+use Rattle.event_sim.proofs.ThreeOrders.{orders_are_below}
 use Rattle.event_sim.proofs.laws.orders_are_below.Goals as goal
 
 pub returns : goal.returns

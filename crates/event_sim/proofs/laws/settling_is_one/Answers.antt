@@ -1,4 +1,4 @@
-use Rattle.event_sim.proofs.Choosing.{settling_is_one}
+use Rattle.event_sim.proofs.OneSettling.{settling_is_one}
 use Rattle.event_sim.proofs.laws.settling_is_one.Goals as goal
 
 pub returns : goal.returns

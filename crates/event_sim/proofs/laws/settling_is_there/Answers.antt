@@ -1,4 +1,4 @@
-use Rattle.event_sim.proofs.GoingsThere.{settling_there}
+use Rattle.event_sim.proofs.SettlingThere.{settling_there}
 use Rattle.event_sim.proofs.laws.settling_is_there.Goals as goal
 
 pub returns : goal.returns

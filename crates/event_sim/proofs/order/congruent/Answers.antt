@@ -1,6 +1,6 @@
 use Rattle.std.proofs.Common.{◌*◌, ◌^◌}
 use Rattle.event_sim.specs.Orders.{congruent}
-use Rattle.event_sim.proofs.Ordering.{cut_each_time}
+use Rattle.event_sim.proofs.ThreeOrders.{cut_each_time}
 use Rattle.event_sim.proofs.order.congruent.Goals as goal
 
 pub returns : goal.returns

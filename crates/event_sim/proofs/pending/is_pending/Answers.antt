@@ -2,7 +2,7 @@ use Rattle.std.proofs.Common.{◌≡◌, ◌<◌, length, get_or, sym, ◌∙◌
 use Rattle.std.proofs.lemmas.List.{get_or_default}
 use Rattle.dom_base.specs.declared.tri.Tri.TheVariants.{Zero, Unknown}
 use Rattle.deck.specs.Switches.{value_of}
-use Rattle.event_sim.proofs.Stepping.{differs_where_pending, pending_where_differs}
+use Rattle.event_sim.proofs.StepFacts.{differs_where_pending, pending_where_differs}
 use Rattle.event_sim.proofs.Tris.{differ, told}
 use Rattle.event_sim.proofs.pending.is_pending.Goals as goal
 

@@ -1,7 +1,7 @@
 use Rattle.std.proofs.Common.{◌≡◌, ℕ, Bool, vec_capacity, ◌+◌, List, [], ◌∷◌, ◌++◌, true, false, sym, ap, ◌∙◌, subst, arith, rules}
 use Rattle.switch_model.specs.LinksData.{LinksData}
 use Rattle.event_sim.specs.Pending.{IsPendingNet}
-use Rattle.event_sim.proofs.Listing.{IsListed, listed-all, listed-push, listed-skip, listed_length}
+use Rattle.event_sim.proofs.PendingLists.{IsListed, listed-all, listed-push, listed-skip, listed_length}
 use Rattle.event_sim.proofs.pending.list_pending.Goals as goal
 use Rattle.event_sim.proofs.pending.list_pending.Goals.{then-is_pending, else-is_pending}
 

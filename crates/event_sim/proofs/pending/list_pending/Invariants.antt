@@ -1,6 +1,6 @@
 use Rattle.std.proofs.Common.{◌≡◌, ◌≤◌, vec_capacity}
 use Rattle.event_sim.specs.Pending.{IsPendingNet}
-use Rattle.event_sim.proofs.Listing.{IsListed}
+use Rattle.event_sim.proofs.PendingLists.{IsListed}
 use Rattle.event_sim.proofs.pending.list_pending.Given as goal
 
 abbrev pub invariant-loop-net : goal.invariant-loop-net

@@ -1,5 +1,5 @@
 use Rattle.std.proofs.Common.{sym, ◌∙◌}
-use Rattle.event_sim.proofs.Stepping.{links_same, resting_moved, values_same}
+use Rattle.event_sim.proofs.StepFacts.{links_same, resting_moved, values_same}
 use Rattle.event_sim.proofs.sim.Sim.at_rest.Goals as goal
 
 pub returns-clause-rest : goal.returns-clause-rest

@@ -1,6 +1,6 @@
 use Rattle.std.proofs.Common.{◌≡◌, ℕ, Bool, true, false, refl, sym, ◌∙◌, arith}
 use Rattle.event_sim.specs.declared.event.Settled.TheVariants.{Rest, Unsettled}
-use Rattle.event_sim.proofs.Chaining.{has_run-more, ran_whole, settles-rest, settles-unrest}
+use Rattle.event_sim.proofs.EventChains.{has_run-more, ran_whole, settles-rest, settles-unrest}
 use Rattle.event_sim.proofs.sim.Sim.settle.Goals as goal
 
 pub events-preserved : goal.events-preserved

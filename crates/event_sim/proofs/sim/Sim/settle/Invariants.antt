@@ -1,5 +1,5 @@
 use Rattle.std.proofs.Common.{◌≤◌, ◌-◌}
-use Rattle.event_sim.proofs.Chaining.{HasRun}
+use Rattle.event_sim.proofs.EventChains.{HasRun}
 use Rattle.event_sim.proofs.sim.Sim.settle.Given as goal
 
 abbrev pub invariant-events : goal.invariant-events

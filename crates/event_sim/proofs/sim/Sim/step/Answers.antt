@@ -2,8 +2,8 @@ use Rattle.std.proofs.Common.{◌≡◌, ◌<◌, List, true, false, length, get
 use Rattle.dom_base.specs.declared.tri.Tri.{Tri}
 use Rattle.dom_base.specs.declared.tri.Tri.TheVariants.{Unknown}
 use Rattle.switch_model.specs.LinksData.{LinksData}
-use Rattle.event_sim.proofs.Choosing.{chosen_is_event}
-use Rattle.event_sim.proofs.Stepping.{links_same, moves_where_some, pending_at, pending_is_free, pending_moved, pick_moved, rests_where_none, stands_at, targets_moved, event_moved, values_same}
+use Rattle.event_sim.proofs.OneSettling.{chosen_is_event}
+use Rattle.event_sim.proofs.StepFacts.{links_same, moves_where_some, pending_at, pending_is_free, pending_moved, pick_moved, rests_where_none, stands_at, targets_moved, event_moved, values_same}
 use Rattle.std.proofs.lemmas.List.{get_or_read}
 use Rattle.event_sim.proofs.sim.Sim.step.Goals as goal
 

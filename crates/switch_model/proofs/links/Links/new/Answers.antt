@@ -2,7 +2,8 @@ use Rattle.std.proofs.Common.{◌≡◌, ◌-◌, ℕ, List, length, ap, subst, 
 use Rattle.deck.specs.CircuitData.{CircuitData}
 use Rattle.deck.specs.Nets.{IsCircuit}
 use Rattle.deck.specs.declared.device.Device.{Device}
-use Rattle.switch_model.specs.LinksData.{LinksData, source_count}
+use Rattle.deck.specs.PortLayout.{source_count}
+use Rattle.switch_model.specs.LinksData.{LinksData}
 use Rattle.switch_model.proofs.SourceNets.{count-sources}
 use Rattle.switch_model.proofs.links.Links.new.Goals as goal
 

@@ -4,11 +4,11 @@ use Rattle.std.proofs.lemmas.List.Elements.{Contains-get_or}
 use Rattle.std.proofs.lemmas.Option.{get_or_from_slice_get, slice_get_read}
 use Rattle.deck.specs.Switches.{value_of}
 use Rattle.switch_model.specs.Search.{SearchData}
-use Rattle.switch_model.specs.declared.search.Stop.{Stop}
+use Rattle.switch_model.specs.declared.search.Reached.{Reached}
 use Rattle.switch_model.proofs.Decided.{dec_nat}
 use Rattle.switch_model.proofs.search.Search.all_have.Goals as goal
 
-abbrev zero_stop : Stop
+abbrev zero_stop : Reached
 zero_stop = record { net = 0; weak = false }
 
 pub has_value-requires : goal.has_value-requires
@@ -37,7 +37,7 @@ loop-stop-preserved c =
       | inl e ↦
           let read : get_or c.deref-stop-items.result.now c.loop-stop.stop-index zero_stop ≡ stop =
           ap (λ l. get_or l c.loop-stop.stop-index zero_stop) list ∙ get_or_from_slice_get c.args.self.now.reached c.loop-stop.stop-index stop zero_stop (subst (λ j. slice_get c.args.self.now.reached j ≡ Some stop) e at) in
-          subst (λ (s : Stop). value_of c.args.values.now s.net ≡ c.args.value) read same
+          subst (λ (s : Reached). value_of c.args.values.now s.net ≡ c.args.value) read same
       | inr ne ↦ c.loop-stop.invariant k stop (omega (arith, lt, ne)) at
     ]
 

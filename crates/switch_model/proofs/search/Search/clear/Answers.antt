@@ -2,13 +2,13 @@ use Rattle.std.proofs.Common.{◌≡◌, ◌<◌, ℕ, List, length, get_or, ap,
 use Rattle.std.specs.Prelude.{Some, slice_get}
 use Rattle.std.proofs.lemmas.Option.{slice_get_read}
 use Rattle.switch_model.specs.Search.{SearchData}
-use Rattle.switch_model.specs.declared.search.Stop.{Stop}
+use Rattle.switch_model.specs.declared.search.Reached.{Reached}
 use Rattle.dom_base.proofs.Lists.{Contains-slice_get}
 use Rattle.switch_model.proofs.Marks.{clearing-none, clearing-more, clearing-done}
 use Rattle.switch_model.proofs.search.Search.clear.Goals as goal
 
 -- a stop that is read of a list that is the same
-read_at : (list list' : List Stop) (place : ℕ) (stop : Stop) → list ≡ list' → place < length list' → stop ≡ get_or list place stop → slice_get list' place ≡ Some stop
+read_at : (list list' : List Reached) (place : ℕ) (stop : Reached) → list ≡ list' → place < length list' → stop ≡ get_or list place stop → slice_get list' place ≡ Some stop
 read_at list list' place stop e lt at = slice_get_read list' (length list') place stop refl lt (at ∙ ap (λ l. get_or l place stop) e)
 
 pub loop-place-init : goal.loop-place-init

@@ -2,7 +2,7 @@ use Rattle.std.proofs.Common.{◌≡◌, ◌<◌, length, sym, ap, subst, arith}
 use Rattle.dom_base.specs.declared.tri.Tri.TheVariants.{Zero}
 use Rattle.deck.specs.Switches.{value_of}
 use Rattle.switch_model.specs.LinksData.{LinksData, is_first}
-use Rattle.switch_model.specs.Search.{IsAdded, IsCrossed, Tells, Walk, drive_of}
+use Rattle.switch_model.specs.Search.{IsAdded, IsCrossed, Covers, Walk, drive_of}
 use Rattle.switch_model.proofs.Searches.{admits_read, clash, end-in_range, ends-same, first-true, first-false, next_walk, read_same, tells-added, under_way-drive, under_way-stop}
 use Rattle.switch_model.proofs.search.Search.cross.Goals as goal
 
@@ -37,7 +37,7 @@ returns-then-net-wiring-clause-met c = λ n admits e.
     let told = tells-added (drive_of c.args.drives.now w) (drive_of c.add.new.self w) (value_of values net)
     (subst (λ v. IsAdded (drive_of c.args.drives.now w) v (drive_of c.add.new.self w)) (read_same values net Zero lt) c.add.ensures.added) in
     rw same (record {
-      source = λ _. subst (λ x. Tells (drive_of c.add.new.self x) (value_of values net)) c.stays_weak-weak.ensures told;
+      source = λ _. subst (λ x. Covers (drive_of c.add.new.self x) (value_of values net)) c.stays_weak-weak.ensures told;
       inner = λ f. absurd (clash (is_first wiring.sources net) here f);
     })
 

@@ -3,14 +3,14 @@ use Rattle.std.specs.Prelude.{Some, slice_get}
 use Rattle.std.proofs.lemmas.Option.{slice_get_read}
 use Rattle.dom_base.specs.declared.tri.Tri.TheVariants.{Zero}
 use Rattle.switch_model.specs.Search.{SearchData, IsVisited}
-use Rattle.switch_model.specs.declared.search.Stop.{Stop}
+use Rattle.switch_model.specs.declared.search.Reached.{Reached}
 use Rattle.switch_model.proofs.Decided.{dec_nat}
 use Rattle.switch_model.proofs.Marks.{few-reached, listed-ready}
 use Rattle.switch_model.proofs.Searches.{first-false, found, read_same, under_way-start}
 use Rattle.switch_model.proofs.Visits.{stays_at, visited-grows}
 use Rattle.switch_model.proofs.search.Search.run.Goals as goal
 
-the_same : (s t : Stop) → Some s ≡ Some t → s ≡ t
+the_same : (s t : Reached) → Some s ≡ Some t → s ≡ t
 the_same s t h = cc
 
 pub reach-requires-clause-listed : goal.reach-requires-clause-listed

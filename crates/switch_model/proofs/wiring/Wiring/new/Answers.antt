@@ -1,6 +1,7 @@
 use Rattle.std.proofs.Common.{◌≡◌, length, [], sym, ap, subst, ◌∙◌, All, arith}
 use Rattle.std.proofs.lemmas.List.{length-replicate}
-use Rattle.switch_model.specs.Wiring.{IsInRange, IsTouching}
+use Rattle.deck.specs.Nets.{IsInRange}
+use Rattle.switch_model.specs.Wiring.{IsTouching}
 use Rattle.switch_model.proofs.Wirings.{few-nets, nets-in_range}
 use Rattle.switch_model.proofs.wiring.Wiring.new.Goals as goal
 

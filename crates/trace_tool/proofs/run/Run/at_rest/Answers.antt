@@ -1,6 +1,6 @@
 use Rattle.std.proofs.Common.{sym, ap, ◌∙◌}
 use Rattle.switch_model.specs.LinksData.{links_of}
-use Rattle.event_sim.proofs.Stepping.{resting_moved}
+use Rattle.event_sim.proofs.StepFacts.{resting_moved}
 use Rattle.trace_tool.specs.RunData.{RunData}
 use Rattle.trace_tool.proofs.run.Run.at_rest.Goals as goal
 

@@ -1,5 +1,5 @@
 use Rattle.std.proofs.Common.{arith}
-use Rattle.event_sim.proofs.Made.{sources_within}
+use Rattle.event_sim.proofs.PowerState.{sources_within}
 use Rattle.trace_tool.proofs.SetupNets.{outputs_within}
 use Rattle.trace_tool.proofs.run.Run.outputs.Goals as goal
 

@@ -1,7 +1,7 @@
 use Rattle.std.proofs.Common.{sym, ap, subst, arith}
 use Rattle.deck.specs.PortLayout.{source_count}
 use Rattle.event_sim.specs.SimData.{SimData}
-use Rattle.event_sim.proofs.Made.{sources_within}
+use Rattle.event_sim.proofs.PowerState.{sources_within}
 use Rattle.trace_tool.specs.Moves.{set_bits}
 use Rattle.trace_tool.specs.RunData.{IsRunning, RunData}
 use Rattle.trace_tool.proofs.SetupNets.{running-set}

@@ -1,7 +1,7 @@
 use Rattle.std.proofs.Common.{refl, ap, ◌∙◌}
 use Rattle.switch_model.specs.LinksData.{links_of}
 use Rattle.event_sim.specs.SimData.{SimData}
-use Rattle.event_sim.proofs.Stepping.{resting_moved}
+use Rattle.event_sim.proofs.StepFacts.{resting_moved}
 use Rattle.trace_tool.specs.RunData.{RunData}
 use Rattle.trace_tool.proofs.run.Run.step.Goals as goal
 

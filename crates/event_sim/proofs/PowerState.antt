@@ -1,3 +1,4 @@
+-- The power state: its nets, sources and values.
 use Rattle.std.proofs.Common.{◌≡◌, ℕ, ◌+◌, ◌-◌, ◌≤◌, ◌^◌, List, ◌++◌, length, replicate, length-append, arith}
 use Rattle.std.proofs.lemmas.List.{length-replicate, length-take}
 use Rattle.dom_base.specs.declared.tri.Tri.TheVariants.{Unknown}
@@ -8,7 +9,7 @@ use Rattle.deck.specs.Roles.{AreRoles, ports_of}
 use Rattle.deck.specs.declared.role.Roles.{Roles}
 use Rattle.deck.proofs.DeviceNumbers.{used-le}
 use Rattle.deck.proofs.PortLayout.{joined, length-leading}
-use Rattle.switch_model.specs.LinksData.{source_count}
+use Rattle.deck.specs.PortLayout.{source_count}
 use Rattle.switch_model.specs.Power.{source_values}
 
 -- a circuit has at most 2^26 nets

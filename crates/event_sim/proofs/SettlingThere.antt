@@ -1,4 +1,4 @@
--- From each list of values a function that answers below the count has a going to rest.
+-- From each list of values a function that answers below the count has a settling.
 use Rattle.std.proofs.Common.{◌≡◌, ℕ, zero, suc, ◌+◌, ◌<◌, ◌≤◌, ◌⊎◌, inl, inr, false, List, [], ◌∷◌, ◌++◌, length, get_or, refl, arith}
 use Rattle.std.proofs.lemmas.Bool.{cases_lt}
 use Rattle.std.proofs.lemmas.List.{get_or_default}
@@ -15,9 +15,9 @@ use Rattle.event_sim.specs.Laws.{IsBelow, SettlingIsThere}
 use Rattle.event_sim.specs.Orders.{By}
 use Rattle.event_sim.specs.Pending.{ArePending, IsPendingNet, IsResting, Targets}
 use Rattle.event_sim.specs.Settling.{IsSettling, most_events}
-use Rattle.event_sim.proofs.Choosing.{none_at_rest}
-use Rattle.event_sim.proofs.Listing.{IsListed, listed-none, listed-push, listed-skip, listed-all}
-use Rattle.event_sim.proofs.Stepping.{differs_where_pending, pending_at, rests_where_none, stands_at}
+use Rattle.event_sim.proofs.OneSettling.{none_at_rest}
+use Rattle.event_sim.proofs.PendingLists.{IsListed, listed-none, listed-push, listed-skip, listed-all}
+use Rattle.event_sim.proofs.StepFacts.{differs_where_pending, pending_at, rests_where_none, stands_at}
 
 -- whether a net with a value is pending can be decided
 pending_is_decided : (links : LinksData) (values : List Tri) (net : ℕ) → net < length values → Dec (IsPendingNet links values net)
@@ -132,7 +132,7 @@ rest_or_moves place links values step (suc left) below =
       | inr chosen ↦ after_event place links values step left chosen (rest_or_moves place links (changed values chosen.0) (next_step step) left below)
     ]
 
--- a going to rest
+-- a settling
 pub settling_there : SettlingIsThere
 settling_there place links values step below = by (rest_or_moves place links values step (most_events links) below)
   where

@@ -1,3 +1,4 @@
+-- Where an order follows a function its chains and settlings are those of the function.
 use Rattle.std.proofs.Common.{ℕ, ◌+◌, ◌<◌, ◌≤◌, ◌^◌, List, [], ◌∷◌, length, arith}
 use Rattle.std.proofs.lemmas.List.{length-set}
 use Rattle.std.proofs.lemmas.Nat.{mod_below}
@@ -12,7 +13,7 @@ use Rattle.event_sim.specs.Laws.{FollowingIsBy}
 use Rattle.event_sim.specs.Orders.{By, Follows}
 use Rattle.event_sim.specs.Pending.{ArePending}
 use Rattle.event_sim.specs.Settling.{IsSettling}
-use Rattle.event_sim.proofs.Rising.{rising_is_short}
+use Rattle.event_sim.proofs.RisingLists.{rising_is_short}
 
 -- there are no more pending nets than values
 pub pending_is_short : (links : LinksData) (values : List Tri) (nets : List ℕ) → ArePending links values nets → length nets ≤ length values
@@ -43,7 +44,7 @@ chain_by place order links values step (e ∷ es) follows fits few chain = (
       (omega (arith, few, length-set values e.net e.after)) chain.2,
 )
 
--- and so are its goings to rest
+-- and so are its settlings
 pub settling_by : (place : ℕ → ℕ → ℕ) (order : ℕ → ℕ → ℕ → Type 0) (links : LinksData) (values : List Tri) (step : ℕ) (events : List Event) (settled : Settled)
     → Follows place order → step < 2 ^ 64 → length values < 2 ^ 64 → IsSettling order links values step events settled → IsSettling (By place) links values step events settled
 settling_by place order links values step events (Rest k) follows fits few h =

@@ -1,3 +1,4 @@
+-- An order that is a function chooses one chain and has one settling.
 use Rattle.std.proofs.Common.{◌≡◌, ℕ, suc, ◌≤◌, ◌⊎◌, inl, inr, List, [], ◌∷◌, length, get_or, refl, sym, ap, ◌∙◌, subst, arith}
 use Rattle.std.specs.List.{slice_get}
 use Rattle.std.proofs.lemmas.Option.{slice_get_within, get_or_from_slice_get}
@@ -13,7 +14,7 @@ use Rattle.event_sim.specs.Orders.{By}
 use Rattle.event_sim.specs.Pending.{ArePending, IsPendingNet, IsResting}
 use Rattle.event_sim.specs.Settling.{IsSettling, most_events}
 use Rattle.switch_model.proofs.Targets.{target_unique}
-use Rattle.event_sim.proofs.Rising.{rising_are_one}
+use Rattle.event_sim.proofs.RisingLists.{rising_are_one}
 
 -- there is one list of the pending nets by rising number
 pub pending_are_one : (links : LinksData) (values : List Tri) (a b : List ℕ) → ArePending links values a → ArePending links values b → a ≡ b
@@ -93,7 +94,7 @@ ended_is_one place links values step (d ∷ a) (f ∷ b) x y p q =
     shorter m n P (inl p) = inl p
     shorter m n P (inr le) = inr (omega (arith, le))
 
--- what a going to rest has in common: a chain of at most so many events that ends at rest or has as many
+-- what a settling has in common: a chain of at most so many events that ends at rest or has as many
 record Ends (place : ℕ → ℕ → ℕ) (links : LinksData) (values : List Tri) (step : ℕ) (events : List Event) : Type 0 where
   chain : IsChain (By place) links values step events
   few : length events ≤ most_events links

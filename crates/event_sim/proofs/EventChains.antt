@@ -1,3 +1,4 @@
+-- Chains of events that grow by one, and how a settling ends.
 use Rattle.std.proofs.Common.{◌≡◌, ℕ, ◌+◌, ◌<◌, ◌≤◌, ◌%◌, ◌^◌, List, [], ◌∷◌, ◌++◌, length, refl, sym, ap, ◌∙◌, subst, arith}
 use Rattle.std.proofs.lemmas.List.{length-set, length_push}
 use Rattle.std.proofs.Math.Nat.{mod-add-mod, mod-eq_of_lt}
@@ -76,7 +77,7 @@ module _ {F : Type 0} where
     now_is = moved ∙ ap (λ (s : SimData F). ran s (event ∷ [])) run.now_is ∙ ran-push start run.events event;
   }
 
-  -- a going to rest, with its events, from the start to the new state
+  -- a settling, with its events, from the start to the new state
   abbrev pub Settles : (ℕ → ℕ → ℕ → Type 0) → SimData F → SimData F → Settled → Type 0
   Settles order start new settled = (events : List Event) × IsSettling order start.links start.values start.step events settled × (new ≡ ran start events)
 

@@ -1,5 +1,5 @@
 use Rattle.switch_model.proofs.Nearness.{near-same}
-use Rattle.switch_model.proofs.law.depends_on_near_nets.Goals as goal
+use Rattle.switch_model.proofs.laws.depends_on_near_nets.Goals as goal
 
 pub returns : goal.returns
 returns c = near-same
