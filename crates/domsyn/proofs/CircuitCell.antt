@@ -13,7 +13,7 @@ use Rattle.deck.specs.Pushes.{new_circuit}
 use Rattle.deck.specs.Sources.{is_source}
 use Rattle.deck.proofs.PortLayout.{length-leading}
 use Rattle.dom_base.proofs.Lists.{slice_get-append}
-use Rattle.domino_cell.specs.Cell.{IsCell, cell, map_nets}
+use Rattle.domino_cell.specs.Cell.{IsCell, map_nets}
 use Rattle.sp_network.specs.Tree.{inner_count, map_tree}
 use Rattle.domino_cell.specs.NamedCell.{HasCellNames, IsBuilt, IsNumberedCell}
 use Rattle.domino_cell.proofs.NamedCells.{IsBuilt-with_devices, IsCell-named, IsNumberedCell-from_cards}

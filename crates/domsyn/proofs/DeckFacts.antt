@@ -1,17 +1,15 @@
 -- The circuit of a network of one table is a circuit within the limits.
-use Rattle.std.proofs.Common.{◌≡◌, ℕ, ◌≤◌, ◌+◌, ◌*◌, ◌^◌, List, [], ◌∷◌, true, length, map, refl, sym, ap, ◌∙◌, subst, arith, length-append, length-take, length-drop}
+use Rattle.std.proofs.Common.{◌≡◌, ℕ, ◌≤◌, ◌*◌, List, [], ◌∷◌, true, length, map, refl, sym, ap, subst, arith, length-append, length-take, length-drop}
 use Rattle.std.specs.Prelude.{All, codes}
-use Rattle.dom_base.specs.declared.kind.Kind.{Kind}
 use Rattle.dom_base.specs.declared.kind.Kind.TheVariants.{N as nch}
-use Rattle.deck.specs.CircuitData.{CircuitData}
 use Rattle.deck.specs.Nets.{IsCircuit}
 use Rattle.deck.specs.Escapes.{escaped}
-use Rattle.deck.specs.Pushes.{pushed, new_circuit}
+use Rattle.deck.specs.Pushes.{new_circuit}
 use Rattle.deck.specs.Ports.{IsOutput}
 use Rattle.deck.proofs.PortLayout.{ports_differ, length-ports}
-use Rattle.deck.specs.NamedDevices.{NamedDevice, with_devices}
+use Rattle.deck.specs.NamedDevices.{NamedDevice}
 use Rattle.domino_cell.specs.Cell.{cell, dynamic_stage, inverter}
-use Rattle.sp_network.specs.Tree.{Tree, Leaf, Series, Parallel, leaves, inner_count}
+use Rattle.sp_network.specs.Tree.{Tree, Leaf, Parallel, leaves}
 use Rattle.domino_cell.specs.Spelling.{spell}
 use Rattle.domsyn.specs.OneTable.{IsOneTable, IsRow, HasByteNames}
 use Rattle.domsyn.specs.OneTableData.{OneTableData}

@@ -1,5 +1,5 @@
 -- The nets of the circuit of a network of one table have names of nets, which a deck can hold.
-use Rattle.std.proofs.Common.{◌≡◌, ◌≢◌, ℕ, ◌<◌, ◌≤◌, ◌+◌, ◌^◌, Bool, List, [], ◌∷◌, ◌++◌, inr, true, false, not, eqb, eq-eqb, map, get_or, refl, sym, ap, ◌∙◌, subst, arith, nat_eq}
+use Rattle.std.proofs.Common.{◌≡◌, ℕ, ◌+◌, ◌^◌, Bool, List, [], ◌∷◌, ◌++◌, true, false, not, eqb, eq-eqb, map, get_or, refl, sym, ap, ◌∙◌, subst, arith, nat_eq}
 use Rattle.std.specs.Prelude.{All, codes, if◌then◌else◌}
 use Rattle.std.specs.List.{list_any, list_all, AllByRecursion}
 use Rattle.std.proofs.lemmas.List.{length-map}
@@ -7,12 +7,10 @@ use Rattle.std.proofs.lemmas.List.Sums.{AllPass-from_list_all}
 use Rattle.dom_base.proofs.Names.{IsNetName-from_test}
 use Rattle.dom_base.specs.Names.{is_net_name}
 use Rattle.std.specs.Cmp.Lexicographic.{pointwise}
-use Rattle.dom_base.specs.Names.{IsNetByte, IsNetName}
-use Rattle.dom_base.specs.declared.kind.Kind.{Kind}
+use Rattle.dom_base.specs.Names.{IsNetName}
 use Rattle.dom_base.specs.declared.kind.Kind.TheVariants.{N as nch}
 use Rattle.dom_base.proofs.Lists.{AllByRecursion-append}
 use Rattle.deck.specs.CircuitData.{CircuitData}
-use Rattle.deck.specs.Escapes.{escaped}
 use Rattle.deck.specs.Nets.{with_net}
 use Rattle.deck.specs.Pushes.{pushed}
 use Rattle.deck.specs.DeckText.{HasNetNames, HasNoEquals, IsGoodCircuit}
@@ -26,7 +24,7 @@ use Rattle.domsyn.proofs.CircuitCell.{few_inner_nets, ports_first, start_of}
 use Rattle.deck.proofs.EscapedNames.{escape_is_net, escape_no_equals, output_is_net, output_no_equals, pin_no_equals, pins_are_nets}
 use Rattle.domino_cell.proofs.CellNetNames.{inner_is_net}
 use Rattle.deck.specs.NamedDevices.{NamedDevice, with_devices}
-use Rattle.sp_network.specs.Tree.{Tree, Leaf, Series, Parallel, EachLeaf, inner_count}
+use Rattle.sp_network.specs.Tree.{Tree}
 use Rattle.domino_cell.specs.Spelling.{spell}
 use Rattle.deck.specs.PortNames.{IsByteName, pin_name, output_name}
 use Rattle.domsyn.specs.OneTable.{IsOneTable, IsRow, HasByteNames}

@@ -1,17 +1,15 @@
 -- The devices of the trees of rows and tables, appended part by part.
-use Rattle.std.proofs.Common.{true, ◌≡◌, ℕ, zero, suc, ◌≤◌, ◌+◌, ◌*◌, List, [], ◌∷◌, ◌++◌, length, map, take, drop, get_or, refl, sym, ap, ◌∙◌, arith, length-take, length-drop}
+use Rattle.std.proofs.Common.{true, ◌≡◌, ℕ, ◌≤◌, ◌+◌, ◌*◌, List, [], ◌∷◌, ◌++◌, length, map, take, drop, get_or, sym, ap, ◌∙◌, arith, length-take, length-drop}
 use Rattle.std.specs.Prelude.{codes}
-use Rattle.std.proofs.lemmas.List.{take-map, drop-map, length-map}
 use Rattle.dom_base.specs.declared.kind.Kind.{Kind}
-use Rattle.dom_base.specs.declared.kind.Kind.TheVariants.{N as nch, P as pch, Keep}
 use Rattle.deck.specs.CircuitData.{CircuitData}
 use Rattle.deck.specs.Escapes.{escaped}
-use Rattle.deck.specs.Pushes.{pushed, new_circuit}
+use Rattle.deck.specs.Pushes.{new_circuit}
 use Rattle.deck.specs.NamedDevices.{NamedDevice, with_devices}
-use Rattle.domino_cell.specs.Cell.{CellNets, cell, dynamic_stage, inverter}
+use Rattle.domino_cell.specs.Cell.{cell, inverter}
 use Rattle.sp_network.specs.Tree.{Tree, Leaf, Series, Parallel, inner_count}
 use Rattle.domino_cell.specs.Spelling.{spell}
-use Rattle.sp_network.specs.Balanced.{balanced, balanced_within, first_half}
+use Rattle.sp_network.specs.Balanced.{first_half}
 use Rattle.blif_ast.specs.declared.letter.Letter.{Letter}
 use Rattle.domsyn.specs.OneTableData.{OneTableData}
 use Rattle.domsyn.specs.Deck.{row_tree, table_tree, literals, circuit_of}

@@ -1,5 +1,5 @@
 -- Which files are networks of one table (Berkeley Logic Interchange Format), and which of these are built.
-use Rattle.std.specs.Prelude.{ℕ, ◌≤◌, ◌<◌, ◌≡◌, ◌≢◌, Bool, true, false, List, [], ◌∷◌, ◌++◌, nat_eq, length, All, count_by, sum_by}
+use Rattle.std.specs.Prelude.{ℕ, ◌≤◌, ◌≡◌, ◌≢◌, Bool, true, false, List, [], ◌∷◌, ◌++◌, nat_eq, length, All, count_by, sum_by}
 use Rattle.std.specs.List.{IsDistinct}
 use Rattle.std.specs.Cmp.Lexicographic.{pointwise}
 use Rattle.blif_ast.specs.declared.letter.Letter.{Letter}
