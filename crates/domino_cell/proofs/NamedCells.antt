@@ -1,8 +1,7 @@
 -- A domino cell whose nets are given by name, behind the ports of a circuit.
 use Rattle.std.proofs.Common.{◌≡◌, ℕ, ◌+◌, ◌<◌, ◌≤◌, true, false, List, [], ◌∷◌, ◌++◌, length, map, refl, sym, ap, ◌∙◌, subst, inl, inr, arith, nat_eq, append_assoc, Some, slice_get}
 use Rattle.std.specs.Prelude.{◌⊎◌, ◌≢◌, All, Contains, codes}
-use Rattle.std.specs.List.{list_any, starts_with, AllByRecursion}
-use Rattle.std.specs.Cmp.Lexicographic.{pointwise}
+use Rattle.std.specs.List.{starts_with, AllByRecursion}
 use Rattle.std.proofs.lemmas.Bool.{cases_lt, lt-ltb, le-ltb}
 use Rattle.std.proofs.lemmas.List.{map-append}
 use Rattle.std.proofs.lemmas.List.Elements.{All-from_recursion, Contains-append_cases, recursion_from_All}

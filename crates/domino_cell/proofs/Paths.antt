@@ -1,11 +1,10 @@
 -- Definite and possible strong paths as paths of devices whose conduction passes a test.
-use Rattle.std.proofs.Common.{◌≡◌, ℕ, Bool, List, [], ◌∷◌, inl, inr}
+use Rattle.std.proofs.Common.{ℕ, Bool, List}
 use Rattle.std.specs.Prelude.{◌≢◌, Contains}
-use Rattle.std.specs.List.{AllByRecursion}
 use Rattle.dom_base.specs.declared.kind.Kind.TheVariants.{Keep}
 use Rattle.dom_base.specs.declared.tri.Tri.{Tri}
 use Rattle.deck.specs.declared.device.Device.{Device}
-use Rattle.deck.specs.Paths.{IsStrong, DefiniteStrong, Possible, PossibleStrong}
+use Rattle.deck.specs.Paths.{DefiniteStrong, Possible, PossibleStrong}
 use Rattle.deck.specs.Switches.{IsOn, IsNotOff}
 use Rattle.sp_network.specs.Known.{is_not_zero, is_one}
 use Rattle.sp_network.proofs.TreeTests.{is_not_zero-from, is_not_zero-true, is_one-from, is_one-true}

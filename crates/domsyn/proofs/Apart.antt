@@ -1,14 +1,11 @@
-use Rattle.std.proofs.Common.{◌≡◌, ℕ, ◌+◌, ◌≤◌, Bool, true, false, List, [], ◌∷◌, ◌++◌, length, refl, sym, ap, ◌∙◌, subst, arith, append_assoc, append-nil, length-append, nat_eq, rules}
+-- Names that differ, by the count of those that a set keeps.
+use Rattle.std.proofs.Common.{◌≡◌, ℕ, ◌+◌, ◌≤◌, Bool, true, false, List, [], ◌∷◌, ◌++◌, length, refl, sym, ap, ◌∙◌, subst, arith, append_assoc, append-nil, length-append, nat_eq}
 use Rattle.std.specs.Prelude.{if◌then◌else◌}
 use Rattle.std.specs.List.{list_any, IsDistinct}
-use Rattle.std.specs.Cmp.{IsEquivalence}
-use Rattle.std.specs.Cmp.Rules.{comparing}
+use Rattle.dom_base.proofs.Names.{names_equal}
 use Rattle.std.specs.Cmp.Lexicographic.{pointwise}
 use Rattle.indexmap.specs.IndexSet.{insert_key, insert_all}
 use Rattle.indexmap.proofs.SetLemmas.{set_all_distinct}
-
-same_laws : IsEquivalence (pointwise nat_eq)
-same_laws = search (comparing, rules)
 
 length-insert_key : (ks : List (List ℕ)) (x : List ℕ) → length (insert_key (pointwise nat_eq) ks x) ≤ length ks + 1
 length-insert_key ks x = by (list_any (pointwise nat_eq x) ks)
@@ -48,4 +45,4 @@ apart_from_count xs keys all distinct count =
     subst (IsDistinct (pointwise nat_eq)) same distinct
 
 pub count_from_apart : (xs keys : List (List ℕ)) → keys ≡ insert_all (pointwise nat_eq) [] xs → IsDistinct (pointwise nat_eq) xs → length keys ≡ length xs
-count_from_apart xs keys all distinct = ap length (all ∙ set_all_distinct same_laws [] xs distinct)
+count_from_apart xs keys all distinct = ap length (all ∙ set_all_distinct names_equal [] xs distinct)

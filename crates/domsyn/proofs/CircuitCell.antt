@@ -3,6 +3,8 @@ use Rattle.std.proofs.Common.{◌≡◌, ℕ, zero, suc, ◌≤◌, ◌+◌, Lis
 use Rattle.std.specs.Prelude.{All, codes, option_map}
 use Rattle.std.proofs.lemmas.Option.{slice_get-map}
 use Rattle.std.proofs.lemmas.List.{length-map, take_at}
+use Rattle.std.proofs.lemmas.List.Elements.{recursion_from_All}
+use Rattle.deck.specs.NumberedDevices.{IsNumberedDevice}
 use Rattle.deck.specs.CircuitData.{CircuitData}
 use Rattle.deck.specs.Nets.{net_number}
 use Rattle.deck.specs.Ports.{leading_ports}
@@ -11,15 +13,19 @@ use Rattle.deck.specs.Pushes.{new_circuit}
 use Rattle.deck.specs.Sources.{is_source}
 use Rattle.deck.proofs.PortLayout.{length-leading}
 use Rattle.dom_base.proofs.Lists.{slice_get-append}
-use Rattle.stage.specs.Cell.{IsCell, cell, map_nets}
-use Rattle.stage.specs.Tree.{inner_count, map_tree}
-use Rattle.stage.proofs.NamedCells.{HasCellNames, IsBuilt, IsBuilt-with_cards, IsCell-named, IsNumberedCell, IsNumberedCell-from_cards}
-use Rattle.stage.proofs.Numbering.{HasNumber-from}
+use Rattle.domino_cell.specs.Cell.{IsCell, map_nets}
+use Rattle.sp_network.specs.Tree.{inner_count, map_tree}
+use Rattle.domino_cell.specs.NamedCell.{HasCellNames, IsBuilt, IsNumberedCell}
+use Rattle.domino_cell.proofs.NamedCells.{IsBuilt-with_devices, IsCell-named, IsNumberedCell-from_cards}
+use Rattle.deck.proofs.NetNumbers.{HasNumber-from}
 use Rattle.domsyn.specs.OneTable.{IsOneTable, IsRow}
 use Rattle.domsyn.specs.OneTableData.{OneTableData}
-use Rattle.domsyn.specs.Deck.{cell_nets, circuit_of, deck_cards, output_name, pin_name, table_tree}
-use Rattle.domsyn.proofs.CellNetNames.{cell_names, inner_count-table_tree-le}
-use Rattle.domsyn.proofs.NetNames.{pins_are_pins}
+use Rattle.domino_cell.specs.CellNames.{cell_nets}
+use Rattle.domsyn.specs.Deck.{circuit_of, cell_devices, table_tree}
+use Rattle.deck.specs.PortNames.{output_name, pin_name}
+use Rattle.domino_cell.proofs.CellNetNames.{cell_names}
+use Rattle.domsyn.proofs.Spelling.{inner_count-table_tree-le}
+use Rattle.deck.proofs.NetNames.{pins_are_pins}
 
 -- the ports of the deck of a table
 abbrev pub deck_ports : OneTableData → List (List ℕ)
@@ -29,8 +35,8 @@ deck_ports t = leading_ports 1 ++ map pin_name t.inputs ++ output_name t.output 
 abbrev pub start_of : OneTableData → CircuitData
 start_of t = new_circuit (escaped t.model) (record { net = output_name t.output; plus = true } ∷ []) 1 (map pin_name t.inputs) (output_name t.output ∷ [])
 
-pub is_built : (t : OneTableData) → IsBuilt (deck_ports t) (circuit_of t) (deck_cards t)
-is_built t = IsBuilt-with_cards (start_of t) (deck_cards t) refl refl
+pub is_built : (t : OneTableData) → IsBuilt (deck_ports t) (circuit_of t) (cell_devices t)
+is_built t = IsBuilt-with_devices (start_of t) (cell_devices t) refl refl
 
 pub few_inner_nets : (t : OneTableData) → IsOneTable t → inner_count (table_tree [] t.rows (map pin_name t.inputs)) ≤ 12
 few_inner_nets t is =
@@ -65,7 +71,8 @@ port_stands t k name at =
 -- each name of the cell, and the output, stands at its number
 pub cell_numbered : (t : OneTableData) → IsNumberedCell (circuit_of t).nets cell_nets (table_tree [] t.rows (map pin_name t.inputs)) (output_name t.output)
 cell_numbered t =
-    IsNumberedCell-from_cards (circuit_of t).nets cell_nets (table_tree [] t.rows (map pin_name t.inputs)) (output_name t.output) (is_built t).stand
+    IsNumberedCell-from_cards (circuit_of t).nets cell_nets (table_tree [] t.rows (map pin_name t.inputs)) (output_name t.output)
+    (recursion_from_All (IsNumberedDevice (circuit_of t).nets) (cell_devices t) (is_built t).stand)
 
 pub vss_numbered : (t : OneTableData) → slice_get (circuit_of t).nets (net_number (circuit_of t).nets (codes "vss")) ≡ Some (codes "vss")
 vss_numbered t = (cell_numbered t).vss

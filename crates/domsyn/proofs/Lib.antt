@@ -1,18 +1,14 @@
 pub mod Apart
-pub mod BalancedTrees
 pub mod Causes
-pub mod CellNetNames
 pub mod CircuitCell
 pub mod Coming
 pub mod CommandEnds
 pub mod Commands
 pub mod DeckFacts
 pub mod DeckNames
-pub mod EscapedNames
 pub mod FileNames
 pub mod FilesOfTables
 pub mod Literals
-pub mod NetNames
 pub mod OneDeck
 pub mod OneOutcome
 pub mod PulledDown
@@ -21,4 +17,3 @@ pub mod RowMatches
 pub mod Spelling
 pub mod TableValues
 pub mod ToldStops
-pub mod WordBytes

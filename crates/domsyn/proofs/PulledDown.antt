@@ -1,3 +1,4 @@
+-- The deck of a network of one table pulls down where the table is 1, and reads back as its circuit.
 use Rattle.std.proofs.Common.{◌≡◌, ℕ, ◌∙◌, Bool, List, [], Option, Some, None, length, map, refl, sym, ap, slice_get}
 use Rattle.std.specs.Prelude.{codes}
 use Rattle.std.specs.Option.{option_map}
@@ -10,15 +11,17 @@ use Rattle.deck.specs.DeckText.{IsDeckOf}
 use Rattle.deck.specs.Nets.{net_number}
 use Rattle.deck.specs.Sources.{is_source}
 use Rattle.deck.specs.Switches.{value_of}
-use Rattle.stage.specs.Cell.{CellNets, map_nets}
-use Rattle.stage.specs.Tree.{Tree, map_tree}
-use Rattle.stage.proofs.CellLaws.{joins_ground_through_tree_alone, pulls_down_where_one}
-use Rattle.stage.proofs.Spellings.{tree_conduction-map_tree}
+use Rattle.domino_cell.specs.Cell.{CellNets, map_nets}
+use Rattle.sp_network.specs.Tree.{Tree, map_tree}
+use Rattle.domino_cell.proofs.CellLaws.{joins_ground_through_tree_alone, pulls_down_where_one}
+use Rattle.sp_network.proofs.TreeImages.{tree_conduction-map_tree}
 use Rattle.spice_text.specs.Text.{IsWritten}
 use Rattle.spice_text.proofs.ReadBack.{read_back}
 use Rattle.domsyn.specs.Bits.{tri_of}
 use Rattle.domsyn.specs.Decks.{IsDeckFor, IsPulledDeckFor}
-use Rattle.domsyn.specs.Deck.{cell_nets, circuit_of, pin_name, table_tree}
+use Rattle.domino_cell.specs.CellNames.{cell_nets}
+use Rattle.domsyn.specs.Deck.{circuit_of, table_tree}
+use Rattle.deck.specs.PortNames.{pin_name}
 use Rattle.domsyn.specs.OneTable.{IsOneTable, HasByteNames}
 use Rattle.domsyn.specs.OneTableData.{OneTableData}
 use Rattle.domsyn.specs.PullDown.{HasBits, PullsDown}

@@ -1,29 +1,24 @@
 -- The conduction of a table's tree is the table's value.
-use Rattle.std.proofs.Common.{◌≡◌, ℕ, suc, ◌≤◌, Bool, true, false, ◌||◌, List, [], ◌∷◌, length, Some, slice_get, refl, sym, ap₂, ◌∙◌, arith, subst, inl, inr}
+use Rattle.std.proofs.Common.{◌≡◌, ℕ, suc, ◌≤◌, Bool, true, false, List, [], ◌∷◌, length, Some, slice_get, refl, sym, ◌∙◌, arith, subst, inl, inr}
 use Rattle.std.specs.Prelude.{◌↔◌, All}
 use Rattle.std.specs.List.{list_all, list_any}
-use Rattle.std.proofs.lemmas.List.Elements.{All-head, All-tail, All-nil, All-cons, All-weaker}
+use Rattle.std.proofs.lemmas.List.Elements.{All-nil, All-cons, All-weaker}
 use Rattle.std.proofs.lemmas.List.Folds.{Any-from_list_any, list_any-from_Any}
 use Rattle.dom_base.specs.declared.kind.Kind.TheVariants.{N as nch}
 use Rattle.dom_base.specs.declared.tri.Tri.{Tri}
 use Rattle.dom_base.specs.declared.tri.Tri.TheVariants.{Zero, One}
-use Rattle.stage.specs.Known.{IsKnown, is_one}
-use Rattle.stage.specs.Tree.{Parallel, joins, EachLeaf, tree_conduction}
-use Rattle.stage.proofs.Known.{IsKnown-tree_conduction, tree_conduction-one}
+use Rattle.dom_base.proofs.Lists.{list_any-agree}
+use Rattle.sp_network.specs.Known.{IsKnown, is_one}
+use Rattle.sp_network.specs.Tree.{Leaf, Parallel, Series, joins, EachLeaf, tree_conduction}
+use Rattle.sp_network.proofs.Known.{IsKnown-tree_conduction, tree_conduction-one}
 use Rattle.blif_ast.specs.declared.letter.Letter.{Letter}
 use Rattle.domsyn.specs.Bits.{tri_of}
 use Rattle.domsyn.specs.Deck.{literals, row_tree, table_tree}
 use Rattle.domsyn.specs.OneTable.{IsRow, HasGoodRows}
 use Rattle.blif_ast.specs.TableValue.{IsOneAt}
-use Rattle.domsyn.proofs.BalancedTrees.{joins-row_tree, joins-parallel, EachLeaf-row_tree, EachLeaf-balanced}
+use Rattle.sp_network.proofs.BalancedTrees.{joins-parallel, joins-series, EachLeaf-balanced}
 use Rattle.domsyn.proofs.Literals.{literals-bounds}
 use Rattle.domsyn.proofs.RowMatches.{list_all-literals, All-literals, Matches-from_all, all_from_Matches}
-
--- two tests that agree at each element agree at some element
-list_any-agree : {X : Type 0} (p q : X → Bool) (xs : List X) → All (λ x. p x ≡ q x) xs → list_any p xs ≡ list_any q xs
-list_any-agree p q [] each = refl
-list_any-agree p q (x ∷ xs) each =
-    ap₂ ◌||◌ (All-head (λ y. p y ≡ q y) x xs each) (list_any-agree p q xs (All-tail (λ y. p y ≡ q y) x xs each))
 
 -- the tree of a table joins its ends where the bits under the ones of some row are all 1
 pub joins-table_tree : {Net : Type 0} (value : Net → Tri) (none : Net) (rows : List (List Letter)) (pins : List Net) (bits : List Bool)
@@ -34,7 +29,7 @@ joins-table_tree value none rows pins bits some each same has =
     joins-parallel (λ pin. is_one (value pin)) none (λ row. row_tree none (literals row pins)) rows some
     ∙ list_any-agree (λ row. joins (λ pin. is_one (value pin)) (row_tree none (literals row pins))) (λ row. list_all (λ bit. bit) (literals row bits)) rows
     (All-weaker (IsRow (length pins)) (λ row. joins (λ pin. is_one (value pin)) (row_tree none (literals row pins)) ≡ list_all (λ bit. bit) (literals row bits))
-    (λ row is. joins-row_tree (λ pin. is_one (value pin)) none (literals row pins) (literals-bounds row pins is).0 ∙ list_all-literals value row pins bits same has)
+    (λ row is. joins-series (λ pin. is_one (value pin)) none Leaf (literals row pins) (literals-bounds row pins is).0 ∙ list_all-literals value row pins bits same has)
     rows each)
 
 -- pins that have bits have known values
@@ -54,7 +49,7 @@ pub EachLeaf-table_tree : {Net : Type 0} (P : Net → Type 0) (none : Net) (rows
 EachLeaf-table_tree P none rows pins some each all =
     EachLeaf-balanced P Parallel none (λ row. row_tree none (literals row pins)) (λ l r a b. (a, b)) rows some
     (All-weaker (IsRow (length pins)) (λ row. EachLeaf P (row_tree none (literals row pins)))
-    (λ row is. EachLeaf-row_tree P none (literals row pins) (literals-bounds row pins is).0 (All-literals P row pins all))
+    (λ row is. EachLeaf-balanced P Series none Leaf (λ l r a b. (a, b)) (literals row pins) (literals-bounds row pins is).0 (All-literals P row pins all))
     rows each)
 
 -- some row matches where the bits under its ones are all 1

@@ -1,3 +1,4 @@
+-- Values of bits.
 use Rattle.std.specs.Prelude.{Bool, true, false}
 use Rattle.dom_base.specs.declared.tri.Tri.{Tri}
 use Rattle.dom_base.specs.declared.tri.Tri.TheVariants.{Zero, One}

@@ -1,6 +1,7 @@
+-- The names of the first cell as the code holds them.
 use Rattle.std.specs.Prelude.{◌≡◌}
 use Rattle.domsyn.specs.declared.names.CellNames.{CellNames}
-use Rattle.domsyn.specs.Deck.{cell_nets}
+use Rattle.domino_cell.specs.CellNames.{cell_nets}
 
 -- the names are those of the nets of the first cell
 pub record IsNamed (names : CellNames) : Type 0 where

@@ -1,3 +1,4 @@
+-- The deck of the bytes of a file.
 use Rattle.std.specs.Prelude.{ℕ, ◌≤◌, List, length}
 use Rattle.dom_io.specs.Held.{file_limit}
 use Rattle.deck.specs.CircuitData.{CircuitData}

@@ -1,4 +1,3 @@
-pub mod Balanced
 pub mod Bits
 pub mod CellNames
 pub mod Deck

@@ -1,4 +1,5 @@
-use Rattle.std.specs.Prelude.{ℕ, ◌≤◌, ◌<◌, ◌≡◌, ◌≢◌, Bool, true, false, List, [], ◌∷◌, ◌++◌, nat_eq, length, All, count_by, sum_by}
+-- Which files are networks of one table (Berkeley Logic Interchange Format), and which of these are built.
+use Rattle.std.specs.Prelude.{ℕ, ◌≤◌, ◌≡◌, ◌≢◌, Bool, true, false, List, [], ◌∷◌, ◌++◌, nat_eq, length, All, count_by, sum_by}
 use Rattle.std.specs.List.{IsDistinct}
 use Rattle.std.specs.Cmp.Lexicographic.{pointwise}
 use Rattle.blif_ast.specs.declared.letter.Letter.{Letter}
@@ -6,25 +7,27 @@ use Rattle.blif_ast.specs.declared.letter.Letter.TheVariants.{Zero, One}
 use Rattle.blif_ast.specs.BlifFileData.{BlifFileData}
 use Rattle.blif_ast.specs.BlifModelData.{BlifModelData}
 use Rattle.blif_ast.specs.TableData.{TableData}
+use Rattle.deck.specs.PortNames.{IsByteName}
 use Rattle.domsyn.specs.OneTableData.{OneTableData}
 
-abbrev pub is_one : Letter → Bool
-is_one One = true
-is_one _ = false
+-- whether the letter is 1
+abbrev pub is_one_letter : Letter → Bool
+is_one_letter One = true
+is_one_letter _ = false
 
 -- a row of so many letters: ones and dashes alone, with 1 to 4 ones
 pub record IsRow (width : ℕ) (row : List Letter) : Type 0 where
   pub fits : length row ≡ width
   pub no_zero : All (λ letter. letter ≢ Zero) row
-  pub some_one : 1 ≤ count_by is_one row
-  pub few_ones : count_by is_one row ≤ 4
+  pub some_one : 1 ≤ count_by is_one_letter row
+  pub few_ones : count_by is_one_letter row ≤ 4
 
 -- 1 to 4 such rows, with at least two ones in all
 pub record HasGoodRows (width : ℕ) (all : List (List Letter)) : Type 0 where
   pub some_row : 1 ≤ length all
   pub few_rows : length all ≤ 4
   pub rows : All (IsRow width) all
-  pub two_ones : 2 ≤ sum_by (count_by is_one) all
+  pub two_ones : 2 ≤ sum_by (count_by is_one_letter) all
 
 -- 1 to 4 such rows over 1 to 4,096 inputs, with at least two ones in all
 pub record IsSmall (inputs : List (List ℕ)) (output : List ℕ) (all : List (List Letter)) : Type 0 where
@@ -68,12 +71,7 @@ pub record IsFileOfTable (f : BlifFileData) (t : OneTableData) : Type 0 where
   pub models : f.models ≡ model ∷ []
   pub is_model : IsModelOf model t
 
--- a name that is not empty, of bytes
-pub record IsByteName (name : List ℕ) : Type 0 where
-  pub some : name ≢ []
-  pub bytes : All (λ b. b < 256) name
-
--- the names of a network are such names
+-- the names of a network are not empty, of bytes
 pub record HasByteNames (t : OneTableData) : Type 0 where
   pub model : IsByteName t.model
   pub inputs : All IsByteName t.inputs

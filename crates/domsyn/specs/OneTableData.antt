@@ -1,3 +1,4 @@
+-- A network of one table.
 use Rattle.std.specs.Prelude.{ℕ, List}
 use Rattle.blif_ast.specs.declared.letter.Letter.{Letter}
 

@@ -1,3 +1,4 @@
+-- The pull-down of a circuit is a table: paths from the dynamic net to ground (Bryant, switch-level model).
 use Rattle.std.specs.Prelude.{ℕ, ◌≡◌, ◌↔◌, Bool, true, List, [], ◌∷◌, ◌++◌, Some, length, map, take, slice_get, codes}
 use Rattle.dom_base.specs.declared.tri.Tri.{Tri}
 use Rattle.dom_base.specs.declared.tri.Tri.TheVariants.{Zero, One}
@@ -7,7 +8,7 @@ use Rattle.deck.specs.Ports.{leading_ports}
 use Rattle.deck.specs.Sources.{is_source}
 use Rattle.deck.specs.Switches.{value_of}
 use Rattle.domsyn.specs.Bits.{tri_of}
-use Rattle.domsyn.specs.Deck.{pin_name, output_name}
+use Rattle.deck.specs.PortNames.{pin_name, output_name}
 use Rattle.domsyn.specs.OneTableData.{OneTableData}
 use Rattle.blif_ast.specs.TableValue.{IsOneAt}
 

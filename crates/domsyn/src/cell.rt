@@ -3,16 +3,19 @@ ghost use Rattle.std.specs.Prelude.{◌≡◌, ◌≤◌, ◌<◌, ◌+◌, ◌*
 ghost use Rattle.dom_base.specs.declared.kind.Kind.TheVariants.{N as nch};
 ghost use Rattle.deck.specs.Escapes.{escaped};
 ghost use Rattle.deck.specs.Pushes.{new_circuit};
-ghost use Rattle.stage.specs.Card.{with_cards};
-ghost use Rattle.stage.specs.Cell.{cell, inverter};
-ghost use Rattle.stage.specs.Tree.{spell, inner_count};
+ghost use Rattle.deck.specs.NamedDevices.{with_devices};
+ghost use Rattle.domino_cell.specs.Cell.{cell, inverter};
+ghost use Rattle.domino_cell.specs.Spelling.{spell};
+ghost use Rattle.sp_network.specs.Tree.{inner_count};
 ghost use Rattle.domsyn.specs.OneTable.{IsOneTable, IsRow, HasByteNames, HasGoodRows};
 ghost use Rattle.domsyn.specs.CellNames.{IsNamed};
-ghost use Rattle.domsyn.specs.Deck.{literals, row_tree, table_tree, cell_nets, circuit_of, pin_name, output_name};
+ghost use Rattle.domsyn.specs.Deck.{literals, row_tree, table_tree, circuit_of};
+ghost use Rattle.domino_cell.specs.CellNames.{cell_nets};
+ghost use Rattle.deck.specs.PortNames.{pin_name, output_name};
 
-use crate::OneTable;
-use crate::check::is_one;
+use crate::form::is_one;
 use crate::names::{CellNames, escaped_name, inner_name, net_name, pin_names};
+use crate::one_table::OneTable;
 use blif_ast::Row;
 use deck::{Circuit, Phase};
 use dom_base::{Kind, NetName, OutOfMemory};
@@ -68,7 +71,7 @@ fn push_series(
     requires room { length circuit.old.devices + length nets.now ≤ 2 ^ 24 }
     requires numbers { inner + length nets.now < 2 ^ 32 }
     ensures next { IfOk result (λ next. next + 1 ≡ inner + length nets.now) }
-    ensures cards { OnOk result (circuit.new ≡ with_cards circuit.old (spell nch cell_nets.inner (row_tree [] nets.now) top.now bottom.now inner)) }
+    ensures cards { OnOk result (circuit.new ≡ with_devices circuit.old (spell nch cell_nets.inner (row_tree [] nets.now) top.now bottom.now inner)) }
     ensures count { OnOk result (length circuit.new.devices ≡ length circuit.old.devices + length nets.now) }
 {
     if nets.len() == 1 {
@@ -96,7 +99,7 @@ fn push_row(
     requires numbers { inner + 4 < 2 ^ 32 }
     ensures next { IfOk result (λ next. next ≡ inner + inner_count (row_tree [] (literals row.now pins.now))) }
     ensures few { IfOk result (λ next. next ≤ inner + 4) }
-    ensures cards { OnOk result (circuit.new ≡ with_cards circuit.old (spell nch cell_nets.inner (row_tree [] (literals row.now pins.now)) top.now bottom.now inner)) }
+    ensures cards { OnOk result (circuit.new ≡ with_devices circuit.old (spell nch cell_nets.inner (row_tree [] (literals row.now pins.now)) top.now bottom.now inner)) }
     ensures count { OnOk result (length circuit.new.devices ≤ length circuit.old.devices + 4) }
 {
     let nets = literals_of(alloc, row, pins)?;
@@ -120,7 +123,7 @@ fn push_parallel(
     requires numbers { inner + 4 * length rows.now < 2 ^ 32 }
     ensures next { IfOk result (λ next. next ≡ inner + inner_count (table_tree [] rows.now pins.now)) }
     ensures few { IfOk result (λ next. next ≤ inner + 4 * length rows.now) }
-    ensures cards { OnOk result (circuit.new ≡ with_cards circuit.old (spell nch cell_nets.inner (table_tree [] rows.now pins.now) top.now bottom.now inner)) }
+    ensures cards { OnOk result (circuit.new ≡ with_devices circuit.old (spell nch cell_nets.inner (table_tree [] rows.now pins.now) top.now bottom.now inner)) }
     ensures count { OnOk result (length circuit.new.devices ≤ length circuit.old.devices + 4 * length rows.now) }
 {
     if rows.len() == 1 {
@@ -161,7 +164,7 @@ fn push_inverter(
     out: &NetName,
 ) -> Result<(), OutOfMemory>
     requires { length circuit.old.devices + 2 ≤ 2 ^ 24 }
-    ensures cards { OnOk result (circuit.new ≡ with_cards circuit.old (inverter names.now.vdd names.now.vss gate.now out.now)) }
+    ensures cards { OnOk result (circuit.new ≡ with_devices circuit.old (inverter names.now.vdd names.now.vss gate.now out.now)) }
     ensures count { OnOk result (length circuit.new.devices ≡ length circuit.old.devices + 2) }
 {
     circuit.push(Kind::P, out, gate, &names.vdd)?;
@@ -179,7 +182,7 @@ fn push_cell(
     requires good { HasGoodRows (length pins.now) rows.now }
     requires named { IsNamed names.now }
     requires room { length circuit.old.devices + 21 ≤ 2 ^ 24 }
-    ensures cards { OnOk result (circuit.new ≡ with_cards circuit.old (cell cell_nets (table_tree [] rows.now pins.now))) }
+    ensures cards { OnOk result (circuit.new ≡ with_devices circuit.old (cell cell_nets (table_tree [] rows.now pins.now))) }
     ensures count { OnOk result (length circuit.new.devices ≤ length circuit.old.devices + 21) }
 {
     circuit.push(Kind::P, &names.dynamic, &names.clock, &names.vdd)?;

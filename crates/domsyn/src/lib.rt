@@ -2,8 +2,8 @@
 #![tactic(auto)]
 
 mod cell;
-mod check;
 mod fetch;
+mod form;
 mod kind_name;
 mod laws;
 mod names;
@@ -17,5 +17,4 @@ mod tell;
 
 pub use command_words::asked_is_one;
 pub use laws::outcome_is_one;
-pub use one_table::OneTable;
 pub use program::top;

@@ -2,9 +2,8 @@
 ghost use Rattle.std.specs.Prelude.{◌≡◌, ◌++◌, IfOk, All, map, codes};
 ghost use Rattle.std.specs.Fmt.{decimal};
 ghost use Rattle.dom_base.specs.Names.{IsNetByte, IsNetName};
-ghost use Rattle.domsyn.specs.Deck.{pin_name};
+ghost use Rattle.deck.specs.PortNames.{pin_name, IsByteName};
 ghost use Rattle.deck.specs.Escapes.{escaped};
-ghost use Rattle.domsyn.specs.OneTable.{IsByteName};
 
 use deck::esc;
 use dom_base::{Name, NetName, OutOfMemory};
@@ -58,7 +57,7 @@ pub fn inner_name(alloc: Global, inner: u32) -> Result<NetName, OutOfMemory>
 }
 
 /// The name of a front and the escape of a name.
-#[tactic(auto, using(crate::proofs::EscapedNames::escaped_names))]
+#[tactic(auto, using(deck::proofs::EscapedNames::escaped_names))]
 pub fn escaped_name(alloc: Global, front: &[u8], name: &Name) -> Result<NetName, OutOfMemory>
     requires name { IsByteName name.now }
     requires front { All IsNetByte front.now }

@@ -3,7 +3,7 @@ ghost use Rattle.std.specs.Prelude.{◌≡◌, ◌↔◌, IsTrue, IfOk, IfSome, 
 ghost use Rattle.domsyn.specs.OneTable.{IsOneTable, IsFileOfTable, IsTableOver};
 ghost use Rattle.domsyn.specs.OneTableData.{OneTableData};
 
-use crate::check::is_small;
+use crate::form::is_small;
 use blif_ast::{BlifFile, BlifModel, Row, Table};
 use dom_base::{Name, OutOfMemory};
 use std::alloc::Global;

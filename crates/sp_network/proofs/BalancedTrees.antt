@@ -1,5 +1,5 @@
 -- What balanced trees join, and what holds of their leaves.
-use Rattle.std.proofs.Common.{◌≡◌, ℕ, ◌≤◌, Bool, true, false, cond, ◌&&◌, ◌||◌, List, [], length, map, take, drop, refl, sym, ap, ap₂, ◌∙◌, arith, take-append-drop, ◌+◌, length-take, length-drop}
+use Rattle.std.proofs.Common.{◌≡◌, ℕ, ◌≤◌, Bool, ◌&&◌, ◌||◌, List, [], length, map, take, drop, refl, sym, ap, ap₂, ◌∙◌, arith, take-append-drop, ◌+◌, length-take, length-drop}
 use Rattle.std.specs.Prelude.{All}
 use Rattle.std.specs.List.{list_all, list_any}
 use Rattle.std.proofs.lemmas.List.Elements.{All-head, All-take, All-drop}

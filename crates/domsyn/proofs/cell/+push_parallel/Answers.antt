@@ -1,9 +1,10 @@
 use Rattle.std.proofs.Common.{◌≡◌, ◌≤◌, ◌+◌, ◌∙◌, ap, take, drop, length, arith, []}
 use Rattle.std.proofs.lemmas.Result.{on_ok_weaker, IfOk-weaker}
 use Rattle.dom_base.specs.declared.kind.Kind.TheVariants.{N as nch}
-use Rattle.stage.specs.Tree.{inner_count}
-use Rattle.domsyn.specs.Balanced.{first_half}
-use Rattle.domsyn.specs.Deck.{cell_nets, table_tree}
+use Rattle.sp_network.specs.Tree.{inner_count}
+use Rattle.sp_network.specs.Balanced.{first_half}
+use Rattle.domino_cell.specs.CellNames.{cell_nets}
+use Rattle.domsyn.specs.Deck.{table_tree}
 use Rattle.domsyn.proofs.Spelling.{parallel_cards, inner_count-table_tree}
 use Rattle.domsyn.proofs.cell.+push_parallel.Goals as goal
 

@@ -1,8 +1,8 @@
 use Rattle.std.proofs.Common.{◌≡◌, ◌≤◌, ◌+◌, ◌∙◌, ap, take, drop, length, arith, length-take, []}
 use Rattle.std.proofs.lemmas.Result.{on_ok_weaker}
 use Rattle.dom_base.specs.declared.kind.Kind.TheVariants.{N as nch}
-use Rattle.domsyn.specs.Balanced.{first_half}
-use Rattle.domsyn.specs.Deck.{cell_nets}
+use Rattle.sp_network.specs.Balanced.{first_half}
+use Rattle.domino_cell.specs.CellNames.{cell_nets}
 use Rattle.domsyn.proofs.Spelling.{series_cards}
 use Rattle.domsyn.proofs.cell.+push_series.Goals as goal
 

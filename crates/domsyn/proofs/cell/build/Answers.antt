@@ -1,6 +1,6 @@
 use Rattle.std.proofs.Common.{◌∙◌, ap, refl, map}
 use Rattle.domsyn.specs.OneTableData.{OneTableData}
-use Rattle.domsyn.specs.Deck.{pin_name, output_name}
+use Rattle.deck.specs.PortNames.{pin_name, output_name}
 use Rattle.domsyn.proofs.Spelling.{circuit_of_parts}
 use Rattle.domsyn.proofs.cell.build.Goals as goal
 

@@ -1,10 +1,10 @@
 use Rattle.std.proofs.Common.{◌≡◌, ◌∷◌, ◌++◌, ◌∙◌, [], nat_eq, sym, subst, ap, map}
-use Rattle.domsyn.specs.Deck.{pin_name, output_name}
+use Rattle.deck.specs.PortNames.{pin_name, output_name}
 use Rattle.std.specs.Prelude.{All}
 use Rattle.std.specs.List.{IsDistinct}
 use Rattle.std.specs.Cmp.Lexicographic.{pointwise}
 use Rattle.deck.specs.Ports.{IsPin}
-use Rattle.domsyn.proofs.NetNames.{pins_are_pins, pins_apart}
+use Rattle.deck.proofs.NetNames.{pins_are_pins, pins_apart}
 use Rattle.domsyn.proofs.cell.without_devices.Goals as goal
 
 pub new-requires-clause-pins_begin : goal.new-requires-clause-pins_begin

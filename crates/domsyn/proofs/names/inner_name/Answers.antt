@@ -1,5 +1,5 @@
 use Rattle.std.proofs.Common.{arith}
-use Rattle.domsyn.proofs.NetNames.{inner_is_net}
+use Rattle.domino_cell.proofs.CellNetNames.{inner_is_net}
 use Rattle.domsyn.proofs.names.inner_name.Goals as goal
 
 pub net_name-requires : goal.net_name-requires

@@ -1,5 +1,5 @@
 use Rattle.std.proofs.Common.{◌≡◌, map, take}
-use Rattle.domsyn.specs.Deck.{pin_name}
+use Rattle.deck.specs.PortNames.{pin_name}
 use Rattle.domsyn.proofs.names.pin_names.Given as goal
 
 abbrev pub invariant-loop-input : goal.invariant-loop-input

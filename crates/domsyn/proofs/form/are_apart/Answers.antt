@@ -4,7 +4,7 @@ use Rattle.indexmap.specs.IndexSet.{insert_key, insert_all}
 use Rattle.indexmap.proofs.SetLemmas.{set_all_push}
 use Rattle.std.proofs.Math.Seq.{take-length}
 use Rattle.domsyn.proofs.Apart.{apart_from_count, count_from_apart}
-use Rattle.domsyn.proofs.check.are_apart.Goals as goal
+use Rattle.domsyn.proofs.form.are_apart.Goals as goal
 
 pub returns : goal.returns
 returns c =

@@ -1,9 +1,9 @@
-//! Which networks of one table are built.
+//! Which networks of one table are small enough to be built.
 ghost use Rattle.std.specs.Prelude.{◌≡◌, ◌≤◌, ◌↔◌, ◌∷◌, ◌++◌, [], IfOk, OnOk, IsTrue, All, nat_eq, length, count_by, sum_by};
 ghost use Rattle.std.specs.Cmp.Lexicographic.{pointwise};
 ghost use Rattle.std.specs.List.{IsDistinct};
 ghost use Rattle.indexmap.specs.IndexSet.{insert_key};
-ghost use Rattle.domsyn.specs.OneTable.{IsRow, IsSmall, HasGoodRows, is_one as is_one_of};
+ghost use Rattle.domsyn.specs.OneTable.{IsRow, IsSmall, HasGoodRows, is_one_letter};
 
 use blif_ast::{Letter, Row};
 use dom_base::{Name, OutOfMemory};
@@ -49,8 +49,8 @@ fn has_good_rows(width: usize, rows: &[Row]) -> bool
 /// The ones of all rows.
 fn total_ones(rows: &[Row]) -> usize
     requires few { length rows.now ≤ 4 }
-    requires few_ones { All (λ row. count_by is_one_of row ≤ 4) rows.now }
-    ensures { result ≡ sum_by (count_by is_one_of) rows.now }
+    requires few_ones { All (λ row. count_by is_one_letter row ≤ 4) rows.now }
+    ensures { result ≡ sum_by (count_by is_one_letter) rows.now }
 {
     let mut total = 0;
     for row in rows {
@@ -89,13 +89,13 @@ fn is_row(width: usize, row: &Row) -> bool
 }
 
 fn ones(row: &Row) -> usize
-    ensures { result ≡ count_by is_one_of row.now }
+    ensures { result ≡ count_by is_one_letter row.now }
 {
     row.letters.iter().filter(|letter| is_one(**letter)).count()
 }
 
 pub fn is_one(letter: Letter) -> bool
-    ensures { result ≡ is_one_of letter }
+    ensures { result ≡ is_one_letter letter }
 {
     matches!(letter, Letter::One)
 }

@@ -1,8 +1,0 @@
-use Rattle.stage.proofs.CellLaws.{joins_foot_where_one, may_join_foot_where_not_zero}
-use Rattle.stage.proofs.tree_joins_foot.Goals as goal
-
-pub returns-clause-definite : goal.returns-clause-definite
-returns-clause-definite c = joins_foot_where_one
-
-pub returns-clause-possible : goal.returns-clause-possible
-returns-clause-possible c = may_join_foot_where_not_zero
