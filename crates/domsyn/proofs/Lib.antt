@@ -1,10 +1,10 @@
 pub mod Apart
 pub mod BalancedTrees
+pub mod BuiltFiles
 pub mod Causes
 pub mod CellNetNames
 pub mod CircuitCell
-pub mod Coming
-pub mod CommandEnds
+pub mod CommandFailures
 pub mod Commands
 pub mod DeckFacts
 pub mod DeckNames
@@ -15,10 +15,13 @@ pub mod Literals
 pub mod NetNames
 pub mod OneDeck
 pub mod OneOutcome
+pub mod OutcomeThere
+pub mod PortPlaces
 pub mod PulledDown
+pub mod ReportedFailures
 pub mod Rooms
 pub mod RowMatches
 pub mod Spelling
 pub mod TableValues
-pub mod ToldStops
+pub mod TopClauses
 pub mod WordBytes
