@@ -1,8 +1,8 @@
 pub mod Apart
+pub mod BuiltFiles
 pub mod Causes
 pub mod CircuitCell
-pub mod Coming
-pub mod CommandEnds
+pub mod CommandFailures
 pub mod Commands
 pub mod DeckFacts
 pub mod DeckNames
@@ -11,9 +11,12 @@ pub mod FilesOfTables
 pub mod Literals
 pub mod OneDeck
 pub mod OneOutcome
+pub mod OutcomeThere
+pub mod PortPlaces
 pub mod PulledDown
+pub mod ReportedFailures
 pub mod Rooms
 pub mod RowMatches
 pub mod Spelling
 pub mod TableValues
-pub mod ToldStops
+pub mod TopClauses

@@ -1,4 +1,4 @@
--- Over files that are told, a command comes to one thing.
+-- Over files that are known, a command has one outcome.
 use Rattle.std.proofs.Common.{◌≡◌, ◌≢◌, ◌<◌, ◌∙◌, ◌⊎◌, inl, inr, ℕ, List, length, Some, refl, sym, ap, subst, arith}
 use Rattle.std.specs.Prelude.{if◌then◌else◌}
 use Rattle.std.proofs.lemmas.Option.{same_Some}
@@ -7,7 +7,7 @@ use Rattle.domsyn.specs.declared.refusal.Refusal.{Refusal}
 use Rattle.domsyn.specs.declared.refusal.Refusal.TheVariants.{TooLong, Blif, NotBuilt, Deck, Ports, Stim}
 use Rattle.command_words.specs.Commands.{Command, Synth, Sim}
 use Rattle.domsyn.specs.Decks.{IsDeckFor}
-use Rattle.domsyn.specs.Outcomes.{IsDeck, IsFile, IsFirstTooLong, IsNoDeck, IsNoTrace, IsOutcome, IsSimRefusal, IsTooLong, IsTrace, Outcome, Told, Refused}
+use Rattle.domsyn.specs.Outcomes.{IsDeck, IsFile, IsFirstTooLong, IsNoDeck, IsNoTrace, IsOutcome, IsSimRefusal, IsTooLong, IsTrace, Outcome, Printed, Refused}
 use Rattle.domsyn.specs.Refusals.{IsRefusedFor}
 use Rattle.domsyn.proofs.Causes.{causes_alike, not_both}
 use Rattle.domsyn.proofs.OneDeck.{decks_alike}
@@ -22,51 +22,51 @@ abbrev Pairs : Type 0
 Pairs = List (List ℕ × List ℕ)
 
 -- a file has one list of bytes
-bytes_alike : (told : Pairs) (name a b : List ℕ) → held told name ≡ Some a → held told name ≡ Some b → a ≡ b
-bytes_alike told name a b x y = same_Some a b (sym x ∙ y)
+bytes_alike : (known : Pairs) (name a b : List ℕ) → held known name ≡ Some a → held known name ≡ Some b → a ≡ b
+bytes_alike known name a b x y = same_Some a b (sym x ∙ y)
 
 -- a file that has few enough bytes hasn't too many
-not_too_long : (told : Pairs) (name bytes : List ℕ) → IsFile (Some told) name bytes → IsTooLong (Some told) name → ⊥
-not_too_long told name bytes is long =
-    let same = bytes_alike told name bytes long.bytes is.holds long.holds in
+not_too_long : (known : Pairs) (name bytes : List ℕ) → IsFile (Some known) name bytes → IsTooLong (Some known) name → ⊥
+not_too_long known name bytes is long =
+    let same = bytes_alike known name bytes long.bytes is.holds long.holds in
     let fits = is.within in
     let more = subst (λ (b : List ℕ). file_limit < length b) (sym same) long.long in
     omega (arith, fits, more)
 
-told_alike : (s s' : ℕ) (t t' : List ℕ) → s ≡ s' → t ≡ t' → Told s t ≡ Told s' t'
-told_alike s s' t t' x y = λ i. Told (x i) (y i)
+printed_alike : (s s' : ℕ) (t t' : List ℕ) → s ≡ s' → t ≡ t' → Printed s t ≡ Printed s' t'
+printed_alike s s' t t' x y = λ i. Printed (x i) (y i)
 
 refused_alike : (f f' : List ℕ) (w w' : Refusal) → f ≡ f' → w ≡ w' → Refused f w ≡ Refused f' w'
 refused_alike f f' w w' x y = λ i. Refused (x i) (y i)
 
 -- the deck of a file
-synth_told : (told : Pairs) (file : List ℕ) (s s' : ℕ) (t t' : List ℕ) → IsDeck (Some told) file s t → IsDeck (Some told) file s' t' → Told s t ≡ Told s' t'
-synth_told told file s s' t t' x y =
-    let same = bytes_alike told file y.bytes x.bytes y.is_file.holds x.is_file.holds in
-    told_alike s s' t t' (x.done ∙ sym y.done) (decks_alike x.bytes t t' x.deck (subst (λ (b : List ℕ). IsDeckFor b t') same y.deck))
+synth_printed : (known : Pairs) (file : List ℕ) (s s' : ℕ) (t t' : List ℕ) → IsDeck (Some known) file s t → IsDeck (Some known) file s' t' → Printed s t ≡ Printed s' t'
+synth_printed known file s s' t t' x y =
+    let same = bytes_alike known file y.bytes x.bytes y.is_file.holds x.is_file.holds in
+    printed_alike s s' t t' (x.done ∙ sym y.done) (decks_alike x.bytes t t' x.deck (subst (λ (b : List ℕ). IsDeckFor b t') same y.deck))
 
-synth_refused : (told : Pairs) (file f f' : List ℕ) (w w' : Refusal) → IsNoDeck (Some told) file f w → IsNoDeck (Some told) file f' w' → Refused f w ≡ Refused f' w'
-synth_refused told file f f' w w' x y =
-    let same = bytes_alike told file y.bytes x.bytes y.holds x.holds in
+synth_refused : (known : Pairs) (file f f' : List ℕ) (w w' : Refusal) → IsNoDeck (Some known) file f w → IsNoDeck (Some known) file f' w' → Refused f w ≡ Refused f' w'
+synth_refused known file f f' w w' x y =
+    let same = bytes_alike known file y.bytes x.bytes y.holds x.holds in
     refused_alike f f' w w' (x.name_is ∙ sym y.name_is) (causes_alike x.bytes w w' x.refused (subst (λ (b : List ℕ). IsRefusedFor b w') same y.refused))
 
-synth_apart : (told : Pairs) (file f : List ℕ) (s : ℕ) (t : List ℕ) (w : Refusal) → IsDeck (Some told) file s t → IsNoDeck (Some told) file f w → ⊥
-synth_apart told file f s t w x y =
-    let same = bytes_alike told file y.bytes x.bytes y.holds x.is_file.holds in
+synth_apart : (known : Pairs) (file f : List ℕ) (s : ℕ) (t : List ℕ) (w : Refusal) → IsDeck (Some known) file s t → IsNoDeck (Some known) file f w → ⊥
+synth_apart known file f s t w x y =
+    let same = bytes_alike known file y.bytes x.bytes y.holds x.is_file.holds in
     not_both x.bytes w (subst (λ (b : List ℕ). IsRefusedFor b w) same y.refused) x.deck.buildable
 
 -- the trace of a deck over a stimulus
-sim_told : (told : Pairs) (deck stim : List ℕ) (options : TraceOptionsData) (s s' : ℕ) (t t' : List ℕ)
-    → IsTrace (Some told) deck stim options s t → IsTrace (Some told) deck stim options s' t' → Told s t ≡ Told s' t'
-sim_told told deck stim options s s' t t' x y =
-    let decks = bytes_alike told deck y.deck_bytes x.deck_bytes y.is_deck.holds x.is_deck.holds in
-    let stims = bytes_alike told stim y.stim_bytes x.stim_bytes y.is_stim.holds x.is_stim.holds in
+sim_printed : (known : Pairs) (deck stim : List ℕ) (options : TraceOptionsData) (s s' : ℕ) (t t' : List ℕ)
+    → IsTrace (Some known) deck stim options s t → IsTrace (Some known) deck stim options s' t' → Printed s t ≡ Printed s' t'
+sim_printed known deck stim options s s' t t' x y =
+    let decks = bytes_alike known deck y.deck_bytes x.deck_bytes y.is_deck.holds x.is_deck.holds in
+    let stims = bytes_alike known stim y.stim_bytes x.stim_bytes y.is_stim.holds x.is_stim.holds in
     let first : TraceData = record { text = t; settled = x.settled } in
     let second : TraceData = record { text = t'; settled = y.settled } in
     let moved : IsTraceOf x.deck_bytes x.stim_bytes options second =
     subst (λ (b : List ℕ). IsTraceOf b x.stim_bytes options second) decks (subst (λ (b : List ℕ). IsTraceOf y.deck_bytes b options second) stims y.trace) in
     let same : first ≡ second = answer_is_one.trace x.deck_bytes x.stim_bytes options first second x.trace moved in
-    told_alike s s' t t' (x.status_is ∙ (ap (λ (trace : TraceData). if trace.settled then 0 else 6) same ∙ sym y.status_is)) (ap (λ (trace : TraceData). trace.text) same)
+    printed_alike s s' t t' (x.status_is ∙ (ap (λ (trace : TraceData). if trace.settled then 0 else 6) same ∙ sym y.status_is)) (ap (λ (trace : TraceData). trace.text) same)
 
 -- the file that a fault of a simulation tells of, and its cause
 about : List ℕ → List ℕ → TraceFault → List ℕ
@@ -82,68 +82,68 @@ cause_of (stim_fault line kind) = Stim line kind
 cause_of Memory = TooLong
 
 -- a deck and a stimulus that were read are refused for a fault
-record IsFaulty (told : Pairs) (deck stim name : List ℕ) (why : Refusal) : Type 0 where
+record IsFaulty (known : Pairs) (deck stim name : List ℕ) (why : Refusal) : Type 0 where
   pub fault : TraceFault
   pub is_cause : fault ≢ Memory
-  pub no_trace : IsNoTrace (Some told) deck stim fault
+  pub no_trace : IsNoTrace (Some known) deck stim fault
   pub name_is : name ≡ about deck stim fault
   pub why_is : why ≡ cause_of fault
 
-record IsLong (told : Pairs) (deck stim name : List ℕ) (why : Refusal) : Type 0 where
-  pub first : IsFirstTooLong (Some told) deck stim name
+record IsLong (known : Pairs) (deck stim name : List ℕ) (why : Refusal) : Type 0 where
+  pub first : IsFirstTooLong (Some known) deck stim name
   pub why_is : why ≡ TooLong
 
-sim_cause : (told : Pairs) (deck stim name : List ℕ) (why : Refusal) → IsSimRefusal (Some told) deck stim name why → IsLong told deck stim name why ⊎ IsFaulty told deck stim name why
+sim_cause : (known : Pairs) (deck stim name : List ℕ) (why : Refusal) → IsSimRefusal (Some known) deck stim name why → IsLong known deck stim name why ⊎ IsFaulty known deck stim name why
 unfolding about cause_of
-sim_cause told deck stim name TooLong is = inl (record { first = is; why_is = refl })
-sim_cause told deck stim name (Deck line kind) is = inr (record { fault = deck_fault line kind; is_cause = λ e. cc; no_trace = is.1; name_is = is.0; why_is = refl })
-sim_cause told deck stim name (Ports place) is = inr (record { fault = port_fault place; is_cause = λ e. cc; no_trace = is.1; name_is = is.0; why_is = refl })
-sim_cause told deck stim name (Stim line kind) is = inr (record { fault = stim_fault line kind; is_cause = λ e. cc; no_trace = is.1; name_is = is.0; why_is = refl })
-sim_cause told deck stim name (Blif line kind) is = absurd is
-sim_cause told deck stim name NotBuilt is = absurd is
+sim_cause known deck stim name TooLong is = inl (record { first = is; why_is = refl })
+sim_cause known deck stim name (Deck line kind) is = inr (record { fault = deck_fault line kind; is_cause = λ e. cc; no_trace = is.1; name_is = is.0; why_is = refl })
+sim_cause known deck stim name (Ports place) is = inr (record { fault = port_fault place; is_cause = λ e. cc; no_trace = is.1; name_is = is.0; why_is = refl })
+sim_cause known deck stim name (Stim line kind) is = inr (record { fault = stim_fault line kind; is_cause = λ e. cc; no_trace = is.1; name_is = is.0; why_is = refl })
+sim_cause known deck stim name (Blif line kind) is = absurd is
+sim_cause known deck stim name NotBuilt is = absurd is
 
 -- where both files were read, neither is too long
-no_long : (told : Pairs) (deck stim name deck_bytes stim_bytes : List ℕ) → IsFile (Some told) deck deck_bytes → IsFile (Some told) stim stim_bytes → IsFirstTooLong (Some told) deck stim name → ⊥
-no_long told deck stim name deck_bytes stim_bytes a b (inl long) = not_too_long told deck deck_bytes a long.1
-no_long told deck stim name deck_bytes stim_bytes a b (inr long) = not_too_long told stim stim_bytes b long.3
+no_long : (known : Pairs) (deck stim name deck_bytes stim_bytes : List ℕ) → IsFile (Some known) deck deck_bytes → IsFile (Some known) stim stim_bytes → IsFirstTooLong (Some known) deck stim name → ⊥
+no_long known deck stim name deck_bytes stim_bytes a b (inl long) = not_too_long known deck deck_bytes a long.1
+no_long known deck stim name deck_bytes stim_bytes a b (inr long) = not_too_long known stim stim_bytes b long.3
 
-first_alike : (told : Pairs) (deck stim f f' : List ℕ) → IsFirstTooLong (Some told) deck stim f → IsFirstTooLong (Some told) deck stim f' → f ≡ f'
-first_alike told deck stim f f' (inl x) (inl y) = x.0 ∙ sym y.0
-first_alike told deck stim f f' (inl x) (inr y) = absurd (not_too_long told deck y.0 y.2 x.1)
-first_alike told deck stim f f' (inr x) (inl y) = absurd (not_too_long told deck x.0 x.2 y.1)
-first_alike told deck stim f f' (inr x) (inr y) = x.1 ∙ sym y.1
+first_alike : (known : Pairs) (deck stim f f' : List ℕ) → IsFirstTooLong (Some known) deck stim f → IsFirstTooLong (Some known) deck stim f' → f ≡ f'
+first_alike known deck stim f f' (inl x) (inl y) = x.0 ∙ sym y.0
+first_alike known deck stim f f' (inl x) (inr y) = absurd (not_too_long known deck y.0 y.2 x.1)
+first_alike known deck stim f f' (inr x) (inl y) = absurd (not_too_long known deck x.0 x.2 y.1)
+first_alike known deck stim f f' (inr x) (inr y) = x.1 ∙ sym y.1
 
-refused_here : (told : Pairs) (deck stim deck_bytes stim_bytes : List ℕ) (fault : TraceFault) → IsFile (Some told) deck deck_bytes → IsFile (Some told) stim stim_bytes
-    → IsNoTrace (Some told) deck stim fault → IsRefused deck_bytes stim_bytes fault
-refused_here told deck stim deck_bytes stim_bytes fault a b x =
-    let decks = bytes_alike told deck x.deck_bytes deck_bytes x.is_deck.holds a.holds in
-    let stims = bytes_alike told stim x.stim_bytes stim_bytes x.is_stim.holds b.holds in
+refused_here : (known : Pairs) (deck stim deck_bytes stim_bytes : List ℕ) (fault : TraceFault) → IsFile (Some known) deck deck_bytes → IsFile (Some known) stim stim_bytes
+    → IsNoTrace (Some known) deck stim fault → IsRefused deck_bytes stim_bytes fault
+refused_here known deck stim deck_bytes stim_bytes fault a b x =
+    let decks = bytes_alike known deck x.deck_bytes deck_bytes x.is_deck.holds a.holds in
+    let stims = bytes_alike known stim x.stim_bytes stim_bytes x.is_stim.holds b.holds in
     subst (λ (bytes : List ℕ). IsRefused bytes stim_bytes fault) decks (subst (λ (bytes : List ℕ). IsRefused x.deck_bytes bytes fault) stims x.refused)
 
-sim_refused : (told : Pairs) (deck stim f f' : List ℕ) (w w' : Refusal) → IsLong told deck stim f w ⊎ IsFaulty told deck stim f w → IsLong told deck stim f' w' ⊎ IsFaulty told deck stim f' w'
+sim_refused : (known : Pairs) (deck stim f f' : List ℕ) (w w' : Refusal) → IsLong known deck stim f w ⊎ IsFaulty known deck stim f w → IsLong known deck stim f' w' ⊎ IsFaulty known deck stim f' w'
     → Refused f w ≡ Refused f' w'
-sim_refused told deck stim f f' w w' (inl x) (inl y) = refused_alike f f' w w' (first_alike told deck stim f f' x.first y.first) (x.why_is ∙ sym y.why_is)
-sim_refused told deck stim f f' w w' (inl x) (inr y) = absurd (no_long told deck stim f y.no_trace.deck_bytes y.no_trace.stim_bytes y.no_trace.is_deck y.no_trace.is_stim x.first)
-sim_refused told deck stim f f' w w' (inr x) (inl y) = absurd (no_long told deck stim f' x.no_trace.deck_bytes x.no_trace.stim_bytes x.no_trace.is_deck x.no_trace.is_stim y.first)
-sim_refused told deck stim f f' w w' (inr x) (inr y) =
+sim_refused known deck stim f f' w w' (inl x) (inl y) = refused_alike f f' w w' (first_alike known deck stim f f' x.first y.first) (x.why_is ∙ sym y.why_is)
+sim_refused known deck stim f f' w w' (inl x) (inr y) = absurd (no_long known deck stim f y.no_trace.deck_bytes y.no_trace.stim_bytes y.no_trace.is_deck y.no_trace.is_stim x.first)
+sim_refused known deck stim f f' w w' (inr x) (inl y) = absurd (no_long known deck stim f' x.no_trace.deck_bytes x.no_trace.stim_bytes x.no_trace.is_deck x.no_trace.is_stim y.first)
+sim_refused known deck stim f f' w w' (inr x) (inr y) =
     let n = x.no_trace in
     let same : x.fault ≡ y.fault =
-    answer_is_one.cause n.deck_bytes n.stim_bytes x.fault y.fault x.is_cause y.is_cause n.refused (refused_here told deck stim n.deck_bytes n.stim_bytes y.fault n.is_deck n.is_stim y.no_trace) in
+    answer_is_one.cause n.deck_bytes n.stim_bytes x.fault y.fault x.is_cause y.is_cause n.refused (refused_here known deck stim n.deck_bytes n.stim_bytes y.fault n.is_deck n.is_stim y.no_trace) in
     refused_alike f f' w w' (x.name_is ∙ (ap (about deck stim) same ∙ sym y.name_is)) (x.why_is ∙ (ap cause_of same ∙ sym y.why_is))
 
-sim_apart : (told : Pairs) (deck stim f : List ℕ) (options : TraceOptionsData) (s : ℕ) (t : List ℕ) (w : Refusal)
-    → IsTrace (Some told) deck stim options s t → IsLong told deck stim f w ⊎ IsFaulty told deck stim f w → ⊥
-sim_apart told deck stim f options s t w x (inl y) = no_long told deck stim f x.deck_bytes x.stim_bytes x.is_deck x.is_stim y.first
-sim_apart told deck stim f options s t w x (inr y) =
+sim_apart : (known : Pairs) (deck stim f : List ℕ) (options : TraceOptionsData) (s : ℕ) (t : List ℕ) (w : Refusal)
+    → IsTrace (Some known) deck stim options s t → IsLong known deck stim f w ⊎ IsFaulty known deck stim f w → ⊥
+sim_apart known deck stim f options s t w x (inl y) = no_long known deck stim f x.deck_bytes x.stim_bytes x.is_deck x.is_stim y.first
+sim_apart known deck stim f options s t w x (inr y) =
     answer_is_one.apart x.deck_bytes x.stim_bytes options (record { text = t; settled = x.settled }) y.fault y.is_cause x.trace
-    (refused_here told deck stim x.deck_bytes x.stim_bytes y.fault x.is_deck x.is_stim y.no_trace)
+    (refused_here known deck stim x.deck_bytes x.stim_bytes y.fault x.is_deck x.is_stim y.no_trace)
 
-pub one_outcome : (told : List (List ℕ × List ℕ)) (command : Command) (a b : Outcome) → IsOutcome (Some told) command a → IsOutcome (Some told) command b → a ≡ b
-one_outcome told (Synth file) (Told s t) (Told s' t') x y = synth_told told file s s' t t' x y
-one_outcome told (Synth file) (Told s t) (Refused f w) x y = absurd (synth_apart told file f s t w x y)
-one_outcome told (Synth file) (Refused f w) (Told s t) x y = absurd (synth_apart told file f s t w y x)
-one_outcome told (Synth file) (Refused f w) (Refused f' w') x y = synth_refused told file f f' w w' x y
-one_outcome told (Sim deck stim options) (Told s t) (Told s' t') x y = sim_told told deck stim options s s' t t' x y
-one_outcome told (Sim deck stim options) (Told s t) (Refused f w) x y = absurd (sim_apart told deck stim f options s t w x (sim_cause told deck stim f w y))
-one_outcome told (Sim deck stim options) (Refused f w) (Told s t) x y = absurd (sim_apart told deck stim f options s t w y (sim_cause told deck stim f w x))
-one_outcome told (Sim deck stim options) (Refused f w) (Refused f' w') x y = sim_refused told deck stim f f' w w' (sim_cause told deck stim f w x) (sim_cause told deck stim f' w' y)
+pub one_outcome : (known : List (List ℕ × List ℕ)) (command : Command) (a b : Outcome) → IsOutcome (Some known) command a → IsOutcome (Some known) command b → a ≡ b
+one_outcome known (Synth file) (Printed s t) (Printed s' t') x y = synth_printed known file s s' t t' x y
+one_outcome known (Synth file) (Printed s t) (Refused f w) x y = absurd (synth_apart known file f s t w x y)
+one_outcome known (Synth file) (Refused f w) (Printed s t) x y = absurd (synth_apart known file f s t w y x)
+one_outcome known (Synth file) (Refused f w) (Refused f' w') x y = synth_refused known file f f' w w' x y
+one_outcome known (Sim deck stim options) (Printed s t) (Printed s' t') x y = sim_printed known deck stim options s s' t t' x y
+one_outcome known (Sim deck stim options) (Printed s t) (Refused f w) x y = absurd (sim_apart known deck stim f options s t w x (sim_cause known deck stim f w y))
+one_outcome known (Sim deck stim options) (Refused f w) (Printed s t) x y = absurd (sim_apart known deck stim f options s t w y (sim_cause known deck stim f w x))
+one_outcome known (Sim deck stim options) (Refused f w) (Refused f' w') x y = sim_refused known deck stim f f' w w' (sim_cause known deck stim f w x) (sim_cause known deck stim f' w' y)

@@ -2,12 +2,12 @@ pub mod Bits
 pub mod CellNames
 pub mod Deck
 pub mod Decks
-pub mod KindNames
+pub mod Failures
+pub mod Headline
 pub mod Laws
 pub mod OneTable
 pub mod OneTableData
 pub mod Outcomes
 pub mod PullDown
 pub mod Refusals
-pub mod Stops
 pub mod Top

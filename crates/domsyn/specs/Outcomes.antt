@@ -1,3 +1,4 @@
+-- The outcome of a command over files: a text with its status, or the file that is refused and the cause.
 use Rattle.std.specs.Prelude.{ℕ, ◌<◌, ◌≤◌, ◌≡◌, ◌⊎◌, Bool, if◌then◌else◌, List, Option, Some, IfSome, length}
 use Rattle.dom_io.specs.Held.{file_limit, held}
 use Rattle.domsyn.specs.declared.refusal.Refusal.{Refusal}
@@ -11,13 +12,13 @@ use Rattle.trace_tool.specs.Traces.{IsTraceOf}
 use Rattle.trace_tool.specs.declared.fault.TraceFault.{TraceFault}
 use Rattle.trace_tool.specs.declared.fault.TraceFault.TheVariants.{Deck as deck_fault, Ports as port_fault, Stim as stim_fault}
 
--- names with their bytes, where they are told
+-- names with their bytes, where they are known
 abbrev pub Files : Type 0
 Files = Option (List (List ℕ × List ℕ))
 
--- where the files are told, these are the bytes of this one
+-- where the files are known, these are the bytes of this one
 abbrev pub Holds : Files → List ℕ → List ℕ → Type 0
-Holds files name bytes = IfSome files (λ told. held told name ≡ Some bytes)
+Holds files name bytes = IfSome files (λ known. held known name ≡ Some bytes)
 
 -- the file has these bytes, no more than a file may have
 pub record IsFile (files : Files) (name bytes : List ℕ) : Type 0 where
@@ -30,13 +31,13 @@ pub record IsTooLong (files : Files) (name : List ℕ) : Type 0 where
   pub holds : Holds files name bytes
   pub long : file_limit < length bytes
 
--- what a command comes to: a text with its status, or the file that is refused and the cause
+-- the outcome of a command: a text with its status, or the file that is refused and the cause
 pub data Outcome : Type 0 where
-  Told : (status : ℕ) → (text : List ℕ) → Outcome
+  Printed : (status : ℕ) → (text : List ℕ) → Outcome
   Refused : (file : List ℕ) → (why : Refusal) → Outcome
 
 abbrev pub status_of : Outcome → ℕ
-status_of (Told status text) = status
+status_of (Printed status text) = status
 status_of (Refused file why) = 1
 
 -- the deck of a file, or the cause for which there is none
@@ -52,7 +53,7 @@ pub record IsNoDeck (files : Files) (file name : List ℕ) (why : Refusal) : Typ
   pub refused : IsRefusedFor bytes why
   pub name_is : name ≡ file
 
--- the trace of a deck over a stimulus; the status tells whether each going to rest ended at rest
+-- the trace of a deck over a stimulus; the status says whether each settling ended
 pub record IsTrace (files : Files) (deck stim : List ℕ) (options : TraceOptionsData) (status : ℕ) (text : List ℕ) : Type 0 where
   pub deck_bytes : List ℕ
   pub stim_bytes : List ℕ
@@ -85,11 +86,11 @@ IsSimRefusal files deck stim name (Stim line kind) = (name ≡ stim) × IsNoTrac
 IsSimRefusal files deck stim name (Blif line kind) = ⊥
 IsSimRefusal files deck stim name NotBuilt = ⊥
 
--- the command comes to this over these files
+-- the command has this outcome over these files
 abbrev pub IsOutcome : Files → Command → Outcome → Type 0
-IsOutcome files (Synth file) (Told status text) = IsDeck files file status text
+IsOutcome files (Synth file) (Printed status text) = IsDeck files file status text
 IsOutcome files (Synth file) (Refused name why) = IsNoDeck files file name why
-IsOutcome files (Sim deck stim options) (Told status text) = IsTrace files deck stim options status text
+IsOutcome files (Sim deck stim options) (Printed status text) = IsTrace files deck stim options status text
 IsOutcome files (Sim deck stim options) (Refused name why) = IsSimRefusal files deck stim name why
 
 -- a file of the command, before which each one was read and isn't too long

@@ -1,3 +1,4 @@
+-- Why a file is refused, and the line that reports it.
 use Rattle.std.specs.Prelude.{ℕ, ◌≤◌, ◌<◌, List, ◌++◌, length, codes}
 use Rattle.std.specs.Fmt.{decimal}
 use Rattle.dom_io.specs.Held.{file_limit}
@@ -5,10 +6,10 @@ use Rattle.blif_ast.specs.BlifFileData.{BlifFileData}
 use Rattle.blif_ast.specs.declared.kind.BlifKind.{BlifKind}
 use Rattle.blif_ast.specs.Faults.{blif_kind_number, blif_kind_word}
 use Rattle.blif_ast.specs.Reading.{IsBlifFaultAt, IsFileOf}
-use Rattle.deck.specs.DeckKinds.{deck_kind_number as deck_number}
+use Rattle.deck.specs.DeckKinds.{deck_kind_number, deck_kind_word}
 use Rattle.domsyn.specs.declared.refusal.Refusal.{Refusal}
 use Rattle.domsyn.specs.declared.refusal.Refusal.TheVariants.{TooLong, Blif, NotBuilt, Deck, Ports, Stim}
-use Rattle.domsyn.specs.KindNames.{deck_name, stim_name}
+use Rattle.stim_text.specs.Stimuli.{stim_kind_word}
 use Rattle.domsyn.specs.OneTable.{IsOneTable, IsFileOfTable}
 use Rattle.domsyn.specs.OneTableData.{OneTableData}
 
@@ -36,11 +37,13 @@ IsRefusedFor bytes (Stim line kind) = ⊥
 -- what the line for a cause says behind the file's name
 abbrev pub refusal_text : Refusal → List ℕ
 refusal_text TooLong = codes ": too long\n"
-refusal_text (Blif line kind) = codes ":" ++ decimal line ++ codes ": blif " ++ decimal (blif_kind_number kind) ++ codes " " ++ blif_kind_word kind ++ codes "\n"
+refusal_text (Blif line kind) =
+    codes ":" ++ decimal line ++ codes ": blif " ++ decimal (blif_kind_number kind) ++ codes " " ++ blif_kind_word kind ++ codes "\n"
 refusal_text NotBuilt = codes ": not built\n"
-refusal_text (Deck line kind) = codes ":" ++ decimal line ++ codes ": deck " ++ decimal (deck_number kind) ++ codes " " ++ deck_name kind ++ codes "\n"
+refusal_text (Deck line kind) =
+    codes ":" ++ decimal line ++ codes ": deck " ++ decimal (deck_kind_number kind) ++ codes " " ++ deck_kind_word kind ++ codes "\n"
 refusal_text (Ports place) = codes ": deck port " ++ decimal place ++ codes "\n"
-refusal_text (Stim line kind) = codes ":" ++ decimal line ++ codes ": stim " ++ stim_name kind ++ codes "\n"
+refusal_text (Stim line kind) = codes ":" ++ decimal line ++ codes ": stim " ++ stim_kind_word kind ++ codes "\n"
 
 -- the line on `err` for a file that is refused
 abbrev pub refusal_line : List ℕ → Refusal → List ℕ

@@ -1,20 +1,22 @@
 //! The commands of the program over a shelf of files and two sinks.
 #![tactic(auto)]
 
+mod answer;
 mod cell;
+mod dispatch;
+mod failure;
 mod fetch;
 mod form;
-mod kind_name;
 mod laws;
 mod names;
 mod one_table;
-mod outcome;
 mod program;
 mod refusal;
-mod simulate;
+mod report;
+mod sim;
+mod status;
 mod synth;
-mod tell;
 
 pub use command_words::asked_is_one;
-pub use laws::outcome_is_one;
+pub use laws::{outcome_is_one, outcome_is_there};
 pub use program::top;

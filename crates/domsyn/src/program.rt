@@ -3,29 +3,27 @@ ghost use Rattle.std.specs.Prelude.{◌≡◌, ◌≢◌, ◌≤◌, ◌⊎◌, 
 ghost use Rattle.std.specs.String.{string_bytes};
 ghost use Rattle.std.specs.Io.KnownBytes.{Appends};
 ghost use Rattle.dom_io.specs.Faults.{Rose};
-ghost use Rattle.dom_io.specs.Held.{held};
 ghost use Rattle.dom_io.specs.Pieces.{AppendsPrefix};
 ghost use Rattle.domsyn.specs.declared.refusal.Refusal.{Refusal};
-ghost use Rattle.command_words.specs.Commands.{Asks, Command, Synth, files_of};
-ghost use Rattle.domsyn.specs.Decks.{IsBuildable};
-ghost use Rattle.domsyn.specs.Outcomes.{Outcome, Refused, Told, status_of};
+ghost use Rattle.command_words.specs.Commands.{Asks, Command, files_of};
+ghost use Rattle.domsyn.specs.Headline.{BuildsEach, GivesDeck, RefusesOthers};
+ghost use Rattle.domsyn.specs.Outcomes.{Outcome, Refused, Printed, status_of};
 ghost use Rattle.domsyn.specs.Refusals.{refusal_line};
-ghost use Rattle.domsyn.specs.Top.{Comes, HasRoomFor, IsPulledDeck, IsRefusalLine, IsText, MeetsUnread, Tells, line_of, unread_line};
+ghost use Rattle.domsyn.specs.Top.{HasOutcome, HasRoomFor, IsRefusalLine, IsText, MeetsUnread, Reports, line_of, unread_line};
 
-use crate::outcome::outcome_of;
-use crate::tell::{put, tell, tell_stop};
+use crate::dispatch::outcome_of;
+use crate::report::{finish, report, report_failure};
+use crate::status::USAGE;
 use command_words::command_of;
 use dom_io::{Shelf, Sink};
 use std::alloc::Global;
-
-const USAGE: u8 = 2;
 
 const USAGE_LINE: &[u8] =
     b"usage: domsyn synth FILE | flat FILE | run FILE STIM | sim DECK STIM | cosim FILE DECK STIM | report FILE | bench SEED SIZE\n";
 
 /// Does all that the program does, and gives its status: 0 done, 1 a file is refused, 2 the words ask
-/// for nothing, 3 a file can't be read, 4 the output can't be written, 5 out of memory, 6 a simulation
-/// doesn't come to rest. `words` are those of the command line without the program's name. The text goes
+/// for nothing, 3 a file can't be read, 4 the output can't be written, 5 out of memory, 6 a settling
+/// of a simulation doesn't end. `words` are those of the command line without the program's name. The text goes
 /// to `out`, and a line to `err` at every status but 0 and 6.
 pub fn top<S: Shelf, K: Sink, E: Sink>(
     alloc: Global,
@@ -37,7 +35,8 @@ pub fn top<S: Shelf, K: Sink, E: Sink>(
     requires names { (command : Command) → Asks (map string_bytes words.now) command → All (S.may_ask shelf.old) (files_of command) }
     requires out_room { HasRoomFor (S.files shelf.old) (IsText (map string_bytes words.now)) (K.has_room out.old) }
     requires refusal_room { HasRoomFor (S.files shelf.old) (IsRefusalLine (map string_bytes words.now)) (E.has_room err.old) }
-    requires unread_room { (file : List ℕ) → MeetsUnread (S.files shelf.old) (map string_bytes words.now) file → E.has_room err.old (length (unread_line file)) }
+    requires unread_room { (file : List ℕ) → MeetsUnread (S.files shelf.old) (map string_bytes words.now) file
+        → E.has_room err.old (length (unread_line file)) }
     requires err_room { (status : ℕ) → E.has_room err.old (length (line_of status)) }
 
     ensures known { result ≤ 6 }
@@ -48,43 +47,53 @@ pub fn top<S: Shelf, K: Sink, E: Sink>(
     ensures same_files { S.files shelf.new ≡ S.files shelf.old }
     ensures same_names { (name : List ℕ) → S.may_ask shelf.new name ↔ S.may_ask shelf.old name }
 
-    // A fault of the outside is told only where its count rose in this call.
+    // A fault of the outside is reported only where its count rose in this call.
     ensures cannot_read { result ≡ 3 → Rose (S.faults shelf.old) (S.faults shelf.new) }
     ensures cannot_write { result ≡ 4 → Rose (K.faults out.old) (K.faults out.new) }
 
-    // What the words ask for comes to a text with its status, or a file is refused for its cause.
-    ensures done { (result ≡ 0) ⊎ (result ≡ 6) → (text : List ℕ) × Comes (S.files shelf.old) (map string_bytes words.now) (Told result text) × Appends (K.taken out.old) (K.taken out.new) text }
-    ensures part { result ≡ 4 → (status : ℕ) × ((text : List ℕ) × Comes (S.files shelf.old) (map string_bytes words.now) (Told status text) × AppendsPrefix (K.taken out.old) (K.taken out.new) text) }
-    ensures refused { result ≡ 1 → (file : List ℕ) × ((why : Refusal) × Comes (S.files shelf.old) (map string_bytes words.now) (Refused file why)
-        × Tells (E.taken err.old) (E.taken err.new) (E.faults err.old) (E.faults err.new) (refusal_line file why)) }
-    ensures cause { result ≡ 1 → IfSome (S.files shelf.old) (λ told. (file : List ℕ) (why : Refusal) → Comes (Some told) (map string_bytes words.now) (Refused file why)
-        → Tells (E.taken err.old) (E.taken err.new) (E.faults err.old) (E.faults err.new) (refusal_line file why)) }
-    ensures complete { IfSome (S.files shelf.old) (λ told. (outcome : Outcome) → Comes (Some told) (map string_bytes words.now) outcome
-        → (Rose (S.faults shelf.old) (S.faults shelf.new) → ⊥) → (Rose (K.faults out.old) (K.faults out.new) → ⊥) → (result ≡ status_of outcome) ⊎ (result ≡ 5)) }
+    // What the words ask for has a text with its status as its outcome, or a file that is refused for its cause.
+    ensures done { (result ≡ 0) ⊎ (result ≡ 6)
+        → (text : List ℕ) × HasOutcome (S.files shelf.old) (map string_bytes words.now) (Printed result text)
+        × Appends (K.taken out.old) (K.taken out.new) text }
+    ensures part { result ≡ 4 → (status : ℕ) × ((text : List ℕ)
+        × HasOutcome (S.files shelf.old) (map string_bytes words.now) (Printed status text)
+        × AppendsPrefix (K.taken out.old) (K.taken out.new) text) }
+    ensures refused { result ≡ 1 → (file : List ℕ) × ((why : Refusal)
+        × HasOutcome (S.files shelf.old) (map string_bytes words.now) (Refused file why)
+        × Reports (E.taken err.old) (E.taken err.new) (E.faults err.old) (E.faults err.new) (refusal_line file why)) }
+    ensures cause { result ≡ 1 → IfSome (S.files shelf.old) (λ known. (file : List ℕ) (why : Refusal)
+        → HasOutcome (Some known) (map string_bytes words.now) (Refused file why)
+        → Reports (E.taken err.old) (E.taken err.new) (E.faults err.old) (E.faults err.new) (refusal_line file why)) }
+    ensures complete { IfSome (S.files shelf.old) (λ known. (outcome : Outcome)
+        → HasOutcome (Some known) (map string_bytes words.now) outcome
+        → (Rose (S.faults shelf.old) (S.faults shelf.new) → ⊥) → (Rose (K.faults out.old) (K.faults out.new) → ⊥)
+        → (result ≡ status_of outcome) ⊎ (result ≡ 5)) }
 
     // Where the words ask for the deck of a file, what was put out reads back as a circuit whose pull-down conducts
     // exactly where the table is 1. A file of a network that is built gives its deck, and each other one is refused.
-    ensures pulled { result ≡ 0 → (file : List ℕ) → Asks (map string_bytes words.now) (Synth file)
-        → (text : List ℕ) × IsPulledDeck (S.files shelf.old) (map string_bytes words.now) text × Appends (K.taken out.old) (K.taken out.new) text }
-    ensures built { IfSome (S.files shelf.old) (λ told. (file whole : List ℕ) → Asks (map string_bytes words.now) (Synth file) → held told file ≡ Some whole → IsBuildable whole
-        → (Rose (S.faults shelf.old) (S.faults shelf.new) → ⊥) → (Rose (K.faults out.old) (K.faults out.new) → ⊥) → (result ≡ 0) ⊎ (result ≡ 5)) }
-    ensures other { IfSome (S.files shelf.old) (λ told. (file whole : List ℕ) → Asks (map string_bytes words.now) (Synth file) → held told file ≡ Some whole → (IsBuildable whole → ⊥)
-        → (Rose (S.faults shelf.old) (S.faults shelf.new) → ⊥) → (result ≡ 1) ⊎ (result ≡ 5)) }
+    ensures pulled { result ≡ 0 → GivesDeck (S.files shelf.old) (map string_bytes words.now)
+        (Appends (K.taken out.old) (K.taken out.new)) }
+    ensures built { BuildsEach (S.files shelf.old) (map string_bytes words.now) result
+        (Rose (S.faults shelf.old) (S.faults shelf.new)) (Rose (K.faults out.old) (K.faults out.new)) }
+    ensures other { RefusesOthers (S.files shelf.old) (map string_bytes words.now) result
+        (Rose (S.faults shelf.old) (S.faults shelf.new)) }
 
     // Nothing is put out at another status, and `err` gets the line of the status, of the cause, or of the file.
     ensures nothing { result ≢ 0 → result ≢ 4 → result ≢ 6 → out.new ≡ out.old }
     ensures unread { result ≡ 3 → (file : List ℕ) × MeetsUnread (S.files shelf.old) (map string_bytes words.now) file
-        × Tells (E.taken err.old) (E.taken err.new) (E.faults err.old) (E.faults err.new) (unread_line file) }
-    ensures told { result ≢ 1 → result ≢ 3 → Tells (E.taken err.old) (E.taken err.new) (E.faults err.old) (E.faults err.new) (line_of result) }
+        × Reports (E.taken err.old) (E.taken err.new) (E.faults err.old) (E.faults err.new) (unread_line file) }
+    ensures reported { result ≢ 1 → result ≢ 3
+        → Reports (E.taken err.old) (E.taken err.new) (E.faults err.old) (E.faults err.new) (line_of result) }
     ensures quiet { (result ≡ 0) ⊎ (result ≡ 6) → err.new ≡ err.old }
-    ensures later { (S.faults shelf.old ≤ S.faults shelf.new) × (K.faults out.old ≤ K.faults out.new) × (E.faults err.old ≤ E.faults err.new) }
+    ensures later { (S.faults shelf.old ≤ S.faults shelf.new) × (K.faults out.old ≤ K.faults out.new)
+        × (E.faults err.old ≤ E.faults err.new) }
 {
     let Some(command) = command_of(alloc, words) else {
-        tell(err, USAGE_LINE);
+        report(err, USAGE_LINE);
         return USAGE;
     };
     match outcome_of(alloc, &command, shelf) {
-        Ok(answer) => put(&answer, out, err),
-        Err(stop) => tell_stop(alloc, stop, err),
+        Ok(answer) => finish(&answer, out, err),
+        Err(failure) => report_failure(alloc, failure, err),
     }
 }

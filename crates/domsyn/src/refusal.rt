@@ -1,12 +1,10 @@
 //! Files that are refused.
-ghost use Rattle.std.specs.Prelude.{◌≡◌, IfOk};
+ghost use Rattle.std.specs.Prelude.{Some};
 ghost use Rattle.domsyn.specs.Refusals.{refusal_text};
 
-use crate::kind_name::{blif_name, blif_number, deck_name, deck_number, stim_name};
 use blif_read::BlifKind;
 use deck::DeckKind;
-use dom_base::{OutOfMemory, append, append_number};
-use std::alloc::Global;
+use std::fmt;
 use stim_text::StimKind;
 
 /// Why a file is refused.
@@ -27,37 +25,27 @@ pub enum Refusal {
 }
 
 /// What the line about the file says behind the file's name.
-pub fn text_of(alloc: Global, why: Refusal) -> Result<Vec<u8>, OutOfMemory>
-    ensures { IfOk result (λ text. text.items ≡ refusal_text why) }
-{
-    let mut text = Vec::from_slice(alloc, b":")?;
-    match why {
-        Refusal::TooLong => append(&mut text, b" too long")?,
-        Refusal::Blif { line, kind } => {
-            append_number(&mut text, line)?;
-            append(&mut text, b": blif ")?;
-            append_number(&mut text, blif_number(kind))?;
-            append(&mut text, b" ")?;
-            append(&mut text, blif_name(kind))?;
-        }
-        Refusal::NotBuilt => append(&mut text, b" not built")?,
-        Refusal::Deck { line, kind } => {
-            append_number(&mut text, line)?;
-            append(&mut text, b": deck ")?;
-            append_number(&mut text, deck_number(kind))?;
-            append(&mut text, b" ")?;
-            append(&mut text, deck_name(kind))?;
-        }
-        Refusal::Ports { place } => {
-            append(&mut text, b" deck port ")?;
-            append_number(&mut text, place as u64)?;
-        }
-        Refusal::Stim { line, kind } => {
-            append_number(&mut text, line)?;
-            append(&mut text, b": stim ")?;
-            append(&mut text, stim_name(kind))?;
+impl fmt::Display for Refusal {
+    ghost output = { λ why. Some (refusal_text why) };
+
+    fn fmt<W: fmt::Write>(&self, f: &mut fmt::Formatter<W>) -> fmt::Result {
+        match self {
+            Refusal::TooLong => f.write_str(": too long\n"),
+            Refusal::Blif { line, kind } => write!(
+                f,
+                ":{line}: blif {} {}\n",
+                kind.number(),
+                kind.word()
+            ),
+            Refusal::NotBuilt => f.write_str(": not built\n"),
+            Refusal::Deck { line, kind } => write!(
+                f,
+                ":{line}: deck {} {}\n",
+                kind.number(),
+                kind.word()
+            ),
+            Refusal::Ports { place } => write!(f, ": deck port {place}\n"),
+            Refusal::Stim { line, kind } => write!(f, ":{line}: stim {}\n", kind.word()),
         }
     }
-    append(&mut text, b"\n")?;
-    Ok(text)
 }

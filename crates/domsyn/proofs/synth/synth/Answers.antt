@@ -1,27 +1,30 @@
-use Rattle.std.proofs.Common.{Option, refl, subst}
-use Rattle.std.specs.Prelude.{IfSome}
-use Rattle.deck.specs.CircuitData.{CircuitData}
-use Rattle.spice_text.specs.Text.{IsWritten}
-use Rattle.domsyn.specs.OneTable.{IsOneTable, IsFileOfTable}
-use Rattle.domsyn.specs.OneTableData.{OneTableData}
-use Rattle.domsyn.proofs.FileNames.{text_bytes, HasByteNames-read}
+use Rattle.std.proofs.Common.{ℕ, List, sym, subst}
+use Rattle.std.proofs.lemmas.Result.{err_from_is_err_and, IfOk-weaker}
+use Rattle.dom_io.specs.Faults.{Rose}
+use Rattle.domsyn.specs.Failures.{IsUnbuilt}
+use Rattle.domsyn.specs.Outcomes.{IsFile}
+use Rattle.domsyn.proofs.CommandFailures.{synth_printed, synth_unbuilt, synth_unfetched}
 use Rattle.domsyn.proofs.synth.synth.Goals as goal
 
-pub build-requires-clause-names : goal.build-requires-clause-names
-build-requires-clause-names c =
-    let P : Option OneTableData → Type 0 = λ found. IfSome found (λ t. IsOneTable t × IsFileOfTable c.in-Ok.network t) in
-    let found = subst P c.in-Some.is c.in_ok-table.ensures.found in
-    HasByteNames-read c.args.bytes.now c.in-Ok.network c.in-Some.table (text_bytes c.args.bytes.now (λ k. (c.type_inv.bytes k).fits)) c.in-Ok.ensures.file found.1
+pub returns-in_err-bytes-clause-failed : goal.returns-in_err-bytes-clause-failed
+returns-in_err-bytes-clause-failed g c failure is =
+    let p = err_from_is_err_and c.from_residual.result c.from_residual.ensures.1 in
+    let a = p.1 in
+    let b = p.2 in
+    let Rises = Rose (g.S.Shelf.faults c.args.shelf.now) (g.S.Shelf.faults c.fetch.new.shelf) in
+    synth_unfetched (g.S.Shelf.files c.args.shelf.now) c.args.file.now Rises failure (c.in_err-bytes.ensures.failed failure (cc))
 
-pub returns-clause-deck : goal.returns-clause-deck
-returns-clause-deck c =
-    let P : Option OneTableData → Type 0 = λ found. IfSome found (λ t. IsOneTable t × IsFileOfTable c.in-Ok.network t) in
-    let found = subst P c.in-Some.is c.in_ok-table.ensures.found in
-    let Q : CircuitData → Type 0 = λ circuit. IsWritten circuit c.in_ok-text.text.items in (
-      record {
-        buildable = record { within = c.requires.within; file = c.in-Ok.network; accepted = c.in-Ok.ensures.file; table = c.in-Some.table; is_file = found.1; is_one_table = found.0 };
-        names = HasByteNames-read c.args.bytes.now c.in-Ok.network c.in-Some.table (text_bytes c.args.bytes.now (λ k. (c.type_inv.bytes k).fits)) c.in-Ok.ensures.file found.1;
-        written = subst Q c.in_ok-circuit.ensures c.in_ok-text.ensures.written;
-      },
-      refl,
-    )
+pub returns-clause-text : goal.returns-clause-text
+returns-clause-text g c =
+    IfOk-weaker c.deck_of.result _ _
+    (λ answer is.
+    synth_printed (g.S.Shelf.files c.args.shelf.now) c.args.file.now c.deref.result.now answer.text.items answer.settled
+    (subst (IsFile (g.S.Shelf.files c.args.shelf.now) c.args.file.now) (sym c.deref.ensures.value) c.in_ok-bytes.ensures.bytes) is.0 is.1)
+    c.deck_of.ensures.deck
+
+pub returns-clause-failed : goal.returns-clause-failed
+returns-clause-failed g c failure is =
+    let Rises = Rose (g.S.Shelf.faults c.args.shelf.now) (g.S.Shelf.faults c.fetch.new.shelf) in
+    let unbuilt : IsUnbuilt c.args.file.now c.in_ok-bytes.bytes.items failure =
+    subst (λ (bytes : List ℕ). IsUnbuilt c.args.file.now bytes failure) c.deref.ensures.value (c.deck_of.ensures.failed failure is) in
+    synth_unbuilt (g.S.Shelf.files c.args.shelf.now) c.args.file.now c.in_ok-bytes.bytes.items Rises failure c.in_ok-bytes.ensures.bytes unbuilt

@@ -1,0 +1,71 @@
+-- Why a command fails, by what its files have: bytes or none, a deck or none, a trace or none.
+use Rattle.std.proofs.Common.{◌≡◌, ℕ, Bool, true, List, inl, inr, ap, sym, subst}
+use Rattle.std.specs.Prelude.{if◌then◌else◌}
+use Rattle.domsyn.specs.declared.failure.Failure.{Failure}
+use Rattle.domsyn.specs.declared.failure.Failure.TheVariants as failure
+use Rattle.domsyn.specs.declared.refusal.Refusal.{Refusal}
+use Rattle.domsyn.specs.declared.refusal.Refusal.TheVariants.{TooLong, Blif, NotBuilt, Deck, Ports, Stim}
+use Rattle.command_words.specs.Commands.{Synth, Sim}
+use Rattle.domsyn.specs.Decks.{IsDeckFor}
+use Rattle.domsyn.specs.Outcomes.{Files, IsDeck, IsFile, IsSimRefusal}
+use Rattle.domsyn.specs.Refusals.{IsRefusedFor}
+use Rattle.domsyn.specs.Failures.{IsFailureOf, IsUnbuilt, IsUnfetched, IsUnsimulated, IsUntraced, ReadFile}
+use Rattle.trace_tool.specs.TraceData.{TraceOptionsData}
+
+-- the file of a deck to be built has no bytes
+pub synth_unfetched : (files : Files) (file : List ℕ) (Rises : Type 0) (s : Failure) → IsUnfetched files file Rises s → IsFailureOf files (Synth file) Rises s
+synth_unfetched files file Rises (failure.Refused name why) is =
+    record {
+      bytes = is.2.bytes;
+      holds = is.2.holds;
+      refused = subst (IsRefusedFor is.2.bytes) (sym is.1) is.2.long;
+      name_is = is.0;
+    }
+synth_unfetched files file Rises (failure.Unread name) is = is
+synth_unfetched files file Rises failure.Memory is = tt
+
+-- its bytes have this deck
+pub synth_printed : (files : Files) (file bytes text : List ℕ) (settled : Bool) → IsFile files file bytes → IsDeckFor bytes text → settled ≡ true
+    → IsDeck files file (if settled then 0 else 6) text
+synth_printed files file bytes text settled is deck at_rest =
+    record { bytes = bytes; is_file = is; deck = deck; done = ap (λ (b : Bool). if b then 0 else 6) at_rest }
+
+-- they have none
+pub synth_unbuilt : (files : Files) (file bytes : List ℕ) (Rises : Type 0) (s : Failure) → IsFile files file bytes → IsUnbuilt file bytes s → IsFailureOf files (Synth file) Rises s
+synth_unbuilt files file bytes Rises (failure.Refused name why) fetched is = record { bytes = bytes; holds = fetched.holds; refused = is.1; name_is = is.0 }
+synth_unbuilt files file bytes Rises (failure.Unread name) fetched is = absurd is
+synth_unbuilt files file bytes Rises failure.Memory fetched is = tt
+
+-- the file of a deck to be simulated has no bytes
+pub deck_unfetched : (files : Files) (deck stim : List ℕ) (options : TraceOptionsData) (Rises : Type 0) (s : Failure)
+    → IsUnfetched files deck Rises s → IsFailureOf files (Sim deck stim options) Rises s
+deck_unfetched files deck stim options Rises (failure.Refused name why) is = subst (IsSimRefusal files deck stim name.now) (sym is.1) (inl (is.0, is.2))
+deck_unfetched files deck stim options Rises (failure.Unread name) is = (inl is.0, is.1)
+deck_unfetched files deck stim options Rises failure.Memory is = tt
+
+-- the file of its stimulus has none, where the shelf's count rises by this or a later fetch
+pub stim_unfetched : (files : Files) (deck stim bytes : List ℕ) (options : TraceOptionsData) (Rises RisesHere : Type 0) (s : Failure) → (RisesHere → Rises)
+    → IsFile files deck bytes → IsUnfetched files stim RisesHere s → IsFailureOf files (Sim deck stim options) Rises s
+stim_unfetched files deck stim bytes options Rises RisesHere (failure.Refused name why) rises fetched is =
+    subst (IsSimRefusal files deck stim name.now) (sym is.1) (inr (bytes, is.0, fetched, is.2))
+stim_unfetched files deck stim bytes options Rises RisesHere (failure.Unread name) rises fetched is = (inr (bytes, is.0, fetched), rises is.1)
+stim_unfetched files deck stim bytes options Rises RisesHere failure.Memory rises fetched is = tt
+
+-- the bytes of both have no trace
+unsimulated : (files : Files) (deck stim : ReadFile) (name : List ℕ) (why : Refusal) → IsFile files deck.name deck.bytes → IsFile files stim.name stim.bytes
+    → IsUnsimulated deck stim name why → IsSimRefusal files deck.name stim.name name why
+unsimulated files deck stim name TooLong a b is = absurd is
+unsimulated files deck stim name (Blif line kind) a b is = absurd is
+unsimulated files deck stim name NotBuilt a b is = absurd is
+unsimulated files deck stim name (Deck line kind) a b is =
+    (is.0, record { deck_bytes = deck.bytes; stim_bytes = stim.bytes; is_deck = a; is_stim = b; refused = is.1 })
+unsimulated files deck stim name (Ports place) a b is =
+    (is.0, record { deck_bytes = deck.bytes; stim_bytes = stim.bytes; is_deck = a; is_stim = b; refused = is.1 })
+unsimulated files deck stim name (Stim line kind) a b is =
+    (is.0, record { deck_bytes = deck.bytes; stim_bytes = stim.bytes; is_deck = a; is_stim = b; refused = is.1 })
+
+pub sim_untraced : (files : Files) (deck stim : ReadFile) (options : TraceOptionsData) (Rises : Type 0) (s : Failure)
+    → IsFile files deck.name deck.bytes → IsFile files stim.name stim.bytes → IsUntraced deck stim s → IsFailureOf files (Sim deck.name stim.name options) Rises s
+sim_untraced files deck stim options Rises (failure.Refused name why) a b is = unsimulated files deck stim name.now why a b is
+sim_untraced files deck stim options Rises (failure.Unread name) a b is = absurd is
+sim_untraced files deck stim options Rises failure.Memory a b is = tt

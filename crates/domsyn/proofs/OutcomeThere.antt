@@ -1,0 +1,153 @@
+-- Over files that are known, a command has an outcome.
+use Rattle.std.proofs.Common.{◌≡◌, ◌<◌, ◌≤◌, ◌⊎◌, inl, inr, ℕ, List, [], ◌∷◌, length, take, refl, arith}
+use Rattle.std.specs.Prelude.{All, Some, if◌then◌else◌}
+use Rattle.std.proofs.lemmas.List.Elements.{All-head, All-tail}
+use Rattle.dom_base.specs.Answers.{HasOneAnswer, IsOnlyAnswer, IsOnlyRefusal}
+use Rattle.dom_io.specs.Held.{file_limit, held}
+use Rattle.blif_ast.specs.BlifFileData.{BlifFileData}
+use Rattle.blif_ast.specs.declared.kind.BlifKind.{BlifKind}
+use Rattle.blif_ast.specs.Reading.{IsBlifFault, IsBlifFaultAt, IsFileOf}
+use Rattle.blif_read.proofs.OneAnswer.{one_answer as blif_answer}
+use Rattle.deck.specs.CircuitData.{CircuitData}
+use Rattle.deck.specs.DeckFaults.{IsDeckFault, IsDeckFaultAt}
+use Rattle.deck.specs.DeckText.{IsDeckOf}
+use Rattle.deck.specs.Ports.{HasRoles, leading_ports}
+use Rattle.deck.specs.Roles.{AreRoles, LeavesRolesAt, ports_of}
+use Rattle.deck.specs.declared.role.Roles.{Roles}
+use Rattle.deck.proofs.PortDecisions.{HasSomeRoles, has_roles}
+use Rattle.deck.proofs.PortLayout.{HasRoles-same}
+use Rattle.spice_read.proofs.OneAnswer.{one_answer as deck_answer}
+use Rattle.spice_text.specs.Text.{IsWritten, text_with}
+use Rattle.stim_text.specs.Stimuli.{IsStimFaultAt, IsStimulusOf}
+use Rattle.stim_text.proofs.OneAnswer.{one_answer as stim_answer}
+use Rattle.trace_tool.specs.Refusals.{IsRefused}
+use Rattle.trace_tool.specs.TraceData.{TraceOptionsData}
+use Rattle.trace_tool.specs.declared.fault.TraceFault.{TraceFault}
+use Rattle.trace_tool.specs.declared.fault.TraceFault.TheVariants.{Deck as deck_fault, Ports as port_fault, Stim as stim_fault}
+use Rattle.trace_tool.proofs.TraceThere.{trace_is_there}
+use Rattle.command_words.specs.Commands.{Command, Synth, Sim, files_of}
+use Rattle.domsyn.specs.declared.refusal.Refusal.TheVariants.{TooLong, Blif, NotBuilt, Deck, Ports, Stim}
+use Rattle.domsyn.specs.Deck.{circuit_of}
+use Rattle.domsyn.specs.Laws.{IsKnown}
+use Rattle.domsyn.specs.OneTable.{IsFileOfTable, IsOneTable}
+use Rattle.domsyn.specs.OneTableData.{OneTableData}
+use Rattle.domsyn.specs.Outcomes.{IsFile, IsNoTrace, IsOutcome, Outcome, Printed, Refused}
+use Rattle.domsyn.proofs.BuiltFiles.{built_or_not}
+use Rattle.domsyn.proofs.FileNames.{HasByteNames-read}
+use Rattle.domsyn.proofs.PortPlaces.{OrderOrPlace, order_or_place}
+
+abbrev Pairs : Type 0
+Pairs = List (List ℕ × List ℕ)
+
+abbrev HasOne : Pairs → Command → Type 0
+HasOne known command = (outcome : Outcome) × IsOutcome (Some known) command outcome
+
+-- a circuit has a text
+written_text : (c : CircuitData) → (text : List ℕ) × IsWritten c text
+written_text c = by (has_roles (take c.ports c.nets))
+  where
+    by : HasSomeRoles (take c.ports c.nets) ⊎ ((clocks : ℕ) (pins outs : List (List ℕ)) → HasRoles (take c.ports c.nets) clocks pins outs → ⊥) → (text : List ℕ) × IsWritten c text
+    by (inl h) = (
+      text_with c (leading_ports h.clocks) (h.pins ∷ h.outs ∷ []),
+      record {
+        with_roles = λ clocks pins outs has.
+            let same = HasRoles-same (take c.ports c.nets) h.clocks clocks h.pins pins h.outs outs h.roles has in
+            λ i. text_with c (leading_ports (same.same_clocks i)) (same.same_pins i ∷ same.same_outs i ∷ []);
+        without_roles = λ none. absurd (none h.clocks h.pins h.outs h.roles);
+      },
+    )
+    by (inr fails) = (
+      text_with c [] (take c.ports c.nets ∷ []),
+      record {
+        with_roles = λ clocks pins outs has. absurd (fails clocks pins outs has);
+        without_roles = λ none. refl;
+      },
+    )
+
+fits_or_not : (bytes : List ℕ) (limit : ℕ) → (length bytes ≤ limit) ⊎ (limit < length bytes)
+fits_or_not bytes limit = by (length bytes)
+  where
+    by : (n : ℕ) → (n ≤ limit) ⊎ (limit < n)
+    by n = grind arith
+
+-- the deck of a file, or the cause for which it's refused
+synth_there : (known : Pairs) (file : List ℕ) → IsKnown known file → HasOne known (Synth file)
+synth_there known file is = by (fits_or_not is.bytes file_limit)
+  where
+    table : (f : BlifFileData) → length is.bytes ≤ file_limit → IsFileOf is.bytes f
+        → ((t : OneTableData) × IsOneTable t × IsFileOfTable f t) ⊎ ((t : OneTableData) → IsOneTable t → IsFileOfTable f t → ⊥) → HasOne known (Synth file)
+    table f fits accepted (inl t) =
+        let deck = written_text (circuit_of t.0) in (
+          Printed 0 deck.0,
+          record {
+            bytes = is.bytes;
+            is_file = record { holds = is.holds; within = fits };
+            deck = record {
+              buildable = record { within = fits; file = f; accepted = accepted; table = t.0; is_file = t.2; is_one_table = t.1 };
+              names = HasByteNames-read is.bytes f t.0 is.are_bytes accepted t.2;
+              written = deck.1;
+            };
+            done = refl;
+          },
+        )
+    table f fits accepted (inr fails) =
+        (Refused file NotBuilt, record { bytes = is.bytes; holds = is.holds; refused = record { within = fits; file = f; accepted = accepted; other = fails }; name_is = refl })
+
+    read : length is.bytes ≤ file_limit → HasOneAnswer (IsFileOf is.bytes) (IsBlifFault is.bytes) (IsBlifFaultAt is.bytes) → HasOne known (Synth file)
+    read fits (inl f) = table f.0 fits f.1.is_answer (built_or_not f.0)
+    read fits (inr r) =
+        (Refused file (Blif r.0 r.1), record { bytes = is.bytes; holds = is.holds; refused = record { within = fits; fault = r.2.is_refused }; name_is = refl })
+
+    by : (length is.bytes ≤ file_limit) ⊎ (file_limit < length is.bytes) → HasOne known (Synth file)
+    by (inl fits) = read fits (blif_answer is.bytes)
+    by (inr long) = (Refused file TooLong, record { bytes = is.bytes; holds = is.holds; refused = long; name_is = refl })
+
+-- the trace of a deck over a stimulus, or the cause for which one of them is refused
+sim_there : (known : Pairs) (deck stim : List ℕ) (options : TraceOptionsData) → IsKnown known deck → IsKnown known stim → HasOne known (Sim deck stim options)
+sim_there known deck stim options d s = by (fits_or_not d.bytes file_limit) (fits_or_not s.bytes file_limit)
+  where
+    no_trace : length d.bytes ≤ file_limit → length s.bytes ≤ file_limit → (fault : TraceFault) → IsRefused d.bytes s.bytes fault → IsNoTrace (Some known) deck stim fault
+    no_trace short few fault refused = record {
+      deck_bytes = d.bytes;
+      stim_bytes = s.bytes;
+      is_deck = record { holds = d.holds; within = short };
+      is_stim = record { holds = s.holds; within = few };
+      refused = refused;
+    }
+
+    cycles : length d.bytes ≤ file_limit → length s.bytes ≤ file_limit → (c : CircuitData) (roles : Roles) → IsDeckOf d.bytes c → AreRoles (ports_of c) roles
+        → HasOneAnswer (IsStimulusOf roles.pins s.bytes) (IsStimFaultAt roles.pins s.bytes) (IsStimFaultAt roles.pins s.bytes) → HasOne known (Sim deck stim options)
+    cycles short few c roles is are (inl a) =
+        let trace = trace_is_there d.bytes s.bytes options c roles a.0 is are a.1.is_answer in (
+          Printed (if trace.0.settled then 0 else 6) trace.0.text,
+          record {
+            deck_bytes = d.bytes;
+            stim_bytes = s.bytes;
+            settled = trace.0.settled;
+            is_deck = record { holds = d.holds; within = short };
+            is_stim = record { holds = s.holds; within = few };
+            trace = trace.1;
+            status_is = refl;
+          },
+        )
+    cycles short few c roles is are (inr r) =
+        (Refused stim (Stim r.0 r.1), (refl, no_trace short few (stim_fault r.0 r.1) (record { circuit = c; roles = roles; is_deck = is; are_roles = are; fault = r.2.is_refused })))
+
+    ports : length d.bytes ≤ file_limit → length s.bytes ≤ file_limit → (c : CircuitData) → IsDeckOf d.bytes c → OrderOrPlace (ports_of c) → HasOne known (Sim deck stim options)
+    ports short few c is (inl r) = cycles short few c r.0 is r.1 (stim_answer r.0.pins s.bytes)
+    ports short few c is (inr p) = (Refused deck (Ports p.0), (refl, no_trace short few (port_fault p.0) (record { circuit = c; is_deck = is; leaves = p.1 })))
+
+    read : length d.bytes ≤ file_limit → length s.bytes ≤ file_limit → HasOneAnswer (IsDeckOf d.bytes) (IsDeckFault d.bytes) (IsDeckFaultAt d.bytes) → HasOne known (Sim deck stim options)
+    read short few (inl c) = ports short few c.0 c.1.is_answer (order_or_place (ports_of c.0))
+    read short few (inr r) = (Refused deck (Deck r.0 r.1), (refl, no_trace short few (deck_fault r.0 r.1) r.2.is_refused))
+
+    by : (length d.bytes ≤ file_limit) ⊎ (file_limit < length d.bytes) → (length s.bytes ≤ file_limit) ⊎ (file_limit < length s.bytes) → HasOne known (Sim deck stim options)
+    by (inl short) (inl few) = read short few (deck_answer d.bytes)
+    by (inl short) (inr long) =
+        (Refused stim TooLong, inr (d.bytes, refl, record { holds = d.holds; within = short }, record { bytes = s.bytes; holds = s.holds; long = long }))
+    by (inr long) any = (Refused deck TooLong, inl (refl, record { bytes = d.bytes; holds = d.holds; long = long }))
+
+pub outcome_there : (known : Pairs) (command : Command) → All (IsKnown known) (files_of command) → (outcome : Outcome) × IsOutcome (Some known) command outcome
+outcome_there known (Synth file) all = synth_there known file (All-head (IsKnown known) file [] all)
+outcome_there known (Sim deck stim options) all =
+    sim_there known deck stim options (All-head (IsKnown known) deck (stim ∷ []) all) (All-head (IsKnown known) stim [] (All-tail (IsKnown known) deck (stim ∷ []) all))

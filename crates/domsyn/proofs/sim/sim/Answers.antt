@@ -1,0 +1,41 @@
+use Rattle.std.proofs.Common.{ℕ, List, sym, subst, arith}
+use Rattle.std.proofs.lemmas.Result.{err_from_is_err_and}
+use Rattle.dom_io.specs.Faults.{Rose}
+use Rattle.domsyn.specs.Failures.{IsUnfetched}
+use Rattle.domsyn.specs.Outcomes.{Files, IsFile}
+use Rattle.domsyn.proofs.CommandFailures.{deck_unfetched, sim_untraced, stim_unfetched}
+use Rattle.domsyn.proofs.sim.sim.Goals as goal
+
+pub returns-in_err-deck_bytes-clause-failed : goal.returns-in_err-deck_bytes-clause-failed
+returns-in_err-deck_bytes-clause-failed g c failure is =
+    let p = err_from_is_err_and c.from_residual.result c.from_residual.ensures.1 in
+    let a = p.1 in
+    let b = p.2 in
+    let Rises = Rose (g.S.Shelf.faults c.args.shelf.now) (g.S.Shelf.faults c.fetch.new.shelf) in
+    deck_unfetched (g.S.Shelf.files c.args.shelf.now) c.args.deck.now c.args.stim.now c.args.options.now Rises failure (c.in_err-deck_bytes.ensures.failed failure (cc))
+
+pub returns-in_err-stim_bytes-clause-failed : goal.returns-in_err-stim_bytes-clause-failed
+returns-in_err-stim_bytes-clause-failed g c failure is =
+    let p = err_from_is_err_and c.from_residual-in_err-stim_bytes.result c.from_residual-in_err-stim_bytes.ensures.1 in
+    let a = p.1 in
+    let b = p.2 in
+    let files = g.S.Shelf.files c.args.shelf.now in
+    let Rises = Rose (g.S.Shelf.faults c.args.shelf.now) (g.S.Shelf.faults c.fetch-2.new.shelf) in
+    let RisesHere = Rose (g.S.Shelf.faults c.fetch.new.shelf) (g.S.Shelf.faults c.fetch-2.new.shelf) in
+    let later = c.in_ok-deck_bytes.ensures.later in
+    let unfetched : IsUnfetched files c.args.stim.now RisesHere failure =
+    subst (λ (files : Files). IsUnfetched files c.args.stim.now RisesHere failure) c.in_ok-deck_bytes.ensures.same_files (c.in_err-stim_bytes.ensures.failed failure (cc)) in
+    stim_unfetched files c.args.deck.now c.args.stim.now c.in_ok-deck_bytes.deck_bytes.items c.args.options.now Rises RisesHere failure
+    (λ rose. omega (arith, later, rose)) c.in_ok-deck_bytes.ensures.bytes unfetched
+
+pub returns-clause-failed : goal.returns-clause-failed
+returns-clause-failed g c failure is =
+    let files = g.S.Shelf.files c.args.shelf.now in
+    let Rises = Rose (g.S.Shelf.faults c.args.shelf.now) (g.S.Shelf.faults c.fetch-2.new.shelf) in
+    let is_deck : IsFile files c.args.deck.now c.deref.result.now =
+    subst (IsFile files c.args.deck.now) (sym c.deref.ensures.value) c.in_ok-deck_bytes.ensures.bytes in
+    let is_stim : IsFile files c.args.stim.now c.in_ok-stim_bytes.stim_bytes.items =
+    subst (λ (files : Files). IsFile files c.args.stim.now c.in_ok-stim_bytes.stim_bytes.items) c.in_ok-deck_bytes.ensures.same_files c.in_ok-stim_bytes.ensures.bytes in
+    let is_stim_here = subst (IsFile files c.args.stim.now) (sym c.deref-2.ensures.value) is_stim in
+    sim_untraced files (record { name = c.args.deck.now; bytes = c.deref.result.now }) (record { name = c.args.stim.now; bytes = c.deref-2.result.now })
+    c.args.options.now Rises failure is_deck is_stim_here (c.trace_of.ensures.failed failure is)

@@ -1,0 +1,42 @@
+//! From a command to its outcome.
+ghost use Rattle.std.specs.Prelude.{◌≡◌, ◌≤◌, ◌↔◌, ℕ, List, All, IfOk, IsErrOf, if◌then◌else◌};
+ghost use Rattle.dom_io.specs.Faults.{Rose};
+ghost use Rattle.command_words.specs.Asked.{asked};
+ghost use Rattle.command_words.specs.Commands.{HasNoProbe, files_of};
+ghost use Rattle.domsyn.specs.declared.failure.Failure.{Failure as Failed};
+ghost use Rattle.domsyn.specs.Failures.{IsFailureOf};
+ghost use Rattle.domsyn.specs.Outcomes.{IsOutcome, Printed};
+
+use crate::answer::Answer;
+use crate::failure::Failure;
+use crate::sim::sim;
+use crate::synth::synth;
+use command_words::Command;
+use dom_io::Shelf;
+use std::alloc::Global;
+
+/// The outcome of a command over the files of a shelf.
+pub fn outcome_of<'a, S: Shelf>(
+    alloc: Global,
+    command: &Command<'a>,
+    shelf: &mut S,
+) -> Result<Answer, Failure<'a>>
+    requires names { All (S.may_ask shelf.old) (files_of (asked command.now)) }
+    requires no_probe { HasNoProbe (asked command.now) }
+    ensures text { IfOk result (λ answer.
+        IsOutcome (S.files shelf.old) (asked command.now) (Printed (if answer.settled then 0 else 6) answer.text.items)) }
+    ensures failed { (failure : Failed) → IsErrOf result failure
+        → IsFailureOf (S.files shelf.old) (asked command.now) (Rose (S.faults shelf.old) (S.faults shelf.new)) failure }
+    ensures same_files { S.files shelf.new ≡ S.files shelf.old }
+    ensures same_names { (name : List ℕ) → S.may_ask shelf.new name ↔ S.may_ask shelf.old name }
+    ensures later { S.faults shelf.old ≤ S.faults shelf.new }
+{
+    match command {
+        Command::Synth { file } => synth(alloc, shelf, file),
+        Command::Sim {
+            deck,
+            stim,
+            options,
+        } => sim(alloc, shelf, deck, stim, options),
+    }
+}

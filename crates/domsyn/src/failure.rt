@@ -1,0 +1,22 @@
+//! Why a command gives no text.
+ghost use Rattle.std.specs.Prelude.{◌≡◌};
+ghost use Rattle.domsyn.specs.declared.failure.Failure.TheVariants.{Memory};
+
+use crate::refusal::Refusal;
+use dom_base::OutOfMemory;
+
+/// Why there is no text: a file is refused, a file can't be read, or memory did not suffice.
+#[derive(Clone, Copy)]
+pub enum Failure<'a> {
+    Refused { file: &'a str, why: Refusal },
+    Unread { file: &'a str },
+    Memory,
+}
+
+impl<'a> From<OutOfMemory> for Failure<'a> {
+    ghost from_gives = { λ _ e. e ≡ Memory };
+
+    fn from(_: OutOfMemory) -> Self {
+        Failure::Memory
+    }
+}

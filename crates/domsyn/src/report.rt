@@ -1,0 +1,96 @@
+//! The end of a command: its text is put out, or a line says why there is none.
+ghost use Rattle.std.specs.Prelude.{ℕ, ◌≡◌, ◌≢◌, ◌++◌, ◌≤◌, ◌⊎◌, OnOk, OnErr, codes, if◌then◌else◌, length};
+ghost use Rattle.std.specs.Io.KnownBytes.{Appends};
+ghost use Rattle.dom_io.specs.Faults.{Rose};
+ghost use Rattle.dom_io.specs.Pieces.{AppendsPrefix};
+ghost use Rattle.domsyn.specs.Failures.{HasRoomForFailure, IsReportedAt};
+ghost use Rattle.domsyn.specs.Top.{Reports, line_of};
+
+use crate::answer::Answer;
+use crate::failure::Failure;
+use crate::status::{CANNOT_READ, CANNOT_WRITE, DONE, OUT_OF_MEMORY, REFUSED, UNSETTLED};
+use dom_io::{Sink, SinkFault, put_all};
+use std::alloc::Global;
+
+/// Puts out a text, and gives the status.
+pub fn finish<K: Sink, E: Sink>(answer: &Answer, out: &mut K, err: &mut E) -> u8
+    requires out_room { K.has_room out.old (length answer.now.text.items) }
+    requires err_room { (status : ℕ) → E.has_room err.old (length (line_of status)) }
+    ensures known { (result ≡ (if answer.now.settled then 0 else 6)) ⊎ (result ≡ 4) }
+    ensures done { result ≢ 4 → Appends (K.taken out.old) (K.taken out.new) answer.now.text.items }
+    ensures part { result ≡ 4 → AppendsPrefix (K.taken out.old) (K.taken out.new) answer.now.text.items }
+    ensures cannot_write { result ≡ 4 → Rose (K.faults out.old) (K.faults out.new) }
+    ensures reported { Reports (E.taken err.old) (E.taken err.new) (E.faults err.old) (E.faults err.new) (line_of result) }
+    ensures quiet { result ≢ 4 → err.new ≡ err.old }
+    ensures out_later { K.faults out.old ≤ K.faults out.new }
+    ensures err_later { E.faults err.old ≤ E.faults err.new }
+{
+    match put_all(out, &answer.text) {
+        Ok(()) => { if answer.settled { DONE } else { UNSETTLED } }
+        Err(_) => {
+            report(err, b"domsyn: cannot write\n");
+            CANNOT_WRITE
+        }
+    }
+}
+
+/// Reports why there is no text, and gives the status.
+pub fn report_failure<E: Sink>(alloc: Global, failure: Failure, err: &mut E) -> u8
+    requires failure_room { HasRoomForFailure failure (E.has_room err.old) }
+    requires err_room { (status : ℕ) → E.has_room err.old (length (line_of status)) }
+    ensures reported { IsReportedAt failure.entry result
+        (Reports (E.taken err.old) (E.taken err.new) (E.faults err.old) (E.faults err.new)) }
+    ensures later { E.faults err.old ≤ E.faults err.new }
+{
+    match failure {
+        Failure::Refused { file, why } => {
+            if let Ok(text) = format!(in alloc; "{why}") {
+                report_about(err, file, text.as_bytes());
+                return REFUSED;
+            }
+        }
+        Failure::Unread { file } => {
+            report_about(err, file, b": cannot read\n");
+            return CANNOT_READ;
+        }
+        Failure::Memory => (),
+    }
+    report(err, b"domsyn: out of memory\n");
+    OUT_OF_MEMORY
+}
+
+/// Puts a line on the sink, whose failures change no status.
+pub fn report<E: Sink>(err: &mut E, line: &[u8])
+    requires { E.has_room err.old (length line.now) }
+    ensures reported { Reports (E.taken err.old) (E.taken err.new) (E.faults err.old) (E.faults err.new) line.now }
+    ensures later { E.faults err.old ≤ E.faults err.new }
+{
+    let _ = put_all(err, line);
+}
+
+/// Puts a line about a file on the sink: `domsyn: `, the file's name and what there is to say.
+fn report_about<E: Sink>(err: &mut E, file: &str, what: &[u8])
+    requires { E.has_room err.old (length (codes "domsyn: " ++ file.now ++ what.now)) }
+    ensures reported { Reports (E.taken err.old) (E.taken err.new) (E.faults err.old) (E.faults err.new)
+        (codes "domsyn: " ++ file.now ++ what.now) }
+    ensures later { E.faults err.old ≤ E.faults err.new }
+{
+    let _ = put_about(err, file, what);
+}
+
+#[tactic(auto, using(dom_io::proofs::PieceLemmas::put_twice))]
+fn put_about<E: Sink>(err: &mut E, file: &str, what: &[u8]) -> Result<(), SinkFault>
+    requires { E.has_room err.old (length (codes "domsyn: " ++ file.now ++ what.now)) }
+    ensures ok { OnOk result (Appends (E.taken err.old) (E.taken err.new) (codes "domsyn: " ++ file.now ++ what.now)) }
+    ensures err { OnErr result (AppendsPrefix (E.taken err.old) (E.taken err.new) (codes "domsyn: " ++ file.now ++ what.now)) }
+    ensures later { E.faults err.old ≤ E.faults err.new }
+    ensures failed { OnErr result (Rose (E.faults err.old) (E.faults err.new)) }
+{
+    if let Err(fault) = put_all(err, b"domsyn: ") {
+        return Err(fault);
+    }
+    if let Err(fault) = put_all(err, file.as_bytes()) {
+        return Err(fault);
+    }
+    put_all(err, what)
+}

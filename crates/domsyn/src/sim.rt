@@ -1,0 +1,76 @@
+//! The command `sim DECK STIM`: the trace of a deck over a stimulus.
+ghost use Rattle.std.specs.Prelude.{◌≡◌, ◌≤◌, ◌↔◌, ℕ, List, [], IfOk, IsErrOf, if◌then◌else◌};
+ghost use Rattle.dom_io.specs.Faults.{Rose};
+ghost use Rattle.command_words.specs.Commands.{Sim};
+ghost use Rattle.domsyn.specs.declared.failure.Failure.{Failure as Failed};
+ghost use Rattle.domsyn.specs.Failures.{IsFailureOf, IsUntraced};
+ghost use Rattle.domsyn.specs.Outcomes.{IsOutcome, Printed};
+ghost use Rattle.trace_tool.specs.Traces.{IsTraceOf};
+
+use crate::answer::Answer;
+use crate::failure::Failure;
+use crate::fetch::fetch;
+use crate::refusal::Refusal;
+use dom_io::Shelf;
+use std::alloc::Global;
+use trace_tool::{TraceFault, TraceOptions};
+
+/// The outcome of `sim DECK STIM` over the files of a shelf.
+pub fn sim<'a, S: Shelf>(
+    alloc: Global,
+    shelf: &mut S,
+    deck: &'a str,
+    stim: &'a str,
+    options: &TraceOptions,
+) -> Result<Answer, Failure<'a>>
+    requires deck_name { S.may_ask shelf.old deck.now }
+    requires stim_name { S.may_ask shelf.old stim.now }
+    requires no_probe { options.now.probes ≡ [] }
+    ensures text { IfOk result (λ answer.
+        IsOutcome (S.files shelf.old) (Sim deck.now stim.now options.now) (Printed (if answer.settled then 0 else 6) answer.text.items)) }
+    ensures failed { (failure : Failed) → IsErrOf result failure
+        → IsFailureOf (S.files shelf.old) (Sim deck.now stim.now options.now) (Rose (S.faults shelf.old) (S.faults shelf.new)) failure }
+    ensures same_files { S.files shelf.new ≡ S.files shelf.old }
+    ensures same_names { (name : List ℕ) → S.may_ask shelf.new name ↔ S.may_ask shelf.old name }
+    ensures later { S.faults shelf.old ≤ S.faults shelf.new }
+{
+    let deck_bytes = fetch(alloc, shelf, deck)?;
+    let stim_bytes = fetch(alloc, shelf, stim)?;
+    trace_of(alloc, deck, stim, &deck_bytes, &stim_bytes, options)
+}
+
+/// The trace of these bytes of a deck over those of a stimulus.
+fn trace_of<'a>(
+    alloc: Global,
+    deck: &'a str,
+    stim: &'a str,
+    deck_bytes: &[u8],
+    stim_bytes: &[u8],
+    options: &TraceOptions,
+) -> Result<Answer, Failure<'a>>
+    requires no_probe { options.now.probes ≡ [] }
+    ensures trace { IfOk result (λ answer.
+        IsTraceOf deck_bytes.now stim_bytes.now options.now (record { text = answer.text.items; settled = answer.settled })) }
+    ensures failed { (failure : Failed) → IsErrOf result failure
+        → IsUntraced (record { name = deck.now; bytes = deck_bytes.now }) (record { name = stim.now; bytes = stim_bytes.now }) failure }
+{
+    match trace_tool::sim(alloc, deck_bytes, stim_bytes, options) {
+        Ok(trace) => Ok(Answer {
+            text: trace.text,
+            settled: trace.settled,
+        }),
+        Err(TraceFault::Deck { line, kind }) => {
+            let why = Refusal::Deck { line, kind };
+            Err(Failure::Refused { file: deck, why })
+        }
+        Err(TraceFault::Ports { place }) => {
+            let why = Refusal::Ports { place };
+            Err(Failure::Refused { file: deck, why })
+        }
+        Err(TraceFault::Stim { line, kind }) => {
+            let why = Refusal::Stim { line, kind };
+            Err(Failure::Refused { file: stim, why })
+        }
+        Err(TraceFault::Memory) => Err(Failure::Memory),
+    }
+}
