@@ -173,7 +173,7 @@ pub record KeepsMarks (f : ℕ → ℕ) : Type 0 where
   pub return : (b : ℕ) → (f b == 13) ≡ (b == 13)
   pub blank : (b : ℕ) → is_blank (f b) ≡ is_blank b
 
-onto_first-map : (f : ℕ → ℕ) (x : ℕ) (ps : List (List ℕ)) → onto_first (f x) (map (map f) ps) ≡ map (map f) (onto_first x ps)
+pub onto_first-map : (f : ℕ → ℕ) (x : ℕ) (ps : List (List ℕ)) → onto_first (f x) (map (map f) ps) ≡ map (map f) (onto_first x ps)
 onto_first-map f x [] = refl
 onto_first-map f x (p ∷ ps) = refl
 

@@ -16,4 +16,4 @@ pub use memory::OutOfMemory;
 pub use name::{Name, NetName};
 pub use text::{append, append_number, append_word};
 pub use tri::Tri;
-pub use words::{cut_words, first_word, has_control, have_control, same_word};
+pub use words::{cut_words, first_word, has_control, have_control};

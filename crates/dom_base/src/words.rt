@@ -1,6 +1,5 @@
 //! Words of a line.
-ghost use Rattle.std.specs.Prelude.{◌≡◌, IfOk, map, nat_eq};
-ghost use Rattle.std.specs.Cmp.Lexicographic.{pointwise};
+ghost use Rattle.std.specs.Prelude.{◌≡◌, IfOk, map};
 ghost use Rattle.std.specs.List.{list_any};
 ghost use Rattle.dom_base.specs.Lines.{first_word, is_control, words};
 
@@ -23,13 +22,6 @@ pub fn first_word<'a>(words: &[&'a [u8]]) -> &'a [u8]
         Some(word) => word,
         None => &[],
     }
-}
-
-/// Whether these are the same bytes.
-pub fn same_word(word: &[u8], other: &[u8]) -> bool
-    ensures { result ≡ pointwise nat_eq word.now other.now }
-{
-    word == other
 }
 
 fn is_control(b: u8) -> bool

@@ -13,7 +13,7 @@ use Rattle.blif_ast.specs.BlifFileData.{BlifFileData}
 use Rattle.blif_ast.specs.BlifModelData.{BlifModelData}
 use Rattle.blif_ast.specs.TableData.{TableData}
 use Rattle.deck.proofs.PortDecisions.{Decided}
-use Rattle.domsyn.specs.OneTable.{HasGoodRows, IsFileOfTable, IsOneTable, IsRow, IsSmall, IsTableOver, is_one}
+use Rattle.domsyn.specs.OneTable.{HasGoodRows, IsFileOfTable, IsOneTable, IsRow, IsSmall, IsTableOver, is_one_letter}
 use Rattle.domsyn.specs.OneTableData.{OneTableData}
 use Rattle.domsyn.proofs.FilesOfTables.{file_of_table}
 use Rattle.domsyn.proofs.OneDeck.{networks_alike}
@@ -51,9 +51,9 @@ not_zero One = inl (λ e. cc)
 not_zero Any = inl (λ e. cc)
 
 row_decided : (width : ℕ) (row : List Letter) → Decided (IsRow width row)
-row_decided width row = by (eq_decided (length row) width) (all_decided (λ letter. letter ≢ Zero) not_zero row) (le_decided 1 (count_by is_one row)) (le_decided (count_by is_one row) 4)
+row_decided width row = by (eq_decided (length row) width) (all_decided (λ letter. letter ≢ Zero) not_zero row) (le_decided 1 (count_by is_one_letter row)) (le_decided (count_by is_one_letter row) 4)
   where
-    by : Decided (length row ≡ width) → Decided (All (λ letter. letter ≢ Zero) row) → Decided (1 ≤ count_by is_one row) → Decided (count_by is_one row ≤ 4) → Decided (IsRow width row)
+    by : Decided (length row ≡ width) → Decided (All (λ letter. letter ≢ Zero) row) → Decided (1 ≤ count_by is_one_letter row) → Decided (count_by is_one_letter row ≤ 4) → Decided (IsRow width row)
     by (inl a) (inl b) (inl c) (inl d) = inl (record { fits = a; no_zero = b; some_one = c; few_ones = d })
     by (inl a) (inl b) (inl c) (inr fails) = inr (λ is. fails is.few_ones)
     by (inl a) (inl b) (inr fails) d = inr (λ is. fails is.some_one)
@@ -61,9 +61,9 @@ row_decided width row = by (eq_decided (length row) width) (all_decided (λ lett
     by (inr fails) b c d = inr (λ is. fails is.fits)
 
 rows_decided : (width : ℕ) (rows : List (List Letter)) → Decided (HasGoodRows width rows)
-rows_decided width rows = by (le_decided 1 (length rows)) (le_decided (length rows) 4) (all_decided (IsRow width) (row_decided width) rows) (le_decided 2 (sum_by (count_by is_one) rows))
+rows_decided width rows = by (le_decided 1 (length rows)) (le_decided (length rows) 4) (all_decided (IsRow width) (row_decided width) rows) (le_decided 2 (sum_by (count_by is_one_letter) rows))
   where
-    by : Decided (1 ≤ length rows) → Decided (length rows ≤ 4) → Decided (All (IsRow width) rows) → Decided (2 ≤ sum_by (count_by is_one) rows) → Decided (HasGoodRows width rows)
+    by : Decided (1 ≤ length rows) → Decided (length rows ≤ 4) → Decided (All (IsRow width) rows) → Decided (2 ≤ sum_by (count_by is_one_letter) rows) → Decided (HasGoodRows width rows)
     by (inl a) (inl b) (inl c) (inl d) = inl (record { some_row = a; few_rows = b; rows = c; two_ones = d })
     by (inl a) (inl b) (inl c) (inr fails) = inr (λ is. fails is.two_ones)
     by (inl a) (inl b) (inr fails) d = inr (λ is. fails is.rows)

@@ -5,7 +5,3 @@ pub one_item : {X : Type 0} (xs : List X) (a : X) → 1 ≤ length xs → length
 one_item [] a least most first = absurd (omega arith)
 one_item (x ∷ []) a least most first = λ i. sym first i ∷ []
 one_item (x ∷ y ∷ xs) a least most first = absurd (omega arith)
-
-pub none_at_length : {X : Type 0} (xs : List X) → length xs ≡ 0 → xs ≡ []
-none_at_length [] e = refl
-none_at_length (x ∷ xs) e = absurd (omega arith)

@@ -16,7 +16,7 @@ use Rattle.switch_model.specs.Power.{source_values}
 pub few_nets : (c : CircuitData) → IsCircuit c.ports c.nets c.devices → length c.nets ≤ 2 ^ 26
 few_nets c is = omega (arith, is.all_used, used-le c.ports c.devices is.in_order, is.few_ports, is.few_devices)
 
-joined_length : (l xs ys zs : List (List ℕ)) → l ≡ xs ++ (ys ++ zs) → length xs + (length ys + length zs) ≡ length l
+pub joined_length : (l xs ys zs : List (List ℕ)) → l ≡ xs ++ (ys ++ zs) → length xs + (length ys + length zs) ≡ length l
 joined_length l xs ys zs e = rw e (omega (arith, length-append xs (ys ++ zs), length-append ys zs))
 
 joined_within : (l a b c n p d : ℕ) → a + (b + c) ≡ l → a ≡ d + 8 → b ≡ p → l ≤ n → d + 8 + p ≤ n

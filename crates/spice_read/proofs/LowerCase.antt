@@ -5,6 +5,7 @@ use Rattle.std.specs.Str.{str_to_ascii_lowercase}
 use Rattle.std.specs.List.{AllByRecursion, before_first, list_any, slice_split, onto_first}
 use Rattle.std.proofs.lemmas.Bool.Decides.{nat_tests}
 use Rattle.dom_base.specs.Lines.{is_blank, is_control, is_word, unindented, words, IsLowerWord, first_word}
+use Rattle.dom_base.proofs.Texts.{onto_first-map}
 use Rattle.dom_base.proofs.WordBytes.{lower_bytes, lower_words}
 use Rattle.deck.specs.DeckCards.{has_equals}
 use Rattle.spice_read.proofs.FirstWords.{first_word-front}
@@ -17,10 +18,6 @@ lower_control b = grind (arith, nat_tests)
 
 lower_equals : (b : ℕ) → (to_ascii_lowercase b == 61) ≡ (b == 61)
 lower_equals b = grind (arith, nat_tests)
-
-onto_first-map : (f : ℕ → ℕ) (x : ℕ) (ps : List (List ℕ)) → onto_first (f x) (map (map f) ps) ≡ map (map f) (onto_first x ps)
-onto_first-map f x [] = refl
-onto_first-map f x (p ∷ ps) = refl
 
 split-map : (test : ℕ → Bool) (f : ℕ → ℕ) → ((b : ℕ) → test (f b) ≡ test b) → (bs : List ℕ) → slice_split test (map f bs) ≡ map (map f) (slice_split test bs)
 split-map test f same [] = refl

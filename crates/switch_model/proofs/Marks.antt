@@ -6,6 +6,7 @@ use Rattle.std.proofs.lemmas.List.{get_or-set_same, get_or-set_other, length-set
 use Rattle.std.proofs.lemmas.List.Elements.{Contains-append_left, Contains-push}
 use Rattle.switch_model.specs.declared.search.Reached.{Reached}
 use Rattle.switch_model.specs.Search.{SearchData, IsListed, IsReached, IsCleared, count_set, is_marked, with_mark}
+use Rattle.dom_base.proofs.Bools.{not_true}
 use Rattle.switch_model.proofs.Decided.{Dec, dec_and, dec_nat, dec_bool}
 
 count_set-le : (marks : List Bool) → count_set marks ≤ length marks
@@ -126,10 +127,6 @@ pub record IsClearing (before now : SearchData) (place : ℕ) : Type 0 where
 
 pub clearing-none : (s : SearchData) → IsListed s → IsClearing s s 0
 clearing-none s h = record { strong_long = refl; weak_long = h.weak_long; same_list = refl; same_room = refl; fewer = λ n w e. e; cleared = λ k stop lt is. absurd (omega arith) }
-
-not_true : (b : Bool) → (b ≡ true → ⊥) → b ≡ false
-not_true true h = absurd (h refl)
-not_true false h = refl
 
 pub clearing-more : (before now after : SearchData) (place : ℕ) (stop : Reached) → IsClearing before now place → slice_get before.reached place ≡ Some stop
     → stop.net < length before.strong → after ≡ with_mark now stop.net stop.weak false → IsClearing before after (place + 1)

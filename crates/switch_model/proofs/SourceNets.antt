@@ -13,36 +13,20 @@ use Rattle.deck.specs.Roles.{AreRoles, ports_of}
 use Rattle.deck.specs.Sources.{is_source}
 use Rattle.deck.specs.declared.role.Roles.{Roles}
 use Rattle.deck.proofs.DeviceNumbers.{used-ge}
-use Rattle.deck.proofs.PortLayout.{joined, length-leading, pin-no_output}
+use Rattle.deck.proofs.PortLayout.{joined, length-leading, length-ports_of, length-roles, pin-no_output, ports-count}
 use Rattle.deck.specs.PortLayout.{source_count}
 use Rattle.switch_model.specs.LinksData.{is_first}
 use Rattle.switch_model.specs.Targets.{IsTarget}
 use Rattle.switch_model.proofs.Decided.{lt_or_ge}
-use Rattle.dom_base.proofs.Lists.{AllByRecursion-append}
+use Rattle.dom_base.proofs.Bools.{not_true}
+use Rattle.dom_base.proofs.Lists.{AllByRecursion-append, AllByRecursion-take}
 
 -- a circuit has at least as many nets as ports
 pub ports-few : (c : CircuitData) → IsCircuit c.ports c.nets c.devices → c.ports ≤ length c.nets
 ports-few c h = omega (arith, h.all_used, used-ge c.ports (ends c.devices))
 
-pub length-ports : (c : CircuitData) → IsCircuit c.ports c.nets c.devices → length (ports_of c) ≡ c.ports
-length-ports c h = length-take c.ports c.nets ∙ omega (arith, ports-few c h)
-
-pub length-roles : (ports : List (List ℕ)) (roles : Roles) → AreRoles ports roles → length ports ≡ source_count roles + roles.outs
-length-roles ports roles h =
-    let o = h.in_order in
-    ap length (joined o) ∙ length-append (leading_ports roles.clocks) (h.pins ++ h.outs)
-    ∙ omega (arith, length-append h.pins h.outs, length-leading roles.clocks o.few_clocks, h.pin_count, h.out_count)
-
-pub count-sources : (c : CircuitData) (roles : Roles) → IsCircuit c.ports c.nets c.devices → AreRoles (ports_of c) roles → c.ports ≡ source_count roles + roles.outs
-count-sources c roles h r = sym (length-ports c h) ∙ length-roles (ports_of c) roles r
-
 abbrev NoOutput : List ℕ → Type 0
 NoOutput name = starts_with nat_eq name (codes "o_") ≡ false
-
-AllByRecursion-take : (P : List ℕ → Type 0) (n : ℕ) (xs : List (List ℕ)) → AllByRecursion P xs → AllByRecursion P (take n xs)
-AllByRecursion-take P zero xs h = tt
-AllByRecursion-take P (suc n) [] h = tt
-AllByRecursion-take P (suc n) (x ∷ xs) h = (h.0, AllByRecursion-take P n xs h.1)
 
 -- no leading port is an output
 leading-no_output : (clocks : ℕ) → All NoOutput (leading_ports clocks)
@@ -55,10 +39,6 @@ leading-no_output clocks =
             (AllByRecursion-take NoOutput clocks clock_ports (refl, (refl, (refl, (refl, tt))))) (refl, (refl, (refl, (refl, (refl, (refl, tt)))))),
       ),
     )
-
-not_true : (b : Bool) → (b ≡ true → ⊥) → b ≡ false
-not_true true h = absurd (h refl)
-not_true false h = refl
 
 -- the names before the outputs are none, those behind are outputs
 before-outs : (ports : List (List ℕ)) (roles : Roles) (r : AreRoles ports roles) (n : ℕ) → n < source_count roles → NoOutput (get_or ports n [])
@@ -102,7 +82,7 @@ pub sources-first : (c : CircuitData) (roles : Roles) → IsCircuit c.ports c.ne
 sources-first c roles h r net = by (net < source_count roles) (source_count roles ≤ net) front back (lt_or_ge net (source_count roles))
   where
     count : c.ports ≡ source_count roles + roles.outs
-    count = count-sources c roles h r
+    count = ports-count c roles h r
 
     read : net < c.ports → get_or (ports_of c) net [] ≡ get_or c.nets net []
     read lt = get_or-take c.ports c.nets net [] lt
@@ -121,7 +101,7 @@ sources-first c roles h r net = by (net < source_count roles) (source_count role
 
     back : source_count roles ≤ net → is_source c net ≡ is_first (source_count roles) net
     back le = port (net < c.ports) (c.ports ≤ net) (lt_or_ge net c.ports)
-        (λ lt. let name : IsOutput (get_or c.nets net []) = subst IsOutput (read lt) (behind-outs (ports_of c) roles r net le (omega (arith, length-ports c h, lt))) in
+        (λ lt. let name : IsOutput (get_or c.nets net []) = subst IsOutput (read lt) (behind-outs (ports_of c) roles r net le (omega (arith, length-ports_of c h, lt))) in
         rw (test-true net c.ports lt, name, test-false net (source_count roles) le) refl)
         (λ ge. rw (test-false net c.ports ge, test-false net (source_count roles) le) refl)
       where

@@ -12,6 +12,7 @@ use Rattle.switch_model.specs.declared.crossing.Paths.{Paths}
 use Rattle.switch_model.specs.declared.crossing.Paths.TheVariants.{Definite, Possible as possible}
 use Rattle.switch_model.specs.Search.{IsCrossed, Walk, stay, go, is_keeper}
 use Rattle.switch_model.proofs.Joined.{Path-append}
+use Rattle.dom_base.proofs.Bools.{or_assoc, or_false}
 use Rattle.dom_base.proofs.Lists.{AllByRecursion-append, AllByRecursion-both, AllByRecursion-weaker}
 use Rattle.switch_model.proofs.Searches.{clash}
 
@@ -19,14 +20,6 @@ use Rattle.switch_model.proofs.Searches.{clash}
 abbrev pub has_keeper : List Device → Bool
 has_keeper [] = false
 has_keeper (d ∷ ds) = is_keeper d.kind || has_keeper ds
-
-or_false : (a : Bool) → (a || false) ≡ a
-or_false true = refl
-or_false false = refl
-
-or_assoc : (a b c : Bool) → ((a || b) || c) ≡ (a || (b || c))
-or_assoc true b c = refl
-or_assoc false b c = refl
 
 keeper-kind : (k : Kind) → is_keeper k ≡ true → k ≡ Keep
 keeper-kind nch h = absurd (cc)

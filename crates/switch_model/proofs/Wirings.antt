@@ -8,7 +8,7 @@ use Rattle.std.proofs.lemmas.Option.{slice_get_within}
 use Rattle.deck.specs.declared.device.Device.{Device}
 use Rattle.switch_model.specs.Laws.{EndsAt}
 use Rattle.deck.specs.Nets.{IsCircuit, IsNumbered, ends, used}
-use Rattle.deck.proofs.DeviceNumbers.{used-ge, used-le}
+use Rattle.deck.proofs.DeviceNumbers.{IsCircuit-in_range, used-le}
 use Rattle.deck.specs.Nets.{IsInRange}
 use Rattle.switch_model.specs.Wiring.{IsEndPlace, IsTouching}
 use Rattle.switch_model.proofs.Decided.{dec_nat}
@@ -87,19 +87,6 @@ touching-whole devices t k le h = record {
   ends = λ net place c. (h.ends net place c).1;
   all = λ net place lt e. h.all net place lt (omega (arith, le, slice_get_within devices place e.0 e.1)) e;
 }
-
-each-in_range : (n : ℕ) (ds : List Device) → IsNumbered n (ends ds) → AllByRecursion (IsInRange (used n (ends ds))) ds
-each-in_range n [] h = tt
-each-in_range n (d ∷ ds) h =
-    let most = used-ge (max (max (max n (d.drain + 1)) (d.gate + 1)) (d.source + 1)) (ends ds) in (
-      record { drain = omega (arith, most); gate = omega (arith, most); source = omega (arith, most) },
-      each-in_range (max (max (max n (d.drain + 1)) (d.gate + 1)) (d.source + 1)) ds h.1.1.1,
-    )
-
--- the devices of a circuit are between its nets
-pub nets-in_range : (ports : ℕ) (nets : List (List ℕ)) (devices : List Device) → IsCircuit ports nets devices → All (IsInRange (length nets)) devices
-nets-in_range ports nets devices c =
-    subst (λ n. All (IsInRange n) devices) (sym c.all_used) (All-from_recursion (IsInRange (used ports (ends devices))) devices (each-in_range ports devices c.in_order))
 
 -- the numbers of a circuit's nets fit
 pub few-nets : (ports : ℕ) (nets : List (List ℕ)) (devices : List Device) → IsCircuit ports nets devices → length nets < 2 ^ 32

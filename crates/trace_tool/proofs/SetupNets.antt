@@ -13,12 +13,10 @@ use Rattle.event_sim.specs.Chains.{next_step, step_after}
 use Rattle.event_sim.specs.SimData.{SimData, ran}
 use Rattle.event_sim.specs.declared.event.Event.{Event}
 use Rattle.event_sim.proofs.EventChains.{length-values_after}
+use Rattle.event_sim.proofs.PowerState.{joined_length}
 use Rattle.trace_tool.specs.RunData.{IsRunning, with_move}
 use Rattle.trace_tool.specs.Moves.{Move, set_all}
 use Rattle.trace_tool.specs.declared.setup.Setup.{Setup}
-
-joined_length : (l xs ys zs : List (List ℕ)) → l ≡ xs ++ (ys ++ zs) → length xs + (length ys + length zs) ≡ length l
-joined_length l xs ys zs e = rw e (omega (arith, length-append xs (ys ++ zs), length-append ys zs))
 
 outs_within : (l a b c n p d o : ℕ) → a + (b + c) ≡ l → a ≡ d + 8 → b ≡ p → c ≡ o → l ≤ n → d + 8 + p + o ≤ n
 outs_within l a b c n p d o e f g h i = omega arith

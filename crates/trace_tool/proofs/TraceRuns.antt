@@ -13,10 +13,6 @@ use Rattle.trace_tool.specs.Traces.{AreCycles, IsCycle, IsRun, IsTraceFrom, orde
 use Rattle.trace_tool.specs.declared.setup.Setup.{Setup}
 use Rattle.trace_tool.proofs.CoursesJoined.{course-by, course-fits, course-length}
 
-pub if_ok-map : {T E : Type 0} {A B : T → Type 0} (result : Result T E) → ((x : T) → A x → B x) → IfOk result A → IfOk result B
-if_ok-map (Ok x) f h = f x h
-if_ok-map (Err e) f h = tt
-
 pub if_ok-both : {T E : Type 0} {A B C : T → Type 0} (result : Result T E) → ((x : T) → A x → B x → C x) → IfOk result A → IfOk result B → IfOk result C
 if_ok-both (Ok x) f h k = f x h k
 if_ok-both (Err e) f h k = tt

@@ -4,7 +4,8 @@ use Rattle.blif_ast.specs.BlifModelData.{BlifModelData}
 use Rattle.blif_ast.specs.TableData.{TableData}
 use Rattle.domsyn.specs.OneTable.{IsFileOfTable, IsOneTable, IsSmall, IsTableOver}
 use Rattle.domsyn.specs.OneTableData.{OneTableData}
-use Rattle.domsyn.proofs.Commands.{none_at_length, one_item}
+use Rattle.dom_base.proofs.Lists.{length-none}
+use Rattle.domsyn.proofs.Commands.{one_item}
 use Rattle.domsyn.proofs.FilesOfTables.{file_of_table}
 use Rattle.domsyn.proofs.one_table.one_table.Goals as goal
 
@@ -14,8 +15,8 @@ returns-clause-found c =
     let outputs : c.model-item.result.outputs ≡ c.output-item.result ∷ [] = sym (ap (λ (m : BlifModelData). m.outputs) c.model.view_is) ∙ sym c.as_slice-2.ensures.value ∙ one_item _ c.output-item.result c.in-len1-as_slice.len_at_least c.in-len1-as_slice.len_below c.output-item.is in
     let tables : c.model-item.result.tables ≡ c.table-item.result ∷ [] = sym (ap (λ (m : BlifModelData). m.tables) c.model.view_is) ∙ sym c.as_slice-3.ensures.value ∙ one_item _ c.table-item.result c.in-len1-as_slice-2.len_at_least c.in-len1-as_slice-2.len_below c.table-item.is in
     let same = c.in_ok-network_of.ensures in
-    let no_latch : c.model-item.result.latches ≡ [] = sym (ap (λ (m : BlifModelData). m.latches) c.model.view_is) ∙ none_at_length c.model.inside.latches.items (search rules) in
-    let no_instance : c.model-item.result.instances ≡ [] = sym (ap (λ (m : BlifModelData). m.instances) c.model.view_is) ∙ none_at_length c.model.inside.instances.items (search rules) in
+    let no_latch : c.model-item.result.latches ≡ [] = sym (ap (λ (m : BlifModelData). m.latches) c.model.view_is) ∙ length-none c.model.inside.latches.items (search rules) in
+    let no_instance : c.model-item.result.instances ≡ [] = sym (ap (λ (m : BlifModelData). m.instances) c.model.view_is) ∙ length-none c.model.inside.instances.items (search rules) in
     let inputs = ap (λ (m : BlifModelData). m.inputs) c.model.view_is in
     let rows = ap (λ (t : TableData). t.rows) c.table.view_is in
     let is_over : c.is_table_over.result ≡ true = cc in

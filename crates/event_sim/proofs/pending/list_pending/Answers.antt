@@ -2,6 +2,7 @@ use Rattle.std.proofs.Common.{◌≡◌, ℕ, Bool, vec_capacity, ◌+◌, List,
 use Rattle.switch_model.specs.LinksData.{LinksData}
 use Rattle.event_sim.specs.Pending.{IsPendingNet}
 use Rattle.event_sim.proofs.PendingLists.{IsListed, listed-all, listed-push, listed-skip, listed_length}
+use Rattle.dom_base.proofs.Bools.{never}
 use Rattle.event_sim.proofs.pending.list_pending.Goals as goal
 use Rattle.event_sim.proofs.pending.list_pending.Goals.{then-is_pending, else-is_pending}
 
@@ -10,9 +11,6 @@ unwrap-requires c =
     let p = c.loop-net.pending in
     let short = listed_length (IsPendingNet c.args.links.now c.args.values.now) c.loop-net.net p.items c.loop-net.invariant.listed in
     c.push.ensures.succeeds (omega (arith, short, p.ok.0, c.loop-net.invariant.room, c.requires.whole))
-
-never : {b : Bool} → b ≡ true → b ≡ false → ⊥
-never x y = let e : true ≡ false = sym x ∙ y in cc
 
 pub loop-net-preserved : goal.loop-net-preserved
 loop-net-preserved c =

@@ -1,6 +1,7 @@
 use Rattle.std.proofs.Common.{◌≡◌, ℕ, Bool, true, false, refl, sym, ◌∙◌, arith}
 use Rattle.event_sim.specs.declared.event.Settled.TheVariants.{Rest, Unsettled}
 use Rattle.event_sim.proofs.EventChains.{has_run-more, ran_whole, settles-rest, settles-unrest}
+use Rattle.dom_base.proofs.Bools.{never}
 use Rattle.event_sim.proofs.sim.Sim.settle.Goals as goal
 
 pub events-preserved : goal.events-preserved
@@ -9,9 +10,6 @@ events-preserved g c = record {
       c.events.invariant.run c.in-Some.ensures.when c.in-Some.ensures.chosen c.in-Some.ensures.moved;
   within = omega arith;
 }
-
-never : {b : Bool} → b ≡ true → b ≡ false → ⊥
-never x y = let e : true ≡ false = sym x ∙ y in cc
 
 pub returns-in_default-clause-run : goal.returns-in_default-clause-run
 returns-in_default-clause-run g c =

@@ -1,6 +1,7 @@
 use Rattle.std.proofs.Common.{◌≡◌, ℕ, Bool, true, false, sym, ◌∙◌, subst, arith}
 use Rattle.trace_tool.specs.RunData.{Steps}
 use Rattle.trace_tool.proofs.SettlingRuns.{run-more, settles-rest, settles-unrest}
+use Rattle.dom_base.proofs.Bools.{never}
 use Rattle.trace_tool.proofs.run.Run.settle.Goals as goal
 
 pub events-preserved : goal.events-preserved
@@ -21,9 +22,6 @@ pub returns-then-at_rest : goal.returns-then-at_rest
 returns-then-at_rest g c =
     settles-rest (λ pick step count place. g.F.Fn.post pick (step, (count, tt)) place) c.args.self.now c.events.self c.at_rest.new.self c.events.count c.most_events-most.result c.events.invariant.run
     c.most_events-most.ensures.most c.most_events-most.ensures.few c.events.invariant.within (c.at_rest.ensures.rest.0 c.if-at_rest.true) c.at_rest.ensures.same
-
-never : {b : Bool} → b ≡ true → b ≡ false → ⊥
-never x y = let e : true ≡ false = sym x ∙ y in cc
 
 pub returns-else-at_rest : goal.returns-else-at_rest
 returns-else-at_rest g c =
