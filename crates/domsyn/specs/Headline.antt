@@ -18,7 +18,7 @@ use Rattle.deck.specs.Sources.{is_source}
 use Rattle.deck.specs.Switches.{value_of}
 use Rattle.spice_text.specs.Text.{IsWritten}
 use Rattle.command_words.specs.Commands.{Asks, Synth}
-use Rattle.domsyn.specs.Deck.{pin_name, output_name}
+use Rattle.deck.specs.PortNames.{pin_name, output_name}
 use Rattle.domsyn.specs.Decks.{IsBuildable}
 use Rattle.domsyn.specs.OneTable.{IsFileOfTable, IsOneTable}
 use Rattle.domsyn.specs.OneTableData.{OneTableData}
