@@ -28,7 +28,7 @@ use Rattle.trace_tool.proofs.TraceThere.{trace_is_there}
 use Rattle.command_words.specs.Commands.{Command, Synth, Sim, files_of}
 use Rattle.domsyn.specs.declared.refusal.Refusal.TheVariants.{TooLong, Blif, NotBuilt, Deck, Ports, Stim}
 use Rattle.domsyn.specs.Deck.{circuit_of}
-use Rattle.domsyn.specs.Laws.{IsKnown}
+use Rattle.domsyn.specs.Laws.{IsKnownFile}
 use Rattle.domsyn.specs.OneTable.{IsFileOfTable, IsOneTable}
 use Rattle.domsyn.specs.OneTableData.{OneTableData}
 use Rattle.domsyn.specs.Outcomes.{IsFile, IsNoTrace, IsOutcome, Outcome, Printed, Refused}
@@ -71,7 +71,7 @@ fits_or_not bytes limit = by (length bytes)
     by n = grind arith
 
 -- the deck of a file, or the cause for which it's refused
-synth_there : (known : Pairs) (file : List ℕ) → IsKnown known file → HasOne known (Synth file)
+synth_there : (known : Pairs) (file : List ℕ) → IsKnownFile known file → HasOne known (Synth file)
 synth_there known file is = by (fits_or_not is.bytes file_limit)
   where
     table : (f : BlifFileData) → length is.bytes ≤ file_limit → IsFileOf is.bytes f
@@ -103,7 +103,7 @@ synth_there known file is = by (fits_or_not is.bytes file_limit)
     by (inr long) = (Refused file TooLong, record { bytes = is.bytes; holds = is.holds; refused = long; name_is = refl })
 
 -- the trace of a deck over a stimulus, or the cause for which one of them is refused
-sim_there : (known : Pairs) (deck stim : List ℕ) (options : TraceOptionsData) → IsKnown known deck → IsKnown known stim → HasOne known (Sim deck stim options)
+sim_there : (known : Pairs) (deck stim : List ℕ) (options : TraceOptionsData) → IsKnownFile known deck → IsKnownFile known stim → HasOne known (Sim deck stim options)
 sim_there known deck stim options d s = by (fits_or_not d.bytes file_limit) (fits_or_not s.bytes file_limit)
   where
     no_trace : length d.bytes ≤ file_limit → length s.bytes ≤ file_limit → (fault : TraceFault) → IsRefused d.bytes s.bytes fault → IsNoTrace (Some known) deck stim fault
@@ -147,7 +147,7 @@ sim_there known deck stim options d s = by (fits_or_not d.bytes file_limit) (fit
         (Refused stim TooLong, inr (d.bytes, refl, record { holds = d.holds; within = short }, record { bytes = s.bytes; holds = s.holds; long = long }))
     by (inr long) any = (Refused deck TooLong, inl (refl, record { bytes = d.bytes; holds = d.holds; long = long }))
 
-pub outcome_there : (known : Pairs) (command : Command) → All (IsKnown known) (files_of command) → (outcome : Outcome) × IsOutcome (Some known) command outcome
-outcome_there known (Synth file) all = synth_there known file (All-head (IsKnown known) file [] all)
+pub outcome_there : (known : Pairs) (command : Command) → All (IsKnownFile known) (files_of command) → (outcome : Outcome) × IsOutcome (Some known) command outcome
+outcome_there known (Synth file) all = synth_there known file (All-head (IsKnownFile known) file [] all)
 outcome_there known (Sim deck stim options) all =
-    sim_there known deck stim options (All-head (IsKnown known) deck (stim ∷ []) all) (All-head (IsKnown known) stim [] (All-tail (IsKnown known) deck (stim ∷ []) all))
+    sim_there known deck stim options (All-head (IsKnownFile known) deck (stim ∷ []) all) (All-head (IsKnownFile known) stim [] (All-tail (IsKnownFile known) deck (stim ∷ []) all))

@@ -10,12 +10,12 @@ OutcomeIsOne = (known : List (List ℕ × List ℕ)) (command : Command) (a b : 
     → IsOutcome (Some known) command a → IsOutcome (Some known) command b → a ≡ b
 
 -- the file is one of those that are known, and each of its bytes is a byte
-pub record IsKnown (known : List (List ℕ × List ℕ)) (name : List ℕ) : Type 0 where
+pub record IsKnownFile (known : List (List ℕ × List ℕ)) (name : List ℕ) : Type 0 where
   pub bytes : List ℕ
   pub holds : held known name ≡ Some bytes
   pub are_bytes : All (λ b. b < 256) bytes
 
 -- over files that are known a command has an outcome, where each of its files is one of them
 abbrev pub OutcomeIsThere : Type 0
-OutcomeIsThere = (known : List (List ℕ × List ℕ)) (command : Command) → All (IsKnown known) (files_of command)
+OutcomeIsThere = (known : List (List ℕ × List ℕ)) (command : Command) → All (IsKnownFile known) (files_of command)
     → (outcome : Outcome) × IsOutcome (Some known) command outcome

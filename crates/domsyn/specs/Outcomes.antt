@@ -17,18 +17,18 @@ abbrev pub Files : Type 0
 Files = Option (List (List ℕ × List ℕ))
 
 -- where the files are known, these are the bytes of this one
-abbrev pub Holds : Files → List ℕ → List ℕ → Type 0
-Holds files name bytes = IfSome files (λ known. held known name ≡ Some bytes)
+abbrev pub HasBytes : Files → List ℕ → List ℕ → Type 0
+HasBytes files name bytes = IfSome files (λ known. held known name ≡ Some bytes)
 
 -- the file has these bytes, no more than a file may have
 pub record IsFile (files : Files) (name bytes : List ℕ) : Type 0 where
-  pub holds : Holds files name bytes
+  pub holds : HasBytes files name bytes
   pub within : length bytes ≤ file_limit
 
 -- the file has more bytes than a file may have
 pub record IsTooLong (files : Files) (name : List ℕ) : Type 0 where
   pub bytes : List ℕ
-  pub holds : Holds files name bytes
+  pub holds : HasBytes files name bytes
   pub long : file_limit < length bytes
 
 -- the outcome of a command: a text with its status, or the file that is refused and the cause
@@ -49,7 +49,7 @@ pub record IsDeck (files : Files) (file : List ℕ) (status : ℕ) (text : List 
 
 pub record IsNoDeck (files : Files) (file name : List ℕ) (why : Refusal) : Type 0 where
   pub bytes : List ℕ
-  pub holds : Holds files file bytes
+  pub holds : HasBytes files file bytes
   pub refused : IsRefusedFor bytes why
   pub name_is : name ≡ file
 
