@@ -5,7 +5,7 @@ use Rattle.std.specs.List.{AllByRecursion, filter_map, flat_map}
 use Rattle.std.proofs.lemmas.Cmp.{nat_list_eq_equiv}
 use Rattle.std.proofs.lemmas.List.{map-append}
 use Rattle.std.proofs.lemmas.List.Elements.{Contains-append_cases, Contains-append_left, Contains-append_right}
-use Rattle.dom_base.proofs.Lists.{AllByRecursion-append, AllByRecursion-both, AllByRecursion-every, AllByRecursion-filter, AllByRecursion-map, AllByRecursion-weaker, Contains-slice_get}
+use Rattle.dom_base.proofs.Lists.{AllByRecursion-append, AllByRecursion-both, AllByRecursion-every, AllByRecursion-filter, AllByRecursion-map, AllByRecursion-weaker, Contains-slice_get, slice_get-append}
 use Rattle.blif_ast.specs.BlifFileData.{BlifFileData}
 use Rattle.blif_ast.specs.BlifModelData.{BlifModelData}
 use Rattle.blif_ast.specs.Cards.{same}
@@ -22,9 +22,9 @@ use Rattle.net_flatten.specs.SignalFaults.{IsDrivenTwice, IsUndriven, signals}
 use Rattle.net_flatten.specs.Signals.{Signal, signal_of}
 use Rattle.net_flatten.proofs.Apart.{Across, Apart, ApartBy, Apart-append, apart_by_places, apart_from_places, apart_in_order, each_in_order, each_place}
 use Rattle.net_flatten.proofs.Firsts.{none_holds}
-use Rattle.net_flatten.proofs.Lists.{contains_map, count_twice, get_left, get_map, get_take}
+use Rattle.net_flatten.proofs.Lists.{contains_map, count_twice, get_map, get_take}
 
--- the signal that a part driven_end
+-- the signal that a part drives
 abbrev pub driven : PlacedPart → Signal
 driven part = (driven_end part).signal
 
@@ -99,9 +99,9 @@ module _ (f : BlifFileData) (accepted : (r : Refusal) → HasRefusal f r → ⊥
           ≡ Some (record { line = (first_model models).line; list = (first_model models).inputs; name = name })
       by [] is e = absurd cc
       by (m ∷ more) is e =
-          get_left (ports_in m.line m.inputs ++ ports_in m.line m.outputs) (flat_map (λ (n : BlifModelData). ports_in n.line n.inputs ++ ports_in n.line n.outputs) more) k
+          slice_get-append (ports_in m.line m.inputs ++ ports_in m.line m.outputs) (flat_map (λ (n : BlifModelData). ports_in n.line n.inputs ++ ports_in n.line n.outputs) more) k
           (record { line = m.line; list = m.inputs; name = name })
-          (get_left (ports_in m.line m.inputs) (ports_in m.line m.outputs) k (record { line = m.line; list = m.inputs; name = name })
+          (slice_get-append (ports_in m.line m.inputs) (ports_in m.line m.outputs) k (record { line = m.line; list = m.inputs; name = name })
           (get_map (λ n. record { line = m.line; list = m.inputs; name = n }) m.inputs k name e))
 
   -- main inputs differ
@@ -127,7 +127,7 @@ module _ (f : BlifFileData) (accepted : (r : Refusal) → HasRefusal f r → ⊥
       by [] is e = absurd cc
       by (m ∷ more) is e = (
         length (ports_in m.line m.inputs) + k,
-        get_left (ports_in m.line m.inputs ++ ports_in m.line m.outputs) (flat_map (λ (n : BlifModelData). ports_in n.line n.inputs ++ ports_in n.line n.outputs) more) (length (ports_in m.line m.inputs) + k)
+        slice_get-append (ports_in m.line m.inputs ++ ports_in m.line m.outputs) (flat_map (λ (n : BlifModelData). ports_in n.line n.inputs ++ ports_in n.line n.outputs) more) (length (ports_in m.line m.inputs) + k)
             (record { line = m.line; list = m.outputs; name = name })
             (get_right (ports_in m.line m.inputs) (ports_in m.line m.outputs) k (record { line = m.line; list = m.outputs; name = name })
             (get_map (λ n. record { line = m.line; list = m.outputs; name = n }) m.outputs k name e)),
@@ -183,7 +183,7 @@ module _ (f : BlifFileData) (accepted : (r : Refusal) → HasRefusal f r → ⊥
   pub part_is_driven : (k : ℕ) (part : PlacedPart) → slice_get (expanded f) k ≡ Some part → Contains (signals (drivers f)) (driven part)
   part_is_driven k part e = among (main_inputs f) (expanded f) part (inr (Contains-slice_get (map driven (expanded f)) k (driven part) (get_map driven (expanded f) k part e)))
 
-  -- what driven_end a signal
+  -- what drives a signal
   pub driver_cases : (s : Signal) → Contains (signals (drivers f)) s
       → ((name : List ℕ) × Contains (main_model f).inputs name × (s ≡ signal_of [] name)) ⊎ ((part : PlacedPart) × Contains (expanded f) part × (s ≡ driven part))
   driver_cases s c = by (contains_map SignalOf (drivers f) s c)

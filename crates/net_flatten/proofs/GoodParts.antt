@@ -1,8 +1,9 @@
 -- The tables and latches of the expanded list of a good file, and the instances on their paths, are good.
 use Rattle.std.proofs.Common.{◌≡◌, ℕ, zero, suc, List, [], ◌∷◌, ◌++◌, map, length, Bool, true, false, cond, Option, Some, None, refl, subst}
+use Rattle.std.proofs.lemmas.List.Elements.{recursion_from_All}
 use Rattle.std.specs.List.{AllByRecursion, find, flat_map}
 use Rattle.std.specs.Option.{option_map, option_map_or}
-use Rattle.dom_base.proofs.Lists.{AllByRecursion-append, AllByRecursion-map, AllByRecursion-weaker}
+use Rattle.dom_base.proofs.Lists.{AllByRecursion-contains}
 use Rattle.blif_ast.specs.BlifFileData.{BlifFileData}
 use Rattle.blif_ast.specs.BlifModelData.{BlifModelData}
 use Rattle.blif_ast.specs.declared.instance.Binding.{Binding}
@@ -13,29 +14,11 @@ use Rattle.net_flatten.specs.Ends.{driven_end}
 use Rattle.net_flatten.specs.Expanded.{BodyCard, InstanceCard, LatchCard, LatchPart, PlacedPart, TableCard, TablePart, ordered_cards, expanded, expanded_from, card_line, parts_of_card}
 use Rattle.net_flatten.specs.Occurrences.{first_model, main_model, models_called}
 use Rattle.net_flatten.specs.Signals.{bound_actual, signal_of}
-use Rattle.net_flatten.proofs.Apart.{each_in_order}
-use Rattle.net_flatten.proofs.Lists.{each_from_All}
+use Rattle.net_flatten.proofs.EachPart.{Keeps, each_part}
 
 abbrev pub IsGoodPart : PlacedPart → Type 0
 IsGoodPart (TablePart t) = AllByRecursion IsGoodInstance t.path × IsGoodTable t.table
 IsGoodPart (LatchPart l) = AllByRecursion IsGoodInstance l.path × IsGoodLatch l.latch
-
-abbrev IsGoodCard : BodyCard → Type 0
-IsGoodCard (TableCard t) = IsGoodTable t
-IsGoodCard (LatchCard l) = IsGoodLatch l
-IsGoodCard (InstanceCard i) = IsGoodInstance i
-
-good_cards : (m : BlifModelData) → IsGoodModel m → AllByRecursion IsGoodCard (ordered_cards m)
-good_cards m good = each_in_order card_line IsGoodCard (map TableCard m.tables ++ map LatchCard m.latches ++ map InstanceCard m.instances)
-    (AllByRecursion-append IsGoodCard (map TableCard m.tables ++ map LatchCard m.latches) (map InstanceCard m.instances)
-    (AllByRecursion-append IsGoodCard (map TableCard m.tables) (map LatchCard m.latches)
-    (AllByRecursion-map IsGoodCard TableCard m.tables (each_from_All IsGoodTable m.tables good.tables))
-    (AllByRecursion-map IsGoodCard LatchCard m.latches (each_from_All IsGoodLatch m.latches good.latches)))
-    (AllByRecursion-map IsGoodCard InstanceCard m.instances (each_from_All IsGoodInstance m.instances good.instances)))
-
-each_flat : {X Y : Type 0} (P : Y → Type 0) (g : X → List Y) (xs : List X) → AllByRecursion (λ x. AllByRecursion P (g x)) xs → AllByRecursion P (flat_map g xs)
-each_flat P g [] h = tt
-each_flat P g (x ∷ xs) h = AllByRecursion-append P (g x) (flat_map g xs) h.0 (each_flat P g xs h.1)
 
 -- what holds of all models holds of the one of a name
 pub each_called : (P : BlifModelData → Type 0) (models : List BlifModelData) (name : List ℕ) → AllByRecursion P models → AllByRecursion P (models_called models name)
@@ -47,24 +30,21 @@ each_called P (m ∷ models) name h = by (each_called P models name h.1) (same m
     by rest false e = rw e rest
 
 module _ (models : List BlifModelData) (good : AllByRecursion IsGoodModel models) where
-  good_from : (depth : ℕ) (path : List InstanceData) (m : BlifModelData) → AllByRecursion IsGoodInstance path → IsGoodModel m → AllByRecursion IsGoodPart (expanded_from models depth path m)
-  good_from zero path m on is = tt
-  good_from (suc depth) path m on is = each_flat IsGoodPart (parts_of_card below path) (ordered_cards m)
-      (AllByRecursion-weaker IsGoodCard (λ c. AllByRecursion IsGoodPart (parts_of_card below path c)) (by (good_from depth)) (ordered_cards m) (good_cards m is))
-    where
-      below : List InstanceData → List ℕ → List PlacedPart
-      below p unit = flat_map (expanded_from models depth p) (models_called models unit)
+  abbrev IsGoodAt : List InstanceData → BlifModelData → Type 0
+  IsGoodAt path m = AllByRecursion IsGoodInstance path × IsGoodModel m
 
-      by : ((p : List InstanceData) (n : BlifModelData) → AllByRecursion IsGoodInstance p → IsGoodModel n → AllByRecursion IsGoodPart (expanded_from models depth p n))
-          → (c : BodyCard) → IsGoodCard c → AllByRecursion IsGoodPart (parts_of_card below path c)
-      by deeper (TableCard t) g = ((on, g), tt)
-      by deeper (LatchCard l) g = ((on, g), tt)
-      by deeper (InstanceCard i) g = each_flat IsGoodPart (expanded_from models depth (i ∷ path)) (models_called models i.unit)
-          (AllByRecursion-weaker IsGoodModel (λ n. AllByRecursion IsGoodPart (expanded_from models depth (i ∷ path) n)) (λ n h. deeper (i ∷ path) n (g, on) h) (models_called models i.unit)
-          (each_called IsGoodModel models i.unit good))
+  keeps_good : Keeps models IsGoodAt IsGoodPart
+  keeps_good = record {
+    down = λ path m i n at inside called. (
+      (AllByRecursion-contains IsGoodInstance m.instances i (recursion_from_All IsGoodInstance m.instances at.1.instances) inside, at.0),
+      AllByRecursion-contains IsGoodModel (models_called models i.unit) n (each_called IsGoodModel models i.unit good) called,
+    );
+    tables = λ path m t at inside. (at.0, AllByRecursion-contains IsGoodTable m.tables t (recursion_from_All IsGoodTable m.tables at.1.tables) inside);
+    latches = λ path m l at inside. (at.0, AllByRecursion-contains IsGoodLatch m.latches l (recursion_from_All IsGoodLatch m.latches at.1.latches) inside);
+  }
 
 pub good_models : (f : BlifFileData) → IsGoodFile f → AllByRecursion IsGoodModel f.models
-good_models f good = each_from_All IsGoodModel f.models good.models
+good_models f good = recursion_from_All IsGoodModel f.models good.models
 
 pub good_main : (f : BlifFileData) → IsGoodFile f → IsGoodModel (main_model f)
 good_main f good = by f.models good.some (good_models f good)
@@ -74,7 +54,7 @@ good_main f good = by f.models good.some (good_models f good)
     by (m ∷ more) some all = all.0
 
 pub good_parts : (f : BlifFileData) → IsGoodFile f → AllByRecursion IsGoodPart (expanded f)
-good_parts f good = good_from f.models (good_models f good) (length f.models) [] (main_model f) tt (good_main f good)
+good_parts f good = each_part f.models (IsGoodAt f.models (good_models f good)) IsGoodPart (keeps_good f.models (good_models f good)) (length f.models) [] (main_model f) (tt, good_main f good)
 
 -- the signal of a good name on a good path has a good name
 good_actual : (bindings : List Binding) (formal actual : List ℕ) → AllByRecursion IsGoodBinding bindings
@@ -97,7 +77,7 @@ good_signal (i ∷ up) name on good = by (λ actual. good_signal up actual on.1)
     by : ((actual : List ℕ) → IsGoodName actual → IsGoodName (signal_of up actual).name) → (found : Option (List ℕ)) → bound_actual i name ≡ found
         → IsGoodName (option_map_or (signal_of up) found (record { path = i ∷ up; name = name })).name
     by above None e = good
-    by above (Some actual) e = above actual (good_actual i.bindings name actual (each_from_All IsGoodBinding i.bindings on.0.bindings) e)
+    by above (Some actual) e = above actual (good_actual i.bindings name actual (recursion_from_All IsGoodBinding i.bindings on.0.bindings) e)
 
 pub good_driven : (part : PlacedPart) → IsGoodPart part → IsGoodName (driven_end part).signal.name
 good_driven (TablePart t) g = good_signal t.path t.table.output g.0 g.1.output

@@ -4,11 +4,11 @@ use Rattle.std.specs.Prelude.{◌≢◌, All, Contains, nat_eq, slice_get}
 use Rattle.std.specs.List.{AllByRecursion, IsDistinct, enumerate_from, filter_map, flat_map, fold, sum_by}
 use Rattle.std.proofs.lemmas.Bool.{cases_lt}
 use Rattle.std.proofs.lemmas.List.{length-append, length-map}
-use Rattle.std.proofs.lemmas.List.Elements.{All-from_recursion, Contains-append_left}
+use Rattle.std.proofs.lemmas.List.Elements.{All-from_recursion, Contains-append_left, recursion_from_All}
 use Rattle.std.proofs.lemmas.List.FromFn.{length-enumerate_from}
 use Rattle.std.proofs.lemmas.List.Sums.{sum_by-cons}
 use Rattle.std.proofs.lemmas.Option.{slice_get_within}
-use Rattle.dom_base.proofs.Lists.{AllByRecursion-append, AllByRecursion-contains, AllByRecursion-every, AllByRecursion-filter, AllByRecursion-map, AllByRecursion-weaker, Contains-slice_get}
+use Rattle.dom_base.proofs.Lists.{AllByRecursion-append, AllByRecursion-contains, AllByRecursion-every, AllByRecursion-filter, AllByRecursion-map, AllByRecursion-weaker, Contains-slice_get, AllByRecursion-unmap}
 use Rattle.blif_ast.specs.BlifFileData.{BlifFileData}
 use Rattle.blif_ast.specs.Cards.{same}
 use Rattle.blif_ast.specs.TableData.{TableData}
@@ -26,7 +26,7 @@ use Rattle.net_flatten.specs.Occurrences.{Occurrence, actuals_of, main_model, na
 use Rattle.net_flatten.specs.Signals.{Signal, signal_of}
 use Rattle.net_flatten.proofs.Apart.{Apart, apart_from_places, each_in_order, each_place}
 use Rattle.net_flatten.proofs.Drivers.{driven, each_latch, each_table, numbered_apart, output_once}
-use Rattle.net_flatten.proofs.Lists.{each_from_All, each_le_greatest, each_of_map}
+use Rattle.net_flatten.proofs.Lists.{each_le_greatest}
 use Rattle.net_flatten.proofs.Sums.{part_weight, parts_weigh, place_weight, sum_same}
 use Rattle.net_flatten.proofs.Fitting.{fits}
 use Rattle.net_flatten.proofs.Pairs.{count_pairs, input_in_pairs, parts_in_pairs}
@@ -89,8 +89,8 @@ module _ (f : BlifFileData) (level : Signal → ℕ) (levels : IsLevelling f lev
   inputs_lower = each_in_order (λ t. level (output_of t)) (λ t. AllByRecursion (λ s. level s < level (output_of t)) (inputs_of t)) (tables f)
       (AllByRecursion-weaker (λ t. level (output_of t) ≡ 1 + fold max 0 (map level (inputs_of t))) (λ t. AllByRecursion (λ s. level s < level (output_of t)) (inputs_of t))
       (λ t e. AllByRecursion-weaker (λ s. level s ≤ fold max 0 (map level (inputs_of t))) (λ s. level s < level (output_of t)) (λ s l. omega (arith, l, e)) (inputs_of t)
-      (each_of_map (λ k. k ≤ fold max 0 (map level (inputs_of t))) level (inputs_of t) (each_le_greatest 0 (map level (inputs_of t)))))
-      (tables f) (each_from_All (λ t. level (output_of t) ≡ 1 + fold max 0 (map level (inputs_of t))) (tables f) levels.tables_are))
+      (AllByRecursion-unmap (λ k. k ≤ fold max 0 (map level (inputs_of t))) level (inputs_of t) (each_le_greatest 0 (map level (inputs_of t)))))
+      (tables f) (recursion_from_All (λ t. level (output_of t) ≡ 1 + fold max 0 (map level (inputs_of t))) (tables f) levels.tables_are))
 
   -- a signal of a lower level than a table's output stands before the table
   stands_before : (j number : ℕ) (t : PlacedTable) (s : Signal) → slice_get ordered j ≡ Some t → slice_get (before_tables ++ map output_of ordered) number ≡ Some s
@@ -176,7 +176,7 @@ module _ (f : BlifFileData) (n : NetworkData) (good : IsGoodFile f) (is : IsNetw
   few = omega (arith, fits all (pairs f) all_apart in_pairs, count_pairs f, few_signals f is.accepted)
 
   good_all : Kept (λ s. IsGoodName s.name)
-  good_all = each_signal (λ s. IsGoodName s.name) (each_from_All IsGoodName (main_model f).inputs (good_main f good).inputs)
+  good_all = each_signal (λ s. IsGoodName s.name) (recursion_from_All IsGoodName (main_model f).inputs (good_main f good).inputs)
       (AllByRecursion-weaker IsGoodPart (λ p. IsGoodName (driven p).name) (λ p h. good_driven p h) (expanded f) (good_parts f good))
 
   main_all : Kept (HasMainName (main_model f))

@@ -1,9 +1,10 @@
 -- Two levellings of a file that has nothing to be refused for agree on all that is driven.
 use Rattle.std.proofs.Common.{◌≡◌, ℕ, zero, suc, ◌<◌, ◌≤◌, ◌+◌, inl, inr, max, List, [], ◌∷◌, map, ap, sym, ◌∙◌, subst, arith}
+use Rattle.std.proofs.lemmas.List.Elements.{recursion_from_All}
 use Rattle.std.specs.Prelude.{Contains}
 use Rattle.std.specs.List.{AllByRecursion, filter_map, flat_map, fold}
 use Rattle.std.proofs.lemmas.Bool.{cases_eq}
-use Rattle.dom_base.proofs.Lists.{AllByRecursion-both, AllByRecursion-contains, AllByRecursion-left, AllByRecursion-map, AllByRecursion-weaker}
+use Rattle.dom_base.proofs.Lists.{AllByRecursion-both, AllByRecursion-contains, AllByRecursion-left, AllByRecursion-map, AllByRecursion-weaker, AllByRecursion-unmap}
 use Rattle.blif_ast.specs.BlifFileData.{BlifFileData}
 use Rattle.net_flatten.specs.Ends.{End, drivers, end_at, inputs_of, main_inputs, main_outputs, output_of, read_ends, state_of}
 use Rattle.net_flatten.specs.Expanded.{PlacedPart, LatchPart, PlacedTable, TablePart, expanded, part_latch, latches, part_table, tables}
@@ -15,9 +16,9 @@ use Rattle.net_flatten.specs.SignalFaults.{signals}
 use Rattle.net_flatten.specs.Signals.{Signal, signal_of}
 use Rattle.net_flatten.proofs.Apart.{each_place, in_order_same}
 use Rattle.net_flatten.proofs.Drivers.{driven, driver_cases, each_table, part_is_driven, readers_driven}
-use Rattle.net_flatten.proofs.Lists.{each_from_All, each_le_greatest, each_of_flat, each_of_map, map_same}
+use Rattle.net_flatten.proofs.Lists.{each_le_greatest, each_of_flat, map_same}
 
--- the level of what a part driven_end
+-- the level of what a part drives
 abbrev LevelOf : (Signal → ℕ) → PlacedPart → Type 0
 LevelOf level (TablePart t) = level (output_of t) ≡ 1 + fold max 0 (map level (inputs_of t))
 LevelOf level (LatchPart l) = level (state_of l) ≡ 0
@@ -35,17 +36,17 @@ module _ (f : BlifFileData) (accepted : (r : Refusal) → HasRefusal f r → ⊥
   level_of_part : (level : Signal → ℕ) → IsLevelling f level → (part : PlacedPart) → Contains (expanded f) part → LevelOf level part
   level_of_part level is part c = AllByRecursion-contains (LevelOf level) (expanded f) part
       (levels_of_parts level (expanded f)
-      (each_from_All (λ l. level (state_of l) ≡ 0) (latches f) is.latches_are)
-      (each_from_All (λ t. level (output_of t) ≡ 1 + fold max 0 (map level (inputs_of t))) (tables f) is.tables_are)) c
+      (recursion_from_All (λ l. level (state_of l) ≡ 0) (latches f) is.latches_are)
+      (recursion_from_All (λ t. level (output_of t) ≡ 1 + fold max 0 (map level (inputs_of t))) (tables f) is.tables_are)) c
 
   level_of_main : (level : Signal → ℕ) → IsLevelling f level → (name : List ℕ) → Contains (main_model f).inputs name → level (signal_of [] name) ≡ 0
   level_of_main level is name c = AllByRecursion-contains (λ n. level (signal_of [] n) ≡ 0) (main_model f).inputs name
-      (each_of_map (λ (e : End). level e.signal ≡ 0) (end_at [] (main_model f).line) (main_model f).inputs (each_from_All (λ (e : End). level e.signal ≡ 0) (main_inputs f) is.inputs)) c
+      (AllByRecursion-unmap (λ (e : End). level e.signal ≡ 0) (end_at [] (main_model f).line) (main_model f).inputs (recursion_from_All (λ (e : End). level e.signal ≡ 0) (main_inputs f) is.inputs)) c
 
   inputs_driven : (t : PlacedTable) → Contains (expanded f) (TablePart t) → AllByRecursion (λ s. (Driven s → ⊥) → ⊥) (inputs_of t)
   inputs_driven t c =
       AllByRecursion-map (λ s. (Driven s → ⊥) → ⊥) (signal_of t.path) t.table.inputs
-      (each_of_map (λ (e : End). (Driven e.signal → ⊥) → ⊥) (end_at t.path t.table.line) t.table.inputs
+      (AllByRecursion-unmap (λ (e : End). (Driven e.signal → ⊥) → ⊥) (end_at t.path t.table.line) t.table.inputs
       (AllByRecursion-contains (λ p. AllByRecursion (λ (e : End). (Driven e.signal → ⊥) → ⊥) (read_ends p)) (expanded f) (TablePart t)
       (each_of_flat (λ (e : End). (Driven e.signal → ⊥) → ⊥) read_ends (expanded f)
       (AllByRecursion-left (λ (e : End). (Driven e.signal → ⊥) → ⊥) (flat_map read_ends (expanded f)) (main_outputs f) (readers_driven f accepted))) c))
@@ -63,7 +64,7 @@ module _ (f : BlifFileData) (accepted : (r : Refusal) → HasRefusal f r → ⊥
         let b = level_of_part m y (TablePart t) c in
         let small = AllByRecursion-map (λ k. k ≤ fold max 0 (map l (inputs_of t))) (λ k. k) (map l (inputs_of t)) (each_same (map l (inputs_of t)) (each_le_greatest 0 (map l (inputs_of t)))) in
         let each = AllByRecursion-both (λ s. l s ≤ fold max 0 (map l (inputs_of t))) (λ s. (Driven s → ⊥) → ⊥) (inputs_of t)
-        (each_of_map (λ k. k ≤ fold max 0 (map l (inputs_of t))) l (inputs_of t) (each_le_greatest 0 (map l (inputs_of t)))) (inputs_driven t c) in
+        (AllByRecursion-unmap (λ k. k ≤ fold max 0 (map l (inputs_of t))) l (inputs_of t) (each_le_greatest 0 (map l (inputs_of t)))) (inputs_driven t c) in
         let same = map_same l m (inputs_of t)
         (AllByRecursion-weaker (λ s. (l s ≤ fold max 0 (map l (inputs_of t))) × ((Driven s → ⊥) → ⊥)) (λ s. l s ≡ m s)
         (λ s h. stable (l s) (m s) (λ differ. h.1 (λ d. differ (below s (omega (arith, h.0, a, le)) d)))) (inputs_of t) each) in

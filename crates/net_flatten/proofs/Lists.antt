@@ -8,11 +8,6 @@ use Rattle.std.proofs.lemmas.List.Sums.{sum_by-cons}
 use Rattle.dom_base.proofs.Lists.{AllByRecursion-contains, AllByRecursion-left, AllByRecursion-map, AllByRecursion-right, Contains-slice_get}
 use Rattle.net_flatten.proofs.Apart.{each_place}
 
-pub get_left : {X : Type 0} (xs ys : List X) (k : ℕ) (x : X) → slice_get xs k ≡ Some x → slice_get (xs ++ ys) k ≡ Some x
-get_left [] ys k x e = absurd cc
-get_left (z ∷ zs) ys zero x e = e
-get_left (z ∷ zs) ys (suc k) x e = get_left zs ys k x e
-
 pub get_map : {X Y : Type 0} (g : X → Y) (xs : List X) (k : ℕ) (x : X) → slice_get xs k ≡ Some x → slice_get (map g xs) k ≡ Some (g x)
 get_map g [] k x e = absurd cc
 get_map g (z ∷ zs) zero x e = let i : z ≡ x = cc in ap (λ w. Some (g w)) i
@@ -23,13 +18,6 @@ get_take [] j k x l e = absurd cc
 get_take (z ∷ zs) j zero x l e = absurd (omega (arith, l))
 get_take (z ∷ zs) zero (suc k) x l e = e
 get_take (z ∷ zs) (suc j) (suc k) x l e = get_take zs j k x (omega (arith, l)) e
-
-pub each_from_All : {X : Type 0} (P : X → Type 0) (xs : List X) → All P xs → AllByRecursion P xs
-each_from_All P xs h = recursion_from_All P xs h
-
-pub each_of_map : {X Y : Type 0} (P : Y → Type 0) (g : X → Y) (xs : List X) → AllByRecursion P (map g xs) → AllByRecursion (λ x. P (g x)) xs
-each_of_map P g [] h = tt
-each_of_map P g (x ∷ xs) h = (h.0, each_of_map P g xs h.1)
 
 pub each_of_flat : {X Y : Type 0} (P : Y → Type 0) (g : X → List Y) (xs : List X) → AllByRecursion P (flat_map g xs) → AllByRecursion (λ x. AllByRecursion P (g x)) xs
 each_of_flat P g [] h = tt

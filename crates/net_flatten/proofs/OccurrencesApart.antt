@@ -5,7 +5,7 @@ use Rattle.std.specs.List.{AllByRecursion, IsDistinct, find, flat_map}
 use Rattle.std.specs.Option.{option_to_list}
 use Rattle.std.proofs.lemmas.Bool.{eqb-false}
 use Rattle.std.proofs.lemmas.List.{append_cancel_right, length-append}
-use Rattle.dom_base.proofs.Lists.{AllByRecursion-append, AllByRecursion-both, AllByRecursion-contains, AllByRecursion-every, AllByRecursion-weaker, Contains-first, Contains-slice_get}
+use Rattle.dom_base.proofs.Lists.{AllByRecursion-append, AllByRecursion-both, AllByRecursion-contains, AllByRecursion-every, AllByRecursion-weaker, Contains-first, Contains-slice_get, AllByRecursion-unmap}
 use Rattle.blif_ast.specs.BlifFileData.{BlifFileData}
 use Rattle.blif_ast.specs.BlifModelData.{BlifModelData}
 use Rattle.blif_ast.specs.Cards.{same}
@@ -15,7 +15,6 @@ use Rattle.blif_ast.specs.InstanceData.{InstanceData}
 use Rattle.blif_ast.specs.TableData.{TableData}
 use Rattle.net_flatten.specs.Occurrences.{Occurrence, main_model, models_called, occurrences_from, occurrences}
 use Rattle.net_flatten.proofs.Apart.{Apart, ApartBy}
-use Rattle.net_flatten.proofs.Lists.{each_of_map}
 use Rattle.net_flatten.proofs.EachPart.{each_flat}
 use Rattle.net_flatten.proofs.GoodParts.{each_called, good_main, good_models}
 
@@ -122,7 +121,7 @@ unfolding IsDistinct
 lines_apart [] h = tt
 lines_apart (i ∷ is) h = (
   AllByRecursion-weaker (λ (j : InstanceData). nat_eq i.line j.line ≡ false) (λ j. i ≢ j) (λ j d e. eqb-false i.line j.line d (ap (λ (k : InstanceData). k.line) e)) is
-      (each_of_map (λ l. nat_eq i.line l ≡ false) (λ (j : InstanceData). j.line) is h.0),
+      (AllByRecursion-unmap (λ l. nat_eq i.line l ≡ false) (λ (j : InstanceData). j.line) is h.0),
   lines_apart is h.1,
 )
 

@@ -5,8 +5,8 @@ use Rattle.std.specs.List.{AllByRecursion, enumerate_from, filter_map, flat_map}
 use Rattle.std.proofs.lemmas.Bool.{cases_lt, le-ltb}
 use Rattle.std.proofs.lemmas.Grind.{flat_map-append}
 use Rattle.std.proofs.lemmas.List.{map-append}
-use Rattle.std.proofs.lemmas.List.Elements.{Contains-append_left, Contains-append_right, filter_map-append}
-use Rattle.dom_base.proofs.Lists.{AllByRecursion-append, AllByRecursion-both, AllByRecursion-contains, AllByRecursion-map, AllByRecursion-weaker, Contains-slice_get}
+use Rattle.std.proofs.lemmas.List.Elements.{Contains-append_left, Contains-append_right, filter_map-append, recursion_from_All}
+use Rattle.dom_base.proofs.Lists.{AllByRecursion-append, AllByRecursion-both, AllByRecursion-contains, AllByRecursion-map, AllByRecursion-weaker, Contains-slice_get, AllByRecursion-unmap}
 use Rattle.blif_ast.specs.BlifFileData.{BlifFileData}
 use Rattle.blif_ast.specs.BlifModelData.{BlifModelData}
 use Rattle.blif_ast.specs.declared.latch.Latch.{Latch}
@@ -26,7 +26,7 @@ use Rattle.net_flatten.specs.Reaches.{Reaches, more, step}
 use Rattle.net_flatten.proofs.Apart.{Apart, Apart-append}
 use Rattle.net_flatten.proofs.Drivers.{driven}
 use Rattle.net_flatten.proofs.OneModel.{latch_lines, latches_here, name_once, table_lines, table_number, tables_here}
-use Rattle.net_flatten.proofs.Lists.{contains_map, each_from_All, each_of_map}
+use Rattle.net_flatten.proofs.Lists.{contains_map}
 use Rattle.net_flatten.proofs.EachPart.{each_flat}
 use Rattle.net_flatten.proofs.Pairs.{contains_to}
 use Rattle.net_flatten.proofs.Ranges.{each_enumerated, enumerated_row, map_map, row, row_apart, row_bounds, row_contains, take_by_row}
@@ -43,7 +43,7 @@ rising_is_in_order n (x ∷ xs) r = ap (with_element n x) (rising_is_in_order n 
 
 rising_by : {X : Type 0} (n : X → ℕ) (xs : List X) → Rising (λ (k : ℕ). k) (map n xs) → Rising n xs
 rising_by n [] r = tt
-rising_by n (x ∷ xs) r = (each_of_map (λ k. n x ≤ k) n xs r.0, rising_by n xs r.1)
+rising_by n (x ∷ xs) r = (AllByRecursion-unmap (λ k. n x ≤ k) n xs r.0, rising_by n xs r.1)
 
 rising_append : (xs ys : List ℕ) → Rising (λ (k : ℕ). k) xs → Rising (λ (k : ℕ). k) ys → AllByRecursion (λ x. AllByRecursion (λ y. x ≤ y) ys) xs → Rising (λ (k : ℕ). k) (xs ++ ys)
 rising_append [] ys a b c = b
@@ -235,7 +235,7 @@ module _ (n : NetworkData) (is : IsNetwork n) where
   IsRead e = Contains (signals (drivers f)) e.signal
 
   pub table_small : (k : ℕ) (t : NetTableData) → slice_get n.tables k ≡ Some t → AllByRecursion (λ s. s < first_table n + k) t.inputs
-  table_small k t e = each_from_All (λ s. s < first_table n + k) t.inputs (is.tables k t e).inputs
+  table_small k t e = recursion_from_All (λ s. s < first_table n + k) t.inputs (is.tables k t e).inputs
 
   parts_read : AllByRecursion (λ p. AllByRecursion IsRead (read_ends p)) parts
   parts_read = AllByRecursion-append (λ p. AllByRecursion IsRead (read_ends p)) (map TablePart tables_at) (map LatchPart latches_at)
@@ -243,13 +243,13 @@ module _ (n : NetworkData) (is : IsNetwork n) where
       (λ k t e. AllByRecursion-map IsRead (end_at [] (2 + k)) (map (name_at n) t.inputs) (AllByRecursion-map (λ name. IsRead (end_at [] (2 + k) name)) (name_at n) t.inputs
       (AllByRecursion-weaker (λ s. s < first_table n + k) (λ s. IsRead (end_at [] (2 + k) (name_at n s))) (λ s l. is_driven s (omega (arith, l, table_number n is k t e))) t.inputs (table_small k t e))))))
       (AllByRecursion-map (λ p. AllByRecursion IsRead (read_ends p)) LatchPart latches_at (each_latch_here (λ l. AllByRecursion IsRead (read_ends (LatchPart l)))
-      (λ k l e. (is_driven l.input (AllByRecursion-contains (λ (j : NetLatch). j.input < length n.names) n.latches l (each_from_All (λ (j : NetLatch). j.input < length n.names) n.latches is.latches) (Contains-slice_get n.latches k l e)), tt))))
+      (λ k l e. (is_driven l.input (AllByRecursion-contains (λ (j : NetLatch). j.input < length n.names) n.latches l (recursion_from_All (λ (j : NetLatch). j.input < length n.names) n.latches is.latches) (Contains-slice_get n.latches k l e)), tt))))
 
   pub all_read : AllByRecursion IsRead (readers f)
   all_read = AllByRecursion-append IsRead (flat_map read_ends (expanded f)) (main_outputs f)
       (each_flat IsRead read_ends (expanded f) (subst (AllByRecursion (λ p. AllByRecursion IsRead (read_ends p))) (sym expanded_is) parts_read))
       (AllByRecursion-map IsRead (end_at [] 1) (map (name_at n) n.outputs) (AllByRecursion-map (λ name. IsRead (end_at [] 1 name)) (name_at n) n.outputs
-      (AllByRecursion-weaker (λ s. s < length n.names) (λ s. IsRead (end_at [] 1 (name_at n s))) (λ s l. is_driven s l) n.outputs (each_from_All (λ s. s < length n.names) n.outputs is.outputs))))
+      (AllByRecursion-weaker (λ s. s < length n.names) (λ s. IsRead (end_at [] 1 (name_at n s))) (λ s l. is_driven s l) n.outputs (recursion_from_All (λ s. s < length n.names) n.outputs is.outputs))))
 
   -- a table of the file is one of the network
   abbrev pub IsTableHere : PlacedTable → Type 0

@@ -4,7 +4,7 @@ use Rattle.std.specs.Prelude.{◌≢◌, All, nat_eq, slice_get, if◌then◌els
 use Rattle.std.specs.List.{AllByRecursion, IsDistinct, enumerate_from}
 use Rattle.std.proofs.lemmas.Cmp.{nat_list_eq_equiv}
 use Rattle.std.proofs.lemmas.List.{length-map}
-use Rattle.std.proofs.lemmas.List.Elements.{All-from_recursion}
+use Rattle.std.proofs.lemmas.List.Elements.{All-from_recursion, recursion_from_All}
 use Rattle.std.proofs.lemmas.Option.{slice_get-get_or, slice_get_within}
 use Rattle.dom_base.proofs.Lists.{AllByRecursion-contains, AllByRecursion-every, AllByRecursion-map, AllByRecursion-take, AllByRecursion-weaker, Contains-slice_get}
 use Rattle.blif_ast.specs.Cards.{same}
@@ -17,7 +17,6 @@ use Rattle.net_flatten.specs.Networks.{IsNetwork, first_table}
 use Rattle.net_flatten.specs.OneModel.{file_of, latch_at, name_at, table_at}
 use Rattle.net_flatten.specs.Occurrences.{main_model}
 use Rattle.net_flatten.proofs.Apart.{Apart, Apart-append, place_once}
-use Rattle.net_flatten.proofs.Lists.{each_from_All}
 use Rattle.net_flatten.proofs.Ranges.{each_enumerated, enumerated_row, map_map, row, row_apart, row_bounds}
 
 distinct_apart : (names : List (List ℕ)) → IsDistinct same names → Apart names
@@ -59,7 +58,7 @@ module _ (n : NetworkData) (is : IsNetwork n) where
   good_table k t e = let g = is.tables k t e in let w = length-map t.inputs (name_at n) in record {
     inputs = All-from_recursion IsGoodName (map (name_at n) t.inputs)
         (AllByRecursion-map IsGoodName (name_at n) t.inputs
-        (AllByRecursion-weaker (λ s. s < first_table n + k) (λ s. IsGoodName (name_at n s)) (λ s l. good_at s (omega (arith, l, table_number k t e))) t.inputs (each_from_All (λ s. s < first_table n + k) t.inputs g.inputs)));
+        (AllByRecursion-weaker (λ s. s < first_table n + k) (λ s. IsGoodName (name_at n s)) (λ s l. good_at s (omega (arith, l, table_number k t e))) t.inputs (recursion_from_All (λ s. s < first_table n + k) t.inputs g.inputs)));
     output = good_at (first_table n + k) (table_number k t e);
     few_inputs = omega (arith, g.few_inputs, w);
     rows = subst (λ m. All (λ row. length row ≡ m) t.rows) (sym w) g.rows;
@@ -68,7 +67,7 @@ module _ (n : NetworkData) (is : IsNetwork n) where
 
   good_latch : (k : ℕ) (l : NetLatch) → slice_get n.latches k ≡ Some l → IsGoodLatch (latch_at n k l)
   good_latch k l e = record {
-    input = good_at l.input (AllByRecursion-contains (λ (m : NetLatch). m.input < length n.names) n.latches l (each_from_All (λ (m : NetLatch). m.input < length n.names) n.latches is.latches) (Contains-slice_get n.latches k l e));
+    input = good_at l.input (AllByRecursion-contains (λ (m : NetLatch). m.input < length n.names) n.latches l (recursion_from_All (λ (m : NetLatch). m.input < length n.names) n.latches is.latches) (Contains-slice_get n.latches k l e));
     output = good_at (n.inputs + k) (omega (arith, latch_number k l e, is.count));
     control = tt;
     init = small l.init;
@@ -102,9 +101,9 @@ module _ (n : NetworkData) (is : IsNetwork n) where
   one_good : IsGoodModel (main_model (file_of n))
   one_good = record {
     name = is.name;
-    inputs = All-from_recursion IsGoodName (take n.inputs n.names) (AllByRecursion-take IsGoodName n.inputs n.names (each_from_All IsGoodName n.names is.names));
+    inputs = All-from_recursion IsGoodName (take n.inputs n.names) (AllByRecursion-take IsGoodName n.inputs n.names (recursion_from_All IsGoodName n.names is.names));
     outputs = All-from_recursion IsGoodName (map (name_at n) n.outputs) (AllByRecursion-map IsGoodName (name_at n) n.outputs
-        (AllByRecursion-weaker (λ s. s < length n.names) (λ s. IsGoodName (name_at n s)) (λ s l. good_at s l) n.outputs (each_from_All (λ s. s < length n.names) n.outputs is.outputs)));
+        (AllByRecursion-weaker (λ s. s < length n.names) (λ s. IsGoodName (name_at n s)) (λ s l. good_at s l) n.outputs (recursion_from_All (λ s. s < length n.names) n.outputs is.outputs)));
     tables = All-from_recursion IsGoodTable tables_here (AllByRecursion-map IsGoodTable (λ (p : ℕ × NetTableData). table_at n p.0 p.1) (enumerate_from 0 n.tables)
         (each_enumerated (λ (p : ℕ × NetTableData). IsGoodTable (table_at n p.0 p.1)) 0 n.tables (λ k t e. subst (λ m. IsGoodTable (table_at n m t)) (let z : k ≡ 0 + k = omega arith in z) (good_table k t e))));
     latches = All-from_recursion IsGoodLatch latches_here (AllByRecursion-map IsGoodLatch (λ (p : ℕ × NetLatch). latch_at n p.0 p.1) (enumerate_from 0 n.latches)

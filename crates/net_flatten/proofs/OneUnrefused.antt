@@ -7,7 +7,7 @@ use Rattle.std.specs.Cmp.Lexicographic.{same_text}
 use Rattle.std.proofs.lemmas.Bool.{eqb-false, true≢false}
 use Rattle.std.proofs.lemmas.Cmp.{nat_list_eq_equiv}
 use Rattle.std.proofs.lemmas.List.{length-map, map-append}
-use Rattle.std.proofs.lemmas.List.Elements.{Contains-append_right}
+use Rattle.std.proofs.lemmas.List.Elements.{Contains-append_right, recursion_from_All}
 use Rattle.std.proofs.lemmas.List.Folds.{list_any-from_Any}
 use Rattle.std.proofs.lemmas.List.FromFn.{length-enumerate_from}
 use Rattle.std.proofs.lemmas.List.Sums.{sum_by-cons}
@@ -34,7 +34,6 @@ use Rattle.net_flatten.proofs.Apart.{Apart}
 use Rattle.net_flatten.proofs.Drivers.{driven}
 use Rattle.net_flatten.proofs.EachPart.{each_flat, each_itself}
 use Rattle.net_flatten.proofs.Fitting.{contains_cons, fits}
-use Rattle.net_flatten.proofs.Lists.{each_from_All}
 use Rattle.net_flatten.proofs.OneAccepted.{SignalOf, all_read, drivers_apart, no_clockings, no_cycle}
 use Rattle.net_flatten.proofs.OneModel.{latch_number, name_once, names_apart, table_number}
 use Rattle.net_flatten.proofs.Pairs.{contains_to}
@@ -136,7 +135,7 @@ module _ (n : NetworkData) (is : IsNetwork n) where
   no_twice = subst (AllByRecursion (λ (p : Port). IsTwiceIn p.list p.name → ⊥)) (sym (append-nil (ports_in 1 m.inputs ++ ports_in 1 m.outputs)))
       (AllByRecursion-append (λ (p : Port). IsTwiceIn p.list p.name → ⊥) (ports_in 1 m.inputs) (ports_in 1 m.outputs)
       (of_list m.inputs (apart_front n.inputs n.names (names_apart n is)))
-      (of_list m.outputs (outputs_apart n.outputs (each_from_All (λ k. k < length n.names) n.outputs is.outputs) (distinct_numbers n.outputs is.outputs_apart))))
+      (of_list m.outputs (outputs_apart n.outputs (recursion_from_All (λ k. k < length n.names) n.outputs is.outputs) (distinct_numbers n.outputs is.outputs_apart))))
     where
       of_list : (list : List (List ℕ)) → Apart list → AllByRecursion (λ (p : Port). IsTwiceIn p.list p.name → ⊥) (ports_in 1 list)
       of_list list a = AllByRecursion-map (λ (p : Port). IsTwiceIn p.list p.name → ⊥) (λ name. record { line = 1; list = list; name = name }) list
@@ -156,17 +155,17 @@ module _ (n : NetworkData) (is : IsNetwork n) where
       (AllByRecursion-append (Contains n.names) (m.inputs ++ m.outputs) (flat_map names_of_table m.tables)
       (AllByRecursion-append (Contains n.names) m.inputs m.outputs
       (AllByRecursion-take (Contains n.names) n.inputs n.names (each_itself n.names))
-      (numbers_inside (length n.names) n.outputs (omega arith) (each_from_All (λ k. k < length n.names) n.outputs is.outputs)))
+      (numbers_inside (length n.names) n.outputs (omega arith) (recursion_from_All (λ k. k < length n.names) n.outputs is.outputs)))
       (each_flat (Contains n.names) names_of_table m.tables (AllByRecursion-map (λ t. AllByRecursion (Contains n.names) (names_of_table t)) (λ (p : ℕ × NetTableData). table_at n p.0 p.1) (enumerate_from 0 n.tables)
       (each_enumerated (λ (p : ℕ × NetTableData). AllByRecursion (Contains n.names) (names_of_table (table_at n p.0 p.1))) 0 n.tables
       (λ k t e. subst (λ j. AllByRecursion (Contains n.names) (names_of_table (table_at n j t))) (let z : k ≡ 0 + k = omega arith in z)
       (AllByRecursion-append (Contains n.names) (map (name_at n) t.inputs) (name_at n (first_table n + k) ∷ [])
-      (numbers_inside (first_table n + k) t.inputs (omega (arith, table_number n is k t e)) (each_from_All (λ s. s < first_table n + k) t.inputs (is.tables k t e).inputs))
+      (numbers_inside (first_table n + k) t.inputs (omega (arith, table_number n is k t e)) (recursion_from_All (λ s. s < first_table n + k) t.inputs (is.tables k t e).inputs))
       (inside (first_table n + k) (table_number n is k t e), tt)))))))
       (each_flat (Contains n.names) names_of_latch m.latches (AllByRecursion-map (λ l. AllByRecursion (Contains n.names) (names_of_latch l)) (λ (p : ℕ × NetLatch). latch_at n p.0 p.1) (enumerate_from 0 n.latches)
       (each_enumerated (λ (p : ℕ × NetLatch). AllByRecursion (Contains n.names) (names_of_latch (latch_at n p.0 p.1))) 0 n.latches
       (λ k l e. subst (λ j. AllByRecursion (Contains n.names) (names_of_latch (latch_at n j l))) (let z : k ≡ 0 + k = omega arith in z) (
-        inside l.input (AllByRecursion-contains (λ (j : NetLatch). j.input < length n.names) n.latches l (each_from_All (λ (j : NetLatch). j.input < length n.names) n.latches is.latches) (Contains-slice_get n.latches k l e)),
+        inside l.input (AllByRecursion-contains (λ (j : NetLatch). j.input < length n.names) n.latches l (recursion_from_All (λ (j : NetLatch). j.input < length n.names) n.latches is.latches) (Contains-slice_get n.latches k l e)),
         (inside (n.inputs + k) (omega (arith, latch_number n is k l e, is.count)), tt),
       ))))))
       tt

@@ -19,12 +19,12 @@ pub record End : Type 0 where
 abbrev pub end_at : List InstanceData → ℕ → List ℕ → End
 end_at path line name = record { signal = signal_of path name; line = line; name = name }
 
--- what a part read_ends: the inputs of a table, the input of a latch
+-- what a part reads: the inputs of a table, the input of a latch
 abbrev pub read_ends : PlacedPart → List End
 read_ends (TablePart t) = map (end_at t.path t.table.line) t.table.inputs
 read_ends (LatchPart l) = end_at l.path l.latch.line l.latch.input ∷ []
 
--- what a part driven_end: its output
+-- what a part drives: its output
 abbrev pub driven_end : PlacedPart → End
 driven_end (TablePart t) = end_at t.path t.table.line t.table.output
 driven_end (LatchPart l) = end_at l.path l.latch.line l.latch.output

@@ -12,13 +12,13 @@ use Rattle.net_flatten.specs.Refusal.{Refusal}
 use Rattle.net_flatten.specs.Refusals.{HasRefusal}
 use Rattle.net_flatten.specs.Signals.{Signal, signal_of}
 
--- a table by the signals that it read_ends
+-- a table by the signals that it reads
 pub record TableBySignals : Type 0 where
   pub inputs : List (Option Signal)
   pub on : Bool
   pub rows : List (List Letter)
 
--- a latch by the signal that it read_ends
+-- a latch by the signal that it reads
 pub record LatchBySignals : Type 0 where
   pub input : Option Signal
   pub init : Bool

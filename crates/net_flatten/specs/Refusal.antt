@@ -3,7 +3,7 @@ use Rattle.net_flatten.specs.declared.fault.FlatKind.{FlatKind}
 use Rattle.net_flatten.specs.declared.fault.FlatKind.TheVariants.{DuplicateModel, DuplicatePort, UnknownModel, BadFormal, Recursion, DrivenTwice, Undriven, Cycle, TwoControls, ControlUsed}
 use Rattle.net_flatten.specs.declared.fault.Limit.{Limit}
 
--- what a file is refused for: a kind with the line and the name that are told, or a limit with the count
+-- what a file is refused for: a kind with the line and the name that are reported, or a limit with the count
 pub data Refusal : Type 0 where
   At : FlatKind → ℕ → List ℕ → Refusal
   TooMany : Limit → ℕ → Refusal

@@ -10,7 +10,7 @@ use Rattle.net_flatten.specs.Reaches.{Reaches}
 abbrev pub signals : List End → List Signal
 signals all = map (λ (e : End). e.signal) all
 
--- 15: a part driven_end a signal that has an earlier driver, main inputs being earliest
+-- 15: a part drives a signal that has an earlier driver, main inputs being earliest
 abbrev pub IsDrivenTwice : BlifFileData → List PlacedPart → PlacedPart → Type 0
 IsDrivenTwice f before part = Contains (signals (main_inputs f ++ map driven_end before)) (driven_end part).signal
 
@@ -35,7 +35,7 @@ IsOther _ _ = ⊥
 abbrev pub IsOtherControl : List Clocking → Clocking → Type 0
 IsOtherControl before c = (b : Clocking) × Contains before b × ((b.edge ≢ c.edge) ⊎ IsOther b.signal c.signal)
 
--- the ends of a part: what it read_ends and what it driven_end
+-- the ends of a part: what it reads and what it drives
 abbrev pub part_ends : PlacedPart → List End
 part_ends part = read_ends part ++ driven_end part ∷ []
 

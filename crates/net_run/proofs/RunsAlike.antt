@@ -1,5 +1,6 @@
 -- A network and the network of its file of one model have the same runs.
 use Rattle.std.proofs.Common.{◌≡◌, ℕ, zero, suc, ◌<◌, ◌≤◌, ◌+◌, Bool, true, false, not, List, [], ◌∷◌, ◌++◌, map, filter, length, take, drop, Some, refl, ap, sym, ◌∙◌, subst, arith, append_assoc}
+use Rattle.std.proofs.lemmas.List.Elements.{recursion_from_All}
 use Rattle.std.specs.Prelude.{◌↔◌, ◌==◌, slice_get, if◌then◌else◌}
 use Rattle.std.specs.List.{AllByRecursion, enumerate_from, filter_map}
 use Rattle.std.proofs.lemmas.List.{length-append, length-drop, length-map, length-take-le, map-append}
@@ -19,7 +20,6 @@ use Rattle.net_flatten.specs.OneModel.{file_of, latch_at, name_at}
 use Rattle.net_flatten.specs.Signals.{Signal, signal_of}
 use Rattle.net_flatten.proofs.Apart.{each_in_order}
 use Rattle.net_flatten.proofs.Kept.{network_kept, same_length, same_place}
-use Rattle.net_flatten.proofs.Lists.{each_from_All}
 use Rattle.net_flatten.proofs.OneAccepted.{IsTableHere, each_table_here, latches_are, no_clockings, sig, sig_once, table_small, tables_are}
 use Rattle.net_flatten.proofs.OneModel.{good_one_model, latches_here, table_number}
 use Rattle.net_flatten.proofs.Ranges.{enumerated_row, length_row, map_map, row, row_bounds, take_by_row}
@@ -206,10 +206,10 @@ module _ (n m : NetworkData) (is : IsNetwork n) (of : IsNetworkOf (file_of n) m)
               (get_behind (row 0 n.inputs ++ row n.inputs (length n.latches)) (numbers by here) j (first_table n + k) at.1) in
               let value : value_at image (first_table m + j) ≡ value_at v (first_table n + k) = value_map (value_at v) places (first_table m + j) (first_table n + k) place in
               let small = AllByRecursion-weaker (λ x. x < first_table n + k) (λ x. x < length n.names) (λ x l. omega (arith, l, table_number n is k t at.0.2)) t.inputs (table_small n is k t at.0.2) in
-              let read_ends : map (slice_get signals_m) q.inputs ≡ map (λ x. Some (sig n is x)) t.inputs =
+              let reads : map (slice_get signals_m) q.inputs ≡ map (λ x. Some (sig n is x)) t.inputs =
               ap (λ (b : TableBySignals). b.inputs) alike ∙ ap (λ w. map Some (inputs_of w)) at.0.3
               ∙ ap (map Some) (map_map (signal_of []) (name_at n) t.inputs) ∙ map_map Some (sig n is) t.inputs in
-              let ins : map (value_at image) q.inputs ≡ map (value_at v) t.inputs = same_values q.inputs t.inputs read_ends small in
+              let ins : map (value_at image) q.inputs ≡ map (value_at v) t.inputs = same_values q.inputs t.inputs reads small in
               let on : q.on ≡ t.on = ap (λ (b : TableBySignals). b.on) alike ∙ ap (λ (w : PlacedTable). w.table.on) at.0.3 in
               let rows : q.rows ≡ t.rows = ap (λ (b : TableBySignals). b.rows) alike ∙ ap (λ (w : PlacedTable). w.table.rows) at.0.3 in
               let holds = is_v.tables k t at.0.2 in
@@ -232,7 +232,7 @@ module _ (n m : NetworkData) (is : IsNetwork n) (of : IsNetworkOf (file_of n) m)
       }
 
     same_outputs : map (value_at image) m.outputs ≡ map (value_at v) n.outputs
-    same_outputs = same_values m.outputs n.outputs (of.network.outputs_are ∙ map_map (λ name. Some (signal_of [] name)) (name_at n) n.outputs) (each_from_All (λ k. k < length n.names) n.outputs is.outputs)
+    same_outputs = same_values m.outputs n.outputs (of.network.outputs_are ∙ map_map (λ name. Some (signal_of [] name)) (name_at n) n.outputs) (recursion_from_All (λ k. k < length n.names) n.outputs is.outputs)
 
   -- latches of the file by those of the network
   abbrev net_latch : NetLatch → LatchBySignals
@@ -246,11 +246,11 @@ module _ (n m : NetworkData) (is : IsNetwork n) (of : IsNetworkOf (file_of n) m)
 
   same_next : (v : List Bool) → map (λ (l : NetLatch). value_at (image v) l.input) m.latches ≡ map (λ (l : NetLatch). value_at v l.input) n.latches
   same_next v = same_map (numbered_latch signals_m) net_latch (λ (l : NetLatch). value_at (image v) l.input) (λ (l : NetLatch). value_at v l.input) (λ (l : NetLatch). l.input < length n.names)
-      (λ l k e small. same_value v l.input k.input small (ap (λ (b : LatchBySignals). b.input) e)) m.latches n.latches placed_are (each_from_All (λ (l : NetLatch). l.input < length n.names) n.latches is.latches)
+      (λ l k e small. same_value v l.input k.input small (ap (λ (b : LatchBySignals). b.input) e)) m.latches n.latches placed_are (recursion_from_All (λ (l : NetLatch). l.input < length n.names) n.latches is.latches)
 
   same_start : start m ≡ start n
   same_start = same_map (numbered_latch signals_m) net_latch (λ (l : NetLatch). l.init) (λ (l : NetLatch). l.init) (λ (l : NetLatch). l.input < length n.names)
-      (λ l k e small. ap (λ (b : LatchBySignals). b.init) e ∙ bit k.init) m.latches n.latches placed_are (each_from_All (λ (l : NetLatch). l.input < length n.names) n.latches is.latches)
+      (λ l k e small. ap (λ (b : LatchBySignals). b.init) e ∙ bit k.init) m.latches n.latches placed_are (recursion_from_All (λ (l : NetLatch). l.input < length n.names) n.latches is.latches)
     where
       bit : (b : Bool) → ((if b then 1 else 0) == 1) ≡ b
       bit true = refl
