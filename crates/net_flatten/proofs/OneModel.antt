@@ -8,7 +8,7 @@ use Rattle.std.proofs.lemmas.List.Elements.{All-from_recursion, recursion_from_A
 use Rattle.std.proofs.lemmas.Option.{slice_get-get_or, slice_get_within}
 use Rattle.dom_base.proofs.Lists.{AllByRecursion-contains, AllByRecursion-every, AllByRecursion-map, AllByRecursion-take, AllByRecursion-weaker, Contains-slice_get}
 use Rattle.blif_ast.specs.Cards.{same}
-use Rattle.blif_ast.specs.Good.{IsGoodFile, IsGoodInstance, IsGoodLatch, IsGoodModel, IsGoodName, IsGoodTable, card_lines}
+use Rattle.blif_ast.specs.Good.{IsGoodFile, IsGoodInstance, IsGoodLatch, IsGoodModel, IsGoodName, IsGoodTable, part_lines}
 use Rattle.blif_ast.specs.declared.latch.Latch.{Latch}
 use Rattle.blif_ast.specs.TableData.{TableData}
 use Rattle.net_flatten.specs.declared.network.NetLatch.{NetLatch}
@@ -95,7 +95,7 @@ module _ (n : NetworkData) (is : IsNetwork n) where
   latch_lines = map_map (λ (l : Latch). l.line) (λ (p : ℕ × NetLatch). latch_at n p.0 p.1) (enumerate_from 0 n.latches) ∙ enumerated_row (2 + length n.tables) 0 n.latches
       ∙ ap (λ k. row k (length n.latches)) (let z : 2 + length n.tables + 0 ≡ 2 + length n.tables = omega arith in z)
 
-  lines_are : card_lines (main_model (file_of n)) ≡ lines_here
+  lines_are : part_lines (main_model (file_of n)) ≡ lines_here
   lines_are = ap (λ l. l ++ map (λ (k : Latch). k.line) latches_here ++ []) table_lines ∙ ap (λ l. row 2 (length n.tables) ++ l ++ []) latch_lines
 
   one_good : IsGoodModel (main_model (file_of n))

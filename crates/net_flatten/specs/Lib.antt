@@ -4,6 +4,7 @@ pub mod Expanded
 pub mod First
 pub mod Flattening
 pub mod Laws
+pub mod Kinds
 pub mod Limits
 pub mod ModelFaults
 pub mod NetworkData
