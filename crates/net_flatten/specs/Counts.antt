@@ -1,4 +1,4 @@
--- How large a file's network is.
+-- How large the network of a file of BLIF, the Berkeley Logic Interchange Format, is.
 use Rattle.std.specs.Prelude.{ℕ, ◌<◌, ◌+◌, List, [], ◌∷◌, length}
 use Rattle.std.specs.List.{sum_by}
 use Rattle.std.specs.Set.{distinct_count}

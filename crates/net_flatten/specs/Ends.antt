@@ -1,4 +1,5 @@
--- What tables and latches of the expanded list read and drive, and what controls them.
+-- What tables and latches of the expanded list of a file of BLIF, the Berkeley Logic Interchange Format, read and drive, and
+-- what controls them.
 use Rattle.std.specs.Prelude.{ℕ, List, [], ◌∷◌, ◌++◌, map, Option}
 use Rattle.std.specs.List.{filter_map, flat_map}
 use Rattle.std.specs.Option.{option_map}
@@ -66,7 +67,12 @@ pub record Clocking : Type 0 where
   pub output : List ℕ
 
 abbrev pub clocking : PlacedLatch → Control → Clocking
-clocking l c = record { edge = c.edge; signal = option_map (end_at l.path l.latch.line) c.signal; line = l.latch.line; output = l.latch.output }
+clocking l c = record {
+  edge = c.edge;
+  signal = option_map (end_at l.path l.latch.line) c.signal;
+  line = l.latch.line;
+  output = l.latch.output;
+}
 
 -- the clocking of a latch that has a type
 abbrev pub clocking_of : PlacedLatch → Option Clocking

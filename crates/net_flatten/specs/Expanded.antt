@@ -1,5 +1,5 @@
--- The expanded list of a file: its tables and latches at all paths, in the order of the text that one would get by
--- writing each instance's model in its place.
+-- The expanded list of a file of BLIF, the Berkeley Logic Interchange Format: its tables and latches at all paths, in the order
+-- of the text that one would get by writing each instance's model in its place.
 use Rattle.std.specs.Prelude.{ℕ, zero, suc, List, [], ◌∷◌, ◌++◌, length, map, Option, Some, None}
 use Rattle.std.specs.List.{filter_map, flat_map}
 use Rattle.blif_ast.specs.declared.latch.Latch.{Latch}

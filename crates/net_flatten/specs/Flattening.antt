@@ -1,4 +1,4 @@
--- The network of a file.
+-- The network of a file of BLIF, the Berkeley Logic Interchange Format.
 use Rattle.std.specs.Prelude.{ℕ, ◌≡◌, ◌==◌, Bool, List, [], length, map, Option, Some, slice_get}
 use Rattle.blif_ast.specs.declared.letter.Letter.{Letter}
 use Rattle.blif_ast.specs.BlifFileData.{BlifFileData}
@@ -42,7 +42,8 @@ pub record IsNetworkBy (f : BlifFileData) (level : Signal → ℕ) (width : ℕ)
   pub name_is : n.name ≡ (main_model f).name
   pub names_are : n.names ≡ names_by_number (letters_w width) (signals_by_number f (by_level level f))
   pub inputs_are : n.inputs ≡ length (pins f)
-  pub outputs_are : map (slice_get (signals_by_number f (by_level level f))) n.outputs ≡ map (λ name. Some (signal_of [] name)) (main_model f).outputs
+  pub outputs_are : map (slice_get (signals_by_number f (by_level level f))) n.outputs
+      ≡ map (λ name. Some (signal_of [] name)) (main_model f).outputs
   pub latches_are : map (numbered_latch (signals_by_number f (by_level level f))) n.latches ≡ map placed_latch (latches f)
   pub tables_are : map (numbered_table (signals_by_number f (by_level level f))) n.tables ≡ map placed_table (by_level level f)
 

@@ -1,3 +1,4 @@
+-- What holds of each file of BLIF, the Berkeley Logic Interchange Format, of what it is refused for and of its network.
 use Rattle.std.specs.Prelude.{◌≡◌, ◌↔◌, ◌<◌, ◌+◌, ℕ, suc, List, [], ◌∷◌, length, Contains, Some, slice_get}
 use Rattle.std.specs.List.{sum_by}
 use Rattle.std.specs.List.Sorted.{IsSortedByKey, IsStableByKey}
@@ -19,7 +20,7 @@ use Rattle.net_flatten.specs.Ends.{End, drivers}
 use Rattle.net_flatten.specs.Ordered.{in_order}
 use Rattle.net_flatten.specs.Pairs.{pairs}
 use Rattle.net_flatten.specs.Signals.{IsOneSignal, Signal, signal_of}
-use Rattle.net_flatten.specs.Walks.{Frame, rest, work}
+use Rattle.net_flatten.specs.Walks.{Frame, entered, rest, work}
 
 -- a file is refused for at most one thing, has at most one network, and never both
 pub record HasAtMostOneAnswer (f : BlifFileData) : Type 0 where
@@ -40,22 +41,31 @@ NetworkIsKept = (f : BlifFileData) (n : NetworkData) → IsGoodFile f → IsNetw
 
 -- the paths of a good file all differ
 abbrev pub PathsDiffer : Type 0
-PathsDiffer = (f : BlifFileData) → IsGoodFile f → (j k : ℕ) (p : Occurrence) (q : Occurrence) → slice_get (occurrences f) j ≡ Some p → slice_get (occurrences f) k ≡ Some q → p.path ≡ q.path → j ≡ k
+PathsDiffer =
+    (f : BlifFileData) → IsGoodFile f → (j k : ℕ) (p q : Occurrence)
+    → slice_get (occurrences f) j ≡ Some p → slice_get (occurrences f) k ≡ Some q → p.path ≡ q.path → j ≡ k
 
 -- a number of each model that falls from a model to the models of its instances
 abbrev pub Falls : List BlifModelData → (BlifModelData → ℕ) → Type 0
-Falls models rank = (m : BlifModelData) (i : InstanceData) (n : BlifModelData) → Contains m.instances i → Contains (models_called models i.unit) n → rank n < rank m
+Falls models rank =
+    (m : BlifModelData) (i : InstanceData) (n : BlifModelData)
+    → Contains m.instances i → Contains (models_called models i.unit) n → rank n < rank m
 
 -- where such a number is below two depths, the expanded lists to these depths are the same
 abbrev pub DepthIsFree : Type 0
-DepthIsFree = (models : List BlifModelData) (rank : BlifModelData → ℕ) → Falls models rank → (d e : ℕ) (path : List InstanceData) (m : BlifModelData) → rank m < d → rank m < e
-    → (expanded_from models d path m ≡ expanded_from models e path m) × (occurrences_from models d path m ≡ occurrences_from models e path m)
+DepthIsFree =
+    (models : List BlifModelData) (rank : BlifModelData → ℕ) → Falls models rank
+    → (d e : ℕ) (path : List InstanceData) (m : BlifModelData) → rank m < d → rank m < e
+    → (expanded_from models d path m ≡ expanded_from models e path m)
+    × (occurrences_from models d path m ≡ occurrences_from models e path m)
 
 -- and sums over all paths below a model are found model by model: its own weight, and what the models of its instances come to
 abbrev pub SumsByModel : Type 0
-SumsByModel = (models : List BlifModelData) (rank : BlifModelData → ℕ) → Falls models rank → (weight total : BlifModelData → ℕ)
+SumsByModel =
+    (models : List BlifModelData) (rank : BlifModelData → ℕ) → Falls models rank → (weight total : BlifModelData → ℕ)
     → ((m : BlifModelData) → total m ≡ weight m + sum_by (λ (i : InstanceData). sum_by total (models_called models i.unit)) m.instances)
-    → (d : ℕ) (path : List InstanceData) (m : BlifModelData) → rank m < d → sum_by (λ (p : Occurrence). weight p.model) (occurrences_from models d path m) ≡ total m
+    → (d : ℕ) (path : List InstanceData) (m : BlifModelData) → rank m < d
+    → sum_by (λ (p : Occurrence). weight p.model) (occurrences_from models d path m) ≡ total m
 
 -- the file of one model of a network is good, and has nothing to be refused for
 pub record IsAcceptedFile (f : BlifFileData) : Type 0 where
@@ -67,16 +77,20 @@ OneModelIsAccepted = (n : NetworkData) → IsNetwork n → IsAcceptedFile (file_
 
 -- where no model reaches itself, a greater depth than the number of models adds nothing
 abbrev pub DepthIsEnough : Type 0
-DepthIsEnough = (f : BlifFileData) → IsGoodFile f → ((line : ℕ) (name : List ℕ) → HasRefusal f (At Recursion line name) → ⊥) → (extra : ℕ)
-    → (expanded_from f.models (length f.models + extra) [] (main_model f) ≡ expanded f) × (occurrences_from f.models (length f.models + extra) [] (main_model f) ≡ occurrences f)
+DepthIsEnough =
+    (f : BlifFileData) → IsGoodFile f → ((line : ℕ) (name : List ℕ) → HasRefusal f (At Recursion line name) → ⊥) → (extra : ℕ)
+    → (expanded_from f.models (length f.models + extra) [] (main_model f) ≡ expanded f)
+    × (occurrences_from f.models (length f.models + extra) [] (main_model f) ≡ occurrences f)
 
 -- a step of a walk that comes to an instance of a known model enters it: what is to come stays, and the work falls
 pub record EntersInstance (models : List BlifModelData) : Type 0 where
-  pub same_rest : (depth : ℕ) (path : List InstanceData) (i : InstanceData) (n : BlifModelData) (left : List BodyCard) (frames : List Frame) → models_called models i.unit ≡ n ∷ []
+  pub same_rest : (depth : ℕ) (path : List InstanceData) (i : InstanceData) (n : BlifModelData) (left : List BodyCard) (frames : List Frame)
+      → models_called models i.unit ≡ n ∷ []
       → rest models (record { depth = suc depth; path = path; left = InstanceCard i ∷ left } ∷ frames)
-      ≡ rest models (record { depth = depth; path = i ∷ path; left = ordered_cards n } ∷ record { depth = suc depth; path = path; left = left } ∷ frames)
-  pub less_work : (depth : ℕ) (path : List InstanceData) (i : InstanceData) (n : BlifModelData) (left : List BodyCard) (frames : List Frame) → models_called models i.unit ≡ n ∷ []
-      → work models (record { depth = depth; path = i ∷ path; left = ordered_cards n } ∷ record { depth = suc depth; path = path; left = left } ∷ frames)
+      ≡ rest models (entered depth path i n ∷ record { depth = suc depth; path = path; left = left } ∷ frames)
+  pub less_work : (depth : ℕ) (path : List InstanceData) (i : InstanceData) (n : BlifModelData) (left : List BodyCard) (frames : List Frame)
+      → models_called models i.unit ≡ n ∷ []
+      → work models (entered depth path i n ∷ record { depth = suc depth; path = path; left = left } ∷ frames)
       < work models (record { depth = suc depth; path = path; left = InstanceCard i ∷ left } ∷ frames)
 
 abbrev pub WalkEntersInstances : Type 0
@@ -84,11 +98,14 @@ WalkEntersInstances = (models : List BlifModelData) → EntersInstance models
 
 -- a walk begins with the main model, and all parts are to come
 abbrev pub WalkBegins : Type 0
-WalkBegins = (models : List BlifModelData) (depth : ℕ) (m : BlifModelData) → rest models (record { depth = depth; path = []; left = ordered_cards m } ∷ []) ≡ expanded_from models (suc depth) [] m
+WalkBegins =
+    (models : List BlifModelData) (depth : ℕ) (m : BlifModelData)
+    → rest models (record { depth = depth; path = []; left = ordered_cards m } ∷ []) ≡ expanded_from models (suc depth) [] m
 
 -- pairs of a path and a name differ, so that their places in the list of all pairs can number them
 abbrev pub PairsDiffer : Type 0
-PairsDiffer = (f : BlifFileData) → IsGoodFile f → (j k : ℕ) (s : Signal) → slice_get (pairs f) j ≡ Some s → slice_get (pairs f) k ≡ Some s → j ≡ k
+PairsDiffer =
+    (f : BlifFileData) → IsGoodFile f → (j k : ℕ) (s : Signal) → slice_get (pairs f) j ≡ Some s → slice_get (pairs f) k ≡ Some s → j ≡ k
 
 -- and each signal that is driven is one of them
 abbrev pub DriversArePairs : Type 0
@@ -96,4 +113,5 @@ DriversArePairs = (f : BlifFileData) → IsGoodFile f → (e : End) → Contains
 
 -- what a stable sort of cards by their lines leaves is the list in order of lines; the lemma is for any number of any type
 abbrev pub CardSortIsByLine : Type 0
-CardSortIsByLine = (xs ys : List BodyCard) → IsSortedByKey card_line nat_cmp ys → IsStableByKey card_line nat_cmp xs ys → ys ≡ in_order card_line xs
+CardSortIsByLine =
+    (xs ys : List BodyCard) → IsSortedByKey card_line nat_cmp ys → IsStableByKey card_line nat_cmp xs ys → ys ≡ in_order card_line xs

@@ -1,4 +1,5 @@
--- What is wrong with the models of a file, before their instances are replaced. Every model of the file is looked at.
+-- What is wrong with the models of a file of BLIF, the Berkeley Logic Interchange Format, before their instances are replaced.
+-- Every model of the file is looked at.
 use Rattle.std.specs.Prelude.{ℕ, ◌≡◌, ◌<◌, ◌⊎◌, List, ◌++◌, map, Contains}
 use Rattle.std.specs.List.{count_by, flat_map}
 use Rattle.blif_ast.specs.Cards.{same}

@@ -1,4 +1,4 @@
--- The numbers and names of a network's signals.
+-- The numbers and names of the signals of a file of BLIF, the Berkeley Logic Interchange Format, in its network.
 use Rattle.std.specs.Prelude.{ℕ, ◌≡◌, ◌≢◌, ◌≤◌, ◌+◌, max, Bool, true, false, ◌&&◌, not, if◌then◌else◌, List, [], ◌∷◌, ◌++◌, map, filter, replicate, All, Option, Some, None, slice_get}
 use Rattle.std.specs.Fmt.{decimal}
 use Rattle.std.specs.List.{enumerate_from, fold}

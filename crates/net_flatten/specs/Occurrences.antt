@@ -1,4 +1,4 @@
--- The paths of a file, the models at them, and the names of a model.
+-- The paths of a file of BLIF, the Berkeley Logic Interchange Format, the models at them, and the names of a model.
 use Rattle.std.specs.Prelude.{ℕ, zero, suc, List, [], ◌∷◌, ◌++◌, length, map, Option}
 use Rattle.std.specs.List.{find, flat_map}
 use Rattle.std.specs.Option.{option_to_list}
@@ -39,7 +39,8 @@ actuals_of i = map (λ (b : Binding). b.actual) i.bindings
 
 -- the names that occur in a model: its ports and the names on its cards, where an instance has its actuals
 abbrev pub names_of : BlifModelData → List (List ℕ)
-names_of m = m.inputs ++ m.outputs ++ flat_map names_of_table m.tables ++ flat_map names_of_latch m.latches ++ flat_map actuals_of m.instances
+names_of m =
+    m.inputs ++ m.outputs ++ flat_map names_of_table m.tables ++ flat_map names_of_latch m.latches ++ flat_map actuals_of m.instances
 
 -- a path with its model
 pub record Occurrence : Type 0 where

@@ -1,4 +1,5 @@
--- All pairs of a path and a name of its model, in order: their places number them.
+-- All pairs of a path and a name of its model in a file of BLIF, the Berkeley Logic Interchange Format, in order: their
+-- indices number them.
 use Rattle.std.specs.Prelude.{List, map}
 use Rattle.std.specs.List.{flat_map}
 use Rattle.std.specs.Set.{unique_keys}

@@ -1,3 +1,4 @@
+-- Refusals of a file of BLIF, the Berkeley Logic Interchange Format, and the order in which they are looked for.
 use Rattle.std.specs.Prelude.{ℕ, List}
 use Rattle.net_flatten.specs.declared.fault.FlatKind.{FlatKind}
 use Rattle.net_flatten.specs.declared.fault.FlatKind.TheVariants.{DuplicateModel, DuplicatePort, UnknownModel, BadFormal, Recursion, DrivenTwice, Undriven, Cycle, TwoControls, ControlUsed}

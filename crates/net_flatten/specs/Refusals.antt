@@ -1,4 +1,4 @@
--- What a file is refused for.
+-- What a file of BLIF, the Berkeley Logic Interchange Format, is refused for.
 use Rattle.std.specs.Prelude.{ℕ, ◌≡◌, ◌-◌, ◌^◌, ◌≤◌, min, List, Some, slice_get}
 use Rattle.blif_ast.specs.BlifFileData.{BlifFileData}
 use Rattle.net_flatten.specs.declared.fault.FlatKind.{FlatKind}
@@ -13,7 +13,8 @@ use Rattle.net_flatten.specs.Refusal.{Refusal, At, TooMany, refusal_order}
 use Rattle.net_flatten.specs.SignalFaults.{IsAtControl, IsOnCycle, IsDrivenTwice, IsOtherControl, IsUndriven, ends_but_inputs}
 
 -- the first element of a list of which this holds gives the line and the name
-pub record IsReported {Element : Type 0} (Holds : List Element → Element → Type 0) (all : List Element) (line_of : Element → ℕ) (name_of : Element → List ℕ) (line : ℕ) (name : List ℕ) : Type 0 where
+pub record IsReported {Element : Type 0} (Holds : List Element → Element → Type 0) (all : List Element)
+    (line_of : Element → ℕ) (name_of : Element → List ℕ) (line : ℕ) (name : List ℕ) : Type 0 where
   pub element : Element
   pub first : IsFirst Holds all element
   pub line_is : line ≡ line_of element

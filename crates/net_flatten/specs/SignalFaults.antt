@@ -1,4 +1,4 @@
--- What is wrong with the signals of a file, over its expanded list.
+-- What is wrong with the signals of a file of BLIF, the Berkeley Logic Interchange Format, over its expanded list.
 use Rattle.std.specs.Prelude.{◌≡◌, ◌≢◌, ◌⊎◌, List, [], ◌∷◌, ◌++◌, map, Contains, Option, Some}
 use Rattle.std.specs.List.{flat_map}
 use Rattle.blif_ast.specs.BlifFileData.{BlifFileData}

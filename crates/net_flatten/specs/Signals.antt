@@ -1,4 +1,5 @@
--- The signals of a file: names at paths, where a formal that an instance binds is its actual one level up.
+-- The signals of a file of BLIF, the Berkeley Logic Interchange Format: names at paths, where a formal that an instance binds
+-- is its actual one level up.
 use Rattle.std.specs.Prelude.{ℕ, ◌≡◌, List, [], ◌∷◌, Option, Some}
 use Rattle.std.specs.List.{find}
 use Rattle.std.specs.Option.{option_map, option_map_or}

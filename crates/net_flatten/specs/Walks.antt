@@ -1,5 +1,6 @@
--- What a walk over all paths of a file keeps: parts that were met, and frames with what is left.
-use Rattle.std.specs.Prelude.{ℕ, zero, suc, ◌+◌, List}
+-- What a walk over all paths of a file of BLIF, the Berkeley Logic Interchange Format, has still to come: frames with what is
+-- left at each path on the way.
+use Rattle.std.specs.Prelude.{ℕ, zero, suc, ◌+◌, List, ◌∷◌}
 use Rattle.std.specs.List.{flat_map, sum_by}
 use Rattle.blif_ast.specs.BlifModelData.{BlifModelData}
 use Rattle.blif_ast.specs.InstanceData.{InstanceData}
@@ -11,6 +12,10 @@ pub record Frame : Type 0 where
   pub depth : ℕ
   pub path : List InstanceData
   pub left : List BodyCard
+
+-- the frame of an instance's model that is entered, all its cards being left
+abbrev pub entered : ℕ → List InstanceData → InstanceData → BlifModelData → Frame
+entered depth path i n = record { depth = depth; path = i ∷ path; left = ordered_cards n }
 
 -- the parts that an instance's models have below
 abbrev pub below : List BlifModelData → ℕ → List InstanceData → List ℕ → List PlacedPart

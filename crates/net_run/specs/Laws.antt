@@ -1,3 +1,4 @@
+-- What holds of each network of tables and latches and of its runs.
 use Rattle.std.specs.Prelude.{◌≡◌, ◌↔◌, Bool, List, length}
 use Rattle.net_flatten.specs.Flattening.{IsNetworkOf}
 use Rattle.net_flatten.specs.NetworkData.{NetworkData}
@@ -18,4 +19,6 @@ HasOneValuation =
 
 -- a network and the network of its file of one model have the same runs
 abbrev pub OneModelRunsAlike : Type 0
-OneModelRunsAlike = (n m : NetworkData) → IsNetwork n → IsNetworkOf (file_of n) m → (stream : List (List Bool)) (cycles : List Cycle) → IsNetworkRun n stream cycles ↔ IsNetworkRun m stream cycles
+OneModelRunsAlike =
+    (n m : NetworkData) → IsNetwork n → IsNetworkOf (file_of n) m
+    → (stream : List (List Bool)) (cycles : List Cycle) → IsNetworkRun n stream cycles ↔ IsNetworkRun m stream cycles

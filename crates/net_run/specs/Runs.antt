@@ -1,4 +1,4 @@
--- Runs of a network.
+-- Runs of the network of a file of BLIF, the Berkeley Logic Interchange Format.
 use Rattle.std.specs.Prelude.{ℕ, ◌≡◌, ◌+◌, ◌↔◌, Bool, true, false, List, [], ◌∷◌, length, map, take, drop, Some, slice_get, slice_index_or}
 use Rattle.blif_ast.specs.TableValue.{IsOneAt}
 use Rattle.net_flatten.specs.declared.network.NetLatch.{NetLatch}
