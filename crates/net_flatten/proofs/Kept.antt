@@ -43,7 +43,7 @@ module _ {X Y Z : Type 0} (g : X → Z) (h : Y → Z) where
   pub same_length : (xs : List X) (ys : List Y) → map g xs ≡ map h ys → length xs ≡ length ys
   same_length xs ys e = sym (length-map xs g) ∙ ap length e ∙ length-map ys h
 
-  -- the element that stands at the same place
+  -- the element that stands at the same index
   pub same_place : (xs : List X) (ys : List Y) → map g xs ≡ map h ys → (k : ℕ) (x : X) → slice_get xs k ≡ Some x → (y : Y) × (slice_get ys k ≡ Some y) × (g x ≡ h y)
   same_place [] ys e k x d = absurd cc
   same_place (x ∷ xs) [] e k z d = absurd cc

@@ -213,23 +213,23 @@ module _ (n : NetworkData) (is : IsNetwork n) where
   at_place P xs k x h e = AllByRecursion-contains P xs x h (Contains-slice_get xs k x e)
 
   pub unrefused : (r : Refusal) → HasRefusal f r → ⊥
-  unrefused (At DuplicateModel line name) h = by h.first.place h.first.there h.first.holds
+  unrefused (At DuplicateModel line name) h = by h.first.index h.first.there h.first.holds
     where
       by : (k : ℕ) → slice_get (m ∷ []) k ≡ Some h.element → Contains (map (λ (b : BlifModelData). b.name) (take k (m ∷ []))) h.element.name → ⊥
       by zero e c = omega (arith, c.1)
       by (suc k) e c = absurd cc
-  unrefused (At DuplicatePort line name) h = at_place (λ (p : Port). IsTwiceIn p.list p.name → ⊥) (ports f) h.first.place h.element no_twice h.first.there h.first.holds
+  unrefused (At DuplicatePort line name) h = at_place (λ (p : Port). IsTwiceIn p.list p.name → ⊥) (ports f) h.first.index h.element no_twice h.first.there h.first.holds
   unrefused (At UnknownModel line name) h = let z = h.first.there in absurd cc
   unrefused (At BadFormal line name) h = let z = h.first.there in absurd cc
   unrefused (At Recursion line name) h = let z = h.first.there in absurd cc
-  unrefused (At DrivenTwice line name) h = no_earlier_behind driven (map SignalOf (main_inputs f)) (expanded f) h.first.place h.element (drivers_apart n is) h.first.there
+  unrefused (At DrivenTwice line name) h = no_earlier_behind driven (map SignalOf (main_inputs f)) (expanded f) h.first.index h.element (drivers_apart n is) h.first.there
       (subst (λ s. Contains s (driven h.element))
-      (map-append SignalOf (main_inputs f) (map driven_end (take h.first.place (expanded f))) ∙ ap (λ s. map SignalOf (main_inputs f) ++ s) (map_map SignalOf driven_end (take h.first.place (expanded f)))) h.first.holds)
-  unrefused (At Undriven line name) h = h.first.holds (at_place (λ e. Contains (signals (drivers f)) e.signal) (readers f) h.first.place h.element (all_read n is) h.first.there)
-  unrefused (At Cycle line name) h = no_cycle n is h.element (Contains-slice_get (tables f) h.first.place h.element h.first.there) h.first.holds
-  unrefused (At TwoControls line name) h = let z : slice_get {X = Clocking} [] h.first.place ≡ Some h.element = ap (λ l. slice_get l h.first.place) (sym (no_clockings n is)) ∙ h.first.there in absurd cc
+      (map-append SignalOf (main_inputs f) (map driven_end (take h.first.index (expanded f))) ∙ ap (λ s. map SignalOf (main_inputs f) ++ s) (map_map SignalOf driven_end (take h.first.index (expanded f)))) h.first.holds)
+  unrefused (At Undriven line name) h = h.first.holds (at_place (λ e. Contains (signals (drivers f)) e.signal) (readers f) h.first.index h.element (all_read n is) h.first.there)
+  unrefused (At Cycle line name) h = no_cycle n is h.element (Contains-slice_get (tables f) h.first.index h.element h.first.there) h.first.holds
+  unrefused (At TwoControls line name) h = let z : slice_get {X = Clocking} [] h.first.index ≡ Some h.element = ap (λ l. slice_get l h.first.index) (sym (no_clockings n is)) ∙ h.first.there in absurd cc
   unrefused (At ControlUsed line name) h =
       let none : controls f ≡ [] = ap (filter_map (λ (c : Clocking). c.signal)) (no_clockings n is) in
       let z : slice_get {X = End} [] 0 ≡ Some h.control = ap (λ l. slice_get l 0) (sym none) ∙ h.control_is in
       absurd cc
-  unrefused (TooMany limit count) h = let l = at_place (λ (c : Counted). c.count ≤ c.most) (counts f) h.first.place h.counted all_within h.first.there in omega (arith, l, h.first.holds)
+  unrefused (TooMany limit count) h = let l = at_place (λ (c : Counted). c.count ≤ c.most) (counts f) h.first.index h.counted all_within h.first.there in omega (arith, l, h.first.holds)

@@ -23,7 +23,7 @@ pub record LatchBySignals : Type 0 where
   pub input : Option Signal
   pub init : Bool
 
--- a number stands for the signal at that place of a list
+-- a number stands for the signal at that index of a list
 abbrev pub numbered_table : List Signal → NetTableData → TableBySignals
 numbered_table signals t = record { inputs = map (slice_get signals) t.inputs; on = t.on; rows = t.rows }
 

@@ -102,7 +102,7 @@ WalkBegins =
     (models : List BlifModelData) (depth : ℕ) (m : BlifModelData)
     → rest models (record { depth = depth; path = []; left = ordered_cards m } ∷ []) ≡ expanded_from models (suc depth) [] m
 
--- pairs of a path and a name differ, so that their places in the list of all pairs can number them
+-- pairs of a path and a name differ, so that their indices in the list of all pairs can number them
 abbrev pub PairsDiffer : Type 0
 PairsDiffer =
     (f : BlifFileData) → IsGoodFile f → (j k : ℕ) (s : Signal) → slice_get (pairs f) j ≡ Some s → slice_get (pairs f) k ≡ Some s → j ≡ k

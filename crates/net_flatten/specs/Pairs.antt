@@ -8,7 +8,7 @@ use Rattle.blif_ast.specs.Cards.{same}
 use Rattle.net_flatten.specs.Occurrences.{Occurrence, names_of, occurrences}
 use Rattle.net_flatten.specs.Signals.{Signal}
 
--- the pairs of a place: each name of its model once
+-- the pairs of an occurrence: each name of its model once
 abbrev pub pairs_of : Occurrence → List Signal
 pairs_of p = map (λ name. record { path = p.path; name = name }) (unique_keys same (names_of p.model))
 
