@@ -1,7 +1,7 @@
 -- The tables and latches of the expanded list of a good file, and the instances on their paths, are good.
-use Rattle.std.proofs.Common.{◌≡◌, ℕ, zero, suc, List, [], ◌∷◌, ◌++◌, map, length, Bool, true, false, cond, Option, Some, None, refl, subst}
+use Rattle.std.proofs.Common.{◌≡◌, ℕ, List, [], ◌∷◌, length, Bool, true, false, cond, Option, Some, None, refl, subst}
 use Rattle.std.proofs.lemmas.List.Elements.{recursion_from_All}
-use Rattle.std.specs.List.{AllByRecursion, find, flat_map}
+use Rattle.std.specs.List.{AllByRecursion, find}
 use Rattle.std.specs.Option.{option_map, option_map_or}
 use Rattle.dom_base.proofs.Lists.{AllByRecursion-contains}
 use Rattle.blif_ast.specs.BlifFileData.{BlifFileData}
@@ -11,7 +11,7 @@ use Rattle.blif_ast.specs.Cards.{same}
 use Rattle.blif_ast.specs.Good.{IsGoodBinding, IsGoodFile, IsGoodInstance, IsGoodLatch, IsGoodModel, IsGoodName, IsGoodTable}
 use Rattle.blif_ast.specs.InstanceData.{InstanceData}
 use Rattle.net_flatten.specs.Ends.{driven_end}
-use Rattle.net_flatten.specs.Expanded.{BodyCard, InstanceCard, LatchCard, LatchPart, PlacedPart, TableCard, TablePart, ordered_cards, expanded, expanded_from, card_line, parts_of_card}
+use Rattle.net_flatten.specs.Expanded.{LatchPart, PlacedPart, TablePart, expanded}
 use Rattle.net_flatten.specs.Occurrences.{first_model, main_model, models_called}
 use Rattle.net_flatten.specs.Signals.{bound_actual, signal_of}
 use Rattle.net_flatten.proofs.EachPart.{Keeps, each_part}

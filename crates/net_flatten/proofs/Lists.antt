@@ -1,9 +1,8 @@
 -- Facts of lists: elements at places, what holds of each element, and counts.
-use Rattle.std.proofs.Common.{◌≡◌, ℕ, zero, suc, ◌<◌, ◌≤◌, max, cond, Bool, true, List, [], ◌∷◌, ◌++◌, map, take, Some, refl, ap, ◌∙◌, arith}
-use Rattle.std.specs.Prelude.{Contains, slice_get, All}
+use Rattle.std.proofs.Common.{◌≡◌, ℕ, zero, suc, ◌<◌, ◌≤◌, max, cond, Bool, true, List, [], ◌∷◌, map, take, Some, refl, ap, ◌∙◌, arith}
+use Rattle.std.specs.Prelude.{Contains, slice_get}
 use Rattle.std.specs.List.{AllByRecursion, count_by, flat_map, fold}
 use Rattle.std.proofs.Math.Nat.{le-max_left, le-max_right}
-use Rattle.std.proofs.lemmas.List.Elements.{recursion_from_All}
 use Rattle.std.proofs.lemmas.List.Sums.{sum_by-cons}
 use Rattle.dom_base.proofs.Lists.{AllByRecursion-contains, AllByRecursion-left, AllByRecursion-map, AllByRecursion-right, Contains-slice_get}
 use Rattle.net_flatten.proofs.Apart.{each_place}
