@@ -1,5 +1,5 @@
 -- Rows that match, by the items under their ones.
-use Rattle.std.proofs.Common.{◌≡◌, ℕ, zero, suc, Bool, true, false, ◌&&◌, List, [], ◌∷◌, length, Some, slice_get, refl, ap, ap₂, ◌∙◌, arith}
+use Rattle.std.proofs.Common.{◌≡◌, ℕ, suc, Bool, true, false, ◌&&◌, List, [], ◌∷◌, length, Some, slice_get, refl, ap, ap₂, ◌∙◌, arith}
 use Rattle.std.specs.Prelude.{◌≢◌, All}
 use Rattle.std.specs.List.{list_all}
 use Rattle.std.proofs.lemmas.Bool.{and_parts, and_from}
@@ -12,6 +12,7 @@ use Rattle.blif_ast.specs.declared.letter.Letter.TheVariants.{Zero, One, Any}
 use Rattle.domsyn.specs.Bits.{tri_of}
 use Rattle.domsyn.specs.Deck.{literals}
 use Rattle.blif_ast.specs.TableValue.{Matches}
+use Rattle.blif_ast.proofs.TableRows.{Matches-cons, Matches-tail}
 
 pub is_one-tri_of : (b : Bool) → is_one (tri_of b) ≡ b
 is_one-tri_of true = refl
@@ -37,22 +38,6 @@ All-literals P (l ∷ row) [] each = All-nil P
 All-literals P (One ∷ row) (n ∷ nets) each = All-cons P n (literals row nets) (All-head P n nets each) (All-literals P row nets (All-tail P n nets each))
 All-literals P (Zero ∷ row) (n ∷ nets) each = All-literals P row nets (All-tail P n nets each)
 All-literals P (Any ∷ row) (n ∷ nets) each = All-literals P row nets (All-tail P n nets each)
-
-ones-cons : (l : Letter) (row : List Letter) (b : Bool) (bits : List Bool) → (l ≡ One → b ≡ true) → Matches row bits
-    → (k : ℕ) → slice_get (l ∷ row) k ≡ Some One → slice_get (b ∷ bits) k ≡ Some true
-ones-cons l row b bits one rest zero at = ap (λ x. Some x) (one (same_Some l One at))
-ones-cons l row b bits one rest (suc k) at = rest.ones k at
-
-zeros-cons : (l : Letter) (row : List Letter) (b : Bool) (bits : List Bool) → (l ≡ Zero → b ≡ false) → Matches row bits
-    → (k : ℕ) → slice_get (l ∷ row) k ≡ Some Zero → slice_get (b ∷ bits) k ≡ Some false
-zeros-cons l row b bits nought rest zero at = ap (λ x. Some x) (nought (same_Some l Zero at))
-zeros-cons l row b bits nought rest (suc k) at = rest.zeros k at
-
-Matches-cons : (l : Letter) (row : List Letter) (b : Bool) (bits : List Bool) → (l ≡ One → b ≡ true) → (l ≡ Zero → b ≡ false) → Matches row bits → Matches (l ∷ row) (b ∷ bits)
-Matches-cons l row b bits one nought rest = record { ones = ones-cons l row b bits one rest; zeros = zeros-cons l row b bits nought rest }
-
-Matches-tail : (l : Letter) (row : List Letter) (b : Bool) (bits : List Bool) → Matches (l ∷ row) (b ∷ bits) → Matches row bits
-Matches-tail l row b bits is = record { ones = λ k. is.ones (suc k); zeros = λ k. is.zeros (suc k) }
 
 -- a row without zeros, as long as the bits, matches where the bits under its ones are all 1
 pub Matches-from_all : (row : List Letter) (bits : List Bool) → length row ≡ length bits → All (λ l. l ≢ Zero) row → list_all (λ bit. bit) (literals row bits) ≡ true → Matches row bits

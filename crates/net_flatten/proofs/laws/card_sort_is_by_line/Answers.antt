@@ -1,0 +1,6 @@
+use Rattle.net_flatten.specs.Expanded.{card_line}
+use Rattle.net_flatten.proofs.StableSort.{sorted_in_order}
+use Rattle.net_flatten.proofs.laws.card_sort_is_by_line.Goals as goal
+
+pub returns : goal.returns
+returns c = λ xs ys sorted stable. sorted_in_order card_line xs ys sorted stable
