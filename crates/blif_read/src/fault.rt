@@ -4,11 +4,10 @@ ghost use Rattle.blif_read.specs.declared.fault.BlifFault.TheVariants.{Memory};
 
 use blif_ast::BlifKind;
 use dom_base::OutOfMemory;
-use std::alloc::{AllocError, AllocFailed};
 use thiserror::Error;
 
 /// Why a text isn't read: the first line with a fault, from 1, with the kind of the smallest number
-/// there, or want of memory. Where the text has no line with words, the line is the one after its
+/// there, or out of memory. Where the text has no line with words, the line is the one after its
 /// last line, and the kind is `NoModel`.
 #[derive(Debug, Drop, Error)]
 pub enum BlifFault {
@@ -16,22 +15,6 @@ pub enum BlifFault {
     At { line: u64, kind: BlifKind },
     #[error("out of memory")]
     Memory,
-}
-
-impl From<AllocError> for BlifFault {
-    ghost from_gives = { λ _ e. e ≡ Memory };
-
-    fn from(_: AllocError) -> Self {
-        BlifFault::Memory
-    }
-}
-
-impl<T: Drop> From<AllocFailed<T>> for BlifFault {
-    ghost from_gives = { λ _ e. e ≡ Memory };
-
-    fn from(_: AllocFailed<T>) -> Self {
-        BlifFault::Memory
-    }
 }
 
 impl From<OutOfMemory> for BlifFault {
