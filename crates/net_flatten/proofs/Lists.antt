@@ -12,6 +12,12 @@ get_map g [] k x e = absurd cc
 get_map g (z ∷ zs) zero x e = let i : z ≡ x = cc in ap (λ w. Some (g w)) i
 get_map g (z ∷ zs) (suc k) x e = get_map g zs k x e
 
+-- what stands at an index of a list of values
+pub get_of_map : {X Y : Type 0} (g : X → Y) (xs : List X) (k : ℕ) (y : Y) → slice_get (map g xs) k ≡ Some y → (x : X) × (slice_get xs k ≡ Some x) × (g x ≡ y)
+get_of_map g [] k y e = absurd cc
+get_of_map g (x ∷ xs) zero y e = (x, refl, cc)
+get_of_map g (x ∷ xs) (suc k) y e = get_of_map g xs k y e
+
 pub get_take : {X : Type 0} (xs : List X) (j k : ℕ) (x : X) → j < k → slice_get xs j ≡ Some x → slice_get (take k xs) j ≡ Some x
 get_take [] j k x l e = absurd cc
 get_take (z ∷ zs) j zero x l e = absurd (omega (arith, l))

@@ -25,6 +25,7 @@ use Rattle.net_flatten.proofs.OneModel.{good_one_model, latches_here, table_numb
 use Rattle.net_flatten.proofs.Ranges.{enumerated_row, length_row, map_map, row, row_bounds, take_by_row}
 use Rattle.net_run.proofs.Valuations.{one_valuation}
 use Rattle.net_run.specs.Runs.{Cycle, IsNetworkCycle, IsNetworkRun, IsNetworkRunFrom, IsValuation, start, value_at}
+use Rattle.net_flatten.proofs.Lists.{get_of_map}
 
 -- lists that are taken to one list are taken alike by what agrees on them
 same_map : {X Y Z W : Type 0} (g : X → Z) (h : Y → Z) (a : X → W) (b : Y → W) (Q : Y → Type 0) → ((x : X) (y : Y) → g x ≡ h y → Q y → a x ≡ b y)
@@ -41,12 +42,6 @@ value_map : (g : ℕ → Bool) (ks : List ℕ) (x k : ℕ) → slice_get ks x �
 value_map g [] x k e = absurd cc
 value_map g (j ∷ ks) zero k e = let i : j ≡ k = cc in ap g i
 value_map g (j ∷ ks) (suc x) k e = value_map g ks x k e
-
--- what stands at a place of a list of values
-get_of_map : {X Y : Type 0} (g : X → Y) (xs : List X) (k : ℕ) (y : Y) → slice_get (map g xs) k ≡ Some y → (x : X) × (slice_get xs k ≡ Some x) × (g x ≡ y)
-get_of_map g [] k y e = absurd cc
-get_of_map g (x ∷ xs) zero y e = (x, refl, cc)
-get_of_map g (x ∷ xs) (suc k) y e = get_of_map g xs k y e
 
 get_behind : {X : Type 0} (xs ys : List X) (k : ℕ) (y : X) → slice_get ys k ≡ Some y → slice_get (xs ++ ys) (length xs + k) ≡ Some y
 get_behind [] ys k y e = subst (λ n. slice_get ys n ≡ Some y) (let z : k ≡ 0 + k = omega arith in z) e

@@ -1,0 +1,4 @@
+pub mod Agree
+pub mod Counts
+pub mod Exchanged
+pub mod Laws

@@ -1,0 +1,125 @@
+-- The cards of a loose domino deck, in order (SPICE M cards).
+use Rattle.std.specs.Prelude.{Bool, List, [], false, map, suc, true, zero, ℕ, ◌++◌, ◌+◌, ◌<◌, ◌∷◌, ◌≡◌, ◌≤◌}
+use Rattle.dom_base.specs.declared.kind.Kind.TheVariants.{Keep, N as nch, P as pch}
+use Rattle.deck.specs.CircuitData.{CircuitData}
+use Rattle.deck.specs.Nets.{net_number}
+use Rattle.deck.specs.declared.device.Device.{Device}
+use Rattle.deck.specs.NamedDevices.{NamedDevice, device_of, map_device, with_devices}
+use Rattle.sp_network.specs.Tree.{Tree, inner_count, map_tree}
+use Rattle.domino_cell.specs.Cell.{CellNets, inverter as inverter_cards}
+use Rattle.domino_cell.specs.Stage.{Inside, Spot, Top}
+use Rattle.domino_cell.specs.Spelling.{spell}
+use Rattle.switch_model.specs.LinksData.{LinksData}
+use Rattle.domino_law.specs.LooseDeck.{IsLooseDeck, IsNet, IsSourceNet}
+use Rattle.domino_law.specs.Nets.{At, Clock, Complement, Dynamic, Gate, Lm, Lmb, Ls, Lsb, Master, Net, Next, Output, Part, Rs, Rsb, DeckSignal, Sink, Slave, Vdd, Vss, gate_net, own}
+use Rattle.domino_law.specs.Shape.{DominoCell, IsShape, Latch, Shape, Style, WithKeeper, WithPrecharge}
+
+-- the nets of a cell
+abbrev pub net_cell : ℕ → DominoCell → CellNets Net
+net_cell k c = record {
+  vdd = Vdd;
+  vss = Vss;
+  clock = Clock c.clock;
+  dynamic = At (Dynamic k) Top;
+  output = At (Output k) Top;
+  foot = At (Dynamic k) (Inside 0 0);
+  inner = λ j. At (Dynamic k) (Inside 0 (1 + j));
+}
+
+-- the precharge devices of so many inner nets from number j on
+abbrev pub inner_cards : CellNets Net → ℕ → ℕ → List (NamedDevice Net)
+inner_cards nets j zero = []
+inner_cards nets j (suc n) = record { kind = pch; drain = nets.inner j; gate = nets.clock; source = nets.vdd } ∷ inner_cards nets (j + 1) n
+
+-- what follows the precharge of a cell with so many inner nets: the keeper, or the precharge of each inner net
+abbrev pub after_precharge : Style → CellNets Net → ℕ → List (NamedDevice Net)
+after_precharge WithKeeper nets n = record { kind = Keep; drain = nets.dynamic; gate = nets.output; source = nets.vdd } ∷ []
+after_precharge WithPrecharge nets n = inner_cards nets 0 n
+
+-- the tree and the foot
+abbrev pub pull_down : CellNets Net → Tree Net → List (NamedDevice Net)
+pull_down nets tree =
+    spell nch nets.inner tree nets.dynamic nets.foot 0
+    ++ record { kind = nch; drain = nets.foot; gate = nets.clock; source = nets.vss } ∷ []
+
+-- a cell of a style
+abbrev pub styled_cell : Style → CellNets Net → Tree Net → List (NamedDevice Net)
+styled_cell style nets tree =
+    (record { kind = pch; drain = nets.dynamic; gate = nets.clock; source = nets.vdd } ∷ after_precharge style nets (inner_count tree))
+    ++ (pull_down nets tree ++ inverter_cards nets.vdd nets.vss nets.dynamic nets.output)
+
+-- the cells from number k on
+abbrev pub cell_cards : Style → ℕ → List DominoCell → List (NamedDevice Net)
+cell_cards style k [] = []
+cell_cards style k (c ∷ cs) = styled_cell style (net_cell k c) (map_tree gate_net c.tree) ++ cell_cards style (k + 1) cs
+
+-- the inverters of complements
+abbrev pub complement_cards : List DeckSignal → List (NamedDevice Net)
+complement_cards [] = []
+complement_cards (l ∷ ls) = inverter_cards Vdd Vss (own l) (At (Complement l) Top) ++ complement_cards ls
+
+-- the reset device of latch j, by its start value, and the nine devices of the latch
+abbrev pub reset_card : ℕ → Bool → NamedDevice Net
+reset_card j false = record { kind = nch; drain = At (Slave j) Top; gate = Rs; source = Vss }
+reset_card j true = record { kind = pch; drain = At (Slave j) Top; gate = Rsb; source = Vdd }
+
+abbrev pub one_latch : ℕ → Bool → List (NamedDevice Net)
+one_latch j init =
+    record { kind = pch; drain = At (Master j) Top; gate = Lmb; source = At (Master j) (Inside 0 0) }
+    ∷ record { kind = pch; drain = At (Master j) (Inside 0 0); gate = At (Next j) Top; source = Vdd }
+    ∷ record { kind = nch; drain = At (Master j) Top; gate = Lm; source = At (Master j) (Inside 1 0) }
+    ∷ record { kind = nch; drain = At (Master j) (Inside 1 0); gate = At (Next j) Top; source = Vss }
+    ∷ record { kind = pch; drain = At (Slave j) Top; gate = Lsb; source = At (Slave j) (Inside 0 0) }
+    ∷ record { kind = pch; drain = At (Slave j) (Inside 0 0); gate = At (Master j) Top; source = Vdd }
+    ∷ record { kind = nch; drain = At (Slave j) Top; gate = Ls; source = At (Slave j) (Inside 1 0) }
+    ∷ record { kind = nch; drain = At (Slave j) (Inside 1 0); gate = At (Master j) Top; source = Vss }
+    ∷ reset_card j init
+    ∷ []
+
+-- the latches from number j on
+abbrev pub latch_cards : ℕ → List Latch → List (NamedDevice Net)
+latch_cards j [] = []
+latch_cards j (b ∷ bs) = one_latch j b.init ++ latch_cards (j + 1) bs
+
+-- the inverters of output ports, and those of latch inputs
+abbrev pub output_cards : ℕ → List Gate → List (NamedDevice Net)
+output_cards i [] = []
+output_cards i (g ∷ gs) = inverter_cards Vdd Vss (gate_net g) (At (Sink i) Top) ++ output_cards (i + 1) gs
+
+abbrev pub next_cards : ℕ → List Latch → List (NamedDevice Net)
+next_cards j [] = []
+next_cards j (b ∷ bs) = inverter_cards Vdd Vss (gate_net b.next) (At (Next j) Top) ++ next_cards (j + 1) bs
+
+-- the cells, the complements, the latches and the sinks
+abbrev pub shape_cards : Shape → List (NamedDevice Net)
+shape_cards s =
+    cell_cards s.style 0 s.cells
+    ++ (complement_cards s.complements ++ (latch_cards 0 s.latches ++ (output_cards 0 s.outputs ++ next_cards 0 s.latches)))
+
+-- their devices, where `net` numbers the nets
+abbrev pub deck_devices : (Net → ℕ) → Shape → List Device
+deck_devices net s = map device_of (map (map_device net) (shape_cards s))
+
+-- The circuit's devices are, in order, those of the deck. Its sources are numbered first, and no two nets of the deck
+-- have one number.
+pub record IsSpelledDeck (links : LinksData) (net : Net → ℕ) (s : Shape) : Type 0 where
+  pub shape : IsShape s
+  pub apart : (a b : Net) → IsNet s a → IsNet s b → net a ≡ net b → a ≡ b
+  pub sources : (a : Net) → IsSourceNet s a → net a < links.sources
+  pub others : (part : Part) (spot : Spot) → IsNet s (At part spot)
+      → (links.sources ≤ net (At part spot)) × (net (At part spot) < links.nets)
+  pub devices_are : links.devices ≡ deck_devices net s
+
+-- such a circuit is a loose domino deck
+abbrev pub SpelledIsLoose : Type 0
+SpelledIsLoose = (links : LinksData) (net : Net → ℕ) (s : Shape) → IsSpelledDeck links net s → IsLooseDeck links net s
+
+-- the circuit of a deck whose nets have these names, behind ports
+abbrev pub deck_circuit : CircuitData → (Net → List ℕ) → Shape → CircuitData
+deck_circuit ports name s = with_devices ports (map (map_device name) (shape_cards s))
+
+-- it has the deck's devices, where each net is numbered by the place of its name
+abbrev pub NamedIsSpelled : Type 0
+NamedIsSpelled =
+    (ports : CircuitData) (name : Net → List ℕ) (s : Shape) → ports.devices ≡ []
+    → (deck_circuit ports name s).devices ≡ deck_devices (λ a. net_number (deck_circuit ports name s).nets (name a)) s

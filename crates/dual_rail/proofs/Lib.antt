@@ -1,0 +1,3 @@
+pub mod ForestOrders
+pub mod PairValues
+pub mod Zips

@@ -1,0 +1,4 @@
+pub mod ForestData
+pub mod ForestOrder
+pub mod ForestValues
+pub mod Forests

@@ -1,0 +1,11 @@
+pub mod Among
+pub mod GateValues
+pub mod GatesOrder
+pub mod NeededLists
+pub mod NeededSets
+pub mod NetworkOrder
+pub mod NodeNames
+pub mod NodeOrders
+pub mod Rising
+pub mod TermShapes
+pub mod TermValues

@@ -1,0 +1,10 @@
+pub mod GateNodes
+pub mod GatesData
+pub mod GatesOrder
+pub mod Needed
+pub mod NeededPass
+pub mod NetworkOrder
+pub mod NodeNames
+pub mod Sinks
+pub mod Terms
+pub mod Values

@@ -1,0 +1,62 @@
+-- Legal runs by ports have their moves in order, and a value for each net.
+use Rattle.std.proofs.Common.{List, [], ap, arith, length, length-append, refl, replicate, slice_set, subst, ℕ, ◌++◌, ◌-◌, ◌∙◌, ◌∷◌, ◌≡◌, ◌≤◌}
+use Rattle.std.proofs.lemmas.List.{length-replicate, length-set}
+use Rattle.dom_base.specs.declared.tri.Tri.{Tri}
+use Rattle.dom_base.specs.declared.tri.Tri.TheVariants.{Unknown}
+use Rattle.deck.specs.CircuitData.{CircuitData}
+use Rattle.deck.specs.PortLayout.{source_count}
+use Rattle.deck.specs.declared.role.Roles.{Roles}
+use Rattle.switch_model.specs.Power.{source_values}
+use Rattle.port_runs.specs.Environment.{Happens, Move, Moves, Open, Rise, Step, Take, World, after_move, settings_of}
+use Rattle.port_runs.specs.Laws.{RunsAreCutAnywhere, RunsStandInOrder}
+use Rattle.port_runs.specs.Moves.{PortValue, set_all}
+use Rattle.port_runs.specs.Order.{Allows, Proceeds}
+use Rattle.port_runs.specs.PortRuns.{Leads, MayMove, power_world}
+use Rattle.port_runs.proofs.Order.{bits_taken, stands_after}
+use Rattle.event_sim.proofs.PowerState.{power-length}
+
+allows : (c : CircuitData) (roles : Roles) (move : Move) (w : World) → MayMove c roles move w → Allows roles.clocks roles.pins move w
+allows c roles (Open place) w m = (m.0, m.2)
+allows c roles (Take bits) w m = (m.0, m.2)
+allows c roles Rise w m = m
+
+pub leads_follows : (c : CircuitData) (roles : Roles) (steps : List Step) (w w' : World) → Leads c roles steps w w' → Proceeds roles.clocks roles.pins steps w w'
+leads_follows c roles [] w w' r = r
+leads_follows c roles (Happens n ∷ steps) w w' r =
+    ((r.1).0, leads_follows c roles steps (record w { values = (r.1).0 }) w' (subst (λ u. Leads c roles steps u w') (r.1).1 r.2))
+leads_follows c roles (Moves move ∷ steps) w w' r = (
+  set_all w.values (settings_of roles move w.risen),
+  allows c roles move w (r.1).0,
+  leads_follows c roles steps (record (after_move move w) { values = set_all w.values (settings_of roles move w.risen) }) w' (subst (λ u. Leads c roles steps u w') (r.1).1 r.2),
+)
+
+pub length-set_all : (values : List Tri) (settings : List PortValue) → length (set_all values settings) ≡ length values
+length-set_all values [] = refl
+length-set_all values (s ∷ more) = length-set_all (slice_set values s.port s.value) more ∙ length-set values s.port s.value
+
+-- a step keeps the number of values
+leads_whole : (c : CircuitData) (roles : Roles) (steps : List Step) (w w' : World) → Leads c roles steps w w' → length w'.values ≡ length w.values
+leads_whole c roles [] w w' r = rw r refl
+leads_whole c roles (Happens n ∷ steps) w w' r =
+    leads_whole c roles steps r.0 w' r.2 ∙ (ap (λ u. length u.values) (r.1).1 ∙ (ap length ((r.1).2).3 ∙ length-set w.values n ((r.1).2).0))
+leads_whole c roles (Moves move ∷ steps) w w' r =
+    leads_whole c roles steps r.0 w' r.2 ∙ (ap (λ u. length u.values) (r.1).1 ∙ length-set_all w.values (settings_of roles move w.risen))
+
+pub runs_stand_in_order : RunsStandInOrder
+runs_stand_in_order c roles steps w r =
+    let f = leads_follows c roles steps (power_world c roles) w r in
+    record {
+      stands = stands_after roles.clocks roles.pins [] steps (power_world c roles) w f (refl, refl, refl, refl);
+      bits = bits_taken roles.clocks roles.pins steps (power_world c roles) w f;
+      whole = λ within. leads_whole c roles steps (power_world c roles) w r ∙ power-length roles (length c.nets) within;
+    }
+
+leads_cut : (c : CircuitData) (roles : Roles) (steps more : List Step) (w w' : World) → Leads c roles (steps ++ more) w w'
+    → (u : World) × Leads c roles steps w u × Leads c roles more u w'
+leads_cut c roles [] more w w' r = (w, refl, r)
+leads_cut c roles (step ∷ steps) more w w' r =
+    let k = leads_cut c roles steps more r.0 w' r.2 in
+    (k.0, (r.0, r.1, k.1), k.2)
+
+pub runs_are_cut_anywhere : RunsAreCutAnywhere
+runs_are_cut_anywhere c roles steps more w r = leads_cut c roles steps more (power_world c roles) w r

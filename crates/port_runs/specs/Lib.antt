@@ -1,0 +1,5 @@
+pub mod Environment
+pub mod Laws
+pub mod Moves
+pub mod Order
+pub mod PortRuns

@@ -1,0 +1,7 @@
+//! Legal runs of a circuit by its ports: the places and moves of the environment in a cycle, and
+//! the order in which they come.
+#![tactic(auto)]
+
+mod laws;
+
+pub use laws::runs_stand_in_order;

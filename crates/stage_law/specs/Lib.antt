@@ -1,0 +1,4 @@
+pub mod Laws
+pub mod Precharged
+pub mod Shut
+pub mod Tapped

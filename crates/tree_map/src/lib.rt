@@ -1,0 +1,9 @@
+//! Covers of a forest by trees within a width and a height, of least cost (Zhao, Sapatnekar 1998).
+#![tactic(auto)]
+
+mod laws;
+
+pub use laws::{
+    chosen_cover_is_one, chosen_plan_is_least, shapes_make_plans, tables_are_least,
+    tree_values_are_kept,
+};
