@@ -1,0 +1,3 @@
+pub mod CellOrder
+pub mod ClockOrder
+pub mod DeckForms

@@ -1,0 +1,70 @@
+-- The circuit that synthesis gives of a network.
+use Rattle.std.specs.Prelude.{ℕ, ◌≡◌, Bool, List, map}
+use Rattle.deck.specs.CircuitData.{CircuitData}
+use Rattle.sp_network.specs.Tree.{Tree}
+use Rattle.dual_rail.specs.declared.forest.End.{End}
+use Rattle.dual_rail.specs.declared.forest.End.TheVariants.{Const, Literal, FromDynamic, FromOutput}
+use Rattle.synth_flow.specs.DeckNets.{SinkEnd, Fixed, OfLeaf, OfDynamic, OfOutput}
+use Rattle.synth_flow.specs.DominoDecks.{deck_circuit}
+use Rattle.dual_rail.specs.ForestData.{ForestData}
+use Rattle.dual_rail.specs.Forests.{IsForestOf}
+use Rattle.gate_decompose.specs.GateNodes.{AreGatesOf}
+use Rattle.gate_decompose.specs.GatesData.{GatesData}
+use Rattle.tree_map.specs.LeastPlans.{IsChosenPlan}
+use Rattle.clock_phase.specs.Levels.{AreLevels}
+use Rattle.net_flatten.specs.NetworkData.{NetworkData}
+use Rattle.gate_decompose.specs.Sinks.{leaf_count}
+use Rattle.tree_map.specs.Plans.{IsPlan, cell_of}
+use Rattle.phase_assign.specs.Signs.{AreChosen}
+
+-- an end that names a pair, as one that names the cell of this pair
+abbrev pub end_at_cell : List Bool → End → SinkEnd
+end_at_cell kept (Const b) = Fixed b
+end_at_cell kept (Literal rail) = OfLeaf rail.leaf rail.plus
+end_at_cell kept (FromDynamic place) = OfDynamic (cell_of kept place)
+end_at_cell kept (FromOutput place) = OfOutput (cell_of kept place)
+
+-- a circuit of the network: of the forest of any signs and any plan of it within the bounds
+pub record IsPlannedDeck (network : NetworkData) (w h phases : ℕ) (circuit : CircuitData) : Type 0 where
+  pub gates : GatesData
+  pub signs : List Bool
+  pub forest : ForestData
+  pub kept : List Bool
+  pub trees : List (Tree ℕ)
+  pub levels : List ℕ
+  pub are_gates : AreGatesOf network gates
+  pub is_forest : IsForestOf gates signs forest
+  pub is_plan : IsPlan forest w h kept trees
+  pub levels_are : AreLevels (leaf_count network) trees levels
+  pub circuit_is : circuit ≡ deck_circuit network phases trees levels signs (map (end_at_cell kept) forest.ends)
+
+-- the circuit that synthesis gives of the network: of the chosen signs and the chosen plan
+pub record IsChosenDeck (network : NetworkData) (w h phases : ℕ) (circuit : CircuitData) : Type 0 where
+  pub gates : GatesData
+  pub signs : List Bool
+  pub forest : ForestData
+  pub kept : List Bool
+  pub trees : List (Tree ℕ)
+  pub levels : List ℕ
+  pub are_gates : AreGatesOf network gates
+  pub are_chosen : AreChosen gates signs
+  pub is_forest : IsForestOf gates signs forest
+  pub is_chosen_plan : IsChosenPlan forest w h kept trees
+  pub levels_are : AreLevels (leaf_count network) trees levels
+  pub circuit_is : circuit ≡ deck_circuit network phases trees levels signs (map (end_at_cell kept) forest.ends)
+
+-- which is one of these
+abbrev pub planned : {network : NetworkData} {w h phases : ℕ} {circuit : CircuitData} → IsChosenDeck network w h phases circuit → IsPlannedDeck network w h phases circuit
+planned is = record {
+  gates = is.gates;
+  signs = is.signs;
+  forest = is.forest;
+  kept = is.kept;
+  trees = is.trees;
+  levels = is.levels;
+  are_gates = is.are_gates;
+  is_forest = is.is_forest;
+  is_plan = is.is_chosen_plan.plan;
+  levels_are = is.levels_are;
+  circuit_is = is.circuit_is;
+}

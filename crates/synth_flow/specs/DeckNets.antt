@@ -1,0 +1,115 @@
+-- The names of the nets of a deck, and the cards of its parts.
+use Rattle.std.specs.Prelude.{ℕ, ◌+◌, ◌-◌, ◌*◌, ◌/◌, ◌%◌, ◌==◌, Bool, true, false, cond, nat_lt, List, [], ◌∷◌, ◌++◌, length, map, flat_map, slice_index_or, codes}
+use Rattle.std.specs.Fmt.{decimal}
+use Rattle.std.specs.List.{enumerate_from, zip}
+use Rattle.dom_base.specs.declared.kind.Kind.TheVariants.{N as nch, P as pch}
+use Rattle.deck.specs.NamedDevices.{NamedDevice}
+use Rattle.domino_cell.specs.Cell.{CellNets, cell, inverter}
+use Rattle.sp_network.specs.Tree.{Tree, map_tree}
+
+abbrev pub vdd : List ℕ
+vdd = codes "vdd"
+
+abbrev pub vss : List ℕ
+vss = codes "vss"
+
+abbrev pub clock_net : ℕ → List ℕ
+clock_net clock = codes "ck" ++ decimal clock
+
+-- the dynamic net and the output of cell k
+abbrev pub dynamic_net : ℕ → List ℕ
+dynamic_net k = codes "d" ++ decimal k
+
+abbrev pub output_net : ℕ → List ℕ
+output_net k = codes "z" ++ decimal k
+
+-- the nets of cell k on a clock
+abbrev pub nets_of_cell : ℕ → ℕ → CellNets (List ℕ)
+nets_of_cell clock k = record {
+  vdd = vdd;
+  vss = vss;
+  clock = clock_net clock;
+  dynamic = dynamic_net k;
+  output = output_net k;
+  foot = codes "f" ++ decimal k;
+  inner = λ j. codes "t" ++ decimal k ++ codes "_" ++ decimal j;
+}
+
+-- the own net of a leaf: the pins stand first, then the outputs of the latches
+abbrev pub own_net : List (List ℕ) → ℕ → List ℕ
+own_net pins leaf = cond (nat_lt leaf (length pins)) (slice_index_or pins leaf []) (codes "q" ++ decimal (leaf - length pins))
+
+abbrev pub complement_net : ℕ → List ℕ
+complement_net leaf = codes "c" ++ decimal leaf
+
+abbrev pub rail_net : List (List ℕ) → ℕ → Bool → List ℕ
+rail_net pins leaf true = own_net pins leaf
+rail_net pins leaf false = complement_net leaf
+
+-- the net of a gate, of so many leaves: their rails, two each, and then the outputs of the cells
+abbrev pub gate_net : List (List ℕ) → ℕ → ℕ → List ℕ
+gate_net pins leaf_count gate =
+    cond (nat_lt gate (2 * leaf_count)) (rail_net pins (gate / 2) (gate % 2 == 0)) (output_net (gate - 2 * leaf_count))
+
+-- a domino cell: its tree over gates, and the number of its clock
+pub record DominoCell : Type 0 where
+  pub tree : Tree ℕ
+  pub clock : ℕ
+
+abbrev pub cell_cards : List (List ℕ) → ℕ → ℕ × DominoCell → List (NamedDevice (List ℕ))
+cell_cards pins leaf_count p = cell (nets_of_cell p.1.clock p.0) (map_tree (gate_net pins leaf_count) p.1.tree)
+
+abbrev pub complement_cards : List (List ℕ) → ℕ → List (NamedDevice (List ℕ))
+complement_cards pins leaf = inverter vdd vss (own_net pins leaf) (complement_net leaf)
+
+abbrev pub data_net : ℕ → List ℕ
+data_net j = codes "x" ++ decimal j
+
+-- the device that resets the output of latch j to its start value
+abbrev pub reset_card : ℕ → Bool → NamedDevice (List ℕ)
+reset_card j false = record { kind = nch; drain = codes "q" ++ decimal j; gate = codes "rs"; source = vss }
+reset_card j true = record { kind = pch; drain = codes "q" ++ decimal j; gate = codes "rsb"; source = vdd }
+
+-- latch j with its start value: the master takes the data while `lm` is 1, and the output the master while `ls` is 1
+abbrev pub latch_cards : ℕ × Bool → List (NamedDevice (List ℕ))
+latch_cards (j, start) =
+    record { kind = pch; drain = codes "m" ++ decimal j; gate = codes "lmb"; source = codes "m" ++ decimal j ++ codes "p" }
+    ∷ record { kind = pch; drain = codes "m" ++ decimal j ++ codes "p"; gate = data_net j; source = vdd }
+    ∷ record { kind = nch; drain = codes "m" ++ decimal j; gate = codes "lm"; source = codes "m" ++ decimal j ++ codes "n" }
+    ∷ record { kind = nch; drain = codes "m" ++ decimal j ++ codes "n"; gate = data_net j; source = vss }
+    ∷ record { kind = pch; drain = codes "q" ++ decimal j; gate = codes "lsb"; source = codes "q" ++ decimal j ++ codes "p" }
+    ∷ record { kind = pch; drain = codes "q" ++ decimal j ++ codes "p"; gate = codes "m" ++ decimal j; source = vdd }
+    ∷ record { kind = nch; drain = codes "q" ++ decimal j; gate = codes "ls"; source = codes "q" ++ decimal j ++ codes "n" }
+    ∷ record { kind = nch; drain = codes "q" ++ decimal j ++ codes "n"; gate = codes "m" ++ decimal j; source = vss }
+    ∷ reset_card j start
+    ∷ []
+
+-- what a sink is taken from: a constant, a leaf as it is (true) or its opposite, or the dynamic net or the output of a cell
+pub data SinkEnd : Type 0 where
+  Fixed : Bool → SinkEnd
+  OfLeaf : ℕ → Bool → SinkEnd
+  OfDynamic : ℕ → SinkEnd
+  OfOutput : ℕ → SinkEnd
+
+-- the gate of a sink's inverter: the supply of the other value, the opposite rail of the leaf, the dynamic net or the output
+abbrev pub sink_gate : List (List ℕ) → SinkEnd → List ℕ
+sink_gate pins (Fixed false) = vdd
+sink_gate pins (Fixed true) = vss
+sink_gate pins (OfLeaf leaf plus) = cond plus (complement_net leaf) (own_net pins leaf)
+sink_gate pins (OfDynamic k) = dynamic_net k
+sink_gate pins (OfOutput k) = output_net k
+
+abbrev pub sink_cards : List (List ℕ) → List ℕ × SinkEnd → List (NamedDevice (List ℕ))
+sink_cards pins p = inverter vdd vss (sink_gate pins p.1) p.0
+
+-- the nets of the sinks: the outputs, and the data of each of so many latches
+abbrev pub sink_nets : List (List ℕ) → List Bool → List (List ℕ)
+sink_nets outs starts = outs ++ map (λ p. data_net p.0) (enumerate_from 0 starts)
+
+-- the cards of a deck, in order: domino cells, inverters of complements, latches, inverters of sinks
+abbrev pub deck_devices : List (List ℕ) → List (List ℕ) → List Bool → List DominoCell → List ℕ → List SinkEnd → List (NamedDevice (List ℕ))
+deck_devices pins outs starts cells complements ends =
+    flat_map (cell_cards pins (length pins + length starts)) (enumerate_from 0 cells)
+    ++ flat_map (complement_cards pins) complements
+    ++ flat_map latch_cards (enumerate_from 0 starts)
+    ++ flat_map (sink_cards pins) (zip (sink_nets outs starts) ends)
