@@ -1,3 +1,4 @@
+-- The lines of the cards for ports, latches, instances and rows of BLIF, by what is appended to a text in turn.
 use Rattle.std.proofs.Common.{◌≡◌, ℕ, Bool, true, false, if◌then◌else◌, ◌+◌, ◌≤◌, ◌∙◌, List, [], ◌∷◌, ◌++◌, map, ap, sym, subst, append_assoc, append-nil, codes}
 use Rattle.std.proofs.lemmas.List.Folds.{flat_map-map}
 use Rattle.std.proofs.lemmas.List.{map-append}

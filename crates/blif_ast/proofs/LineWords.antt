@@ -1,3 +1,4 @@
+-- The words of a printed line, its last byte, and the blank behind a last word that ends with `\`.
 use Rattle.std.proofs.Common.{◌≡◌, ℕ, zero, suc, ◌+◌, ◌-◌, ◌≤◌, Bool, ◌==◌, if◌then◌else◌, List, [], ◌∷◌, ◌++◌, nat_eq, length, drop, slice_index, refl, ap, sym, ◌∙◌, append_assoc, append-nil, length-append, arith, rules}
 use Rattle.std.specs.Prelude.{slice_index_or}
 use Rattle.std.specs.Cmp.Lexicographic.{pointwise}
@@ -5,7 +6,7 @@ use Rattle.std.proofs.lemmas.Bool.Decides.{nat_tests}
 use Rattle.std.proofs.lemmas.Grind.{flat_map-append}
 use Rattle.std.specs.List.{flat_map, join_with_byte}
 use Rattle.blif_ast.specs.Cards.{last_word}
-use Rattle.blif_ast.specs.LogicalLines.{is_joined}
+use Rattle.blif_ast.specs.LogicalLines.{is_joined, last_byte}
 use Rattle.blif_ast.specs.Printed.{guard, printed_line, ports_card}
 
 -- a blank before each word, and the word
@@ -45,12 +46,6 @@ guard_digit (suc zero) few = refl
 guard_digit (suc (suc zero)) few = refl
 guard_digit (suc (suc (suc zero))) few = refl
 guard_digit (suc (suc (suc (suc digit)))) few = absurd (omega (arith, few))
-
--- the last byte, or 0 where there is none
-abbrev pub last_byte : List ℕ → ℕ
-last_byte [] = 0
-last_byte (b ∷ []) = b
-last_byte (b ∷ next ∷ bs) = last_byte (next ∷ bs)
 
 pub index-last : (bs : List ℕ) → slice_index bs (length bs - 1) ≡ last_byte bs
 index-last [] = refl

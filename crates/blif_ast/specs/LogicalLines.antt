@@ -13,6 +13,12 @@ pub record NumberedBytes : Type 0 where
   pub number : ℕ
   pub bytes : List ℕ
 
+-- the last byte, or 0 where there is none
+abbrev pub last_byte : List ℕ → ℕ
+last_byte [] = 0
+last_byte (b ∷ []) = b
+last_byte (b ∷ next ∷ bs) = last_byte (next ∷ bs)
+
 -- a line that is joined with the next one: its last byte is `\`
 abbrev pub is_joined : List ℕ → Bool
 is_joined line = ends_with nat_eq line (92 ∷ [])
@@ -33,7 +39,9 @@ with_next number line (next ∷ more) = record { number = number; bytes = line +
 -- a line in front of the logical lines that come next: where it ends with `\`, that byte becomes a blank, and the
 -- first of them is appended
 abbrev pub with_line : ℕ → List ℕ → List NumberedBytes → List NumberedBytes
-with_line number line next = if is_joined line then with_next number (with_blank line) next else record { number = number; bytes = line } ∷ next
+with_line number line next =
+    if is_joined line then with_next number (with_blank line) next
+    else record { number = number; bytes = line } ∷ next
 
 -- the logical lines of lines without comments, the first of which has this number
 abbrev pub joined_lines : ℕ → List (List ℕ) → List NumberedBytes

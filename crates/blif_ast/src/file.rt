@@ -21,7 +21,15 @@ impl Model for BlifModel {
 
     ghost Value = { BlifModelData };
 
-    ghost view = { λ m. record { name = m.name; inputs = m.inputs.items; outputs = m.outputs.items; tables = m.tables.items; latches = m.latches.items; instances = m.instances.items; line = m.line } };
+    ghost view = { λ m. record {
+      name = m.name;
+      inputs = m.inputs.items;
+      outputs = m.outputs.items;
+      tables = m.tables.items;
+      latches = m.latches.items;
+      instances = m.instances.items;
+      line = m.line;
+    } };
 }
 
 /// A file of BLIF: its models in order, the main model first.

@@ -1,7 +1,8 @@
 -- Kinds of faults by their numbers.
 use Rattle.std.proofs.Common.{◌≡◌, Bool, refl, arith, inl, inr}
 use Rattle.std.specs.List.{find}
-use Rattle.dom_base.proofs.Faults.{IsAmong, IsSmallest, Rises, number_of-injective, smallest_found}
+use Rattle.dom_base.specs.FaultKinds.{IsAmong, IsSmallest, RisesAbove}
+use Rattle.dom_base.proofs.Faults.{number_of-injective, smallest_found}
 use Rattle.blif_ast.specs.declared.kind.BlifKind.{BlifKind}
 use Rattle.blif_ast.specs.declared.kind.BlifKind.TheVariants.{ControlByte, UnknownCard, BadCard, RowOutsideTable, BadRow, MixedCover, TooWide, NoModel, LatchKind}
 use Rattle.blif_ast.specs.Faults.{blif_kind_number}
@@ -18,7 +19,7 @@ is_kind TooWide = inr (inr (inr (inr (inr (inr (inl refl))))))
 is_kind NoModel = inr (inr (inr (inr (inr (inr (inr (inl refl)))))))
 is_kind LatchKind = inr (inr (inr (inr (inr (inr (inr (inr (inl refl))))))))
 
-kinds_rise : Rises blif_kind_number 0 kinds
+kinds_rise : RisesAbove blif_kind_number 0 kinds
 kinds_rise = (omega arith, (omega arith, (omega arith, (omega arith, (omega arith, (omega arith, (omega arith, (omega arith, (omega arith, tt)))))))))
 
 -- the smallest kind that passes a test, if one does

@@ -70,26 +70,26 @@ first_piece all number next goes_on after rest is p =
     ∙ ap (λ n. with_words goes_on number after (worded_lines n rest)) (sym is)
 
 -- one more piece of a logical line
-pub one_more_piece : (whole : List LogicalLine) (all : List (List ℕ)) (first number next : ℕ) (goes_on : Bool) (before after rest : List (List ℕ))
+pub one_more_piece : {whole : List LogicalLine} {all : List (List ℕ)} (first number : ℕ) {next : ℕ} {goes_on : Bool} {before after rest : List (List ℕ)}
     → whole ≡ with_words true first before (worded_lines number all) → next ≡ number + 1 → IsPiece all goes_on before after rest
     → whole ≡ with_words goes_on first after (worded_lines next rest)
-one_more_piece whole all first number next goes_on before after rest so_far is p =
+one_more_piece {all = all} first number {goes_on = goes_on} {before = before} {after = after} {rest = rest} so_far is p =
     so_far ∙ ap (with_words true first before) (piece_words all number goes_on before after rest p)
     ∙ with_words-twice goes_on first number before (words (own_part (without_comment p.line))) (worded_lines (number + 1) rest)
     ∙ ap (λ w. with_words goes_on first w (worded_lines (number + 1) rest)) (sym p.words_are)
     ∙ ap (λ n. with_words goes_on first after (worded_lines n rest)) (sym is)
 
-pub first_piece_of : (all : List (List ℕ)) (number next : ℕ) (goes_on : Bool) (before after rest : List (List ℕ)) → before ≡ [] → next ≡ number + 1 → IsPiece all goes_on before after rest
+pub first_piece_of : {all : List (List ℕ)} (number : ℕ) {next : ℕ} {goes_on : Bool} {before after rest : List (List ℕ)} → before ≡ [] → next ≡ number + 1 → IsPiece all goes_on before after rest
     → worded_lines number all ≡ with_words goes_on number after (worded_lines next rest)
-first_piece_of all number next goes_on before after rest none is p = first_piece all number next goes_on after rest is (subst (λ b. IsPiece all goes_on b after rest) none p)
+first_piece_of {all = all} number {next = next} {goes_on = goes_on} {after = after} {rest = rest} none is p = first_piece all number next goes_on after rest is (subst (λ b. IsPiece all goes_on b after rest) none p)
 
 -- a line fewer, a number more
-pub count_piece : (all rest : List (List ℕ)) (number next : ℕ) (goes_on : Bool) (before after : List (List ℕ)) → next ≡ number + 1 → IsPiece all goes_on before after rest
+pub count_piece : {all rest : List (List ℕ)} (number : ℕ) {next : ℕ} {goes_on : Bool} {before after : List (List ℕ)} → next ≡ number + 1 → IsPiece all goes_on before after rest
     → next + length rest ≡ number + length all
-count_piece all rest number next goes_on before after is p = omega (arith, is, ap length p.lines_are)
+count_piece number is p = omega (arith, is, ap length p.lines_are)
 
-pub more_pieces : (whole : List LogicalLine) (all : List (List ℕ)) (first number next : ℕ) (was goes_on : Bool) (before after rest : List (List ℕ))
+pub more_pieces : {whole : List LogicalLine} {all : List (List ℕ)} (first number : ℕ) {next : ℕ} (was : Bool) {goes_on : Bool} {before after rest : List (List ℕ)}
     → was ≡ true → whole ≡ with_words was first before (worded_lines number all) → next ≡ number + 1 → IsPiece all goes_on before after rest
     → whole ≡ with_words goes_on first after (worded_lines next rest)
-more_pieces whole all first number next was goes_on before after rest still so_far is p =
-    one_more_piece whole all first number next goes_on before after rest (so_far ∙ ap (λ b. with_words b first before (worded_lines number all)) still) is p
+more_pieces {all = all} first number was {before = before} still so_far is p =
+    one_more_piece first number (so_far ∙ ap (λ b. with_words b first before (worded_lines number all)) still) is p

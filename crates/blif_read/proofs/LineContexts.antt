@@ -9,9 +9,9 @@ use Rattle.dom_base.specs.Lines.{first_word}
 use Rattle.blif_ast.specs.declared.card.Card.{Card}
 use Rattle.blif_ast.specs.declared.card.Card.TheVariants.{Model, Inputs, Outputs, Names, Latch, Subckt, Clock, End}
 use Rattle.blif_ast.specs.LogicalLines.{LogicalLine}
-use Rattle.blif_ast.specs.Cards.{same, names_card, table_inputs, begins, is_card, is_row, last_letter, model_card, end_card, card_word, card_named, card_of, known_cards}
+use Rattle.blif_ast.specs.Cards.{same, names_card, table_inputs, begins, is_card, is_row, last_letter, model_card, end_card, card_word, card_of, known_cards}
 use Rattle.blif_ast.specs.Context.{is_model_open, is_table_open, open_rows, open_width, words_of}
-use Rattle.blif_read.specs.Steps.{Context, OpenTable, context_of, open_table, first_letter, letter_after, with_letter}
+use Rattle.blif_read.specs.Steps.{OpenTable, context_of, open_table, first_letter, letter_after, with_letter}
 
 -- a word that begins with no `.` is none that begins with one
 pub no_dot : (word rest : List ℕ) → (slice_index word 0 == 46) ≡ false → same word (46 ∷ rest) ≡ false

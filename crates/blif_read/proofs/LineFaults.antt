@@ -1,7 +1,8 @@
 -- Faults of logical lines, by the lines before them.
-use Rattle.std.proofs.Common.{◌≡◌, ℕ, ◌≤◌, ◌+◌, ◌⊎◌, false, List, [], ◌∷◌}
+use Rattle.std.proofs.Common.{◌≡◌, ℕ, ◌≤◌, ◌⊎◌, false, List, [], ◌∷◌}
 use Rattle.std.specs.List.{find}
-use Rattle.dom_base.proofs.Faults.{FaultIn as FaultInLines, IsFirstIn as IsFirstInLines, fault_in as fault_in_lines, faulty_line, first_in as first_in_lines, passed as passed_line, rising-fault as rising_line}
+use Rattle.dom_base.specs.LineFaults.{FaultIn as FaultInLines, IsFirstIn as IsFirstInLines}
+use Rattle.dom_base.proofs.Faults.{fault_in as fault_in_lines, faulty_line, first_in as first_in_lines, passed as passed_line, rising-fault as rising_line}
 use Rattle.blif_ast.specs.declared.kind.BlifKind.{BlifKind}
 use Rattle.blif_ast.specs.LogicalLines.{LogicalLine}
 use Rattle.blif_ast.specs.Faults.{has_blif_fault, blif_kind_number}

@@ -1,7 +1,8 @@
 -- Numbers of logical lines grow.
 use Rattle.std.proofs.Common.{◌≡◌, ℕ, zero, suc, ◌≤◌, ◌+◌, Bool, true, false, List, [], ◌∷◌, map, filter, take, refl, arith}
 use Rattle.blif_ast.specs.LogicalLines.{LogicalLine, NumberedBytes, in_words, has_words, is_joined, with_blank, joined_lines, with_line, with_next, logical_lines, logical_lines_from}
-use Rattle.dom_base.proofs.Faults.{NumbersRise, NumbersRise-lower}
+use Rattle.dom_base.specs.LineFaults.{NumbersRise}
+use Rattle.dom_base.proofs.Faults.{NumbersRise-lower}
 use Rattle.dom_base.specs.Lines.{lines, without_comment}
 
 -- logical lines whose numbers grow, from this number on

@@ -1,20 +1,19 @@
 -- A printed line: its bytes, and what it is cut back into.
-use Rattle.std.proofs.Common.{◌≡◌, ◌≢◌, ℕ, suc, ◌<◌, ◌-◌, Bool, true, false, ◌==◌, not, if◌then◌else◌, List, [], ◌∷◌, ◌++◌, length, filter, refl, ap, sym, ◌∙◌, append_assoc, append-nil, arith}
-use Rattle.std.specs.List.{AllByRecursion, join_with_byte, slice_split, before_first}
+use Rattle.std.proofs.Common.{◌≡◌, ◌≢◌, ℕ, suc, ◌<◌, ◌-◌, Bool, true, false, ◌==◌, not, if◌then◌else◌, List, [], ◌∷◌, ◌++◌, length, refl, ap, sym, ◌∙◌, append-nil, arith}
+use Rattle.std.specs.List.{AllByRecursion, join_with_byte, before_first}
 use Rattle.std.specs.Prelude.{slice_index_or}
 use Rattle.std.proofs.lemmas.Bool.Decides.{nat_tests}
-use Rattle.std.proofs.lemmas.List.Elements.{All-weaker, All-from_recursion, recursion_from_All, filter-append}
-use Rattle.std.proofs.lemmas.List.Splits.{slice_split_at}
+use Rattle.std.proofs.lemmas.List.Elements.{All-weaker, All-from_recursion, recursion_from_All}
 use Rattle.dom_base.specs.Lines.{is_line_feed, is_blank, is_word, words, without_comment}
-use Rattle.dom_base.proofs.Lists.{AllByRecursion-append, AllByRecursion-weaker, filter_all, take_while-keep}
+use Rattle.dom_base.proofs.Lists.{AllByRecursion-append, AllByRecursion-weaker, take_while-keep}
 use Rattle.dom_base.specs.Joined.{after_blanks, joined, IsClean, IsSolid}
 use Rattle.dom_base.proofs.Texts.{words-joined}
 use Rattle.dom_base.proofs.WordBytes.{some_byte, words-trailing}
 use Rattle.blif_ast.specs.Good.{IsNameByte, IsGoodName}
 use Rattle.blif_ast.specs.Cards.{last_word}
 use Rattle.blif_ast.specs.Printed.{guard}
-use Rattle.blif_ast.proofs.LineWords.{joined_words, last_byte, last-append, joined-last}
-use Rattle.blif_ast.specs.LogicalLines.{is_joined}
+use Rattle.blif_ast.specs.LogicalLines.{last_byte, is_joined}
+use Rattle.blif_ast.proofs.LineWords.{joined_words, last-append, joined-last}
 
 -- a printed line without its LF
 abbrev pub body : List (List ℕ) → List ℕ

@@ -1,14 +1,12 @@
 -- What holds of the reader after some lines, and of its answer.
-use Rattle.std.proofs.Common.{◌≡◌, ◌≢◌, ℕ, ◌≤◌, ◌+◌, Bool, true, false, cond, ◌==◌, not, if◌then◌else◌, List, [], ◌∷◌, ◌++◌, reverse, length, length-append, refl, sym, ap, ◌∙◌, subst, arith, append-nil, Some, None, inl, inr}
-use Rattle.std.specs.Prelude.{Option, ◌&&◌, nat_lt, codes, slice_index}
-use Rattle.std.proofs.Common.{Result, Err, eqb-true}
-use Rattle.std.specs.List.{list_any, list_all, AllByRecursion}
-use Rattle.std.proofs.lemmas.Bool.{true≢false}
-use Rattle.std.proofs.lemmas.List.{append_assoc, reverse-append}
+use Rattle.std.proofs.Common.{◌≡◌, ◌≢◌, ℕ, ◌≤◌, ◌+◌, Bool, true, false, cond, ◌==◌, not, if◌then◌else◌, List, [], ◌∷◌, ◌++◌, reverse, length, refl, sym, ap, ◌∙◌, subst, arith, append-nil, Some, None, inl, inr}
+use Rattle.std.specs.Prelude.{Option, ◌&&◌, nat_lt, codes}
+use Rattle.std.proofs.Common.{Result, Err}
+use Rattle.std.specs.List.{list_any, list_all}
 use Rattle.dom_base.specs.Lines.{lines, is_control}
 use Rattle.dom_base.specs.Cuts.{NumbersFit}
 use Rattle.dom_base.proofs.Bools.{and_both}
-use Rattle.dom_base.proofs.Faults.{IsSmallest}
+use Rattle.dom_base.specs.FaultKinds.{IsSmallest}
 use Rattle.dom_base.proofs.Lists.{reverse-cons, reverse-onto}
 use Rattle.blif_ast.specs.BlifFileData.{BlifFileData}
 use Rattle.blif_ast.specs.BlifModelData.{BlifModelData}
@@ -17,22 +15,21 @@ use Rattle.blif_ast.specs.declared.letter.Letter.{Letter}
 use Rattle.blif_ast.specs.declared.card.Card.{Card}
 use Rattle.blif_ast.specs.declared.card.Card.TheVariants.{Model, Inputs, Outputs, Names, Latch, Subckt, Clock, End}
 use Rattle.blif_ast.specs.declared.kind.BlifKind.{BlifKind}
-use Rattle.blif_ast.specs.declared.kind.BlifKind.TheVariants.{ControlByte, UnknownCard, BadCard, RowOutsideTable, BadRow, MixedCover, TooWide, NoModel}
+use Rattle.blif_ast.specs.declared.kind.BlifKind.TheVariants.{ControlByte, BadCard, RowOutsideTable, BadRow, MixedCover, TooWide, NoModel}
 use Rattle.blif_ast.specs.LogicalLines.{LogicalLine, logical_lines, logical_lines_from}
 use Rattle.blif_ast.specs.Cards.{card_of, is_card, is_form, is_row_form, is_value, is_letter, last_letter, table_inputs}
-use Rattle.blif_ast.specs.Context.{is_model_open}
 use Rattle.blif_ast.specs.Faults.{has_blif_fault, blif_kind_number}
 use Rattle.blif_ast.specs.Models.{models_of, row_letters}
 use Rattle.blif_ast.specs.Reading.{IsBlifFault, IsBlifFaultAt, IsFaultOfLine, IsFileOf}
 use Rattle.blif_read.specs.declared.fault.BlifFault.{BlifFault}
 use Rattle.blif_read.specs.declared.fault.BlifFault.TheVariants.{At}
-use Rattle.blif_read.specs.Build.{Built, built_by, built_after, closed_models, context_in, finished, first_letter_in, has_model, model_after_card, model_with_table, new_model, on_after, opened_by, table_after_card, table_with_row}
+use Rattle.blif_read.specs.Build.{Built, built_by, built_after, closed_models, context_in, finished, first_letter_in, has_model, model_after_card, new_model, on_after, opened_by, table_after_card, table_with_row}
 use Rattle.blif_read.specs.Steps.{Context, OpenTable, card_fault, context_of, formed_card_fault, differs, context_fault, letter_after, row_fault, with_letter}
 use Rattle.blif_read.proofs.BuiltModels.{finished-line, finished-none}
 use Rattle.blif_read.proofs.LineNumbers.{Rises, logical_lines_from-rise}
 use Rattle.blif_read.proofs.AcceptedIsGoodParts.{one_of-all}
 use Rattle.blif_read.proofs.FaultKinds.{smallest_kind}
-use Rattle.blif_read.proofs.LineContexts.{context_after_row, context_after_card, known_is_card, opened, opens, row_no_card}
+use Rattle.blif_read.proofs.LineContexts.{context_after_row, context_after_card, opened, opens, row_no_card}
 use Rattle.blif_read.proofs.LineFaults.{FaultIn, fault_in, rising-fault, passed}
 use Rattle.blif_read.proofs.SmallestFault.{context_fault-smallest}
 

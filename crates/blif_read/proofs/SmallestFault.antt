@@ -6,7 +6,6 @@ use Rattle.std.proofs.lemmas.Bool.{true≢false}
 use Rattle.dom_base.specs.Lines.{is_control, first_word}
 use Rattle.blif_ast.specs.declared.card.Card.{Card}
 use Rattle.blif_ast.specs.declared.card.Card.TheVariants.{Model, Inputs, Outputs, Names, Latch, Subckt, Clock, End}
-use Rattle.blif_ast.specs.declared.kind.BlifKind.{BlifKind}
 use Rattle.blif_ast.specs.declared.kind.BlifKind.TheVariants.{ControlByte, UnknownCard, BadCard, RowOutsideTable, BadRow, MixedCover, TooWide, NoModel, LatchKind}
 use Rattle.blif_ast.specs.LogicalLines.{LogicalLine}
 use Rattle.blif_ast.specs.Cards.{same, begins, card_word, card_of, is_card, is_known, is_form, is_out_of_form, is_row_form, is_too_wide, is_level_form, is_level_latch, last_letter, model_card, names_card, latch_card, table_inputs}

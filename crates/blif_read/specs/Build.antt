@@ -61,8 +61,15 @@ abbrev pub new_table : LogicalLine → TableData
 new_table line = record { inputs = table_inputs line.words; output = last_word line.words; on = true; rows = []; line = line.number }
 
 abbrev pub new_model : LogicalLine → BlifModelData
-new_model line =
-    record { name = slice_index_or line.words 1 []; inputs = []; outputs = []; tables = []; latches = []; instances = []; line = line.number }
+new_model line = record {
+  name = slice_index_or line.words 1 [];
+  inputs = [];
+  outputs = [];
+  tables = [];
+  latches = [];
+  instances = [];
+  line = line.number;
+}
 
 -- the models with the open model closed
 abbrev pub closed_models : List BlifModelData → Option BlifModelData → Option TableData → List BlifModelData
@@ -104,14 +111,12 @@ tables_from None body = tables_of body
 tables_from (Some t) body = table_with_rows t (take_while is_row body) ∷ tables_of body
 
 abbrev pub model_with_lines : BlifModelData → Option TableData → List LogicalLine → BlifModelData
-model_with_lines m table body = record {
-  name = m.name;
+model_with_lines m table body = record m {
   inputs = m.inputs ++ names_on inputs_card body;
   outputs = m.outputs ++ names_on outputs_card body;
   tables = m.tables ++ tables_from table body;
   latches = m.latches ++ latches_of body;
   instances = m.instances ++ instances_of body;
-  line = m.line;
 }
 
 abbrev pub models_from : Option BlifModelData → Option TableData → List LogicalLine → List BlifModelData

@@ -36,7 +36,9 @@ first_letter (row ∷ rows) = Some (last_letter row.words)
 
 -- the open table of the lines before, the nearest first
 abbrev pub open_table : List LogicalLine → Option OpenTable
-open_table before = if is_table_open before then Some (record { width = open_width before; letter = first_letter (open_rows before) }) else None
+open_table before =
+    if is_table_open before then Some (record { width = open_width before; letter = first_letter (open_rows before) })
+    else None
 
 -- what the lines before, the nearest first, say of a line
 abbrev pub context_of : List LogicalLine → Context

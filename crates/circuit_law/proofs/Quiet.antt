@@ -8,8 +8,8 @@ use Rattle.dom_base.specs.declared.tri.Tri.TheVariants.{Unknown}
 use Rattle.deck.specs.Paths.{DefiniteStrong, DefiniteWeak, Possible, PossibleStrong, PossibleWeak}
 use Rattle.deck.specs.Switches.{value_of}
 use Rattle.deck.specs.declared.device.Device.{Device}
-use Rattle.switch_model.specs.Targets.{Disputes, Else, EventAt, Holds, IsPending, Pulls}
-use Rattle.switch_model.proofs.Targets.{AtMostOne, Disputes-at_most_one, Pulls-at_most_one, definite-possible_strong, definite-possible_weak}
+use Rattle.switch_model.specs.Targets.{Disputes, Else, EventAt, Holds, IsPending, Pulls, AtMostOne}
+use Rattle.switch_model.proofs.Targets.{Disputes-at_most_one, Pulls-at_most_one, definite-possible_strong, definite-possible_weak}
 use Rattle.circuit_law.specs.Counts.{Distinct, Events, Gates}
 use Rattle.circuit_law.specs.Agree.{Agree, ByPaths}
 use Rattle.circuit_law.proofs.Agree.{ByPaths-same}

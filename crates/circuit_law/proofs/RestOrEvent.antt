@@ -5,7 +5,7 @@ use Rattle.dom_base.specs.declared.tri.Tri.{Tri}
 use Rattle.deck.specs.Switches.{value_of}
 use Rattle.deck.specs.declared.device.Device.{Device}
 use Rattle.switch_model.specs.Targets.{EventAt, IsAtRest, IsPending}
-use Rattle.switch_model.proofs.Decided.{dec_bool, dec_nat, dec_tri, lt_or_ge}
+use Rattle.dom_base.proofs.Decided.{dec_bool, dec_nat, dec_tri, lt_or_ge}
 use Rattle.switch_model.proofs.Targets.{target_exists, target_unique}
 
 module _ (devices : List Device) (is_source : ℕ → Bool) (values : List Tri) where

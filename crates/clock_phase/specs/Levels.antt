@@ -38,6 +38,7 @@ ClocksRiseWithLevels =
 -- a cell has a higher level than each cell that it reads, and none has a level above the greatest
 abbrev pub CellsReadLowerLevels : Type 0
 CellsReadLowerLevels =
-    (leaf_count : ℕ) (trees : List (Tree ℕ)) (levels : List ℕ) (k j : ℕ) (tree : Tree ℕ) (level read : ℕ) → AreLevels leaf_count trees levels
+    (leaf_count : ℕ) (trees : List (Tree ℕ)) (levels : List ℕ) (k j : ℕ) (tree : Tree ℕ) (level read : ℕ)
+    → AreLevels leaf_count trees levels
     → slice_get trees k ≡ Some tree → slice_get levels k ≡ Some level → slice_get levels j ≡ Some read
     → Contains (cells_read leaf_count tree) j → (read < level) × (level ≤ greatest levels)

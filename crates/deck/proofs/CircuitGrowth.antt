@@ -3,23 +3,13 @@ use Rattle.std.proofs.Common.{◌≡◌, ℕ, List, [], ◌∷◌, ◌++◌, map
 use Rattle.std.specs.List.{AllByRecursion, IsDistinct}
 use Rattle.std.specs.Cmp.Lexicographic.{pointwise}
 use Rattle.dom_base.specs.declared.kind.Kind.{Kind}
-use Rattle.deck.specs.declared.device.Device.{Device}
 use Rattle.deck.specs.CircuitData.{CircuitData}
+use Rattle.deck.specs.CircuitGrowth.{Grew}
 use Rattle.deck.specs.NamedDevices.{NamedDevice, with_devices}
 use Rattle.deck.specs.Nets.{with_net, with_nets}
 use Rattle.deck.specs.NumberedDevices.{IsNumberedDevice, numbered_device}
 use Rattle.deck.specs.Pushes.{added_device, pushed}
 use Rattle.deck.proofs.NetNumbers.{IsDistinct-with_net, Longer, Longer-trans, net_number-kept, with_net-grows}
-
--- a later state of a circuit that only grew
-pub record Grew (old new : CircuitData) : Type 0 where
-  pub more_nets : List (List ℕ)
-  pub more_devices : List Device
-  pub name : new.name ≡ old.name
-  pub phases : new.phases ≡ old.phases
-  pub ports : new.ports ≡ old.ports
-  pub nets : new.nets ≡ old.nets ++ more_nets
-  pub devices : new.devices ≡ old.devices ++ more_devices
 
 -- a push adds nets and devices at the end and changes nothing else
 pub pushed-grew : (c : CircuitData) (kind : Kind) (d g s : List ℕ) → Grew c (pushed c kind d g s)

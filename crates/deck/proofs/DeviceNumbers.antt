@@ -6,7 +6,7 @@ use Rattle.std.proofs.lemmas.List.Elements.{All-from_recursion}
 use Rattle.dom_base.specs.declared.kind.Kind.{Kind}
 use Rattle.deck.specs.declared.device.Device.{Device}
 use Rattle.deck.specs.CircuitData.{CircuitData}
-use Rattle.deck.specs.NamedDevices.{NamedDevice, with_devices}
+use Rattle.deck.specs.NamedDevices.{NamedDevice, named_device, with_devices}
 use Rattle.deck.specs.Nets.{net_name, with_net, with_nets, ends, IsInRange, IsNumbered, used, IsCircuit}
 use Rattle.deck.specs.Numbers.{AreNumbersOf}
 use Rattle.deck.specs.Pushes.{added_device, pushed}
@@ -95,10 +95,6 @@ IsCircuit-ports ports nets devices is = omega (arith, is.all_used, used-ge ports
 
 pub IsCircuit-few : (ports : ℕ) (nets : List (List ℕ)) (devices : List Device) → IsCircuit ports nets devices → length nets ≤ 2 ^ 20 + 3 * 2 ^ 24
 IsCircuit-few ports nets devices is = omega (arith, is.all_used, used-le ports devices is.in_order, is.few_ports)
-
--- a device by the names of its nets
-abbrev pub named_device : List (List ℕ) → Device → NamedDevice (List ℕ)
-named_device nets d = record { kind = d.kind; drain = net_name nets d.drain; gate = net_name nets d.gate; source = net_name nets d.source }
 
 -- the circuit with these devices, and so many of its nets
 abbrev pub first_nets : CircuitData → ℕ → List Device → CircuitData

@@ -1,151 +1,152 @@
--- Whether ports stand in the order of roles is decided.
-use Rattle.std.proofs.Common.{◌≡◌, ℕ, ◌≤◌, zero, suc, Bool, true, false, ◌⊎◌, inl, inr, nat_eq, List, [], ◌∷◌, ◌++◌, codes, refl, ap, sym, ◌∙◌, arith, append_assoc, All}
+-- Ports have roles, or leave every order of roles at a port: it is found by how far they agree with the leading ports.
+use Rattle.std.proofs.Common.{◌≡◌, ℕ, zero, suc, ◌+◌, ◌<◌, ◌≤◌, ◌⊎◌, inl, inr, Bool, true, false, nat_eq, List, [], ◌∷◌, length, take, drop, get_or, All, refl, sym, ◌∙◌, arith}
+use Rattle.std.specs.Prelude.{codes}
 use Rattle.std.specs.Cmp.Lexicographic.{pointwise, bytes_decides}
 use Rattle.std.specs.List.{starts_with}
-use Rattle.std.proofs.lemmas.List.Elements.{All-nil, All-cons, All-head, All-tail, All-same}
-use Rattle.deck.specs.Limits.{most_clocks}
-use Rattle.deck.specs.Ports.{IsPin, IsOutput, leading_ports, HasRoles}
+use Rattle.std.specs.Ordering.{ord_max, nat_cmp}
+use Rattle.std.proofs.lemmas.List.Elements.{All-nil, All-cons}
+use Rattle.deck.specs.Limits.{most_clocks, unclocked_count}
+use Rattle.deck.specs.PortFronts.{BeginsGroups, BeginsLeading, LeavesLeading}
+use Rattle.deck.specs.Ports.{HasRoles, HasSomeRoles, leading_ports}
+use Rattle.deck.specs.Roles.{HaveRolesOrLeave}
+use Rattle.deck.proofs.PortLayout.{length-leading}
+use Rattle.deck.proofs.PortOrder.{further, groups_found, leaves_groups, leaves_leading, leading_from}
 
--- either a fact or its contrary
-abbrev pub Decided : Type 0 → Type 0
-Decided P = P ⊎ (P → ⊥)
+-- how far two lists of names agree
+record Agreement (xs ys : List (List ℕ)) : Type 0 where
+  pub count : ℕ
+  pub left : count ≤ length xs
+  pub right : count ≤ length ys
+  pub agrees : (k : ℕ) → k < count → get_or xs k [] ≡ get_or ys k []
+  pub differs : count < length ys → count < length xs → get_or xs count [] ≡ get_or ys count [] → ⊥
 
--- names behind others
-record IsBehind (lead ports : List (List ℕ)) : Type 0 where
-  rest : List (List ℕ)
-  are : ports ≡ lead ++ rest
-
-is_behind : (lead ports : List (List ℕ)) → Decided (IsBehind lead ports)
-is_behind [] ports = inl record { rest = ports; are = refl }
-is_behind (x ∷ lead) [] = inr (λ h. let e = h.are in cc)
-is_behind (x ∷ lead) (y ∷ ports) = by (pointwise nat_eq x y) refl (is_behind lead ports)
+agreement : (xs ys : List (List ℕ)) → Agreement xs ys
+agreement [] ys = record { count = 0; left = omega arith; right = omega arith; agrees = λ k lt. absurd (omega arith); differs = λ p q e. absurd (omega (arith, q)) }
+agreement (x ∷ xs) [] = record { count = 0; left = omega arith; right = omega arith; agrees = λ k lt. absurd (omega arith); differs = λ p q e. absurd (omega (arith, p)) }
+agreement (x ∷ xs) (y ∷ ys) = by (pointwise nat_eq x y) refl (agreement xs ys)
   where
-    by : (b : Bool) → pointwise nat_eq x y ≡ b → Decided (IsBehind lead ports) → Decided (IsBehind (x ∷ lead) (y ∷ ports))
-    by true e (inl h) = let same : x ≡ y = (bytes_decides x y).0 e in let are : ports ≡ lead ++ h.rest = h.are in inl record { rest = h.rest; are = cc }
-    by true e (inr fails) = inr (λ h. let are = h.are in fails record { rest = h.rest; are = cc })
-    by false e _ = inr (λ h. let are = h.are in let same : x ≡ y = cc in let yes : pointwise nat_eq x y ≡ true = (bytes_decides x y).1 same in let never : true ≡ false = sym yes ∙ e in cc)
+    step : (count : ℕ) → x ≡ y → ((k : ℕ) → k < count → get_or xs k [] ≡ get_or ys k []) → (k : ℕ) → k < suc count → get_or (x ∷ xs) k [] ≡ get_or (y ∷ ys) k []
+    step count same agrees zero lt = same
+    step count same agrees (suc k) lt = agrees k (omega (arith, lt))
 
-all_outputs : (names : List (List ℕ)) → Decided (All IsOutput names)
-all_outputs [] = inl (All-nil IsOutput)
-all_outputs (x ∷ names) = by (starts_with nat_eq x (codes "o_")) refl (all_outputs names)
-  where
-    by : (b : Bool) → starts_with nat_eq x (codes "o_") ≡ b → Decided (All IsOutput names) → Decided (All IsOutput (x ∷ names))
-    by true e (inl h) = inl (All-cons IsOutput x names e h)
-    by true e (inr fails) = inr (λ h. fails (All-tail IsOutput x names h))
-    by false e _ = inr (λ h. let yes : starts_with nat_eq x (codes "o_") ≡ true = All-head IsOutput x names h in let never : true ≡ false = sym yes ∙ e in cc)
-
--- pins and then outputs
-record IsSplit (names : List (List ℕ)) : Type 0 where
-  pins : List (List ℕ)
-  outs : List (List ℕ)
-  pins_are : All IsPin pins
-  outs_are : All IsOutput outs
-  are : names ≡ pins ++ outs
-
-is_split : (names : List (List ℕ)) → Decided (IsSplit names)
-is_split [] = inl record { pins = []; outs = []; pins_are = All-nil IsPin; outs_are = All-nil IsOutput; are = refl }
-is_split (x ∷ names) = by (starts_with nat_eq x (codes "i_")) refl (is_split names) (all_outputs (x ∷ names))
-  where
-    no_pins : (pins outs : List (List ℕ)) → starts_with nat_eq x (codes "i_") ≡ false → All IsPin pins → x ∷ names ≡ pins ++ outs → outs ≡ x ∷ names
-    no_pins [] outs e p are = sym are
-    no_pins (y ∷ pins) outs e p are =
-        let same : y ≡ x = cc in
-        let yes : starts_with nat_eq y (codes "i_") ≡ true = All-head IsPin y pins p in
-        let fails : starts_with nat_eq y (codes "i_") ≡ false = ap (λ z. starts_with nat_eq z (codes "i_")) same ∙ e in
-        let never : true ≡ false = sym yes ∙ fails in
-        cc
-
-    rest_is_split : (pins outs : List (List ℕ)) → All IsPin pins → All IsOutput outs → x ∷ names ≡ pins ++ outs → IsSplit names
-    rest_is_split [] [] p o are = let none : ⊥ = cc in absurd none
-    rest_is_split [] (y ∷ outs) p o are = record { pins = []; outs = outs; pins_are = All-nil IsPin; outs_are = All-tail IsOutput y outs o; are = cc }
-    rest_is_split (y ∷ pins) outs p o are = record { pins = pins; outs = outs; pins_are = All-tail IsPin y pins p; outs_are = o; are = cc }
-
-    by : (b : Bool) → starts_with nat_eq x (codes "i_") ≡ b → Decided (IsSplit names) → Decided (All IsOutput (x ∷ names)) → Decided (IsSplit (x ∷ names))
-    by true e (inl h) _ = let are : names ≡ h.pins ++ h.outs = h.are in inl record { pins = x ∷ h.pins; outs = h.outs; pins_are = All-cons IsPin x h.pins e h.pins_are; outs_are = h.outs_are; are = cc }
-    by true e (inr fails) _ = inr (λ h. fails (rest_is_split h.pins h.outs h.pins_are h.outs_are h.are))
-    by false e _ (inl h) = inl record { pins = []; outs = x ∷ names; pins_are = All-nil IsPin; outs_are = h; are = refl }
-    by false e _ (inr fails) = inr (λ h. let same = no_pins h.pins h.outs e h.pins_are h.are in fails (All-same IsOutput (x ∷ names) h.outs (sym same) h.outs_are))
-
--- the ports in the order of roles with so many clocks
-record HasRolesAt (ports : List (List ℕ)) (clocks : ℕ) : Type 0 where
-  pins : List (List ℕ)
-  outs : List (List ℕ)
-  roles : HasRoles ports clocks pins outs
-
--- the ports in the order of roles
-pub record HasSomeRoles (ports : List (List ℕ)) : Type 0 where
-  pub clocks : ℕ
-  pub pins : List (List ℕ)
-  pub outs : List (List ℕ)
-  pub roles : HasRoles ports clocks pins outs
-
-same_rest : (lead xs ys : List (List ℕ)) → lead ++ xs ≡ lead ++ ys → xs ≡ ys
-same_rest [] xs ys e = e
-same_rest (x ∷ lead) xs ys e = same_rest lead xs ys (cc)
-
-has_roles_at : (ports : List (List ℕ)) (clocks : ℕ) → 1 ≤ clocks → clocks ≤ most_clocks → Decided (HasRolesAt ports clocks)
-has_roles_at ports clocks some few = by (leading_ports clocks) refl (is_behind (leading_ports clocks) ports)
-  where
-    behind : (lead : List (List ℕ)) → leading_ports clocks ≡ lead → (h : HasRolesAt ports clocks) → ports ≡ lead ++ (h.pins ++ h.outs)
-    behind lead e h = h.roles.order ∙ ap (λ l. l ++ h.pins ++ h.outs) e ∙ append_assoc lead h.pins h.outs
-
-    split : (lead : List (List ℕ)) → leading_ports clocks ≡ lead → (found : IsBehind lead ports) → Decided (IsSplit found.rest) → Decided (HasRolesAt ports clocks)
-    split lead e found (inl h) = inl record {
-      pins = h.pins;
-      outs = h.outs;
-      roles = record {
-        some_clock = some;
-        few_clocks = few;
-        pins_are = h.pins_are;
-        outs_are = h.outs_are;
-        order = found.are ∙ ap (λ l. lead ++ l) h.are ∙ sym (append_assoc lead h.pins h.outs) ∙ ap (λ l. l ++ h.pins ++ h.outs) (sym e);
-      };
+    by : (b : Bool) → pointwise nat_eq x y ≡ b → Agreement xs ys → Agreement (x ∷ xs) (y ∷ ys)
+    by true e a = record {
+      count = suc a.count;
+      left = omega (arith, a.left);
+      right = omega (arith, a.right);
+      agrees = step a.count ((bytes_decides x y).0 e) a.agrees;
+      differs = λ p q same. a.differs (omega (arith, p)) (omega (arith, q)) same;
     }
-    split lead e found (inr fails) = inr (λ h. fails record {
-      pins = h.pins;
-      outs = h.outs;
-      pins_are = h.roles.pins_are;
-      outs_are = h.roles.outs_are;
-      are = same_rest lead found.rest (h.pins ++ h.outs) (sym found.are ∙ behind lead e h);
-    })
+    by false e a = record {
+      count = 0;
+      left = omega arith;
+      right = omega arith;
+      agrees = λ k lt. absurd (omega arith);
+      differs = λ p q same. let never : true ≡ false = sym ((bytes_decides x y).1 same) ∙ e in cc;
+    }
 
-    by : (lead : List (List ℕ)) → leading_ports clocks ≡ lead → Decided (IsBehind lead ports) → Decided (HasRolesAt ports clocks)
-    by lead e (inl found) = split lead e found (is_split found.rest)
-    by lead e (inr fails) = inr (λ h. fails record { rest = h.pins ++ h.outs; are = behind lead e h })
+-- the names at the front that begin so
+record Front (start : List ℕ) (names : List (List ℕ)) : Type 0 where
+  pub count : ℕ
+  pub within : count ≤ length names
+  pub all : All (λ name. starts_with nat_eq name start ≡ true) (take count names)
+  pub stops : starts_with nat_eq (get_or names count []) start ≡ true → ⊥
 
-some_roles : (ports : List (List ℕ)) (clocks : ℕ) → HasRolesAt ports clocks → HasSomeRoles ports
-some_roles ports clocks h = record { clocks = clocks; pins = h.pins; outs = h.outs; roles = h.roles }
-
--- none of the numbers of clocks serves
-no_roles : (ports : List (List ℕ)) → (HasRolesAt ports 1 → ⊥) → (HasRolesAt ports 2 → ⊥) → (HasRolesAt ports 3 → ⊥) → (HasRolesAt ports 4 → ⊥)
-    → (clocks : ℕ) (pins outs : List (List ℕ)) → HasRoles ports clocks pins outs → ⊥
-no_roles ports a b c d zero pins outs h = let some = h.some_clock in absurd (omega arith)
-no_roles ports a b c d (suc zero) pins outs h = a record { pins = pins; outs = outs; roles = h }
-no_roles ports a b c d (suc (suc zero)) pins outs h = b record { pins = pins; outs = outs; roles = h }
-no_roles ports a b c d (suc (suc (suc zero))) pins outs h = c record { pins = pins; outs = outs; roles = h }
-no_roles ports a b c d (suc (suc (suc (suc zero)))) pins outs h = d record { pins = pins; outs = outs; roles = h }
-no_roles ports a b c d (suc (suc (suc (suc (suc n))))) pins outs h = let few = h.few_clocks in absurd (omega arith)
-
--- the ports stand in the order of roles, or they don't
-pub has_roles : (ports : List (List ℕ)) → HasSomeRoles ports ⊎ ((clocks : ℕ) (pins outs : List (List ℕ)) → HasRoles ports clocks pins outs → ⊥)
-has_roles ports = one (has_roles_at ports 1 (omega arith) (omega arith))
+front : (start : List ℕ) → starts_with nat_eq [] start ≡ false → (names : List (List ℕ)) → Front start names
+front start none [] = record { count = 0; within = omega arith; all = All-nil (λ name. starts_with nat_eq name start ≡ true); stops = λ e. let never : true ≡ false = sym e ∙ none in cc }
+front start none (x ∷ names) = by (starts_with nat_eq x start) refl (front start none names)
   where
-    four : (HasRolesAt ports 1 → ⊥) → (HasRolesAt ports 2 → ⊥) → (HasRolesAt ports 3 → ⊥) → Decided (HasRolesAt ports 4)
-        → HasSomeRoles ports ⊎ ((clocks : ℕ) (pins outs : List (List ℕ)) → HasRoles ports clocks pins outs → ⊥)
-    four a b c (inl h) = inl (some_roles ports 4 h)
-    four a b c (inr d) = inr (no_roles ports a b c d)
+    by : (b : Bool) → starts_with nat_eq x start ≡ b → Front start names → Front start (x ∷ names)
+    by true e f = record {
+      count = suc f.count;
+      within = omega (arith, f.within);
+      all = All-cons (λ name. starts_with nat_eq name start ≡ true) x (take f.count names) e f.all;
+      stops = f.stops;
+    }
+    by false e f = record { count = 0; within = omega arith; all = All-nil (λ name. starts_with nat_eq name start ≡ true); stops = λ t. let never : true ≡ false = sym t ∙ e in cc }
 
-    three : (HasRolesAt ports 1 → ⊥) → (HasRolesAt ports 2 → ⊥) → Decided (HasRolesAt ports 3)
-        → HasSomeRoles ports ⊎ ((clocks : ℕ) (pins outs : List (List ℕ)) → HasRoles ports clocks pins outs → ⊥)
-    three a b (inl h) = inl (some_roles ports 3 h)
-    three a b (inr c) = four a b c (has_roles_at ports 4 (omega arith) (omega arith))
+le_or_lt : (a b : ℕ) → (a ≤ b) ⊎ (b < a)
+le_or_lt a b = grind arith
 
-    two : (HasRolesAt ports 1 → ⊥) → Decided (HasRolesAt ports 2)
-        → HasSomeRoles ports ⊎ ((clocks : ℕ) (pins outs : List (List ℕ)) → HasRoles ports clocks pins outs → ⊥)
-    two a (inl h) = inl (some_roles ports 2 h)
-    two a (inr b) = three a b (has_roles_at ports 3 (omega arith) (omega arith))
+-- behind the leading ports with so many clocks
+behind_leading : (ports : List (List ℕ)) (clocks : ℕ) → 1 ≤ clocks → clocks ≤ most_clocks → clocks + unclocked_count ≤ length ports → take (clocks + unclocked_count) ports ≡ leading_ports clocks → HaveRolesOrLeave ports
+behind_leading ports clocks some few long leading = by (front (codes "i_") refl (drop (clocks + unclocked_count) ports))
+  where
+    both : (pins : Front (codes "i_") (drop (clocks + unclocked_count) ports)) → Front (codes "o_") (drop pins.count (drop (clocks + unclocked_count) ports)) → HaveRolesOrLeave ports
+    both pins outs =
+        let groups : BeginsGroups ports clocks pins.count outs.count = record {
+          some_clock = some;
+          few_clocks = few;
+          leading = leading;
+          long = long;
+          pins_within = pins.within;
+          outs_within = outs.within;
+          pins_are = pins.all;
+          outs_are = outs.all;
+        } in
+        elim (le_or_lt (length ports) (clocks + unclocked_count + (pins.count + outs.count))) [
+          | inl le ↦ inl (record { clocks = clocks; pins = pins.count; outs = outs.count }, groups_found ports clocks pins.count outs.count groups le)
+          | inr lt ↦ inr (clocks + unclocked_count + (pins.count + outs.count), leaves_groups ports clocks pins.count outs.count groups lt outs.stops (λ none. pins.stops))
+        ]
 
-    one : Decided (HasRolesAt ports 1)
-        → HasSomeRoles ports ⊎ ((clocks : ℕ) (pins outs : List (List ℕ)) → HasRoles ports clocks pins outs → ⊥)
-    one (inl h) = inl (some_roles ports 1 h)
-    one (inr a) = two a (has_roles_at ports 2 (omega arith) (omega arith))
+    by : Front (codes "i_") (drop (clocks + unclocked_count) ports) → HaveRolesOrLeave ports
+    by pins = both pins (front (codes "o_") refl (drop pins.count (drop (clocks + unclocked_count) ports)))
+
+-- where with fewer clocks the ports leave the leading ports
+record LeavesBefore (ports : List (List ℕ)) (clocks : ℕ) : Type 0 where
+  pub port : ℕ
+  pub begins : BeginsLeading ports port
+  pub leaves : (k : ℕ) → 1 ≤ k → k < clocks → LeavesLeading ports port k
+
+step : (ports : List (List ℕ)) (clocks : ℕ) → 1 ≤ clocks → clocks ≤ most_clocks → LeavesBefore ports clocks → HaveRolesOrLeave ports ⊎ LeavesBefore ports (clocks + 1)
+step ports clocks some few before = by (agreement ports (leading_ports clocks))
+  where
+    long : length (leading_ports clocks) ≡ clocks + unclocked_count
+    long = length-leading clocks few
+
+    by : Agreement ports (leading_ports clocks) → HaveRolesOrLeave ports ⊎ LeavesBefore ports (clocks + 1)
+    by a = elim (le_or_lt (clocks + unclocked_count) a.count) [
+      | inl full ↦
+          let room : clocks + unclocked_count ≤ length ports = omega (arith, full, a.left) in
+          inl (behind_leading ports clocks some few room (leading_from ports clocks few room (λ k lt. a.agrees k (omega (arith, full, lt)))))
+      | inr short ↦
+          let next = further ports before.port a.count clocks (ord_max nat_cmp before.port a.count) refl
+          (record { some_clock = some; few_clocks = few; short = short; within = a.left; agrees = a.agrees; differs = a.differs (omega (arith, short, long)) }) before.begins before.leaves in
+          inr (record { port = ord_max nat_cmp before.port a.count; begins = next.0; leaves = next.1 })
+    ]
+
+pub roles_or_leave : (ports : List (List ℕ)) → HaveRolesOrLeave ports
+roles_or_leave ports = one (step ports 1 (omega arith) (omega arith) start)
+  where
+    start : LeavesBefore ports 1
+    start = record {
+      port = 0;
+      begins = record { clocks = 1; some_clock = omega arith; few_clocks = omega arith; leading = omega arith; within = omega arith; agrees = λ k lt. absurd (omega arith) };
+      leaves = λ k least lt. absurd (omega arith);
+    }
+
+    four : HaveRolesOrLeave ports ⊎ LeavesBefore ports 5 → HaveRolesOrLeave ports
+    four (inl found) = found
+    four (inr before) = inr (before.port, leaves_leading ports before.port before.begins (λ k least most. before.leaves k least (omega (arith, most))))
+
+    three : HaveRolesOrLeave ports ⊎ LeavesBefore ports 4 → HaveRolesOrLeave ports
+    three (inl found) = found
+    three (inr before) = four (step ports 4 (omega arith) (omega arith) before)
+
+    two : HaveRolesOrLeave ports ⊎ LeavesBefore ports 3 → HaveRolesOrLeave ports
+    two (inl found) = found
+    two (inr before) = three (step ports 3 (omega arith) (omega arith) before)
+
+    one : HaveRolesOrLeave ports ⊎ LeavesBefore ports 2 → HaveRolesOrLeave ports
+    one (inl found) = found
+    one (inr before) = two (step ports 2 (omega arith) (omega arith) before)
+
+-- ports are in the order of roles for some counts, or for none
+pub has_roles : (ports : List (List ℕ)) → HasSomeRoles ports ⊎ ((clocks : ℕ) (pins outs : List (List ℕ)) → HasRoles ports clocks pins outs → ⊥)
+has_roles ports = by (roles_or_leave ports)
+  where
+    by : HaveRolesOrLeave ports → HasSomeRoles ports ⊎ ((clocks : ℕ) (pins outs : List (List ℕ)) → HasRoles ports clocks pins outs → ⊥)
+    by (inl (roles, are)) = inl record { clocks = roles.clocks; pins = are.pins; outs = are.outs; roles = are.in_order }
+    by (inr (port, leaves)) = inr (λ clocks pins outs h. leaves.no_order
+        (record { clocks = clocks; pins = length pins; outs = length outs })
+        (record { pins = pins; outs = outs; in_order = h; pin_count = refl; out_count = refl }))

@@ -7,7 +7,8 @@ use Rattle.std.proofs.lemmas.Bool.{and_parts, eqb-true}
 use Rattle.std.proofs.lemmas.List.{drop_at, length-take-le}
 use Rattle.std.proofs.lemmas.List.Elements.{All-head, All-tail, All-same}
 use Rattle.std.proofs.lemmas.Map.Made.{IsDistinct-from_count}
-use Rattle.dom_base.proofs.Lists.{AreApart, AreApart-append, IsDistinct-append}
+use Rattle.dom_base.specs.Apart.{AreApart}
+use Rattle.dom_base.proofs.Lists.{AreApart-append, IsDistinct-append}
 use Rattle.dom_base.proofs.Names.{AreApart-from_start, names_equal}
 use Rattle.deck.specs.Limits.{most_clocks, unclocked_count}
 use Rattle.deck.specs.CircuitData.{CircuitData}

@@ -5,6 +5,7 @@ use Rattle.std.proofs.lemmas.List.{take-append-drop, get_or-take, get_or_append_
 use Rattle.std.proofs.lemmas.List.Elements.{All-head, All-tail, All-same}
 use Rattle.deck.specs.Limits.{most_clocks, unclocked_count}
 use Rattle.deck.specs.Ports.{IsPin, IsOutput, leading_ports, HasRoles}
+use Rattle.deck.specs.PortFronts.{BeginsGroups, BeginsLeading, LeavesLeading}
 use Rattle.deck.specs.declared.role.Roles.{Roles}
 use Rattle.deck.specs.Roles.{AreRoles, BeginsRoles, LeavesRolesAt}
 use Rattle.deck.proofs.PortLayout.{pin-no_output, length-leading, behind-same, joined}
@@ -40,22 +41,6 @@ at_leading {ports = ports} {pins = pins} {outs = outs} {clocks = clocks} h k lt 
     let long : length (leading_ports clocks) ≡ clocks + unclocked_count = length-leading clocks h.few_clocks in
     let whole : length ports ≡ length (leading_ports clocks) + length (pins ++ outs) = ap length (joined h) ∙ length-append (leading_ports clocks) (pins ++ outs) in
     (omega arith, ap (λ l. get_or l k []) (joined h) ∙ get_or_append_left (leading_ports clocks) (pins ++ outs) [] k (omega arith))
-
--- with so many clocks the names leave the leading ports not behind this port
-pub record LeavesLeading (ports : List (List ℕ)) (port clocks : ℕ) : Type 0 where
-  pub at : ℕ
-  pub not_behind : at ≤ port
-  pub leading : at < clocks + unclocked_count
-  pub differs : at < length ports → get_or ports at [] ≡ get_or (leading_ports clocks) at [] → ⊥
-
--- some number of clocks with which the names before this port are leading ports
-pub record BeginsLeading (ports : List (List ℕ)) (port : ℕ) : Type 0 where
-  pub clocks : ℕ
-  pub some_clock : 1 ≤ clocks
-  pub few_clocks : clocks ≤ most_clocks
-  pub leading : port ≤ clocks + unclocked_count
-  pub within : port ≤ length ports
-  pub agrees : (k : ℕ) → k < port → get_or ports k [] ≡ get_or (leading_ports clocks) k []
 
 begins_with : (ports : List (List ℕ)) (port : ℕ) → BeginsLeading ports port → BeginsRoles (take port ports)
 begins_with ports port b =
@@ -173,17 +158,6 @@ no_groups (p ∷ ps) bs more (y ∷ pins) outs x pa ob not_o not_p pp oo e =
 -- what stands behind the leading ports, in two parts and the rest
 parts : (names : List (List ℕ)) (p o : ℕ) → names ≡ take p names ++ (take o (drop p names) ++ drop o (drop p names))
 parts names p o = sym (take-append-drop p names) ∙ ap (λ l. take p names ++ l) (sym (take-append-drop o (drop p names)))
-
--- the ports begin with the leading ports, then come pins, then outputs
-pub record BeginsGroups (ports : List (List ℕ)) (clocks p o : ℕ) : Type 0 where
-  pub some_clock : 1 ≤ clocks
-  pub few_clocks : clocks ≤ most_clocks
-  pub leading : take (clocks + unclocked_count) ports ≡ leading_ports clocks
-  pub long : clocks + unclocked_count ≤ length ports
-  pub pins_within : p ≤ length (drop (clocks + unclocked_count) ports)
-  pub outs_within : o ≤ length (drop p (drop (clocks + unclocked_count) ports))
-  pub pins_are : All IsPin (take p (drop (clocks + unclocked_count) ports))
-  pub outs_are : All IsOutput (take o (drop p (drop (clocks + unclocked_count) ports)))
 
 -- the names of these groups are in order
 groups_in_order : (ports : List (List ℕ)) (clocks p o : ℕ) → BeginsGroups ports clocks p o → (names : List (List ℕ))

@@ -1,15 +1,11 @@
--- Paths whose devices all have a property, without the list of devices.
+-- Paths without the list of devices: from and to paths, one after another, and by weaker facts.
 use Rattle.std.proofs.Common.{◌≡◌, ℕ, Bool, true, false, List, [], ◌∷◌, sym, ◌∙◌, inl, inr}
 use Rattle.std.specs.Prelude.{◌≢◌, ◌⊎◌}
 use Rattle.std.specs.List.{AllByRecursion}
 use Rattle.deck.specs.declared.device.Device.{Device}
 use Rattle.dom_base.specs.declared.kind.Kind.TheVariants.{Keep}
 use Rattle.deck.specs.Paths.{Path, one, more, Ends, IsStrong}
-
--- devices with Q join the first net to the second, end to end, with no source net inside
-pub data Reach (Q : Device → Type 0) (is_source : ℕ → Bool) : ℕ → ℕ → Type 0 where
-  last : {d : Device} {a b : ℕ} → Q d → Ends d a b → Reach Q is_source a b
-  step : {d : Device} {a m b : ℕ} → Q d → Ends d a m → is_source m ≡ false → Reach Q is_source m b → Reach Q is_source a b
+use Rattle.deck.specs.Reach.{Reach, last, step}
 
 -- from a path
 pub Reach-from_path : (Q : Device → Type 0) (is_source : ℕ → Bool) {a b : ℕ} {p : List Device} → Path is_source a p b → AllByRecursion Q p → Reach Q is_source a b

@@ -53,7 +53,9 @@ is_device card = slice_index (first_word card.words) 0 == 109
 
 -- a card that is known
 abbrev pub is_deck_card : NumberedCard → Bool
-is_deck_card card = is_device card || has_first_word dot_subckt card || has_first_word dot_ends card || has_first_word dot_end card || has_first_word dot_model card
+is_deck_card card =
+    is_device card || has_first_word dot_subckt card || has_first_word dot_ends card || has_first_word dot_end card
+    || has_first_word dot_model card
 
 -- a word with the byte `=`
 abbrev pub has_equals : List ℕ → Bool

@@ -16,12 +16,15 @@ abbrev pub has_deck_fault : DeckKind → List NumberedCard → NumberedCard → 
 has_deck_fault ControlByte before card = list_any (list_any is_control) card.words
 has_deck_fault UnknownCard before card = not (is_deck_card card)
 has_deck_fault BadCard before card = is_deck_card card && not (is_deck_form card)
-has_deck_fault UnknownDevice before card = is_device card && nat_lt 5 (length card.words) && not (is_model_word (slice_index_or card.words 5 []))
+has_deck_fault UnknownDevice before card =
+    is_device card && nat_lt 5 (length card.words) && not (is_model_word (slice_index_or card.words 5 []))
 has_deck_fault NoSubckt before card = (is_device card || has_first_word dot_ends card) && not (is_open before)
 has_deck_fault SecondSubckt before card = has_first_word dot_subckt card && has_subckt before
 has_deck_fault NotClosed before card = false
 has_deck_fault DuplicatePort before card = has_first_word dot_subckt card && names_twice card
-has_deck_fault TooMany before card = (is_device card && (device_count before == most_devices)) || (has_first_word dot_subckt card && nat_lt most_ports (length (port_names card)))
+has_deck_fault TooMany before card =
+    (is_device card && (device_count before == most_devices))
+    || (has_first_word dot_subckt card && nat_lt most_ports (length (port_names card)))
 
 -- a deck ends with a fault of this kind, where its cards, the last first, are these
 abbrev pub has_end_fault : DeckKind → List NumberedCard → Bool

@@ -88,7 +88,8 @@ model_word nch = codes "nch"
 model_word pch = codes "pch"
 model_word Keep = codes "pkeep"
 
--- the card of a device: a name that begins with `m`, the drain, the gate, the source, the bulk, the model, and more words, which are skipped
+-- the card of a device: a name that begins with `m`, the drain, the gate, the source, the bulk, the model, and more words,
+-- which are skipped
 pub record IsDeviceCard (card : List (List ℕ)) (device : NamedDevice (List ℕ)) : Type 0 where
   pub name : List ℕ
   pub bulk : List ℕ

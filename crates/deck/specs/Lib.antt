@@ -1,4 +1,5 @@
 pub mod CircuitData
+pub mod CircuitGrowth
 pub mod DeckCards
 pub mod DeckFaults
 pub mod DeckKinds
@@ -10,10 +11,12 @@ pub mod Nets
 pub mod NumberedDevices
 pub mod Numbers
 pub mod Paths
+pub mod PortFronts
 pub mod PortLayout
 pub mod PortNames
 pub mod Ports
 pub mod Pushes
+pub mod Reach
 pub mod Roles
 pub mod Sources
 pub mod Switches

@@ -9,6 +9,10 @@ most_clocks = 4
 abbrev pub unclocked_count : ℕ
 unclocked_count = 8
 
+-- the greatest number of pins and outputs that a circuit without devices is made with
+abbrev pub most_pins_and_outputs : ℕ
+most_pins_and_outputs = 1000000
+
 abbrev pub most_ports : ℕ
 most_ports = 2 ^ 20
 

@@ -3,6 +3,7 @@ use Rattle.std.specs.Prelude.{ℕ, List, [], ◌∷◌}
 use Rattle.dom_base.specs.declared.kind.Kind.{Kind}
 use Rattle.deck.specs.declared.device.Device.{Device}
 use Rattle.deck.specs.CircuitData.{CircuitData}
+use Rattle.deck.specs.Nets.{net_name}
 use Rattle.deck.specs.Pushes.{pushed}
 
 -- a device whose nets are given by names, by numbers or otherwise
@@ -19,6 +20,10 @@ map_device f d = record { kind = d.kind; drain = f d.drain; gate = f d.gate; sou
 -- the device of a circuit, where the nets are given by numbers
 abbrev pub device_of : NamedDevice ℕ → Device
 device_of d = record { kind = d.kind; drain = d.drain; gate = d.gate; source = d.source }
+
+-- a device by the names of its nets
+abbrev pub named_device : List (List ℕ) → Device → NamedDevice (List ℕ)
+named_device nets d = record { kind = d.kind; drain = net_name nets d.drain; gate = net_name nets d.gate; source = net_name nets d.source }
 
 -- the circuit with these devices in turn, given by names: nets are numbered in order of first appearance
 abbrev pub with_devices : CircuitData → List (NamedDevice (List ℕ)) → CircuitData

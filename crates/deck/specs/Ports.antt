@@ -28,3 +28,10 @@ pub record HasRoles (ports : List (List ℕ)) (clocks : ℕ) (pins outs : List (
   pub pins_are : All IsPin pins
   pub outs_are : All IsOutput outs
   pub order : ports ≡ leading_ports clocks ++ pins ++ outs
+
+-- the ports in the order of roles, for some number of clocks, pins and outputs
+pub record HasSomeRoles (ports : List (List ℕ)) : Type 0 where
+  pub clocks : ℕ
+  pub pins : List (List ℕ)
+  pub outs : List (List ℕ)
+  pub roles : HasRoles ports clocks pins outs

@@ -1,5 +1,5 @@
 -- Ports in order, with what each is for.
-use Rattle.std.specs.Prelude.{ℕ, ◌<◌, ◌≤◌, ◌+◌, ◌≡◌, List, ◌++◌, length, take}
+use Rattle.std.specs.Prelude.{ℕ, ◌<◌, ◌≤◌, ◌+◌, ◌≡◌, ◌⊎◌, List, ◌++◌, length, take}
 use Rattle.deck.specs.CircuitData.{CircuitData}
 use Rattle.deck.specs.Limits.{most_clocks, unclocked_count}
 use Rattle.deck.specs.Ports.{HasRoles, leading_ports}
@@ -37,6 +37,10 @@ pub record LeavesRolesAt (ports : List (List ℕ)) (port : ℕ) : Type 0 where
   pub within : port ≤ length ports
   pub before : BeginsRoles (take port ports)
   pub first : port < length ports → BeginsRoles (take (port + 1) ports) → ⊥
+
+-- the ports have roles, or leave every order of roles at a port
+abbrev pub HaveRolesOrLeave : List (List ℕ) → Type 0
+HaveRolesOrLeave ports = ((roles : Roles) × AreRoles ports roles) ⊎ ((port : ℕ) × LeavesRolesAt ports port)
 
 -- ports have one count of clocks, pins and outputs, or leave every order at one port
 pub record RolesAreOne : Type 0 where

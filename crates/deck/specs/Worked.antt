@@ -1,4 +1,5 @@
--- The cell of an And of two inputs, as it was worked by hand: a domino stage with keeper and foot, as in Rabaey, Digital Integrated Circuits.
+-- The cell of an And of two inputs, as it was worked by hand: a domino stage with keeper and foot, as in Rabaey, Digital
+-- Integrated Circuits.
 use Rattle.std.specs.Prelude.{List, [], ◌∷◌}
 use Rattle.dom_base.specs.declared.kind.Kind.TheVariants.{N as nch, P as pch, Keep}
 use Rattle.deck.specs.declared.device.Device.{Device}

@@ -3,7 +3,7 @@ ghost use Rattle.std.specs.Prelude.{◌≡◌, ◌<◌, ◌≤◌, ◌+◌, ◌+
 ghost use Rattle.std.specs.Cmp.Lexicographic.{pointwise};
 ghost use Rattle.std.specs.List.{IsDistinct};
 ghost use Rattle.dom_base.specs.Names.{IsNetName};
-ghost use Rattle.deck.specs.Limits.{most_clocks, most_devices};
+ghost use Rattle.deck.specs.Limits.{most_clocks, most_devices, most_pins_and_outputs};
 ghost use Rattle.deck.specs.Nets.{IsCircuit, with_nets};
 ghost use Rattle.deck.specs.Ports.{IsOutput, IsPin};
 ghost use Rattle.deck.specs.Pushes.{added_device, new_circuit, pushed};
@@ -58,7 +58,7 @@ impl Circuit {
         requires pins_begin { All IsPin pins.now }
         requires outs_begin { All IsOutput outs.now }
         requires apart { IsDistinct (pointwise nat_eq) (pins.now ++ outs.now) }
-        requires few { length pins.now + length outs.now ≤ 1000000 }
+        requires few { length pins.now + length outs.now ≤ most_pins_and_outputs }
         ensures { IfOk result (λ c. c ≡ new_circuit name phases.items clocks pins.now outs.now) }
     {
         let mut nets = leading_nets(alloc, clocks)?;

@@ -4,27 +4,19 @@ use Rattle.std.proofs.Common.{◌≡◌, ℕ, ◌≤◌, ◌<◌, ◌⊎◌, inl
 use Rattle.std.specs.List.{find}
 use Rattle.std.proofs.lemmas.Bool.{true≢false}
 use Rattle.dom_base.specs.Answers.{HasOneAnswer, IsFirstFault, IsOnlyRefusal}
+use Rattle.dom_base.specs.FaultKinds.{IsAmong, IsSmallest, RisesAbove}
+use Rattle.dom_base.specs.LineFaults.{FaultIn, FaultyLine, IsFirstIn, NumbersRise}
 use Rattle.std.proofs.lemmas.List.{reverse-reverse}
 use Rattle.dom_base.proofs.Lists.{reverse-onto}
 
--- one of these kinds
-abbrev pub IsAmong : {Kind : Type 0} → Kind → List Kind → Type 0
-IsAmong kind [] = ⊥
-IsAmong kind (k ∷ ks) = (kind ≡ k) ⊎ IsAmong kind ks
-
 module _ {Kind : Type 0} (number_of : Kind → ℕ) where
-  -- the numbers of these kinds rise, above this one
-  abbrev pub Rises : ℕ → List Kind → Type 0
-  Rises n [] = Unit {0}
-  Rises n (k ∷ ks) = (n < number_of k) × Rises (number_of k) ks
-
-  above : (n : ℕ) (ks : List Kind) (kind : Kind) → Rises n ks → IsAmong kind ks → n < number_of kind
+  above : (n : ℕ) (ks : List Kind) (kind : Kind) → RisesAbove number_of n ks → IsAmong kind ks → n < number_of kind
   above n [] kind rises among = absurd among
   above n (k ∷ ks) kind rises (inl is) = omega (arith, rises.0, ap number_of is)
   above n (k ∷ ks) kind rises (inr later) = omega (arith, rises.0, above (number_of k) ks kind rises.1 later)
 
   -- kinds of one number are the same
-  pub number_of-injective : (n : ℕ) (ks : List Kind) (a b : Kind) → Rises n ks → IsAmong a ks → IsAmong b ks → number_of a ≡ number_of b → a ≡ b
+  pub number_of-injective : (n : ℕ) (ks : List Kind) (a b : Kind) → RisesAbove number_of n ks → IsAmong a ks → IsAmong b ks → number_of a ≡ number_of b → a ≡ b
   number_of-injective n [] a b rises x y e = absurd x
   number_of-injective n (k ∷ ks) a b rises (inl x) (inl y) e = x ∙ sym y
   number_of-injective n (k ∷ ks) a b rises (inl x) (inr y) e = absurd (omega (arith, e, ap number_of x, above (number_of k) ks b rises.1 y))
@@ -40,26 +32,21 @@ module _ {Kind : Type 0} (number_of : Kind → ℕ) where
   finds-behind test k ks None fails finds = λ kind among. elim among as (λ _. test kind ≡ false) [ inl is ↦ ap test is ∙ fails | inr later ↦ finds kind later ]
   finds-behind test k ks (Some f) fails finds = (finds.0, λ kind among holds. elim among as (λ _. number_of f ≤ number_of kind) [ inl is ↦ absurd (true≢false (sym holds ∙ ap test is ∙ fails)) | inr later ↦ finds.1 kind later holds ])
 
-  finds-cond : (n : ℕ) (test : Kind → Bool) (k : Kind) (ks : List Kind) (b : Bool) → test k ≡ b → Rises n (k ∷ ks) → Finds test ks (find test ks) → Finds test (k ∷ ks) (cond b (Some k) (find test ks))
+  finds-cond : (n : ℕ) (test : Kind → Bool) (k : Kind) (ks : List Kind) (b : Bool) → test k ≡ b → RisesAbove number_of n (k ∷ ks) → Finds test ks (find test ks) → Finds test (k ∷ ks) (cond b (Some k) (find test ks))
   finds-cond n test k ks true is rises finds =
       (is, λ kind among holds. elim among as (λ _. number_of k ≤ number_of kind) [ inl same ↦ omega (arith, ap number_of same) | inr later ↦ omega (arith, above (number_of k) ks kind rises.1 later) ])
   finds-cond n test k ks false is rises finds = finds-behind test k ks (find test ks) is finds
 
-  finds : (n : ℕ) (test : Kind → Bool) (ks : List Kind) → Rises n ks → Finds test ks (find test ks)
+  finds : (n : ℕ) (test : Kind → Bool) (ks : List Kind) → RisesAbove number_of n ks → Finds test ks (find test ks)
   finds n test [] rises = λ kind among. absurd among
   finds n test (k ∷ ks) rises = finds-cond n test k ks (test k) refl rises (finds (number_of k) test ks rises.1)
 
-  -- no kind that passes a test, or the one of the smallest number
-  abbrev pub IsSmallest : (Kind → Bool) → Option Kind → Type 0
-  IsSmallest test None = (kind : Kind) → test kind ≡ false
-  IsSmallest test (Some k) = (test k ≡ true) × ((kind : Kind) → test kind ≡ true → number_of k ≤ number_of kind)
-
-  of_all : (test : Kind → Bool) (ks : List Kind) → ((kind : Kind) → IsAmong kind ks) → (found : Option Kind) → Finds test ks found → IsSmallest test found
+  of_all : (test : Kind → Bool) (ks : List Kind) → ((kind : Kind) → IsAmong kind ks) → (found : Option Kind) → Finds test ks found → IsSmallest number_of test found
   of_all test ks all None none = λ kind. none kind (all kind)
   of_all test ks all (Some k) least = (least.0, λ kind. least.1 kind (all kind))
 
   -- what is found in a list of all kinds
-  pub smallest_found : (n : ℕ) (ks : List Kind) → Rises n ks → ((kind : Kind) → IsAmong kind ks) → (test : Kind → Bool) → IsSmallest test (find test ks)
+  pub smallest_found : (n : ℕ) (ks : List Kind) → RisesAbove number_of n ks → ((kind : Kind) → IsAmong kind ks) → (test : Kind → Bool) → IsSmallest number_of test (find test ks)
   smallest_found n ks rises all test = of_all test ks all (find test ks) (finds n test ks rises)
 
 module _ {Kind : Type 0} (number_of : Kind → ℕ) (IsFault : ℕ → Kind → Type 0) where
@@ -105,94 +92,68 @@ module _ {Answer Kind : Type 0} (IsAnswer : Answer → Type 0) (IsFault IsRefuse
   answer_or_refusal faulty (inl (c, only)) a line kind x y = only.no_fault line kind (faulty line kind y)
   answer_or_refusal faulty (inr (at, any, only)) a line kind x y = only.no_answer a x
 
--- lines that have numbers and faults, where the lines before a line, the nearest first, are its context
+-- numbers that rise from one on rise from a smaller one on
 module _ {Line : Type 0} (number : Line → ℕ) where
-  -- their numbers rise, from this one on
-  abbrev pub NumbersRise : ℕ → List Line → Type 0
-  NumbersRise n [] = Unit {0}
-  NumbersRise n (line ∷ more) = (n ≤ number line) × NumbersRise (number line + 1) more
-
-  pub NumbersRise-lower : (n m : ℕ) (all : List Line) → m ≤ n → NumbersRise n all → NumbersRise m all
+  pub NumbersRise-lower : (n m : ℕ) (all : List Line) → m ≤ n → NumbersRise number n all → NumbersRise number m all
   NumbersRise-lower n m [] le h = tt
   NumbersRise-lower n m (line ∷ more) le h = (omega (arith, le, h.0), h.1)
 
 module _ {Line Kind : Type 0} (number : Line → ℕ) (has_fault : Kind → List Line → Line → Bool) where
-  -- one of these lines has this number and a fault of this kind, where these lines stand before them
-  abbrev pub FaultIn : List Line → List Line → ℕ → Kind → Type 0
-  FaultIn before [] n kind = ⊥
-  FaultIn before (line ∷ more) n kind = ((number line ≡ n) × (has_fault kind before line ≡ true)) ⊎ FaultIn (line ∷ before) more n kind
-
-  walk : (xs before more : List Line) (n : ℕ) (kind : Kind) → FaultIn (reverse xs ++ before) more n kind → FaultIn before (xs ++ more) n kind
+  walk : (xs before more : List Line) (n : ℕ) (kind : Kind) → FaultIn number has_fault (reverse xs ++ before) more n kind → FaultIn number has_fault before (xs ++ more) n kind
   walk [] before more n kind fault = fault
-  walk (x ∷ xs) before more n kind fault = inr (walk xs (x ∷ before) more n kind (subst (λ b. FaultIn b more n kind) (reverse-onto x xs before) fault))
+  walk (x ∷ xs) before more n kind fault = inr (walk xs (x ∷ before) more n kind (subst (λ b. FaultIn number has_fault b more n kind) (reverse-onto x xs before) fault))
 
   -- a fault of a line by the lines before it
   pub fault_in : (all before : List Line) (line : Line) (after : List Line) (n : ℕ) (kind : Kind)
-      → all ≡ reverse before ++ line ∷ after → number line ≡ n → has_fault kind before line ≡ true → FaultIn [] all n kind
+      → all ≡ reverse before ++ line ∷ after → number line ≡ n → has_fault kind before line ≡ true → FaultIn number has_fault [] all n kind
   fault_in all before line after n kind is at fault =
-      let here : FaultIn before (line ∷ after) n kind = inl (at, fault) in
+      let here : FaultIn number has_fault before (line ∷ after) n kind = inl (at, fault) in
       let back : before ≡ reverse (reverse before) ++ [] = sym (append-nil (reverse (reverse before)) ∙ reverse-reverse before) in
-      subst (λ l. FaultIn [] l n kind) (sym is) (walk (reverse before) [] (line ∷ after) n kind (subst (λ b. FaultIn b (line ∷ after) n kind) back here))
+      subst (λ l. FaultIn number has_fault [] l n kind) (sym is) (walk (reverse before) [] (line ∷ after) n kind (subst (λ b. FaultIn number has_fault b (line ∷ after) n kind) back here))
 
-  -- and back: the line that has the fault
-  pub record FaultyLine (all : List Line) (n : ℕ) (kind : Kind) : Type 0 where
-    pub before : List Line
-    pub line : Line
-    pub after : List Line
-    pub lines_are : all ≡ reverse before ++ line ∷ after
-    pub number_is : number line ≡ n
-    pub fault : has_fault kind before line ≡ true
-
-  faulty_behind : (all before rest : List Line) (n : ℕ) (kind : Kind) → all ≡ reverse before ++ rest → FaultIn before rest n kind → FaultyLine all n kind
+  faulty_behind : (all before rest : List Line) (n : ℕ) (kind : Kind) → all ≡ reverse before ++ rest → FaultIn number has_fault before rest n kind → FaultyLine number has_fault all n kind
   faulty_behind all before [] n kind is h = absurd h
   faulty_behind all before (line ∷ more) n kind is (inl here) = record { before = before; line = line; after = more; lines_are = is; number_is = here.0; fault = here.1 }
   faulty_behind all before (line ∷ more) n kind is (inr later) = faulty_behind all (line ∷ before) more n kind (is ∙ sym (reverse-onto line before more)) later
 
-  pub faulty_line : (all : List Line) (n : ℕ) (kind : Kind) → FaultIn [] all n kind → FaultyLine all n kind
+  pub faulty_line : (all : List Line) (n : ℕ) (kind : Kind) → FaultIn number has_fault [] all n kind → FaultyLine number has_fault all n kind
   faulty_line all n kind h = faulty_behind all [] all n kind refl h
 
   -- a fault stands at no smaller number than that from which the numbers rise
-  pub rising-fault : (m : ℕ) (before all : List Line) (n : ℕ) (kind : Kind) → NumbersRise number m all → FaultIn before all n kind → m ≤ n
+  pub rising-fault : (m : ℕ) (before all : List Line) (n : ℕ) (kind : Kind) → NumbersRise number m all → FaultIn number has_fault before all n kind → m ≤ n
   rising-fault m before [] n kind rising fault = absurd fault
   rising-fault m before (line ∷ more) n kind rising (inl here) = omega (arith, rising.0, here.0)
   rising-fault m before (line ∷ more) n kind rising (inr later) = omega (arith, rising.0, rising-fault (number line + 1) (line ∷ before) more n kind rising.1 later)
 
   -- a line without a fault is passed
   pub passed : (before : List Line) (line : Line) (more : List Line) → ((kind : Kind) → has_fault kind before line ≡ false) → (n : ℕ) (kind : Kind)
-      → FaultIn before (line ∷ more) n kind → FaultIn (line ∷ before) more n kind
+      → FaultIn number has_fault before (line ∷ more) n kind → FaultIn number has_fault (line ∷ before) more n kind
   passed before line more clean n kind (inl here) = absurd (true≢false (sym here.1 ∙ clean kind))
   passed before line more clean n kind (inr later) = later
 
   -- the first fault in some lines and the smallest kind there
   module _ (kind_number : Kind → ℕ) where
-    pub record IsFirstIn (before all : List Line) : Type 0 where
-      pub line_number : ℕ
-      pub kind : Kind
-      pub fault : FaultIn before all line_number kind
-      pub first : (other : ℕ) (any : Kind) → FaultIn before all other any → line_number ≤ other
-      pub smallest : (other : Kind) → FaultIn before all line_number other → kind_number kind ≤ kind_number other
-
     -- some lines have no fault, or a first one, where of each line's faults the smallest kind is found
     pub first_in : ((before : List Line) (line : Line) → (found : Option Kind) × IsSmallest kind_number (λ kind. has_fault kind before line) found)
-        → (n : ℕ) (before all : List Line) → NumbersRise number n all → ((m : ℕ) (kind : Kind) → FaultIn before all m kind → ⊥) ⊎ IsFirstIn before all
+        → (n : ℕ) (before all : List Line) → NumbersRise number n all → ((m : ℕ) (kind : Kind) → FaultIn number has_fault before all m kind → ⊥) ⊎ IsFirstIn number has_fault kind_number before all
     first_in search n before [] rises = inl (λ m kind h. h)
     first_in search n before (line ∷ more) rises = by (search before line).0 (search before line).1 (first_in search (number line + 1) (line ∷ before) more rises.1)
       where
-        here_first : (other : ℕ) (any : Kind) → FaultIn before (line ∷ more) other any → number line ≤ other
+        here_first : (other : ℕ) (any : Kind) → FaultIn number has_fault before (line ∷ more) other any → number line ≤ other
         here_first other any (inl here) = omega (arith, here.0)
         here_first other any (inr later) = omega (arith, rising-fault (number line + 1) (line ∷ before) more other any rises.1 later)
 
         here_smallest : (kind : Kind) → ((other : Kind) → has_fault other before line ≡ true → kind_number kind ≤ kind_number other) → (other : Kind)
-            → FaultIn before (line ∷ more) (number line) other → kind_number kind ≤ kind_number other
+            → FaultIn number has_fault before (line ∷ more) (number line) other → kind_number kind ≤ kind_number other
         here_smallest kind least other (inl here) = least other here.1
         here_smallest kind least other (inr later) = absurd (omega (arith, rising-fault (number line + 1) (line ∷ before) more (number line) other rises.1 later))
 
-        behind : ((kind : Kind) → has_fault kind before line ≡ false) → (m : ℕ) (kind : Kind) → FaultIn before (line ∷ more) m kind → FaultIn (line ∷ before) more m kind
+        behind : ((kind : Kind) → has_fault kind before line ≡ false) → (m : ℕ) (kind : Kind) → FaultIn number has_fault before (line ∷ more) m kind → FaultIn number has_fault (line ∷ before) more m kind
         behind none m kind f = passed before line more none m kind f
 
         by : (found : Option Kind) → IsSmallest kind_number (λ kind. has_fault kind before line) found
-            → ((m : ℕ) (kind : Kind) → FaultIn (line ∷ before) more m kind → ⊥) ⊎ IsFirstIn (line ∷ before) more
-            → ((m : ℕ) (kind : Kind) → FaultIn before (line ∷ more) m kind → ⊥) ⊎ IsFirstIn before (line ∷ more)
+            → ((m : ℕ) (kind : Kind) → FaultIn number has_fault (line ∷ before) more m kind → ⊥) ⊎ IsFirstIn number has_fault kind_number (line ∷ before) more
+            → ((m : ℕ) (kind : Kind) → FaultIn number has_fault before (line ∷ more) m kind → ⊥) ⊎ IsFirstIn number has_fault kind_number before (line ∷ more)
         by (Some kind) least rest = inr (record {
           line_number = number line;
           kind = kind;

@@ -1,4 +1,5 @@
 pub mod Bools
+pub mod Decided
 pub mod Decimals
 pub mod Faults
 pub mod Lists

@@ -5,6 +5,7 @@ use Rattle.std.specs.List.{AllByRecursion, flat_map, list_all, list_any, prefix_
 use Rattle.std.proofs.lemmas.List.Elements.{All-contains, All-from_recursion, Contains-append_left, Contains-append_right, All-head, All-tail}
 use Rattle.std.specs.Option.{option_to_list}
 use Rattle.std.proofs.lemmas.List.{reverse-append}
+use Rattle.dom_base.specs.Apart.{AreApart}
 use Rattle.dom_base.proofs.Bools.{false_from_not}
 
 pub AllByRecursion-append : {X : Type 0} (P : X → Type 0) (xs ys : List X) → AllByRecursion P xs → AllByRecursion P ys → AllByRecursion P (xs ++ ys)
@@ -226,15 +227,11 @@ nothing_left (x ∷ xs) b is test = absurd (omega (arith, eqb-true (length (x �
 
 -- distinctness, by an equality of elements
 module _ {X : Type 0} (eq : X → X → Bool) where
-  -- each element of the first list differs from each of the second
-  abbrev pub AreApart : List X → List X → Type 0
-  AreApart xs ys = AllByRecursion (λ x. AllByRecursion (λ y. eq x y ≡ false) ys) xs
-
-  pub AreApart-append : (xs ys zs : List X) → AreApart xs ys → AreApart xs zs → AreApart xs (ys ++ zs)
+  pub AreApart-append : (xs ys zs : List X) → AreApart eq xs ys → AreApart eq xs zs → AreApart eq xs (ys ++ zs)
   AreApart-append [] ys zs a b = tt
   AreApart-append (x ∷ xs) ys zs a b = (AllByRecursion-append (λ y. eq x y ≡ false) ys zs a.0 b.0, AreApart-append xs ys zs a.1 b.1)
 
-  pub IsDistinct-append : (xs ys : List X) → IsDistinct eq xs → IsDistinct eq ys → AreApart xs ys → IsDistinct eq (xs ++ ys)
+  pub IsDistinct-append : (xs ys : List X) → IsDistinct eq xs → IsDistinct eq ys → AreApart eq xs ys → IsDistinct eq (xs ++ ys)
   unfolding IsDistinct
   IsDistinct-append [] ys a b c = b
   IsDistinct-append (x ∷ xs) ys a b c = (AllByRecursion-append (λ y. eq x y ≡ false) xs ys a.0 c.0, IsDistinct-append xs ys a.1 b c.1)

@@ -9,7 +9,8 @@ use Rattle.std.proofs.lemmas.List.Folds.{list_any_none}
 use Rattle.std.specs.Cmp.{IsEquivalence}
 use Rattle.std.specs.Cmp.Rules.{comparing}
 use Rattle.std.specs.Cmp.Lexicographic.{pointwise, bytes_decides}
-use Rattle.dom_base.proofs.Lists.{AreApart, list_any-none, none-list_any, AllByRecursion-weaker}
+use Rattle.dom_base.specs.Apart.{AreApart}
+use Rattle.dom_base.proofs.Lists.{list_any-none, none-list_any, AllByRecursion-weaker}
 
 -- equality of names by bytes is an equivalence
 pub names_equal : IsEquivalence (pointwise nat_eq)

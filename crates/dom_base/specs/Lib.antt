@@ -1,7 +1,11 @@
 pub mod Answers
+pub mod Apart
 pub mod Conduction
 pub mod Cuts
+pub mod Decided
+pub mod FaultKinds
 pub mod Joined
+pub mod LineFaults
 pub mod Lines
 pub mod Names
 pub mod Tri

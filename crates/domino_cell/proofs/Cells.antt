@@ -18,13 +18,15 @@ use Rattle.domino_cell.specs.Stage.{Spot, Top, Inside, IsSpot, Branch, stage, Is
 use Rattle.sp_network.specs.Tree.{Tree, Leaf, Series, inner_count, joins, tree_conduction}
 use Rattle.domino_cell.specs.Spelling.{spell}
 use Rattle.dom_base.proofs.Lists.{AllByRecursion-append, AllByRecursion-both, AllByRecursion-contains, AllByRecursion-left, AllByRecursion-map, AllByRecursion-weaker}
-use Rattle.deck.proofs.Reach.{Reach, Reach-kept}
+use Rattle.deck.specs.Reach.{Reach}
+use Rattle.deck.proofs.Reach.{Reach-kept}
 use Rattle.domino_cell.proofs.Spellings.{spell-same}
 use Rattle.domino_cell.proofs.Stages.{goes, through}
 use Rattle.domino_cell.specs.Steps.{IsStep, IsStrongStep}
 use Rattle.sp_network.specs.Known.{IsTest}
 use Rattle.sp_network.proofs.TreeTests.{joins-conduction}
-use Rattle.domino_cell.proofs.Trees.{and_true, IsIn, IsOutside, Paints, Paints-painting, Reach-spell, painting, spell-ends, spell-kind}
+use Rattle.domino_cell.specs.TreeColours.{IsIn, IsOutside, Paints, painting}
+use Rattle.domino_cell.proofs.Trees.{and_true, Paints-painting, Reach-spell, spell-ends, spell-kind}
 
 -- the nets of the dynamic stage of a cell as spots: the foot net is the first inner net
 abbrev pub cell_spots : CellNets ℕ → Spot → ℕ

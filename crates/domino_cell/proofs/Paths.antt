@@ -10,7 +10,8 @@ use Rattle.sp_network.specs.Known.{is_not_zero, is_one}
 use Rattle.sp_network.proofs.TreeTests.{is_not_zero-from, is_not_zero-true, is_one-from, is_one-true}
 use Rattle.domino_cell.specs.Steps.{IsStep, IsStrongStep}
 use Rattle.dom_base.proofs.Lists.{AllByRecursion-both, AllByRecursion-weaker}
-use Rattle.deck.proofs.Reach.{Reach, Reach-from_path, path_from_Reach, strong_each, strong_from_each}
+use Rattle.deck.specs.Reach.{Reach}
+use Rattle.deck.proofs.Reach.{Reach-from_path, path_from_Reach, strong_each, strong_from_each}
 
 pub Reach-from_definite : (devices : List Device) (is_source : ℕ → Bool) (values : List Tri) (a b : ℕ)
     → DefiniteStrong devices is_source values a b → Reach (IsStrongStep devices is_one values) is_source a b

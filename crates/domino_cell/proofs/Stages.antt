@@ -12,8 +12,10 @@ use Rattle.domino_cell.specs.Stage.{Spot, Top, Inside, IsSpot, Branch, stage, Is
 use Rattle.sp_network.specs.Tree.{inner_count, joins}
 use Rattle.domino_cell.specs.Spelling.{spell}
 use Rattle.dom_base.proofs.Lists.{AllByRecursion-append, AllByRecursion-left, AllByRecursion-right, AllByRecursion-weaker, AllByRecursion-both, AllByRecursion-map, AllByRecursion-contains, Contains-slice_get}
-use Rattle.deck.proofs.Reach.{Reach, Reach-kept}
-use Rattle.domino_cell.proofs.Trees.{IsApart, IsIn, IsOutside, Paints, Paints-painting, Reach-spell, painting, spell-ends, spell-kind}
+use Rattle.deck.specs.Reach.{Reach}
+use Rattle.deck.proofs.Reach.{Reach-kept}
+use Rattle.domino_cell.specs.TreeColours.{IsApart, IsIn, IsOutside, Paints, painting}
+use Rattle.domino_cell.proofs.Trees.{Paints-painting, Reach-spell, spell-ends, spell-kind}
 
 -- what holds of the cards of each branch holds of those of the stage
 pub each_branch : (F : NamedDevice ℕ → Type 0) (at : Spot → ℕ) (i : ℕ) (bs : List Branch)

@@ -1,5 +1,5 @@
 -- The devices of a tree join its top to its bottom exactly where the tree joins them.
-use Rattle.std.proofs.Common.{◌≡◌, ℕ, ◌+◌, ◌<◌, ◌≤◌, Bool, true, false, cond, eqb, List, [], ◌∷◌, refl, sym, ◌∙◌, inl, inr, arith}
+use Rattle.std.proofs.Common.{◌≡◌, ℕ, ◌+◌, ◌<◌, ◌≤◌, Bool, true, false, cond, List, [], ◌∷◌, refl, sym, ◌∙◌, inl, inr, arith}
 use Rattle.std.specs.Prelude.{◌⊎◌, ◌≢◌}
 use Rattle.std.specs.List.{AllByRecursion}
 use Rattle.std.proofs.lemmas.Bool.Decides.{eqb_tells}
@@ -8,8 +8,10 @@ use Rattle.deck.specs.declared.device.Device.{Device}
 use Rattle.deck.specs.NamedDevices.{NamedDevice, device_of}
 use Rattle.sp_network.specs.Tree.{Tree, Leaf, Series, Parallel, joins, inner_count}
 use Rattle.domino_cell.specs.Spelling.{spell}
+use Rattle.domino_cell.specs.TreeColours.{IsApart, IsIn, IsOutside, IsPainted, Paints, painting, with_colour}
 use Rattle.dom_base.proofs.Lists.{AllByRecursion-append, AllByRecursion-left, AllByRecursion-right, AllByRecursion-weaker}
-use Rattle.deck.proofs.Reach.{Reach, last, Reach-trans}
+use Rattle.deck.specs.Reach.{Reach, last}
+use Rattle.deck.proofs.Reach.{Reach-trans}
 
 -- all devices of a tree have its kind
 pub spell-kind : {Net : Type 0} (kind : Kind) (inner : ℕ → Net) (t : Tree Net) (top bottom : Net) (k : ℕ)
@@ -56,10 +58,6 @@ Reach-spell Q is_source g kind inner (Parallel l r) top bottom k free h e =
       | inr x ↦ Reach-spell Q is_source g kind inner r top bottom (k + inner_count l) (λ j le lt. free j (omega arith) (omega arith)) (AllByRecursion-right _ a b h) x
     ]
 
--- x is the top, the bottom or one of the n inner nets from the k-th on
-abbrev pub IsIn : (ℕ → ℕ) → ℕ → ℕ → ℕ → ℕ → ℕ → Type 0
-IsIn inner top bottom k n x = (x ≡ top) ⊎ ((x ≡ bottom) ⊎ ((j : ℕ) × (k ≤ j) × (j < k + n) × (x ≡ inner j)))
-
 -- the devices of a tree end at its nets
 pub spell-ends : (kind : Kind) (inner : ℕ → ℕ) (t : Tree ℕ) (top bottom k : ℕ)
     → AllByRecursion (λ c. IsIn inner top bottom k (inner_count t) c.drain × IsIn inner top bottom k (inner_count t) c.source) (spell kind inner t top bottom k)
@@ -95,21 +93,6 @@ spell-ends kind inner (Parallel l r) top bottom k =
     right x (inr (inl e)) = inr (inl e)
     right x (inr (inr (j, a, b, e))) = inr (inr (j, omega arith, omega arith, e))
 
--- no device whose gate passes the test has ends of two colours
-abbrev pub IsPainted : (ℕ → Bool) → (ℕ → Bool) → List (NamedDevice ℕ) → Type 0
-IsPainted c g ds = AllByRecursion (λ d. g d.gate ≡ true → c d.drain ≡ c d.source) ds
-
--- x is none of the n inner nets from the k-th on
-abbrev pub IsOutside : (ℕ → ℕ) → ℕ → ℕ → ℕ → Type 0
-IsOutside inner k n x = (j : ℕ) → k ≤ j → j < k + n → x ≢ inner j
-
--- the n inner nets from the k-th on are different nets
-abbrev pub IsApart : (ℕ → ℕ) → ℕ → ℕ → Type 0
-IsApart inner k n = (i j : ℕ) → k ≤ i → i < k + n → k ≤ j → j < k + n → inner i ≡ inner j → i ≡ j
-
-abbrev with_colour : (ℕ → Bool) → ℕ → Bool → ℕ → Bool
-with_colour c n v x = cond (eqb x n) v (c x)
-
 with_colour-same : (c : ℕ → Bool) (n : ℕ) (v : Bool) → with_colour c n v n ≡ v
 with_colour-same c n v = elim (eqb_tells n n) [ inl h ↦ rw h.0 refl | inr h ↦ absurd (h.1 refl) ]
 
@@ -122,21 +105,6 @@ repaint : (c c' : ℕ → Bool) (g : ℕ → Bool) (P : ℕ → Type 0) → ((x 
 repaint c c' g P same [] h p = tt
 repaint c c' g P same (d ∷ ds) h p =
     ((λ on. same d.drain h.0.0 ∙ p.0 on ∙ sym (same d.source h.0.1)), repaint c c' g P same ds h.1 p.1)
-
--- The colours c, with the inner nets of the tree coloured: the net between two parts in series takes the
--- colour of the top where the left part joins its ends, else that of the bottom.
-pub painting : (ℕ → Bool) → (ℕ → ℕ) → Tree ℕ → ℕ → ℕ → ℕ → (ℕ → Bool) → ℕ → Bool
-painting g inner (Leaf gate) top bottom k c = c
-painting g inner (Series l r) top bottom k c =
-    painting g inner r (inner k) bottom (k + 1 + inner_count l)
-    (painting g inner l top (inner k) (k + 1) (with_colour c (inner k) (cond (joins g l) (c top) (c bottom))))
-painting g inner (Parallel l r) top bottom k c =
-    painting g inner r top bottom (k + inner_count l) (painting g inner l top bottom k c)
-
--- other nets keep their colours, and the tree is painted
-pub record Paints (g : ℕ → Bool) (kind : Kind) (inner : ℕ → ℕ) (t : Tree ℕ) (top bottom k : ℕ) (c c' : ℕ → Bool) : Type 0 where
-  pub kept : (x : ℕ) → IsOutside inner k (inner_count t) x → c' x ≡ c x
-  pub painted : IsPainted c' g (spell kind inner t top bottom k)
 
 -- so it is where the ends of the tree have one colour, or the tree does not join them
 pub Paints-painting : (g : ℕ → Bool) (kind : Kind) (inner : ℕ → ℕ) (t : Tree ℕ) (top bottom k : ℕ) (c : ℕ → Bool)

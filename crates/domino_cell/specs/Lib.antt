@@ -5,4 +5,5 @@ pub mod NamedCell
 pub mod Spelling
 pub mod Stage
 pub mod Steps
+pub mod TreeColours
 pub mod Worked

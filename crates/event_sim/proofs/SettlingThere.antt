@@ -4,7 +4,8 @@ use Rattle.std.proofs.lemmas.Bool.{cases_lt}
 use Rattle.std.proofs.lemmas.List.{get_or_default}
 use Rattle.dom_base.specs.declared.tri.Tri.{Tri}
 use Rattle.deck.specs.Switches.{value_of}
-use Rattle.switch_model.proofs.Decided.{Dec, dec_bool, dec_tri}
+use Rattle.dom_base.specs.Decided.{Decided}
+use Rattle.dom_base.proofs.Decided.{dec_bool, dec_tri}
 use Rattle.switch_model.proofs.Targets.{target_exists}
 use Rattle.switch_model.specs.LinksData.{LinksData, is_first}
 use Rattle.event_sim.specs.declared.event.Event.{Event}
@@ -20,14 +21,14 @@ use Rattle.event_sim.proofs.PendingLists.{IsListed, listed-none, listed-push, li
 use Rattle.event_sim.proofs.StepFacts.{differs_where_pending, pending_at, rests_where_none, stands_at}
 
 -- whether a net with a value is pending can be decided
-pending_is_decided : (links : LinksData) (values : List Tri) (net : ℕ) → net < length values → Dec (IsPendingNet links values net)
+pending_is_decided : (links : LinksData) (values : List Tri) (net : ℕ) → net < length values → Decided (IsPendingNet links values net)
 pending_is_decided links values net lt = by (dec_bool (is_first links.sources net) false)
   where
-    by : Dec (is_first links.sources net ≡ false) → Dec (IsPendingNet links values net)
+    by : Decided (is_first links.sources net ≡ false) → Decided (IsPendingNet links values net)
     by (inr source) = inr (λ at. source at.1.1.0)
     by (inl free) = told (target_exists links.devices (is_first links.sources) values net free)
       where
-        told : (v : Tri) × Targets links values net v → Dec (IsPendingNet links values net)
+        told : (v : Tri) × Targets links values net v → Decided (IsPendingNet links values net)
         told t = elim (dec_tri (value_of values net) t.0) [
           | inl same ↦ inr (λ at. differs_where_pending links values net t.0 t.1 at same)
           | inr differs ↦ inl (lt, (t.0, (free, t.1, differs)))

@@ -23,4 +23,5 @@ By place step count answer = answer ≡ place step count
 
 -- all that the order answers, at numbers of 64 bits, is what the function gives
 abbrev pub Follows : (ℕ → ℕ → ℕ) → (ℕ → ℕ → ℕ → Type 0) → Type 0
-Follows place order = (step count answer : ℕ) → step < 2 ^ 64 → 1 ≤ count → count < 2 ^ 64 → order step count answer → answer ≡ place step count
+Follows place order =
+    (step count answer : ℕ) → step < 2 ^ 64 → 1 ≤ count → count < 2 ^ 64 → order step count answer → answer ≡ place step count

@@ -19,7 +19,8 @@ pub record EndsAtRest (order : ℕ → ℕ → ℕ → Type 0) (links : LinksDat
   pub rest : IsResting links (values_after values events)
 
 -- so many chosen events do not lead to rest
-pub record EndsUnsettled (order : ℕ → ℕ → ℕ → Type 0) (links : LinksData) (values : List Tri) (step : ℕ) (events : List Event) : Type 0 where
+pub record EndsUnsettled (order : ℕ → ℕ → ℕ → Type 0) (links : LinksData) (values : List Tri) (step : ℕ) (events : List Event)
+    : Type 0 where
   pub chain : IsChain order links values step events
   pub count : length events ≡ most_events links
   pub unrest : IsResting links (values_after values events) → ⊥

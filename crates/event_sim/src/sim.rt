@@ -52,8 +52,10 @@ impl<F: Fn(u64, u64) -> u64> Sim<F> {
     /// `Zero`, and all other nets are `Unknown`. `Ports` has the place at which the ports leave every
     /// order of roles.
     pub fn new(alloc: Global, circuit: &Circuit, chooser: Chooser<F>) -> Result<Sim<F>, SimFault>
-        ensures power { IfOk result (λ sim. (roles : RolesData) × AreRoles (ports_of circuit.now) roles × (sim ≡ power_sim chooser.pick circuit.now roles)) }
-        ensures each { IfOk result (λ sim. (roles : RolesData) → AreRoles (ports_of circuit.now) roles → sim ≡ power_sim chooser.pick circuit.now roles) }
+        ensures power { IfOk result (λ sim.
+            (roles : RolesData) × AreRoles (ports_of circuit.now) roles × (sim ≡ power_sim chooser.pick circuit.now roles)) }
+        ensures each { IfOk result (λ sim.
+            (roles : RolesData) → AreRoles (ports_of circuit.now) roles → sim ≡ power_sim chooser.pick circuit.now roles) }
         ensures whole { IfOk result (λ sim. (length sim.values ≡ length circuit.now.nets) × (length sim.values ≡ sim.links.nets)) }
         ensures ports { (fault : PortFaultData) → IsErrOf result (ports fault) → LeavesRolesAt (ports_of circuit.now) fault.place }
     {
@@ -115,7 +117,8 @@ impl<F: Fn(u64, u64) -> u64> Sim<F> {
         ensures stays { IsNone result → self.new ≡ self.old }
         ensures when { IfSome result (λ event. event.step ≡ self.old.step) }
         ensures chosen { IfSome result (λ event. IsChosen (F.post self.old.pick) self.old.links self.old.values event) }
-        ensures legal { IfSome result (λ event. EventAt self.old.links.devices (is_first self.old.links.sources) event.net self.old.values self.new.values) }
+        ensures legal { IfSome result (λ event.
+            EventAt self.old.links.devices (is_first self.old.links.sources) event.net self.old.values self.new.values) }
         ensures whole { length self.new.values ≡ length self.old.values }
         ensures moved { IfSome result (λ event. self.new ≡ ran self.old (event ∷ [])) }
     {
@@ -141,7 +144,9 @@ impl<F: Fn(u64, u64) -> u64> Sim<F> {
     /// than the number of nets that are no sources, without rest. Takes no memory.
     pub fn settle(&mut self) -> Settled
         requires { Chooses (F.pre self.old.pick) (F.post self.old.pick) }
-        ensures run { (events : List EventData) × IsSettling (F.post self.old.pick) self.old.links self.old.values self.old.step events result × (self.new ≡ ran self.old events) }
+        ensures run { (events : List EventData)
+            × IsSettling (F.post self.old.pick) self.old.links self.old.values self.old.step events result
+            × (self.new ≡ ran self.old events) }
         ensures whole { length self.new.values ≡ length self.old.values }
     {
         let most = self.most_events();

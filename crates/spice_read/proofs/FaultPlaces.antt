@@ -1,10 +1,13 @@
 -- Where a deck has its first fault.
-use Rattle.std.proofs.Common.{◌≡◌, ℕ, ◌≤◌, ◌<◌, ◌+◌, ◌⊎◌, inl, inr, Bool, true, false, cond, ◌==◌, ◌||◌, ◌&&◌, not, if◌then◌else◌, List, [], ◌∷◌, ◌++◌, length, map, reverse, nat_eq, nat_lt, codes, slice_index, slice_index_or, eqb-true, refl, sym, ap, ◌∙◌, subst, arith, Some, None, append-nil, append_assoc}
+use Rattle.std.proofs.Common.{◌≡◌, ℕ, ◌≤◌, ◌<◌, ◌+◌, ◌⊎◌, inl, inr, Bool, true, false, cond, ◌==◌, ◌||◌, ◌&&◌, not, if◌then◌else◌, List, [], ◌∷◌, ◌++◌, length, map, reverse, nat_eq, nat_lt, codes, slice_index, slice_index_or, eqb-true, refl, sym, ap, ◌∙◌, subst, arith, Some, None, append-nil}
 use Rattle.std.specs.List.{before_first, list_any}
 use Rattle.std.specs.Cmp.Lexicographic.{bytes_decides, pointwise}
 use Rattle.std.proofs.lemmas.Bool.{true≢false}
-use Rattle.std.proofs.lemmas.List.{reverse-reverse, reverse-append}
+use Rattle.std.proofs.lemmas.List.{reverse-reverse}
+use Rattle.dom_base.specs.LineFaults.{FaultIn as FaultInLines, NumbersRise}
 use Rattle.dom_base.specs.Lines.{is_blank, lines, words, first_word}
+use Rattle.dom_base.proofs.Faults.{fault_in as fault_in_lines, passed, rising-fault as rising_line}
+use Rattle.dom_base.proofs.Lists.{reverse-onto}
 use Rattle.deck.specs.declared.fault.DeckKind.{DeckKind}
 use Rattle.deck.specs.declared.fault.DeckKind.TheVariants.{ControlByte, UnknownCard, BadCard, UnknownDevice, NoSubckt, SecondSubckt, NotClosed, DuplicatePort, TooMany}
 use Rattle.deck.specs.DeckText.{added_words, continues, is_end, is_of_card, read_line, through_end}
@@ -89,23 +92,15 @@ lines_of_text-rise text = subst (λ last. LinesRise 1 last (numbered_lines text)
 cards_of_text-rise : (text : List ℕ) → CardsRise 1 (end_line text) (numbered_cards text)
 cards_of_text-rise text = cards-rise 1 (end_line text) (numbered_lines text) (lines_of_text-rise text)
 
+abbrev number_of : NumberedCard → ℕ
+number_of card = card.number
+
 -- one of these cards has this number and a fault of this kind, where these cards stand before them, the nearest first
 abbrev pub FaultIn : List NumberedCard → List NumberedCard → ℕ → DeckKind → Type 0
-FaultIn before [] number kind = ⊥
-FaultIn before (card ∷ more) number kind = ((card.number ≡ number) × (has_deck_fault kind before card ≡ true)) ⊎ FaultIn (card ∷ before) more number kind
-
-reverse-onto : (x : NumberedCard) (xs before : List NumberedCard) → reverse (x ∷ xs) ++ before ≡ reverse xs ++ x ∷ before
-reverse-onto x xs before = ap (λ l. l ++ before) (reverse-append (x ∷ []) xs) ∙ append_assoc (reverse xs) (x ∷ []) before
-
-walk : (xs before more : List NumberedCard) (n : ℕ) (kind : DeckKind) → FaultIn (reverse xs ++ before) more n kind → FaultIn before (xs ++ more) n kind
-walk [] before more n kind fault = fault
-walk (x ∷ xs) before more n kind fault = inr (walk xs (x ∷ before) more n kind (subst (λ b. FaultIn b more n kind) (reverse-onto x xs before) fault))
+FaultIn = FaultInLines number_of has_deck_fault
 
 fault_in : (text : List ℕ) (n : ℕ) (kind : DeckKind) → IsFaultOfCard text n kind → FaultIn [] (numbered_cards text) n kind
-fault_in text n kind f =
-    let here : FaultIn f.before (f.card ∷ f.after) n kind = inl (f.number_is, f.fault) in
-    let back : f.before ≡ reverse (reverse f.before) ++ [] = sym (append-nil (reverse (reverse f.before)) ∙ reverse-reverse f.before) in
-    subst (λ l. FaultIn [] l n kind) (sym f.cards_are) (walk (reverse f.before) [] (f.card ∷ f.after) n kind (subst (λ b. FaultIn b (f.card ∷ f.after) n kind) back here))
+fault_in text n kind f = fault_in_lines number_of has_deck_fault (numbered_cards text) f.before f.card f.after n kind f.cards_are f.number_is f.fault
 
 -- the cards that were passed, the last first, and those that are left; all faults of cards are among the latter
 pub record IsPassed (text : List ℕ) (before rest : List NumberedCard) : Type 0 where
@@ -117,26 +112,21 @@ pub record IsPassed (text : List ℕ) (before rest : List NumberedCard) : Type 0
 pub none_passed : (text : List ℕ) → IsPassed text [] (numbered_cards text)
 none_passed text = record { split = refl; faults = λ n kind f. f; least = 1; rise = cards_of_text-rise text }
 
-snoc : (before : List NumberedCard) (card : NumberedCard) (more : List NumberedCard) → reverse before ++ card ∷ more ≡ reverse (card ∷ before) ++ more
-snoc before card more = sym (ap (λ l. l ++ more) (reverse-append (card ∷ []) before) ∙ append_assoc (reverse before) (card ∷ []) more)
-
 pub one_passed : (text : List ℕ) (before : List NumberedCard) (card : NumberedCard) (rest : List NumberedCard) → IsPassed text before (card ∷ rest) → IsFound before card None → IsPassed text (card ∷ before) rest
 one_passed text before card rest p clean = record {
-  split = p.split ∙ snoc before card rest;
-  faults = λ n kind f. behind n kind (p.faults n kind f);
+  split = p.split ∙ sym (reverse-onto card before rest);
+  faults = λ n kind f. passed number_of has_deck_fault before card rest clean n kind (p.faults n kind f);
   least = card.number + 1;
   rise = p.rise.2;
 }
-  where
-    behind : (n : ℕ) (kind : DeckKind) → FaultIn before (card ∷ rest) n kind → FaultIn (card ∷ before) rest n kind
-    behind n kind (inl here) = absurd (true≢false (sym here.1 ∙ clean kind))
-    behind n kind (inr later) = later
 
--- a fault stands at no smaller number than that from which the numbers rise, and not behind the end
+numbers-rise : (m last : ℕ) (all : List NumberedCard) → CardsRise m last all → NumbersRise number_of m all
+numbers-rise m last [] rise = tt
+numbers-rise m last (card ∷ more) rise = (rise.0, numbers-rise (card.number + 1) last more rise.2)
+
+-- a fault stands at no smaller number than that from which the numbers rise
 rising-fault : (m last : ℕ) (before all : List NumberedCard) (n : ℕ) (kind : DeckKind) → CardsRise m last all → FaultIn before all n kind → m ≤ n
-rising-fault m last before [] n kind rise f = absurd f
-rising-fault m last before (card ∷ more) n kind rise (inl here) = omega (arith, rise.0, here.0)
-rising-fault m last before (card ∷ more) n kind rise (inr later) = omega (arith, rise.0, rising-fault (card.number + 1) last (card ∷ before) more n kind rise.2 later)
+rising-fault m last before all n kind rise f = rising_line number_of has_deck_fault m before all n kind (numbers-rise m last all rise) f
 
 no_card-continues : (ps : List (ℕ × List ℕ)) (p : ℕ × List ℕ) (after : List (ℕ × List ℕ)) → numbered_cards_of ps ≡ [] → continues p.1 ≡ true → BeginsNumbered (ps ++ p ∷ after) → ⊥
 no_card-continues [] p after none is starts = true≢false (sym is ∙ starts)

@@ -1,7 +1,8 @@
 -- Kinds of faults by their numbers, and the fault of a card with the smallest number.
 use Rattle.std.proofs.Common.{◌≡◌, List, [], ◌∷◌, refl, arith, Option, inl, inr}
 use Rattle.std.specs.List.{find}
-use Rattle.dom_base.proofs.Faults.{IsAmong, IsSmallest, Rises, number_of-injective, smallest_found}
+use Rattle.dom_base.specs.FaultKinds.{IsAmong, IsSmallest, RisesAbove}
+use Rattle.dom_base.proofs.Faults.{number_of-injective, smallest_found}
 use Rattle.deck.specs.declared.fault.DeckKind.{DeckKind}
 use Rattle.deck.specs.declared.fault.DeckKind.TheVariants.{ControlByte, UnknownCard, BadCard, UnknownDevice, NoSubckt, SecondSubckt, NotClosed, DuplicatePort, TooMany}
 use Rattle.deck.specs.DeckCards.{NumberedCard}
@@ -23,7 +24,7 @@ is_kind NotClosed = inr (inr (inr (inr (inr (inr (inl refl))))))
 is_kind DuplicatePort = inr (inr (inr (inr (inr (inr (inr (inl refl)))))))
 is_kind TooMany = inr (inr (inr (inr (inr (inr (inr (inr (inl refl))))))))
 
-kinds_rise : Rises deck_kind_number 0 kinds
+kinds_rise : RisesAbove deck_kind_number 0 kinds
 kinds_rise = (omega arith, (omega arith, (omega arith, (omega arith, (omega arith, (omega arith, (omega arith, (omega arith, (omega arith, tt)))))))))
 
 -- kinds of one number are the same

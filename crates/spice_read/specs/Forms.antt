@@ -30,7 +30,8 @@ is_deck_subckt card = nat_lt 1 (length card.words) && not (list_any has_equals c
 -- a card whose first letter is `m`: a device, or its fault
 abbrev pub device_form : NumberedCard → Result Form DeckKind
 device_form card =
-    if nat_lt 5 (length card.words) then (if is_model_word (word_at card 5) then Ok (Device (kind_of (word_at card 5))) else Err UnknownDevice)
+    if nat_lt 5 (length card.words)
+    then (if is_model_word (word_at card 5) then Ok (Device (kind_of (word_at card 5))) else Err UnknownDevice)
     else Err BadCard
 
 -- what a card is, or the smallest of the faults that it has whatever stands before it

@@ -33,7 +33,8 @@ pub record LinesLeft : Type 0 where
 -- a line was read: it was the first of those that were left
 pub record ReadsLine (before : LinesLeft) (line : List ℕ) (after : LinesLeft) : Type 0 where
   pub lines_are : deck_lines before.rest ≡ line ∷ deck_lines after.rest
-  pub numbered : enumerate_from before.number (deck_lines before.rest) ≡ (before.number, line) ∷ enumerate_from after.number (deck_lines after.rest)
+  pub numbered : enumerate_from before.number (deck_lines before.rest)
+      ≡ (before.number, line) ∷ enumerate_from after.number (deck_lines after.rest)
   pub end_is : end_from before.number (deck_lines before.rest) ≡ end_from after.number (deck_lines after.rest)
   pub no_indent : unindented line ≡ line
   pub shorter : length after.rest < length before.rest
@@ -51,7 +52,8 @@ continued_words line = if continues line then words (drop 1 line) else []
 
 -- a card of this number with these words, to which the lines that continue it add words, and the cards behind it
 abbrev pub continued_card : ℕ → List (List ℕ) → List (ℕ × List ℕ) → List NumberedCard
-continued_card number front lines = record { number = number; words = front ++ added_words (map (λ q. q.1) lines) } ∷ numbered_cards_of lines
+continued_card number front lines =
+    record { number = number; words = front ++ added_words (map (λ q. q.1) lines) } ∷ numbered_cards_of lines
 
 -- the lines of cards among those that are left, each with its number
 abbrev pub card_lines_left : LinesLeft → List (ℕ × List ℕ)

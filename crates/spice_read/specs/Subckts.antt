@@ -41,7 +41,9 @@ room_fault (Closed c) = Some NoSubckt
 
 -- the fault of the ports of a `.subckt`
 abbrev pub ports_fault : NumberedCard → Option DeckKind
-ports_fault card = if names_twice card then Some DuplicatePort else (if nat_lt most_ports (length (port_names card)) then Some TooMany else None)
+ports_fault card =
+    if names_twice card then Some DuplicatePort
+    else (if nat_lt most_ports (length (port_names card)) then Some TooMany else None)
 
 -- why no `.subckt` can be read
 abbrev pub opening_fault : Subckt → NumberedCard → Option DeckKind

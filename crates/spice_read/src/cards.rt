@@ -187,7 +187,11 @@ impl<'a> Model for Cards<'a> {
 
     ghost Value = { Reader };
 
-    ghost view = { λ c. record { held = option_map (λ p. (p.0, str_to_ascii_lowercase p.1.now)) c.held; left = c.lines; phases = c.phases.items } };
+    ghost view = { λ c. record {
+      held = option_map (λ p. (p.0, str_to_ascii_lowercase p.1.now)) c.held;
+      left = c.lines;
+      phases = c.phases.items;
+    } };
 }
 
 impl<'a> Cards<'a> {
@@ -195,7 +199,8 @@ impl<'a> Cards<'a> {
     /// before it, and it is a fault.
     pub fn new(alloc: Global, text: &'a [u8]) -> Result<Cards<'a>, DeckFault>
         ensures first { IfOk result (λ cards. IsAtFirstCard text.now cards) }
-        ensures stray { (line : ℕ) (kind : DeckKind) → IsErrOf result (DeckFault.At line kind) → IsStrayAt (numbered_lines text.now) line × (kind ≡ BadCard) }
+        ensures stray { (line : ℕ) (kind : DeckKind) → IsErrOf result (DeckFault.At line kind)
+            → IsStrayAt (numbered_lines text.now) line × (kind ≡ BadCard) }
     {
         let mut lines = Lines {
             rest: text,
@@ -253,8 +258,10 @@ impl<'a> Cards<'a> {
     ) -> Result<(), OutOfMemory>
         ensures held { self.new.held ≡ self.old.held }
         ensures left { self.new.left ≡ self.old.left }
-        ensures found { OnOk result (map (λ w. str_to_ascii_lowercase w.now) found.new.items ≡ map (λ w. str_to_ascii_lowercase w.now) found.old.items ++ continued_words (str_to_ascii_lowercase line.now)) }
-        ensures phases { OnOk result (self.new.phases ≡ self.old.phases ++ option_to_list (phase_of (words (str_to_ascii_lowercase line.now)))) }
+        ensures found { OnOk result (map (λ w. str_to_ascii_lowercase w.now) found.new.items
+            ≡ map (λ w. str_to_ascii_lowercase w.now) found.old.items ++ continued_words (str_to_ascii_lowercase line.now)) }
+        ensures phases { OnOk result
+            (self.new.phases ≡ self.old.phases ++ option_to_list (phase_of (words (str_to_ascii_lowercase line.now)))) }
     {
         match strip_plus(line) {
             Some(rest) => push_words(found, rest),

@@ -4,7 +4,6 @@ ghost use Rattle.spice_read.specs.declared.faults.DeckFault.TheVariants.{Memory}
 
 use deck::DeckKind;
 use dom_base::OutOfMemory;
-use std::alloc::{AllocError, AllocFailed};
 use thiserror::Error;
 
 /// Why a text isn't read: the first line with a fault, from 1, with the kind of the smallest number
@@ -15,22 +14,6 @@ pub enum DeckFault {
     At { line: u64, kind: DeckKind },
     #[error("out of memory")]
     Memory,
-}
-
-impl From<AllocError> for DeckFault {
-    ghost from_gives = { λ _ e. e ≡ Memory };
-
-    fn from(_: AllocError) -> Self {
-        DeckFault::Memory
-    }
-}
-
-impl<T: Drop> From<AllocFailed<T>> for DeckFault {
-    ghost from_gives = { λ _ e. e ≡ Memory };
-
-    fn from(_: AllocFailed<T>) -> Self {
-        DeckFault::Memory
-    }
 }
 
 impl From<OutOfMemory> for DeckFault {

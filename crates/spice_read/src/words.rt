@@ -15,7 +15,8 @@ use std::alloc::Global;
 
 /// Appends the words of a line, which blanks and tabs part.
 pub fn push_words<'a>(found: &mut Vec<&'a [u8]>, line: &'a [u8]) -> Result<(), OutOfMemory>
-    ensures { OnOk result (map (λ w. str_to_ascii_lowercase w.now) found.new.items ≡ map (λ w. str_to_ascii_lowercase w.now) found.old.items ++ words (str_to_ascii_lowercase line.now)) }
+    ensures { OnOk result (map (λ w. str_to_ascii_lowercase w.now) found.new.items
+        ≡ map (λ w. str_to_ascii_lowercase w.now) found.old.items ++ words (str_to_ascii_lowercase line.now)) }
 {
     let mut rest = unindent(line);
     'words: while !rest.is_empty() {

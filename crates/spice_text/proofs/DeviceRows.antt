@@ -11,7 +11,7 @@ use Rattle.dom_base.proofs.Names.{IsNetName-from_test}
 use Rattle.deck.specs.declared.device.Device.{Device}
 use Rattle.deck.specs.DeckText.{model_word, IsDeviceCard}
 use Rattle.spice_text.specs.Text.{bulk_of}
-use Rattle.deck.proofs.DeviceNumbers.{named_device}
+use Rattle.deck.specs.NamedDevices.{named_device}
 use Rattle.deck.specs.Nets.{IsInRange, net_name}
 use Rattle.spice_text.proofs.ReadRows.{IsPlainRow}
 use Rattle.spice_text.proofs.WrittenRows.{card_row}

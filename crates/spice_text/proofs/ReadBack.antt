@@ -12,17 +12,17 @@ use Rattle.deck.specs.declared.device.Device.{Device}
 use Rattle.deck.specs.declared.phase.Phase.{Phase}
 use Rattle.deck.specs.CircuitData.{CircuitData}
 use Rattle.deck.specs.DeckText.{deck_cards, deck_phases, deck_card_lines, cards_of, is_skipped, phase_of, bare_circuit, BeginsACard, HasNoEquals, IsDeckOf, IsGoodCircuit, HasNetNames}
-use Rattle.deck.specs.NamedDevices.{with_devices}
+use Rattle.deck.specs.NamedDevices.{with_devices, named_device}
 use Rattle.deck.specs.Nets.{ends, used, IsCircuit}
-use Rattle.deck.specs.Ports.{leading_ports, HasRoles}
+use Rattle.deck.specs.Ports.{leading_ports, HasRoles, HasSomeRoles}
 use Rattle.deck.proofs.DeckCircuits.{IsDeckOf-circuit, IsDeckOf-good}
 use Rattle.deck.proofs.DeckNames.{IsDeckOf-names}
 use Rattle.spice_text.specs.Text.{sign_of, eights, text_with, IsWritten}
 use Rattle.spice_text.proofs.DeviceRows.{all_cards, cards_plain, cards_are}
-use Rattle.deck.proofs.DeviceNumbers.{named_device, used-ge, devices_in_range, with_devices-named}
+use Rattle.deck.proofs.DeviceNumbers.{used-ge, devices_in_range, with_devices-named}
 use Rattle.deck.proofs.NetNumbers.{IsDistinct-take}
 use Rattle.spice_text.proofs.ReadRows.{row_line, text_of_rows, IsPlainRow, IsNoEnd, IsComment, IsOfCard, Begins, plus_rows, deck_phases-rows, card_lines-rows, cards_of-rows}
-use Rattle.deck.proofs.PortDecisions.{HasSomeRoles, has_roles}
+use Rattle.deck.proofs.PortDecisions.{has_roles}
 use Rattle.spice_text.proofs.WrittenRows.{header_row, phase_row, opening_row, card_row, card_rows, ending_row, comment_rows, rows_behind, rows_of_cards, text_with-rows, eights-groups}
 
 -- a row without control bytes

@@ -6,11 +6,13 @@ use Rattle.dom_base.proofs.Lists.{AllByRecursion-contains, AllByRecursion-map, A
 use Rattle.deck.specs.Paths.{Ends}
 use Rattle.deck.specs.declared.device.Device.{Device}
 use Rattle.deck.specs.NamedDevices.{device_of}
-use Rattle.deck.proofs.Reach.{Reach, Reach-trans, last, step}
+use Rattle.deck.specs.Reach.{Reach, last, step}
+use Rattle.deck.proofs.Reach.{Reach-trans}
 use Rattle.sp_network.specs.Tree.{inner_count}
 use Rattle.domino_cell.specs.Stage.{Branch, Inside, IsSpot, IsStage, Spot, Top, stage}
 use Rattle.domino_cell.proofs.Stages.{each_branch}
-use Rattle.domino_cell.proofs.Trees.{IsIn, spell-ends}
+use Rattle.domino_cell.specs.TreeColours.{IsIn}
+use Rattle.domino_cell.proofs.Trees.{spell-ends}
 
 some_same : {u v : Branch} → Some u ≡ Some v → u ≡ v
 some_same h = cc

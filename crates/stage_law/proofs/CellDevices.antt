@@ -8,11 +8,12 @@ use Rattle.dom_base.proofs.Lists.{AllByRecursion-append, AllByRecursion-both, Al
 use Rattle.deck.specs.Paths.{Ends}
 use Rattle.deck.specs.declared.device.Device.{Device}
 use Rattle.deck.specs.NamedDevices.{device_of}
-use Rattle.deck.proofs.Reach.{Reach, last, step}
+use Rattle.deck.specs.Reach.{Reach, last, step}
 use Rattle.sp_network.specs.Tree.{EachLeaf, Leaf, Parallel, Series, Tree, inner_count}
 use Rattle.domino_cell.specs.Stage.{Inside, IsSpot, Spot, Top, stage}
 use Rattle.domino_cell.specs.Spelling.{spell}
-use Rattle.domino_cell.proofs.Trees.{IsIn, spell-ends, spell-kind}
+use Rattle.domino_cell.specs.TreeColours.{IsIn}
+use Rattle.domino_cell.proofs.Trees.{spell-ends, spell-kind}
 use Rattle.stage_law.specs.Precharged.{inner_taps, precharged, taps_from}
 use Rattle.stage_law.specs.Tapped.{IsTapped, Tap, tap_card, tapped, ways}
 use Rattle.stage_law.proofs.GateCards.{spell-gates}

@@ -12,7 +12,8 @@ use Rattle.deck.specs.Paths.{DefiniteStrong, Ends, PossibleStrong}
 use Rattle.deck.specs.Switches.{value_of}
 use Rattle.deck.specs.declared.device.Device.{Device}
 use Rattle.deck.specs.NamedDevices.{device_of}
-use Rattle.deck.proofs.Reach.{Reach, Reach-trans, Reach-weaker, last, step}
+use Rattle.deck.specs.Reach.{Reach, last, step}
+use Rattle.deck.proofs.Reach.{Reach-trans, Reach-weaker}
 use Rattle.sp_network.specs.Known.{IsKnown, is_not_zero, is_one}
 use Rattle.sp_network.specs.Tree.{EachLeaf, Leaf, Parallel, Series, Tree, inner_count}
 use Rattle.domino_cell.specs.Stage.{Inside, IsSpot, Spot, Top, stage}

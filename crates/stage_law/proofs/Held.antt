@@ -14,7 +14,8 @@ use Rattle.sp_network.specs.Tree.{Leaf, Parallel, Series, Tree, inner_count}
 use Rattle.domino_cell.specs.Stage.{Branch, Inside, IsStage, Spot, Top, stage}
 use Rattle.domino_cell.specs.Spelling.{spell}
 use Rattle.domino_cell.proofs.Stages.{each_branch}
-use Rattle.domino_cell.proofs.Trees.{IsIn, IsOutside, spell-ends}
+use Rattle.domino_cell.specs.TreeColours.{IsIn, IsOutside}
+use Rattle.domino_cell.proofs.Trees.{spell-ends}
 use Rattle.switch_model.specs.Targets.{IsTarget}
 use Rattle.switch_model.proofs.Targets.{definite-possible_strong, definite-possible_weak}
 use Rattle.stage_law.specs.Shut.{IsShut}

@@ -9,12 +9,14 @@ use Rattle.dom_base.proofs.Lists.{AllByRecursion-append, AllByRecursion-both, Al
 use Rattle.deck.specs.declared.device.Device.{Device}
 use Rattle.deck.specs.Paths.{Ends}
 use Rattle.deck.specs.NamedDevices.{NamedDevice, device_of}
-use Rattle.deck.proofs.Reach.{Reach, Reach-kept}
+use Rattle.deck.specs.Reach.{Reach}
+use Rattle.deck.proofs.Reach.{Reach-kept}
 use Rattle.sp_network.specs.Tree.{inner_count, joins}
 use Rattle.domino_cell.specs.Stage.{Branch, Inside, IsSpot, Spot, Top, stage}
 use Rattle.domino_cell.specs.Spelling.{spell}
 use Rattle.domino_cell.proofs.Stages.{each_branch}
-use Rattle.domino_cell.proofs.Trees.{IsApart, IsIn, IsOutside, Paints, Paints-painting, Reach-spell, painting, spell-ends, spell-kind}
+use Rattle.domino_cell.specs.TreeColours.{IsApart, IsIn, IsOutside, Paints, painting}
+use Rattle.domino_cell.proofs.Trees.{Paints-painting, Reach-spell, spell-ends, spell-kind}
 use Rattle.stage_law.specs.Tapped.{IsTapped, Tap, tap_branch, tap_card, tapped, ways}
 
 -- Q is a property of devices, and g a test that the gates of devices with Q pass.

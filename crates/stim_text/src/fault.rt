@@ -3,7 +3,6 @@ ghost use Rattle.std.specs.Prelude.{◌≡◌};
 ghost use Rattle.stim_text.specs.Stimuli.{stim_kind_word};
 ghost use Rattle.stim_text.specs.declared.fault.StimFault.TheVariants.{Memory};
 
-use dom_base::OutOfMemory;
 use std::alloc::{AllocError, AllocFailed};
 use thiserror::Error;
 
@@ -49,14 +48,6 @@ impl<T: Drop> From<AllocFailed<T>> for StimFault {
     ghost from_gives = { λ _ e. e ≡ Memory };
 
     fn from(_: AllocFailed<T>) -> Self {
-        StimFault::Memory
-    }
-}
-
-impl From<OutOfMemory> for StimFault {
-    ghost from_gives = { λ _ e. e ≡ Memory };
-
-    fn from(_: OutOfMemory) -> Self {
         StimFault::Memory
     }
 }

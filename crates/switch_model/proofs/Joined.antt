@@ -5,8 +5,10 @@ use Rattle.std.specs.List.{AllByRecursion}
 use Rattle.deck.specs.declared.device.Device.{Device}
 use Rattle.dom_base.specs.declared.kind.Kind.TheVariants.{Keep}
 use Rattle.deck.specs.Paths.{Ends, Path, one, more, IsWeak}
-use Rattle.deck.proofs.Reach.{Reach, last, step, Reach-trans, Reach-weaker, Reach-from_path, path_from_Reach}
-use Rattle.switch_model.proofs.Decided.{Dec, dec_and, dec_or, dec_map, dec_nat, dec_bool, dec_any, dec_keeper}
+use Rattle.deck.specs.Reach.{Reach, last, step}
+use Rattle.deck.proofs.Reach.{Reach-trans, Reach-weaker, Reach-from_path, path_from_Reach}
+use Rattle.dom_base.specs.Decided.{Decided}
+use Rattle.dom_base.proofs.Decided.{dec_and, dec_or, dec_map, dec_nat, dec_bool, dec_any, dec_keeper}
 use Rattle.dom_base.proofs.Lists.{AllByRecursion-append, AllByRecursion-contains, AllByRecursion-weaker, Contains-first, Contains-later}
 
 pub Path-append : {is_source : ℕ → Bool} {a m b : ℕ} {p q : List Device} → Path is_source a p m → is_source m ≡ false → Path is_source m q b → Path is_source a (p ++ q) b
@@ -91,11 +93,11 @@ module _ (Q : Device → Type 0) (is_source : ℕ → Bool) where
       before d ds a x b n (inl s) r = rw s r
       before d ds a x b n (inr t) r = Reach-trans (Reaches-more d ds a x t) n r
 
-  dec_inside : ((d : Device) → Dec (Q d)) → (d : Device) → Dec (IsInside d)
+  dec_inside : ((d : Device) → Decided (Q d)) → (d : Device) → Decided (IsInside d)
   dec_inside dec d =
       dec_map (λ z. (z.0, z.1.0, z.1.1)) (λ z. (z.0, (z.1, z.2))) (dec_and (dec d) (dec_and (dec_bool (is_source d.drain) false) (dec_bool (is_source d.source) false)))
 
-  pub dec_joined : ((d : Device) → Dec (Q d)) → (ds : List Device) (a b : ℕ) → Dec (Joined ds a b)
+  pub dec_joined : ((d : Device) → Decided (Q d)) → (ds : List Device) (a b : ℕ) → Decided (Joined ds a b)
   dec_joined dec [] a b = dec_nat a b
   dec_joined dec (d ∷ ds) a b =
       dec_or (dec_joined dec ds a b)
@@ -149,7 +151,7 @@ module _ (Q : Device → Type 0) (is_source : ℕ → Bool) where
       inside (inr z) = (q, rw z.1 k, rw z.0 f)
 
   -- whether a path leads from a to a net with P
-  pub dec_reaches : ((d : Device) → Dec (Q d)) → (P : ℕ → Type 0) → ((n : ℕ) → Dec (P n)) → (ds : List Device) (a : ℕ) → is_source a ≡ false → Dec ((n : ℕ) × Reaches ds a n × P n)
+  pub dec_reaches : ((d : Device) → Decided (Q d)) → (P : ℕ → Type 0) → ((n : ℕ) → Decided (P n)) → (ds : List Device) (a : ℕ) → is_source a ≡ false → Decided ((n : ℕ) × Reaches ds a n × P n)
   dec_reaches dec P dec_p ds a f =
       dec_map (λ t. leads_reaches ds P a t.0 t.1 t.2) (λ t. reaches_leads ds P f t.1 t.2)
       (dec_any (Leads ds P a) (λ d. dec_and (dec d) (dec_or
@@ -241,14 +243,14 @@ module _ (Q : Device → Type 0) (is_source : ℕ → Bool) where
       inside (inr z) = (h.0.1, rw z.1 g, rw z.0 f)
 
   -- whether a path with a keeper leads from a to a net with P
-  pub dec_weak : ((d : Device) → Dec (Q d)) → (P : ℕ → Type 0) → ((n : ℕ) → Dec (P n)) → (ds : List Device) (a : ℕ) → is_source a ≡ false → Dec ((n : ℕ) × WeakPath ds a n × P n)
+  pub dec_weak : ((d : Device) → Decided (Q d)) → (P : ℕ → Type 0) → ((n : ℕ) → Decided (P n)) → (ds : List Device) (a : ℕ) → is_source a ≡ false → Decided ((n : ℕ) × WeakPath ds a n × P n)
   dec_weak dec P dec_p ds a f =
       dec_map (λ t. leads_weak ds P a t.0 t.1 t.2) (λ t. weak_leads ds P f t.1.1 t.1.2 t.1.3 t.2)
       (dec_any (LeadsWeak ds P a) (λ d. dec_and (dec_keeper d.kind) (dec_and (dec d) (dec_or (side d.drain d.source) (side d.source d.drain)))) ds)
     where
-      far : (y : ℕ) (b : Bool) → is_source y ≡ b → Dec ((is_source y ≡ false) × ((n : ℕ) × Reaches ds y n × P n))
+      far : (y : ℕ) (b : Bool) → is_source y ≡ b → Decided ((is_source y ≡ false) × ((n : ℕ) × Reaches ds y n × P n))
       far y false e = dec_map (λ z. (e, z)) (λ z. z.1) (dec_reaches dec P dec_p ds y e)
       far y true e = inr (λ z. let k = z.0 in cc)
 
-      side : (x y : ℕ) → Dec (WeakSide ds P a x y)
+      side : (x y : ℕ) → Decided (WeakSide ds P a x y)
       side x y = dec_and (dec_bool (is_source x) false) (dec_and (dec_joined dec ds a x) (dec_or (dec_p y) (far y (is_source y) refl)))

@@ -1,4 +1,3 @@
-pub mod Decided
 pub mod Joined
 pub mod Marks
 pub mod Nearness

@@ -7,7 +7,8 @@ use Rattle.std.proofs.lemmas.List.Elements.{Contains-append_left, Contains-push}
 use Rattle.switch_model.specs.declared.search.Reached.{Reached}
 use Rattle.switch_model.specs.Search.{SearchData, IsListed, IsReached, IsCleared, count_set, is_marked, with_mark}
 use Rattle.dom_base.proofs.Bools.{not_true}
-use Rattle.switch_model.proofs.Decided.{Dec, dec_and, dec_nat, dec_bool}
+use Rattle.dom_base.specs.Decided.{Decided}
+use Rattle.dom_base.proofs.Decided.{dec_and, dec_nat, dec_bool}
 
 count_set-le : (marks : List Bool) → count_set marks ≤ length marks
 count_set-le [] = omega arith
@@ -35,7 +36,7 @@ marked-other s net true on n false ne = refl
 marked-other s net false on n true ne = refl
 marked-other s net false on n false ne = get_or-set_other s.strong net n on false (λ e. ne (e, refl))
 
-pub dec_stop : (n net : ℕ) (w weak : Bool) → Dec ((n ≡ net) × (w ≡ weak))
+pub dec_stop : (n net : ℕ) (w weak : Bool) → Decided ((n ≡ net) × (w ≡ weak))
 dec_stop n net w weak = dec_and (dec_nat n net) (dec_bool w weak)
 
 -- a stop that is not marked finds room in the list

@@ -17,7 +17,7 @@ use Rattle.deck.proofs.PortLayout.{joined, length-leading, length-ports_of, leng
 use Rattle.deck.specs.PortLayout.{source_count}
 use Rattle.switch_model.specs.LinksData.{is_first}
 use Rattle.switch_model.specs.Targets.{IsTarget}
-use Rattle.switch_model.proofs.Decided.{lt_or_ge}
+use Rattle.dom_base.proofs.Decided.{lt_or_ge}
 use Rattle.dom_base.proofs.Bools.{not_true}
 use Rattle.dom_base.proofs.Lists.{AllByRecursion-append, AllByRecursion-take}
 

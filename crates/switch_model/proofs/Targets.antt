@@ -9,15 +9,12 @@ use Rattle.dom_base.specs.declared.tri.Tri.TheVariants.{Zero, One, Unknown}
 use Rattle.dom_base.specs.Conduction.{conduction}
 use Rattle.deck.specs.Paths.{Path, IsWeak, IsStrong, DefiniteStrong, PossibleStrong, DefiniteWeak, PossibleWeak}
 use Rattle.deck.specs.Switches.{IsOn, IsNotOff, value_of}
-use Rattle.switch_model.specs.Targets.{Pulls, Disputes, Else, Holds, IsTarget}
+use Rattle.switch_model.specs.Targets.{AtMostOne, Pulls, Disputes, Else, Holds, IsTarget}
 use Rattle.deck.proofs.Reach.{Reach-from_path, path_from_Reach, strong_each, strong_from_each}
 use Rattle.dom_base.proofs.Lists.{AllByRecursion-both, AllByRecursion-weaker}
-use Rattle.switch_model.proofs.Decided.{Dec, dec_and, dec_not, dec_map, dec_bool, dec_keeper, dec_tri}
+use Rattle.dom_base.specs.Decided.{Decided}
+use Rattle.dom_base.proofs.Decided.{dec_and, dec_not, dec_map, dec_bool, dec_keeper, dec_tri}
 use Rattle.switch_model.proofs.Joined.{dec_reaches, dec_weak, Reaches, WeakPath}
-
--- at most one value
-abbrev pub AtMostOne : (Tri → Type 0) → Type 0
-AtMostOne R = (v w : Tri) → R v → R w → v ≡ w
 
 Else-at_most_one : (R S : Tri → Type 0) → AtMostOne R → AtMostOne S → AtMostOne (Else R S)
 Else-at_most_one R S f g v w (inl a) (inl b) = f v w a b
@@ -26,7 +23,7 @@ Else-at_most_one R S f g v w (inr a) (inl b) = absurd (a.0 w b)
 Else-at_most_one R S f g v w (inr a) (inr b) = g v w a.1 b.1
 
 -- the rule is decided, or the rest gives a value
-Else-some : (R S : Tri → Type 0) → Dec ((v : Tri) × R v) → (v : Tri) × S v → (v : Tri) × Else R S v
+Else-some : (R S : Tri → Type 0) → Decided ((v : Tri) × R v) → (v : Tri) × S v → (v : Tri) × Else R S v
 Else-some R S (inl a) b = (a.0, inl a.1)
 Else-some R S (inr a) b = (b.0, inr ((λ w r. a (w, r)), b.1))
 
@@ -55,22 +52,22 @@ target_unique devices is_source values net =
 
 -- whether R leads to a net with any property can be decided
 abbrev Searchable : (ℕ → Type 0) → Type 1
-Searchable R = (P : ℕ → Type 0) → ((n : ℕ) → Dec (P n)) → Dec ((n : ℕ) × R n × P n)
+Searchable R = (P : ℕ → Type 0) → ((n : ℕ) → Decided (P n)) → Decided ((n : ℕ) × R n × P n)
 
-dec_pulls : (definite possible : ℕ → Type 0) (is_source : ℕ → Bool) (values : List Tri) → Searchable definite → Searchable possible → Dec ((v : Tri) × Pulls definite possible is_source values v)
+dec_pulls : (definite possible : ℕ → Type 0) (is_source : ℕ → Bool) (values : List Tri) → Searchable definite → Searchable possible → Decided ((v : Tri) × Pulls definite possible is_source values v)
 dec_pulls definite possible is_source values sd sp = join (one_of Zero) (one_of One) (one_of Unknown)
   where
     stable : (v w : Tri) → ((v ≢ w) → ⊥) → v ≡ w
     stable v w h = elim (dec_tri v w) [ inl e ↦ e | inr n ↦ absurd (h n) ]
 
-    one_of : (v : Tri) → Dec (Pulls definite possible is_source values v)
+    one_of : (v : Tri) → Decided (Pulls definite possible is_source values v)
     one_of v =
         dec_map (λ z. ((z.0.0, z.0.1, z.0.2.0, z.0.2.1), (λ s p q. stable (value_of values s) v (λ ne. z.1 (s, p, (q, ne))))))
         (λ z. ((z.0.0, z.0.1, (z.0.2, z.0.3)), (λ t. t.2.1 (z.1 t.0 t.1 t.2.0))))
         (dec_and (sd (λ s. (is_source s ≡ true) × (value_of values s ≡ v)) (λ s. dec_and (dec_bool (is_source s) true) (dec_tri (value_of values s) v)))
         (dec_not (sp (λ s. (is_source s ≡ true) × (value_of values s ≢ v)) (λ s. dec_and (dec_bool (is_source s) true) (dec_not (dec_tri (value_of values s) v))))))
 
-    join : Dec (Pulls definite possible is_source values Zero) → Dec (Pulls definite possible is_source values One) → Dec (Pulls definite possible is_source values Unknown) → Dec ((v : Tri) × Pulls definite possible is_source values v)
+    join : Decided (Pulls definite possible is_source values Zero) → Decided (Pulls definite possible is_source values One) → Decided (Pulls definite possible is_source values Unknown) → Decided ((v : Tri) × Pulls definite possible is_source values v)
     join (inl a) b c = inl (Zero, a)
     join (inr a) (inl b) c = inl (One, b)
     join (inr a) (inr b) (inl c) = inl (Unknown, c)
@@ -81,11 +78,11 @@ dec_pulls definite possible is_source values sd sp = join (one_of Zero) (one_of 
         none One p a b c = b p
         none Unknown p a b c = c p
 
-dec_disputes : (possible : ℕ → Type 0) (is_source : ℕ → Bool) → Searchable possible → Dec ((v : Tri) × Disputes possible is_source v)
+dec_disputes : (possible : ℕ → Type 0) (is_source : ℕ → Bool) → Searchable possible → Decided ((v : Tri) × Disputes possible is_source v)
 dec_disputes possible is_source sp =
     dec_map (λ z. (Unknown, ((z.0, z.1, z.2), refl))) (λ z. (z.1.0.0, z.1.0.1, z.1.0.2)) (sp (λ s. is_source s ≡ true) (λ s. dec_bool (is_source s) true))
 
-dec_holds : (possible : ℕ → Type 0) (values : List Tri) (net : ℕ) → Searchable possible → Dec ((v : Tri) × Holds possible values net v)
+dec_holds : (possible : ℕ → Type 0) (values : List Tri) (net : ℕ) → Searchable possible → Decided ((v : Tri) × Holds possible values net v)
 dec_holds possible values net sp =
     dec_map (λ z. (value_of values net, ((λ n p. stable (value_of values n) (value_of values net) (λ ne. z (n, p, ne))), refl)))
     (λ z t. t.2 (z.1.0 t.0 t.1))
@@ -98,7 +95,7 @@ dec_holds possible values net sp =
 search_map : (R S : ℕ → Type 0) → ((n : ℕ) → R n → S n) → ((n : ℕ) → S n → R n) → Searchable R → Searchable S
 search_map R S f g s P dec = dec_map (λ z. (z.0, f z.0 z.1, z.2)) (λ z. (z.0, g z.0 z.1, z.2)) (s P dec)
 
-module _ (devices : List Device) (is_source : ℕ → Bool) (net : ℕ) (free : is_source net ≡ false) (F : Device → Type 0) (dec : (d : Device) → Dec (F d)) where
+module _ (devices : List Device) (is_source : ℕ → Bool) (net : ℕ) (free : is_source net ≡ false) (F : Device → Type 0) (dec : (d : Device) → Decided (F d)) where
   search_any : Searchable (λ b. (p : List Device) × Path is_source net p b × AllByRecursion (Contains devices) p × AllByRecursion F p)
   search_any =
       search_map (λ b. Reaches F is_source devices net b) _
@@ -122,8 +119,8 @@ module _ (devices : List Device) (is_source : ℕ → Bool) (net : ℕ) (free : 
 
 pub target_exists : (devices : List Device) (is_source : ℕ → Bool) (values : List Tri) (net : ℕ) → is_source net ≡ false → (v : Tri) × IsTarget devices is_source values net v
 target_exists devices is_source values net free =
-    let on : (d : Device) → Dec (IsOn values d) = λ d. dec_tri (conduction d.kind (value_of values d.gate)) One in
-    let open' : (d : Device) → Dec (IsNotOff values d) = λ d. dec_not (dec_tri (conduction d.kind (value_of values d.gate)) Zero) in
+    let on : (d : Device) → Decided (IsOn values d) = λ d. dec_tri (conduction d.kind (value_of values d.gate)) One in
+    let open' : (d : Device) → Decided (IsNotOff values d) = λ d. dec_not (dec_tri (conduction d.kind (value_of values d.gate)) Zero) in
     Else-some _ _ (dec_pulls _ _ is_source values (search_strong devices is_source net free (IsOn values) on) (search_strong devices is_source net free (IsNotOff values) open'))
     (Else-some _ _ (dec_disputes _ is_source (search_strong devices is_source net free (IsNotOff values) open'))
     (Else-some _ _ (dec_pulls _ _ is_source values (search_weak devices is_source net free (IsOn values) on) (search_weak devices is_source net free (IsNotOff values) open'))

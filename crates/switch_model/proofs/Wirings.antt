@@ -11,7 +11,7 @@ use Rattle.deck.specs.Nets.{IsCircuit, IsNumbered, ends, used}
 use Rattle.deck.proofs.DeviceNumbers.{IsCircuit-in_range, used-le}
 use Rattle.deck.specs.Nets.{IsInRange}
 use Rattle.switch_model.specs.Wiring.{IsEndPlace, IsTouching}
-use Rattle.switch_model.proofs.Decided.{dec_nat}
+use Rattle.dom_base.proofs.Decided.{dec_nat}
 
 -- the places below k are at the nets where their devices end
 pub record IsTouchingBelow (devices : List Device) (k : ℕ) (touching : List (List ℕ)) : Type 0 where

@@ -116,12 +116,14 @@ IsEnd devices paths values sources from weak s =
     Walk (IsCrossed devices paths values) (is_first sources) from s weak × (is_first sources s ≡ true)
 
 -- a search on its way: each stop in the list is the end of a walk, and the drives cover sources at ends of walks
-pub record IsUnderWay (devices : List Device) (paths : Paths) (values : List Tri) (sources from : ℕ) (s : SearchData) (drives : Drives) : Type 0 where
+pub record IsUnderWay
+    (devices : List Device) (paths : Paths) (values : List Tri) (sources from : ℕ) (s : SearchData) (drives : Drives) : Type 0 where
   pub listed : IsListed s
   pub sized : length s.strong ≡ length values
   pub started : is_marked s from false ≡ true
   pub walks : (stop : Reached) → Contains s.reached stop
-      → (stop.net < length values) × (is_first sources stop.net ≡ false) × Walk (IsCrossed devices paths values) (is_first sources) from stop.net stop.weak
+      → (stop.net < length values) × (is_first sources stop.net ≡ false)
+      × Walk (IsCrossed devices paths values) (is_first sources) from stop.net stop.weak
   pub drives_are : (weak : Bool) → IsDriveOfSome (IsEnd devices paths values sources from weak) values (drive_of drives weak)
 
 -- nothing is lost from one state of a search to a later one
@@ -143,7 +145,8 @@ IsVisited devices paths values sources s drives stop = (d : Device) (net : ℕ) 
 
 -- what a search finds from a net: the drives of the sources at the ends of walks, and whether all other
 -- nets at ends of walks have the value of the net
-pub record IsFound (devices : List Device) (paths : Paths) (values : List Tri) (sources from : ℕ) (drives : Drives) (alike : Bool) : Type 0 where
+pub record IsFound
+    (devices : List Device) (paths : Paths) (values : List Tri) (sources from : ℕ) (drives : Drives) (alike : Bool) : Type 0 where
   pub drives_are : (weak : Bool) → IsDrive (IsEnd devices paths values sources from weak) values (drive_of drives weak)
   pub alike_is : (alike ≡ true) ↔ ((net : ℕ) (weak : Bool) → Walk (IsCrossed devices paths values) (is_first sources) from net weak
       → is_first sources net ≡ false → value_of values net ≡ value_of values from)

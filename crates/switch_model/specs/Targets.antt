@@ -24,6 +24,10 @@ Holds possible values net v = ((n : ℕ) → possible n → value_of values n �
 abbrev pub Else : (Tri → Type 0) → (Tri → Type 0) → Tri → Type 0
 Else rule rest v = rule v ⊎ (((w : Tri) → rule w → ⊥) × rest v)
 
+-- the rule gives at most one value
+abbrev pub AtMostOne : (Tri → Type 0) → Type 0
+AtMostOne R = (v w : Tri) → R v → R w → v ≡ w
+
 -- v is the target of the net, over all paths of the devices: the first rule that applies gives it
 abbrev pub IsTarget : List Device → (ℕ → Bool) → List Tri → ℕ → Tri → Type 0
 IsTarget devices is_source values net =

@@ -117,7 +117,8 @@ impl Search {
         requires in_range { IsInRange (length values.now) device }
         ensures under_way { IsUnderWay wiring.now.devices paths values.now wiring.now.sources from self.new drives.new }
         ensures grows { Grows self.old self.new drives.old drives.new }
-        ensures met { (net : ℕ) → Admits paths (conduction device.kind (value_of values.now device.gate)) → Ends device stop.net net → IsMet wiring.now.sources values.now self.new drives.new net (stop.weak || is_keeper device.kind) }
+        ensures met { (net : ℕ) → Admits paths (conduction device.kind (value_of values.now device.gate)) → Ends device stop.net net
+            → IsMet wiring.now.sources values.now self.new drives.new net (stop.weak || is_keeper device.kind) }
     {
         if !paths.admit(device.kind, values[device.gate as usize]) {
             return;

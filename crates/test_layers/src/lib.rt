@@ -6,6 +6,8 @@ mod circuits;
 #[cfg(test)]
 mod events;
 #[cfg(test)]
+mod names;
+#[cfg(test)]
 mod outside;
 #[cfg(test)]
 mod ports;

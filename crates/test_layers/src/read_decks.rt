@@ -36,7 +36,8 @@ fn reads_circuits(rt: HostRuntime) -> Result<(), Fail> {
     for (text, wanted) in [
         (
             AND_DECK,
-            "and2+o_f 12 vdd vss ck1 lm lmb ls lsb rs rsb i_a i_b o_f d0 z0 t0_0 f0,P 12 2 0,Keep 12 13 0,N 12 9 14,N 14 10 15,N 15 2 1,P 13 12 0,N 13 12 1,P 11 12 0,N 11 12 1",
+            "and2+o_f 12 vdd vss ck1 lm lmb ls lsb rs rsb i_a i_b o_f d0 z0 t0_0 f0,P 12 2 0,Keep 12 13 0,\
+             N 12 9 14,N 14 10 15,N 15 2 1,P 13 12 0,N 13 12 1,P 11 12 0,N 11 12 1",
         ),
         // ports in another order than that of roles, and nets that are seen first as a gate
         (
@@ -45,7 +46,8 @@ fn reads_circuits(rt: HostRuntime) -> Result<(), Fail> {
         ),
         // CR, indents, upper case, comments before a line with `+`, and phases in all places
         (
-            b"* PHASE A +\r\n .SUBCKT Top\t\r\n* phase b -\n*phase c +\n\n * comment\n+ X y\r\nMx1 X\n* phase d +\n+Y\n\n+z vdd PKEEP l=1\n.ends top\n* phase e -",
+            b"* PHASE A +\r\n .SUBCKT Top\t\r\n* phase b -\n*phase c +\n\n * comment\n\
+             + X y\r\nMx1 X\n* phase d +\n+Y\n\n+z vdd PKEEP l=1\n.ends top\n* phase e -",
             "top+a-b+d-e 2 x y z,Keep 0 1 2",
         ),
         // what stands behind `.end`, and the card `.model`
@@ -78,7 +80,8 @@ fn refuses_at_the_first_line(rt: HostRuntime) -> Result<(), Fail> {
     for (text, line, kind) in [
         // a deck that was cut short, one line with `+`, and no line
         (
-            "* domsyn deck 1\n* phase o_f +\n.subckt and2 vdd vss ck1 lm lmb ls lsb rs rsb\n+ i_a i_b\n+ o_f\nm0 d0 ck1 vdd vdd pch\nm1 d0 z0 vdd vdd pkeep\nm2 d0 i_a t0_0 vss nch\n",
+            "* domsyn deck 1\n* phase o_f +\n.subckt and2 vdd vss ck1 lm lmb ls lsb rs rsb\n+ i_a i_b\n\
+             + o_f\nm0 d0 ck1 vdd vdd pch\nm1 d0 z0 vdd vdd pkeep\nm2 d0 i_a t0_0 vss nch\n",
             9,
             DeckKind::NotClosed,
         ),
@@ -130,7 +133,8 @@ fn reads_what_is_written(rt: HostRuntime) -> Result<(), Fail> {
     let alloc = rt.alloc();
     for text in [
         AND_DECK,
-        b"* domsyn deck 1\n* phase a -\n.subckt a\n+ o_f vss vdd i_1 i_2 i_3 i_4 i_5\n+ i_6\nm0 d g s vss nch\nm1 g d o_f vdd pkeep\n.ends a\n",
+        b"* domsyn deck 1\n* phase a -\n.subckt a\n+ o_f vss vdd i_1 i_2 i_3 i_4 i_5\n\
+         + i_6\nm0 d g s vss nch\nm1 g d o_f vdd pkeep\n.ends a\n",
     ] {
         let circuit = read(alloc, text)?;
         let written = spice_text::write(alloc, &circuit)?;

@@ -118,7 +118,9 @@ fn rows_are_appended_as_lines(rt: HostRuntime) -> Result<(), Fail> {
     }
     assert_eq!(rt;
         text.as_slice(),
-        b"power events 3\ncycle 0 in 11 out 1 events 12\ncycle 1 in 10 out 0 events 1\ncycle 2 in - out X1\ncycle 18446744073709551615 in 0 out - events 0\n".as_slice()
+        b"power events 3\ncycle 0 in 11 out 1 events 12\n\
+         cycle 1 in 10 out 0 events 1\ncycle 2 in - out X1\ncycle 18446744073709551615 in 0 out - events 0\n"
+            .as_slice()
     );
     Ok(())
 }

@@ -66,7 +66,9 @@ fn events_stand_before_their_lines(rt: HostRuntime) -> Result<(), Fail> {
         Ok(trace) => {
             assert_eq!(rt;
                 trace.text.as_slice(),
-                b"event 0 o_a X 0\nevent 1 o_b X 1\npower events 2\nevent 2 o_a 0 X\nevent 3 o_b 1 X\ncycle 0 in - out XX events 2\n".as_slice()
+                b"event 0 o_a X 0\nevent 1 o_b X 1\npower events 2\n\
+                 event 2 o_a 0 X\nevent 3 o_b 1 X\ncycle 0 in - out XX events 2\n"
+                    .as_slice()
             );
         }
         Err(_) => assert!(rt; false),

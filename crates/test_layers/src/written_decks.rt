@@ -25,8 +25,10 @@ fn ports_phases_and_devices_stand_on_lines(rt: HostRuntime) -> Result<(), Fail> 
         ),
         (
             "phases and devices",
-            "* phase o_f +\n* phase x0 -\n.subckt gate vdd vss i_a o_f\nm o_f i_a vdd x pch\nm o_f i_a t x nch\nm t o_f vss x pkeep\n.ends\n",
-            "* domsyn deck 1\n* phase o_f +\n* phase x0 -\n.subckt gate\n+ vdd vss i_a o_f\nm0 o_f i_a vdd vdd pch\nm1 o_f i_a t vss nch\nm2 t o_f vss vdd pkeep\n.ends gate\n",
+            "* phase o_f +\n* phase x0 -\n.subckt gate vdd vss i_a o_f\n\
+             m o_f i_a vdd x pch\nm o_f i_a t x nch\nm t o_f vss x pkeep\n.ends\n",
+            "* domsyn deck 1\n* phase o_f +\n* phase x0 -\n.subckt gate\n+ vdd vss i_a o_f\n\
+             m0 o_f i_a vdd vdd pch\nm1 o_f i_a t vss nch\nm2 t o_f vss vdd pkeep\n.ends gate\n",
         ),
     ] {
         let circuit = read(alloc, text.as_bytes())?;

@@ -3,7 +3,8 @@ use Rattle.std.proofs.lemmas.Option.{same_Some}
 use Rattle.std.proofs.Common.{◌≡◌, inl, inr, refl, sym, ap, ap₂, subst, ◌∙◌, ℕ, ◌+◌, ◌≤◌, Option, Some, None, arith, le_antisymm}
 use Rattle.tree_map.specs.Covers.{Operator, CoverPart, End, Join, TreeShape, joined_shape, Fits, shape_of, sum_of, IsSum, IsLeast, IsLeastOfAll, Choice, Keep, CutOff, Nothing, IsChoice, GivesLeast}
 use Rattle.tree_map.specs.CoverTables.{Entry, arm_entries, cut_entry, lowest, table}
-use Rattle.gate_decompose.proofs.Among.{Among, among_either}
+use Rattle.gate_decompose.specs.Items.{Among}
+use Rattle.gate_decompose.proofs.Among.{among_either}
 use Rattle.tree_map.proofs.Recurrence.{arm_bounded, arm_reached, fits_parts, table_bounds, table_least}
 use Rattle.tree_map.proofs.Tables.{lowest_below, lowest_reached}
 

@@ -3,7 +3,8 @@ use Rattle.std.proofs.Common.{◌≡◌, ◌⊎◌, inl, inr, refl, sym, ap, sub
 use Rattle.std.proofs.lemmas.Bool.{cases_eq, cases_lt}
 use Rattle.tree_map.specs.Covers.{Operator, CoverPart, End, Join, Cover, Single, Kept, Cut, TreeShape, leaf_shape, joined_shape, Fits, IsLeast, IsLeastOfAll, IsRootShape, Lower, Choice, Keep, CutOff, Nothing, IsChoice, GivesLeast, Earlier, Comes, AreFirst, IsChosenCover}
 use Rattle.tree_map.specs.CoverTables.{Entry, cut_entry, lowest, same_shape, table}
-use Rattle.gate_decompose.proofs.Among.{Among, among_either, among_flat, among_flattened, among_left, among_map, among_mapped, among_right}
+use Rattle.gate_decompose.specs.Items.{Among}
+use Rattle.gate_decompose.proofs.Among.{among_either, among_flat, among_flattened, among_left, among_map, among_mapped, among_right}
 use Rattle.tree_map.proofs.Choices.{choices_there, lowest_least}
 use Rattle.tree_map.proofs.Chosen.{least_of_all_one, least_one, shapes_are}
 use Rattle.tree_map.proofs.Recurrence.{arm_bounded, table_bounds, table_least}

@@ -10,7 +10,7 @@ use Rattle.dual_rail.specs.declared.forest.Pair.TheVariants.{And, Or}
 use Rattle.dual_rail.specs.ForestData.{ForestData}
 use Rattle.dual_rail.specs.ForestOrder.{AreInOrder}
 use Rattle.tree_map.specs.Plans.{IsArmTree, literal, cut, series, parallel, IsPlan, IsTreeOf, cost, is_kept, tree_cost}
-use Rattle.gate_decompose.proofs.Among.{Among}
+use Rattle.gate_decompose.specs.Items.{Among}
 use Rattle.tree_map.proofs.Tallies.{arm_value, arms_value, tally, tally-is, tally_total}
 use Rattle.tree_map.proofs.Totals.{total, total_same, total_add, total_constant, total_parts, total_times}
 

@@ -14,7 +14,7 @@ use Rattle.dual_rail.specs.ForestData.{ForestData}
 use Rattle.dual_rail.specs.ForestOrder.{AreInOrder, ReadsBefore}
 use Rattle.tree_map.specs.PlanShapes.{AreShapes, ShapesMakePlans, arm_shape}
 use Rattle.tree_map.specs.Plans.{IsArmTree, literal, cut, series, parallel, IsTreeOf, is_kept, rail_gate}
-use Rattle.gate_decompose.proofs.Among.{Among}
+use Rattle.gate_decompose.specs.Items.{Among}
 
 -- the tree has this shape
 abbrev HasShape : Tree ℕ → TreeShape → Type 0

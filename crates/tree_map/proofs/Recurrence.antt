@@ -1,7 +1,8 @@
 -- The table of a part, joined up from the tables of its arms, holds exactly the least sums over all covers.
 use Rattle.std.proofs.lemmas.Option.{same_Some}
 use Rattle.std.proofs.Common.{◌≡◌, ◌↔◌, inl, inr, refl, sym, ap, ap₂, subst, ◌∙◌, ℕ, ◌+◌, ◌≤◌, List, map, Option, Some, None, arith, le_antisymm}
-use Rattle.gate_decompose.proofs.Among.{Among, among_left, among_right, among_either, among_map, among_mapped, among_flat, among_flattened}
+use Rattle.gate_decompose.specs.Items.{Among}
+use Rattle.gate_decompose.proofs.Among.{among_left, among_right, among_either, among_map, among_mapped, among_flat, among_flattened}
 use Rattle.tree_map.proofs.Tables.{best_below, best_reached, lowest_below, lowest_reached, among_shapes, shape_fits, among_table, table_best}
 use Rattle.tree_map.specs.Covers.{Operator, InSeries, InParallel, CoverPart, End, Join, Cover, Single, Kept, Cut, TreeShape, leaf_shape, joined_shape, Fits, shape_of, sum_of, IsCover, IsSum, IsLeast}
 use Rattle.tree_map.specs.CoverTables.{Entry, best, lowest, combined, shapes, cut_entry, arm_entries, table}

@@ -3,7 +3,8 @@ use Rattle.std.proofs.lemmas.Option.{same_Some}
 use Rattle.std.proofs.Common.{◌≡◌, ◌⊎◌, inl, inr, refl, sym, ap, subst, ℕ, ◌≤◌, min, Bool, true, false, cond, ◌==◌, List, [], ◌∷◌, map, option_map, Option, Some, None, eqb-true, eq-eqb, arith}
 use Rattle.std.specs.List.{range_with_len}
 use Rattle.std.proofs.lemmas.Bool.{cases_lt}
-use Rattle.gate_decompose.proofs.Among.{Among, among_map, among_mapped, among_flat, among_flattened, among_filter_map, among_filtered, among_range, among_ranged}
+use Rattle.gate_decompose.specs.Items.{Among}
+use Rattle.gate_decompose.proofs.Among.{among_map, among_mapped, among_flat, among_flattened, among_filter_map, among_filtered, among_range, among_ranged}
 use Rattle.dom_base.proofs.Bools.{and_both}
 use Rattle.tree_map.specs.Covers.{TreeShape, Fits}
 use Rattle.tree_map.specs.CoverTables.{Entry, same_shape, lower_of, best, lowest, shapes, table_within}

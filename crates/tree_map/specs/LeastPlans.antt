@@ -35,7 +35,8 @@ IsTaken forest kept shapes (pair_arm place) Nothing = IsFree forest place → �
 -- A pair whose shape is decided, where l and r are the parts below its arms: a root has its first shape of least cost, and
 -- each pair takes the first two choices that give its shape at least cost.
 pub record IsDecided
-    (forest : ForestData) (w h : ℕ) (kept : List Bool) (shapes : List TreeShape) (place : ℕ) (pair : Pair) (shape : TreeShape) : Type 0 where
+    (forest : ForestData) (w h : ℕ) (kept : List Bool) (shapes : List TreeShape) (place : ℕ) (pair : Pair) (shape : TreeShape)
+    : Type 0 where
   pub l : CoverPart
   pub r : CoverPart
   pub left_part : IsPartOf forest (left_arm pair) l

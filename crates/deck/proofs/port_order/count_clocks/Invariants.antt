@@ -1,5 +1,5 @@
 use Rattle.std.proofs.Common.{◌≤◌, ◌<◌, ℕ}
-use Rattle.deck.proofs.PortOrder.{BeginsLeading, LeavesLeading}
+use Rattle.deck.specs.PortFronts.{BeginsLeading, LeavesLeading}
 use Rattle.deck.proofs.port_order.count_clocks.Given as goal
 
 abbrev pub invariant-loop-clocks : goal.invariant-loop-clocks

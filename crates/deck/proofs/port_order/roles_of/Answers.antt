@@ -1,7 +1,8 @@
 use Rattle.std.proofs.Common.{◌+◌, drop, arith, length-drop}
 use Rattle.std.proofs.lemmas.List.{take_rest}
 use Rattle.deck.specs.Limits.{unclocked_count}
-use Rattle.deck.proofs.PortOrder.{BeginsGroups, groups_found, leaves_groups}
+use Rattle.deck.specs.PortFronts.{BeginsGroups}
+use Rattle.deck.proofs.PortOrder.{groups_found, leaves_groups}
 use Rattle.deck.proofs.port_order.roles_of.Goals as goal
 
 pub returns-then-pins-outs : goal.returns-then-pins-outs

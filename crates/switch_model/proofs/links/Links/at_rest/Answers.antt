@@ -2,7 +2,7 @@ use Rattle.std.proofs.Common.{◌≡◌, ◌<◌, false, true, length, ap, subst
 use Rattle.switch_model.specs.declared.links.Links.TheInside.{Inside}
 use Rattle.switch_model.specs.LinksData.{LinksData, is_first}
 use Rattle.switch_model.specs.Targets.{IsPending, IsTarget}
-use Rattle.switch_model.proofs.Decided.{dec_nat}
+use Rattle.dom_base.proofs.Decided.{dec_nat}
 use Rattle.switch_model.proofs.Searches.{first-false}
 use Rattle.switch_model.proofs.Targets.{target_unique}
 use Rattle.switch_model.proofs.links.Links.at_rest.Goals as goal

@@ -5,7 +5,7 @@ use Rattle.std.proofs.lemmas.Option.{get_or_from_slice_get, slice_get_read}
 use Rattle.deck.specs.Switches.{value_of}
 use Rattle.switch_model.specs.Search.{SearchData}
 use Rattle.switch_model.specs.declared.search.Reached.{Reached}
-use Rattle.switch_model.proofs.Decided.{dec_nat}
+use Rattle.dom_base.proofs.Decided.{dec_nat}
 use Rattle.switch_model.proofs.search.Search.all_have.Goals as goal
 
 abbrev zero_stop : Reached

@@ -4,7 +4,7 @@ use Rattle.std.proofs.lemmas.Option.{slice_get_read}
 use Rattle.dom_base.specs.declared.tri.Tri.TheVariants.{Zero}
 use Rattle.switch_model.specs.Search.{SearchData, IsVisited}
 use Rattle.switch_model.specs.declared.search.Reached.{Reached}
-use Rattle.switch_model.proofs.Decided.{dec_nat}
+use Rattle.dom_base.proofs.Decided.{dec_nat}
 use Rattle.switch_model.proofs.Marks.{few-reached, listed-ready}
 use Rattle.switch_model.proofs.Searches.{first-false, found, read_same, under_way-start}
 use Rattle.switch_model.proofs.Visits.{stays_at, visited-grows}

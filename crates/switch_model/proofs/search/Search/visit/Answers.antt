@@ -4,7 +4,7 @@ use Rattle.std.proofs.lemmas.List.Elements.{Contains-get_or}
 use Rattle.std.proofs.lemmas.Option.{get_or_from_slice_get, slice_get_within}
 use Rattle.deck.specs.declared.device.Device.{Device}
 use Rattle.switch_model.specs.Laws.{EndsAt}
-use Rattle.switch_model.proofs.Decided.{dec_nat}
+use Rattle.dom_base.proofs.Decided.{dec_nat}
 use Rattle.dom_base.proofs.Lists.{Contains-slice_get}
 use Rattle.switch_model.proofs.Searches.{Grows-trans}
 use Rattle.switch_model.proofs.Visits.{IsMetAt, met_at-grows, visited-all}
