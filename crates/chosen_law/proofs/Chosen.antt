@@ -12,7 +12,7 @@ use Rattle.switch_model.specs.Targets.{EventAt}
 use Rattle.switch_model.proofs.Searches.{clash, first-true}
 use Rattle.switch_model.proofs.Targets.{target_unique}
 use Rattle.port_runs.specs.Environment.{Capture, Captured, Evaluation, Launch, Launched, Pins, Place, Precharge, Released, Reset, bit, Happens, IsNext, Move, Moves, Open, Rise, Step, Take, World, after_move, is_over, settings_of}
-use Rattle.port_runs.specs.Moves.{set_all, set_from}
+use Rattle.port_runs.specs.Moves.{PortValue, set_all, set_from}
 use Rattle.domino_law.specs.LooseDeck.{IsSourceNet}
 use Rattle.domino_law.specs.Nets.{At, Clock, Lm, Lmb, Ls, Lsb, Net, Pin, Rs, Rsb, Vdd, Vss}
 use Rattle.domino_law.specs.OwnRun.{bit_at}
@@ -27,13 +27,8 @@ use Rattle.event_sim.specs.Chains.{IsChain, IsChosen, step_after, values_after}
 use Rattle.event_sim.specs.Orders.{By}
 use Rattle.event_sim.specs.Settling.{EndsAtRest}
 use Rattle.trace_tool.specs.Courses.{LeadsTo, State}
-use Rattle.trace_tool.specs.Moves as tool
+use Rattle.trace_tool.specs.Moves.{evaluation_moves, latching_moves}
 use Rattle.chosen_law.specs.Chosen.{EvaluationIsLegal, IsReadyForPins, IsSettled, LatchingIsLegal, PowerIsLegal}
-
--- the settings of a trace, and those of the law, set the same
-pub same_settings : (values vs : List Tri) (place : ℕ) → tool.set_all values (tool.set_from place vs) ≡ set_all values (set_from place vs)
-same_settings values [] place = refl
-same_settings values (v ∷ vs) place = same_settings (slice_set values place v) vs (place + 1)
 
 -- a chosen event is an event
 pub chosen_event : (order : ℕ → ℕ → ℕ → Type 0) (links : LinksData) (values : List Tri) (event : Event) → IsChosen order links values event
@@ -105,21 +100,21 @@ module _ (order : ℕ → ℕ → ℕ → Type 0) (roles : Roles) (links : Links
       )
 
   -- a move and its settling
-  leads_step : (move : Move) (w : World) (step at : ℕ) (vs : List Tri) (more : List tool.Move) (events : List Event) (t : State)
+  leads_step : (move : Move) (w : World) (step at : ℕ) (vs : List Tri) (more : List (List PortValue)) (events : List Event) (t : State)
       → settings_of roles move w.risen ≡ set_from at vs → IsReady links s move w → length w.values ≡ links.nets → AreSources net s w.place w.risen (bit_at w.pins) w.values
-      → LeadsTo order links (record { values = w.values; step = step }) (tool.set_from at vs ∷ more) events t
+      → LeadsTo order links (record { values = w.values; step = step }) (set_from at vs ∷ more) events t
       → (values : List Tri) × (step' : ℕ) × (events' : List Event) × (steps : List Step)
       × Run links net s steps w (record (after_move move w) { values = values }) × IsSettled links net s (record (after_move move w) { values = values })
       × LeadsTo order links (record { values = values; step = step' }) more events' t
   leads_step move w step at vs more events t same ready whole src l =
-      let set : tool.set_all w.values (tool.set_from at vs) ≡ set_all w.values (settings_of roles move w.risen) =
-      same_settings w.values vs at ∙ sym (ap (set_all w.values) same) in
-      let mid : World = record (after_move move w) { values = tool.set_all w.values (tool.set_from at vs) } in
+      let set : set_all w.values (set_from at vs) ≡ set_all w.values (settings_of roles move w.risen) =
+      sym (ap (set_all w.values) same) in
+      let mid : World = record (after_move move w) { values = set_all w.values (set_from at vs) } in
       let d : TakesStep links net s (Moves move) w mid =
       subst (λ v. TakesStep links net s (Moves move) w (record (after_move move w) { values = v })) (sym set) (settings_are_moves roles links net s move w ports whole src ready) in
-      let there : (tool.set_all w.values (tool.set_from at vs)) ≡ d.0 = ap (λ u. u.values) d.1 in
+      let there : (set_all w.values (set_from at vs)) ≡ d.0 = ap (λ u. u.values) d.1 in
       let g = goes l.0 mid step l.3 (ap length there ∙ ((d.3).same_length ∙ whole)) (λ a i. rw there (d.4 a i)) in (
-        values_after (tool.set_all w.values (tool.set_from at vs)) l.0,
+        values_after (set_all w.values (set_from at vs)) l.0,
         step_after step l.0,
         l.1,
         Moves move ∷ g.0,
@@ -131,7 +126,7 @@ module _ (order : ℕ → ℕ → ℕ → Type 0) (roles : Roles) (links : Links
   -- the later clocks rise in turn
   rises_legal : (n risen : ℕ) (past : List (List Bool)) (pins : List Bool) (values : List Tri) (step : ℕ) (events : List Event) (t : State) → risen + n ≡ s.clocks
       → IsSettled links net s (record { place = Evaluation; risen = risen; past = past; pins = pins; values = values })
-      → LeadsTo order links (record { values = values; step = step }) (map (λ x. x ∷ []) (tool.set_from (2 + risen) (replicate n One))) events t
+      → LeadsTo order links (record { values = values; step = step }) (map (λ x. x ∷ []) (set_from (2 + risen) (replicate n One))) events t
       → (steps : List Step)
       × Run links net s steps (record { place = Evaluation; risen = risen; past = past; pins = pins; values = values }) (record { place = Evaluation; risen = s.clocks; past = past; pins = pins; values = t.values })
       × IsSettled links net s (record { place = Evaluation; risen = s.clocks; past = past; pins = pins; values = t.values })
@@ -146,27 +141,22 @@ module _ (order : ℕ → ℕ → ℕ → Type 0) (roles : Roles) (links : Links
       let k = leads_step Rise (record { place = Evaluation; risen = risen; past = past; pins = pins; values = values }) step (2 + risen) (One ∷ []) _ events t refl
       (refl, (omega arith)) f.whole f.sources l in
       let r = rises_legal n (risen + 1) past pins k.0 k.1 k.2 t (omega arith) k.5
-      (subst (λ p. LeadsTo order links (record { values = k.0; step = k.1 }) (map (λ x. x ∷ []) (tool.set_from p (replicate n One))) k.2 t) (shift risen) k.6) in
+      (subst (λ p. LeadsTo order links (record { values = k.0; step = k.1 }) (map (λ x. x ∷ []) (set_from p (replicate n One))) k.2 t) (shift risen) k.6) in
       (k.3 ++ r.0, run_append links net s k.3 r.0 _ _ _ k.4 r.1, r.2)
     where
       shift : (r : ℕ) → 2 + r + 1 ≡ 2 + (r + 1)
       shift r = omega arith
 
-  pub bits_same : (bits : List Bool) → map tool.value_of_bit bits ≡ map bit bits
-  bits_same [] = refl
-  bits_same (true ∷ bits) = ap (λ l. One ∷ l) (bits_same bits)
-  bits_same (false ∷ bits) = ap (λ l. Zero ∷ l) (bits_same bits)
-
   pub evaluation_legal : (pins : List Bool) (events : List Event) (w : World) (step : ℕ) (read : State)
       → IsReadyForPins links net s w → length pins ≡ s.pins
-      → LeadsTo order links (record { values = w.values; step = step }) (tool.evaluation_moves roles pins) events read
+      → LeadsTo order links (record { values = w.values; step = step }) (evaluation_moves roles pins) events read
       → (steps : List Step)
       × Run links net s steps w (record { place = Evaluation; risen = s.clocks; past = is_over w.place w.past w.pins; pins = pins; values = read.values })
       × IsSettled links net s (record { place = Evaluation; risen = s.clocks; past = is_over w.place w.past w.pins; pins = pins; values = read.values })
   evaluation_legal pins events w step read ready long l =
-      let first = leads_step (Take pins) w step (roles.clocks + 8) (map bit pins) (map (λ x. x ∷ []) (tool.set_from 2 (replicate roles.clocks One))) events read refl
+      let first = leads_step (Take pins) w step (roles.clocks + 8) (map bit pins) (map (λ x. x ∷ []) (set_from 2 (replicate roles.clocks One))) events read refl
       (ready.place, (ready.settled).rests, long) (ready.settled).whole (ready.settled).sources
-      (subst (λ v. LeadsTo order links (record { values = w.values; step = step }) (tool.set_from (roles.clocks + 8) v ∷ map (λ x. x ∷ []) (tool.set_from 2 (replicate roles.clocks One))) events read) (bits_same pins) l) in
+      l in
       by roles.clocks ports.some_clock ports.clocks_are first.0 first.1 first.2 first.3 first.4 first.5 first.6
     where
       there : World
@@ -176,11 +166,11 @@ module _ (order : ℕ → ℕ → ℕ → Type 0) (roles : Roles) (links : Links
       pinned values = record { place = Pins; risen = w.risen; past = is_over w.place w.past w.pins; pins = pins; values = values }
 
       by : (n : ℕ) → 1 ≤ n → s.clocks ≡ n → (values : List Tri) (step : ℕ) (events : List Event) (steps : List Step) → Run links net s steps w (pinned values) → IsSettled links net s (pinned values)
-          → LeadsTo order links (record { values = values; step = step }) (map (λ x. x ∷ []) (tool.set_from 2 (replicate n One))) events read
+          → LeadsTo order links (record { values = values; step = step }) (map (λ x. x ∷ []) (set_from 2 (replicate n One))) events read
           → (steps : List Step) × Run links net s steps w there × IsSettled links net s there
       by zero some e values step events steps r f l = absurd (omega arith)
       by (suc n) some e values step events steps r f l =
-          let k = leads_step (Open Evaluation) (pinned values) step 2 (One ∷ []) (map (λ x. x ∷ []) (tool.set_from 3 (replicate n One))) events read refl
+          let k = leads_step (Open Evaluation) (pinned values) step 2 (One ∷ []) (map (λ x. x ∷ []) (set_from 3 (replicate n One))) events read refl
           (tt, f.rests, (λ z. absurd (no z))) f.whole f.sources l in
           let q = rises_legal n 1 (is_over w.place w.past w.pins) pins k.0 k.1 k.2 read (omega arith) k.5 k.6 in
           (steps ++ (k.3 ++ q.0), run_append links net s steps (k.3 ++ q.0) w _ _ r (run_append links net s k.3 q.0 _ _ _ k.4 q.1), q.2)
@@ -190,15 +180,15 @@ module _ (order : ℕ → ℕ → ℕ → Type 0) (roles : Roles) (links : Links
 
   pub latching_legal : (events : List Event) (w : World) (step : ℕ) (last : State)
       → w.place ≡ Evaluation → w.risen ≡ s.clocks → IsSettled links net s w
-      → LeadsTo order links (record { values = w.values; step = step }) (tool.latching_moves roles) events last
+      → LeadsTo order links (record { values = w.values; step = step }) (latching_moves roles) events last
       → (steps : List Step)
       × Run links net s steps w (record { place = Launched; risen = w.risen; past = w.past; pins = w.pins; values = last.values })
       × IsSettled links net s (record { place = Launched; risen = w.risen; past = w.past; pins = w.pins; values = last.values })
   latching_legal events w step last at all fine l =
-      let a = leads_step (Open Capture) w step (roles.clocks + 2) (One ∷ Zero ∷ []) (tool.set_from (roles.clocks + 2) (Zero ∷ One ∷ []) ∷ tool.set_from 2 (replicate roles.clocks Zero) ∷ tool.set_from (roles.clocks + 4) (One ∷ Zero ∷ []) ∷ tool.set_from (roles.clocks + 4) (Zero ∷ One ∷ []) ∷ []) events last refl (next w.place at, fine.rests, (λ z. all)) fine.whole fine.sources l in
-      let b = leads_step (Open Captured) (record { place = Capture; risen = w.risen; past = w.past; pins = w.pins; values = a.0 }) a.1 (roles.clocks + 2) (Zero ∷ One ∷ []) (tool.set_from 2 (replicate roles.clocks Zero) ∷ tool.set_from (roles.clocks + 4) (One ∷ Zero ∷ []) ∷ tool.set_from (roles.clocks + 4) (Zero ∷ One ∷ []) ∷ []) a.2 last refl (tt, a.5.rests, (λ z. absurd (no1 z))) a.5.whole a.5.sources a.6 in
-      let c = leads_step (Open Precharge) (record { place = Captured; risen = w.risen; past = w.past; pins = w.pins; values = b.0 }) b.1 2 (replicate roles.clocks Zero) (tool.set_from (roles.clocks + 4) (One ∷ Zero ∷ []) ∷ tool.set_from (roles.clocks + 4) (Zero ∷ One ∷ []) ∷ []) b.2 last refl (tt, b.5.rests, (λ z. absurd (no2 z))) b.5.whole b.5.sources b.6 in
-      let d = leads_step (Open Launch) (record { place = Precharge; risen = w.risen; past = w.past; pins = w.pins; values = c.0 }) c.1 (roles.clocks + 4) (One ∷ Zero ∷ []) (tool.set_from (roles.clocks + 4) (Zero ∷ One ∷ []) ∷ []) c.2 last refl (tt, c.5.rests, (λ z. absurd (no3 z))) c.5.whole c.5.sources c.6 in
+      let a = leads_step (Open Capture) w step (roles.clocks + 2) (One ∷ Zero ∷ []) (set_from (roles.clocks + 2) (Zero ∷ One ∷ []) ∷ set_from 2 (replicate roles.clocks Zero) ∷ set_from (roles.clocks + 4) (One ∷ Zero ∷ []) ∷ set_from (roles.clocks + 4) (Zero ∷ One ∷ []) ∷ []) events last refl (next w.place at, fine.rests, (λ z. all)) fine.whole fine.sources l in
+      let b = leads_step (Open Captured) (record { place = Capture; risen = w.risen; past = w.past; pins = w.pins; values = a.0 }) a.1 (roles.clocks + 2) (Zero ∷ One ∷ []) (set_from 2 (replicate roles.clocks Zero) ∷ set_from (roles.clocks + 4) (One ∷ Zero ∷ []) ∷ set_from (roles.clocks + 4) (Zero ∷ One ∷ []) ∷ []) a.2 last refl (tt, a.5.rests, (λ z. absurd (no1 z))) a.5.whole a.5.sources a.6 in
+      let c = leads_step (Open Precharge) (record { place = Captured; risen = w.risen; past = w.past; pins = w.pins; values = b.0 }) b.1 2 (replicate roles.clocks Zero) (set_from (roles.clocks + 4) (One ∷ Zero ∷ []) ∷ set_from (roles.clocks + 4) (Zero ∷ One ∷ []) ∷ []) b.2 last refl (tt, b.5.rests, (λ z. absurd (no2 z))) b.5.whole b.5.sources b.6 in
+      let d = leads_step (Open Launch) (record { place = Precharge; risen = w.risen; past = w.past; pins = w.pins; values = c.0 }) c.1 (roles.clocks + 4) (One ∷ Zero ∷ []) (set_from (roles.clocks + 4) (Zero ∷ One ∷ []) ∷ []) c.2 last refl (tt, c.5.rests, (λ z. absurd (no3 z))) c.5.whole c.5.sources c.6 in
       let e = leads_step (Open Launched) (record { place = Launch; risen = w.risen; past = w.past; pins = w.pins; values = d.0 }) d.1 (roles.clocks + 4) (Zero ∷ One ∷ []) [] d.2 last refl (tt, d.5.rests, (λ z. absurd (no4 z))) d.5.whole d.5.sources d.6 in
       let v : last.values ≡ e.0 = ap (λ x. x.values) e.6.1 in (
         a.3 ++ (b.3 ++ (c.3 ++ (d.3 ++ e.3))),

@@ -7,7 +7,7 @@ use Rattle.deck.specs.declared.role.Roles.{Roles}
 use Rattle.switch_model.specs.LinksData.{LinksData, links_of}
 use Rattle.switch_model.specs.Power.{power_values}
 use Rattle.port_runs.specs.Environment.{Capture, Captured, Evaluation, Launch, Launched, Pins, Place, Precharge, Released, bit, Happens, IsNext, Move, Moves, Open, Rise, Step, Take, World, after_move, settings_of}
-use Rattle.port_runs.specs.Moves.{set_all, set_from}
+use Rattle.port_runs.specs.Moves.{PortValue, set_all, set_from}
 use Rattle.port_runs.specs.PortRuns.{power_world}
 use Rattle.domino_law.specs.LooseDeck.{IsLooseDeck}
 use Rattle.domino_law.specs.Nets.{Net}
@@ -22,9 +22,9 @@ use Rattle.event_sim.specs.Chains.{IsChain, step_after, values_after}
 use Rattle.event_sim.specs.Orders.{By}
 use Rattle.event_sim.specs.Settling.{EndsAtRest, EndsUnsettled}
 use Rattle.trace_tool.specs.Courses.{EndsWithin, LeadsTo, State, after, moved}
-use Rattle.trace_tool.specs.Moves as tool
+use Rattle.trace_tool.specs.Moves.{evaluation_moves, latching_moves, power_moves}
 use Rattle.chosen_law.specs.Chosen.{CycleNeverUnsettled, IsReadyForPins, IsSettled, PowerNeverUnsettled}
-use Rattle.chosen_law.proofs.Chosen.{bits_same, chosen_event, goes, run_append, same_settings}
+use Rattle.chosen_law.proofs.Chosen.{chosen_event, goes, run_append}
 use Rattle.chosen_law.proofs.OwnReadings.{came_after}
 
 -- chosen events happen, one after the other
@@ -40,18 +40,18 @@ nets_long [] = refl
 nets_long (event ∷ events) = ap suc (nets_long events)
 
 -- of the moves in turn, each with its settling, one ends unsettled
-abbrev Fails : (ℕ → ℕ → ℕ → Type 0) → LinksData → State → List tool.Move → Type 0
+abbrev Fails : (ℕ → ℕ → ℕ → Type 0) → LinksData → State → List (List PortValue) → Type 0
 Fails order links t [] = ⊥
 Fails order links t (move ∷ moves) =
     ((last : List Event) × EndsUnsettled order links (moved t move).values t.step last)
     ⊎ ((first : List Event) × EndsAtRest order links (moved t move).values t.step first × Fails order links (after (moved t move) first) moves)
 
-fails_from : (order : ℕ → ℕ → ℕ → Type 0) (links : LinksData) (before never : List tool.Move) (move : tool.Move) (t state : State) (earlier last : List Event)
+fails_from : (order : ℕ → ℕ → ℕ → Type 0) (links : LinksData) (before never : List (List PortValue)) (move : List PortValue) (t state : State) (earlier last : List Event)
     → LeadsTo order links t before earlier state → EndsUnsettled order links (moved state move).values state.step last → Fails order links t (before ++ move ∷ never)
 fails_from order links [] never move t state earlier last l u = inl (last, subst (λ x. EndsUnsettled order links (moved x move).values x.step last) l.1 u)
 fails_from order links (b ∷ bs) never move t state earlier last l u = inr (l.0, l.3, fails_from order links bs never move (after (moved t b) l.0) state l.1 last l.4 u)
 
-fails : (order : ℕ → ℕ → ℕ → Type 0) (links : LinksData) (t : State) (moves : List tool.Move) (events last : List Event) (reached : State) → EndsWithin order links t moves events last reached → Fails order links t moves
+fails : (order : ℕ → ℕ → ℕ → Type 0) (links : LinksData) (t : State) (moves : List (List PortValue)) (events last : List Event) (reached : State) → EndsWithin order links t moves events last reached → Fails order links t moves
 fails order links t moves events last reached e = subst (Fails order links t) (sym e.moves_are) (fails_from order links e.before e.never e.move t e.state e.earlier last e.leads e.unsettled)
 
 module _ (order : ℕ → ℕ → ℕ → Type 0) (roles : Roles) (links : LinksData) (net : Net → ℕ) (s : Shape) (ports : HasPorts roles links net s) (loose : IsLooseDeck links net s) (start : World) (power : IsPower links net s start) where
@@ -60,20 +60,20 @@ module _ (order : ℕ → ℕ → ℕ → Type 0) (roles : Roles) (links : Links
       u.unrest (rests_in_time links net s steps (map (λ e. e.net) last) start w (record w { values = values_after w.values last }) loose power r (chain_happens order links net s last w step u.chain) (nets_long last ∙ u.count))
 
   -- a move with its settling, of which a later one fails
-  abbrev Later : World → List tool.Move → Type 0
+  abbrev Later : World → List (List PortValue) → Type 0
   Later w more = (values : List Tri) × (step : ℕ) × (steps : List Step) × Run links net s steps start (record w { values = values }) × IsSettled links net s (record w { values = values }) × Fails order links (record { values = values; step = step }) more
 
   abbrev set_world : Move → World → ℕ → List Tri → World
-  set_world move w at vs = record (after_move move w) { values = tool.set_all w.values (tool.set_from at vs) }
+  set_world move w at vs = record (after_move move w) { values = set_all w.values (set_from at vs) }
 
-  fails_step : (move : Move) (w : World) (step at : ℕ) (vs : List Tri) (more : List tool.Move) (steps : List Step) → Run links net s steps start w
+  fails_step : (move : Move) (w : World) (step at : ℕ) (vs : List Tri) (more : List (List PortValue)) (steps : List Step) → Run links net s steps start w
       → settings_of roles move w.risen ≡ set_from at vs → IsReady links s move w → IsSettled links net s w
-      → Fails order links (record { values = w.values; step = step }) (tool.set_from at vs ∷ more)
+      → Fails order links (record { values = w.values; step = step }) (set_from at vs ∷ more)
       → Later (after_move move w) more
   fails_step move w step at vs more steps r same ready settled f = by f
     where
-      set : tool.set_all w.values (tool.set_from at vs) ≡ set_all w.values (settings_of roles move w.risen)
-      set = same_settings w.values vs at ∙ sym (ap (set_all w.values) same)
+      set : set_all w.values (set_from at vs) ≡ set_all w.values (settings_of roles move w.risen)
+      set = sym (ap (set_all w.values) same)
 
       does : TakesStep links net s (Moves move) w (set_world move w at vs)
       does = subst (λ v. TakesStep links net s (Moves move) w (record (after_move move w) { values = v })) (sym set) (settings_are_moves roles links net s move w ports settled.whole settled.sources ready)
@@ -81,20 +81,20 @@ module _ (order : ℕ → ℕ → ℕ → Type 0) (roles : Roles) (links : Links
       moved_run : Run links net s (steps ++ Moves move ∷ []) start (set_world move w at vs)
       moved_run = run_append links net s steps (Moves move ∷ []) start w (set_world move w at vs) r ((set_world move w at vs), does, refl)
 
-      by : Fails order links (record { values = w.values; step = step }) (tool.set_from at vs ∷ more) → Later (after_move move w) more
+      by : Fails order links (record { values = w.values; step = step }) (set_from at vs ∷ more) → Later (after_move move w) more
       by (inl u) = absurd (no_unrest (set_world move w at vs) (steps ++ Moves move ∷ []) step u.0 moved_run u.1)
       by (inr g) =
-          let there : tool.set_all w.values (tool.set_from at vs) ≡ does.0 = ap (λ u. u.values) does.1 in
+          let there : set_all w.values (set_from at vs) ≡ does.0 = ap (λ u. u.values) does.1 in
           let q = goes order roles links net s ports g.0 (set_world move w at vs) step g.1 (ap length there ∙ ((does.3).same_length ∙ settled.whole)) (λ a i. rw there (does.4 a i)) in
-          (values_after (tool.set_all w.values (tool.set_from at vs)) g.0, step_after step g.0, (steps ++ Moves move ∷ []) ++ q.0, run_append links net s (steps ++ Moves move ∷ []) q.0 start (set_world move w at vs) _ moved_run q.1, q.2, g.2)
+          (values_after (set_all w.values (set_from at vs)) g.0, step_after step g.0, (steps ++ Moves move ∷ []) ++ q.0, run_append links net s (steps ++ Moves move ∷ []) q.0 start (set_world move w at vs) _ moved_run q.1, q.2, g.2)
 
   fails_latching : (w : World) (step : ℕ) (steps : List Step) → Run links net s steps start w → w.place ≡ Evaluation → w.risen ≡ s.clocks → IsSettled links net s w
-      → Fails order links (record { values = w.values; step = step }) (tool.latching_moves roles) → ⊥
+      → Fails order links (record { values = w.values; step = step }) (latching_moves roles) → ⊥
   fails_latching w step steps r at all settled f =
-      let a = fails_step (Open Capture) w step (roles.clocks + 2) (One ∷ Zero ∷ []) (tool.set_from (roles.clocks + 2) (Zero ∷ One ∷ []) ∷ tool.set_from 2 (replicate roles.clocks Zero) ∷ tool.set_from (roles.clocks + 4) (One ∷ Zero ∷ []) ∷ tool.set_from (roles.clocks + 4) (Zero ∷ One ∷ []) ∷ []) steps r refl (next w.place at, settled.rests, (λ z. all)) settled f in
-      let b = fails_step (Open Captured) (record w { place = Capture; values = a.0 }) a.1 (roles.clocks + 2) (Zero ∷ One ∷ []) (tool.set_from 2 (replicate roles.clocks Zero) ∷ tool.set_from (roles.clocks + 4) (One ∷ Zero ∷ []) ∷ tool.set_from (roles.clocks + 4) (Zero ∷ One ∷ []) ∷ []) a.2 a.3 refl (tt, (a.4).rests, (λ z. absurd (no1 z))) a.4 a.5 in
-      let c = fails_step (Open Precharge) (record w { place = Captured; values = b.0 }) b.1 2 (replicate roles.clocks Zero) (tool.set_from (roles.clocks + 4) (One ∷ Zero ∷ []) ∷ tool.set_from (roles.clocks + 4) (Zero ∷ One ∷ []) ∷ []) b.2 b.3 refl (tt, (b.4).rests, (λ z. absurd (no2 z))) b.4 b.5 in
-      let d = fails_step (Open Launch) (record w { place = Precharge; values = c.0 }) c.1 (roles.clocks + 4) (One ∷ Zero ∷ []) (tool.set_from (roles.clocks + 4) (Zero ∷ One ∷ []) ∷ []) c.2 c.3 refl (tt, (c.4).rests, (λ z. absurd (no3 z))) c.4 c.5 in
+      let a = fails_step (Open Capture) w step (roles.clocks + 2) (One ∷ Zero ∷ []) (set_from (roles.clocks + 2) (Zero ∷ One ∷ []) ∷ set_from 2 (replicate roles.clocks Zero) ∷ set_from (roles.clocks + 4) (One ∷ Zero ∷ []) ∷ set_from (roles.clocks + 4) (Zero ∷ One ∷ []) ∷ []) steps r refl (next w.place at, settled.rests, (λ z. all)) settled f in
+      let b = fails_step (Open Captured) (record w { place = Capture; values = a.0 }) a.1 (roles.clocks + 2) (Zero ∷ One ∷ []) (set_from 2 (replicate roles.clocks Zero) ∷ set_from (roles.clocks + 4) (One ∷ Zero ∷ []) ∷ set_from (roles.clocks + 4) (Zero ∷ One ∷ []) ∷ []) a.2 a.3 refl (tt, (a.4).rests, (λ z. absurd (no1 z))) a.4 a.5 in
+      let c = fails_step (Open Precharge) (record w { place = Captured; values = b.0 }) b.1 2 (replicate roles.clocks Zero) (set_from (roles.clocks + 4) (One ∷ Zero ∷ []) ∷ set_from (roles.clocks + 4) (Zero ∷ One ∷ []) ∷ []) b.2 b.3 refl (tt, (b.4).rests, (λ z. absurd (no2 z))) b.4 b.5 in
+      let d = fails_step (Open Launch) (record w { place = Precharge; values = c.0 }) c.1 (roles.clocks + 4) (One ∷ Zero ∷ []) (set_from (roles.clocks + 4) (Zero ∷ One ∷ []) ∷ []) c.2 c.3 refl (tt, (c.4).rests, (λ z. absurd (no3 z))) c.4 c.5 in
       let e = fails_step (Open Launched) (record w { place = Launch; values = d.0 }) d.1 (roles.clocks + 4) (Zero ∷ One ∷ []) [] d.2 d.3 refl (tt, (d.4).rests, (λ z. absurd (no4 z))) d.4 d.5 in
       e.5
     where
@@ -115,29 +115,29 @@ module _ (order : ℕ → ℕ → ℕ → Type 0) (roles : Roles) (links : Links
       no4 z = cc
 
   fails_rises : (n : ℕ) (w : World) (step : ℕ) (steps : List Step) → Run links net s steps start w → w.place ≡ Evaluation → w.risen + n ≡ s.clocks → 1 ≤ w.risen → IsSettled links net s w
-      → Fails order links (record { values = w.values; step = step }) (map (λ x. x ∷ []) (tool.set_from (2 + w.risen) (replicate n One)) ++ tool.latching_moves roles) → ⊥
+      → Fails order links (record { values = w.values; step = step }) (map (λ x. x ∷ []) (set_from (2 + w.risen) (replicate n One)) ++ latching_moves roles) → ⊥
   fails_rises zero w step steps r at all some settled f = fails_latching w step steps r at (omega (arith, all)) settled f
   fails_rises (suc n) w step steps r at all some settled f =
-      let k = fails_step Rise w step (2 + w.risen) (One ∷ []) (map (λ x. x ∷ []) (tool.set_from (2 + w.risen + 1) (replicate n One)) ++ tool.latching_moves roles) steps r refl (at, omega (arith, all)) settled f in
+      let k = fails_step Rise w step (2 + w.risen) (One ∷ []) (map (λ x. x ∷ []) (set_from (2 + w.risen + 1) (replicate n One)) ++ latching_moves roles) steps r refl (at, omega (arith, all)) settled f in
       fails_rises n (record w { risen = w.risen + 1; values = k.0 }) k.1 k.2 k.3 at (omega (arith, all)) (omega arith) k.4
-      (subst (λ p. Fails order links (record { values = k.0; step = k.1 }) (map (λ x. x ∷ []) (tool.set_from p (replicate n One)) ++ tool.latching_moves roles)) (shift w.risen) k.5)
+      (subst (λ p. Fails order links (record { values = k.0; step = k.1 }) (map (λ x. x ∷ []) (set_from p (replicate n One)) ++ latching_moves roles)) (shift w.risen) k.5)
     where
       shift : (r : ℕ) → 2 + r + 1 ≡ 2 + (r + 1)
       shift r = omega arith
 
   fails_cycle : (pins : List Bool) (w : World) (step : ℕ) (steps : List Step) → Run links net s steps start w → IsReadyForPins links net s w → length pins ≡ s.pins
-      → Fails order links (record { values = w.values; step = step }) (tool.evaluation_moves roles pins ++ tool.latching_moves roles) → ⊥
+      → Fails order links (record { values = w.values; step = step }) (evaluation_moves roles pins ++ latching_moves roles) → ⊥
   fails_cycle pins w step steps r ready long f =
-      let k = fails_step (Take pins) w step (roles.clocks + 8) (map bit pins) (map (λ x. x ∷ []) (tool.set_from 2 (replicate roles.clocks One)) ++ tool.latching_moves roles) steps r refl
+      let k = fails_step (Take pins) w step (roles.clocks + 8) (map bit pins) (map (λ x. x ∷ []) (set_from 2 (replicate roles.clocks One)) ++ latching_moves roles) steps r refl
       (ready.place, (ready.settled).rests, long) ready.settled
-      (subst (λ v. Fails order links (record { values = w.values; step = step }) (tool.set_from (roles.clocks + 8) v ∷ (map (λ x. x ∷ []) (tool.set_from 2 (replicate roles.clocks One)) ++ tool.latching_moves roles))) (bits_same order roles links net s ports pins) f) in
+      f in
       by roles.clocks ports.some_clock ports.clocks_are (after_move (Take pins) w) refl k.0 k.1 k.2 k.3 k.4 k.5
     where
       by : (n : ℕ) → 1 ≤ n → s.clocks ≡ n → (u : World) → u.place ≡ Pins → (values : List Tri) (step : ℕ) (steps : List Step) → Run links net s steps start (record u { values = values }) → IsSettled links net s (record u { values = values })
-          → Fails order links (record { values = values; step = step }) (map (λ x. x ∷ []) (tool.set_from 2 (replicate n One)) ++ tool.latching_moves roles) → ⊥
+          → Fails order links (record { values = values; step = step }) (map (λ x. x ∷ []) (set_from 2 (replicate n One)) ++ latching_moves roles) → ⊥
       by zero some e u at values step steps r settled f = absurd (omega arith)
       by (suc n) some e u at values step steps r settled f =
-          let k = fails_step (Open Evaluation) (record u { values = values }) step 2 (One ∷ []) (map (λ x. x ∷ []) (tool.set_from 3 (replicate n One)) ++ tool.latching_moves roles) steps r refl
+          let k = fails_step (Open Evaluation) (record u { values = values }) step 2 (One ∷ []) (map (λ x. x ∷ []) (set_from 3 (replicate n One)) ++ latching_moves roles) steps r refl
           (next u.place at, settled.rests, (λ z. absurd (no z))) settled f in
           fails_rises n (record u { place = Evaluation; risen = 1; values = k.0 }) k.1 k.2 k.3 refl (omega (arith, e)) (omega arith) k.4 k.5
         where
@@ -149,7 +149,7 @@ module _ (order : ℕ → ℕ → ℕ → Type 0) (roles : Roles) (links : Links
           next _ z = absurd (cc)
 
 pub power_never_unsettled : PowerNeverUnsettled
-power_never_unsettled place c roles net s events last reached loose ports e = by (fails (By place) (links_of c roles) (record { values = power_values c roles; step = 0 }) (tool.power_moves roles) events last reached e)
+power_never_unsettled place c roles net s events last reached loose ports e = by (fails (By place) (links_of c roles) (record { values = power_values c roles; step = 0 }) (power_moves roles) events last reached e)
   where
     no : Released ≡ Capture → ⊥
     no z = cc
@@ -157,7 +157,7 @@ power_never_unsettled place c roles net s events last reached loose ports e = by
     p : IsPower (links_of c roles) net s (power_world c roles)
     p = power_is_power c roles net s ports
 
-    by : Fails (By place) (links_of c roles) (record { values = power_values c roles; step = 0 }) (tool.power_moves roles) → ⊥
+    by : Fails (By place) (links_of c roles) (record { values = power_values c roles; step = 0 }) (power_moves roles) → ⊥
     by (inl u) = no_unrest (By place) roles (links_of c roles) net s ports loose (power_world c roles) p (power_world c roles) [] 0 u.0 refl u.1
     by (inr g) =
         let a = goes (By place) roles (links_of c roles) net s ports g.0 (power_world c roles) 0 g.1 p.whole p.sources in
@@ -168,6 +168,6 @@ power_never_unsettled place c roles net s events last reached loose ports e = by
 pub cycle_never_unsettled : CycleNeverUnsettled
 cycle_never_unsettled place c roles net s cycles pins powered events last start t reached loose ports all long power passes e =
     let came = came_after place c roles net s ports cycles powered start t all power passes in
-    let f = fails (By place) (links_of c roles) t (tool.evaluation_moves roles pins ++ tool.latching_moves roles) events last reached e in
+    let f = fails (By place) (links_of c roles) t (evaluation_moves roles pins ++ latching_moves roles) events last reached e in
     fails_cycle (By place) roles (links_of c roles) net s ports loose _ (power_is_power c roles net s ports) pins came.world came.step came.steps came.run came.ready long
-    (subst (λ x. Fails (By place) (links_of c roles) x (tool.evaluation_moves roles pins ++ tool.latching_moves roles)) came.values f)
+    (subst (λ x. Fails (By place) (links_of c roles) x (evaluation_moves roles pins ++ latching_moves roles)) came.values f)

@@ -1,12 +1,9 @@
 -- Legal runs by ports have their moves in order, and a value for each net.
-use Rattle.std.proofs.Common.{List, [], ap, arith, length, length-append, refl, replicate, slice_set, subst, ℕ, ◌++◌, ◌-◌, ◌∙◌, ◌∷◌, ◌≡◌, ◌≤◌}
-use Rattle.std.proofs.lemmas.List.{length-replicate, length-set}
+use Rattle.std.proofs.Common.{List, [], ap, length, refl, slice_set, subst, ◌++◌, ◌∙◌, ◌∷◌, ◌≡◌}
+use Rattle.std.proofs.lemmas.List.{length-set}
 use Rattle.dom_base.specs.declared.tri.Tri.{Tri}
-use Rattle.dom_base.specs.declared.tri.Tri.TheVariants.{Unknown}
 use Rattle.deck.specs.CircuitData.{CircuitData}
-use Rattle.deck.specs.PortLayout.{source_count}
 use Rattle.deck.specs.declared.role.Roles.{Roles}
-use Rattle.switch_model.specs.Power.{source_values}
 use Rattle.port_runs.specs.Environment.{Happens, Move, Moves, Open, Rise, Step, Take, World, after_move, settings_of}
 use Rattle.port_runs.specs.Laws.{RunsAreCutAnywhere, RunsStandInOrder}
 use Rattle.port_runs.specs.Moves.{PortValue, set_all}

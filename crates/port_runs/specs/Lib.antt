@@ -2,4 +2,6 @@ pub mod Environment
 pub mod Laws
 pub mod Moves
 pub mod Order
+pub mod Periods
 pub mod PortRuns
+pub mod Readings

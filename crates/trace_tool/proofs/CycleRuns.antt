@@ -5,7 +5,8 @@ use Rattle.event_sim.specs.declared.event.Event.{Event}
 use Rattle.stim_text.specs.CycleLines.{cycle_line}
 use Rattle.stim_text.specs.CycleRowData.{CycleRowData}
 use Rattle.trace_tool.specs.Courses.{IsCourse, Settled, State, Unsettled}
-use Rattle.trace_tool.specs.Moves.{Move, cycle_moves, evaluation_moves, latching_moves, power_moves}
+use Rattle.port_runs.specs.Moves.{PortValue}
+use Rattle.trace_tool.specs.Moves.{cycle_moves, evaluation_moves, latching_moves, power_moves}
 use Rattle.trace_tool.specs.RunData.{EndsCycle, HaltsCycle, IsHalted, IsPrinted, Ran, RunData, Runs, RunsCycle, RunsPower, with_line}
 use Rattle.trace_tool.specs.TraceLines.{event_lines, power_line, unsettled_line}
 use Rattle.trace_tool.specs.Traces.{outputs, row_line}
@@ -17,7 +18,7 @@ use Rattle.trace_tool.proofs.MoveRuns.{ran-before, ran-more}
 
 module _ {F : Type 0} (P : F → ℕ → ℕ → ℕ → Type 0) where
   -- moves that settled, with a line of their own for the number of events
-  printed-settled : (s t now : RunData F) (moves : List Move) (events : List Event) (cycle : ℕ) (line : ℕ → List ℕ)
+  printed-settled : (s t now : RunData F) (moves : List (List PortValue)) (events : List Event) (cycle : ℕ) (line : ℕ → List ℕ)
       → Ran P moves (Settled events) s t → now ≡ with_line t (line (length events)) → IsPrinted cycle line (Settled events) s true now
   printed-settled s t now moves events cycle line h is = record {
     settled_is = refl;
@@ -27,7 +28,7 @@ module _ {F : Type 0} (P : F → ℕ → ℕ → ℕ → Type 0) where
   }
 
   -- moves of which one ended unsettled, with the line that says so
-  printed-halted : (s t now : RunData F) (moves : List Move) (events last : List Event) (cycle count : ℕ) (settled : Bool) (line : ℕ → List ℕ)
+  printed-halted : (s t now : RunData F) (moves : List (List PortValue)) (events last : List Event) (cycle count : ℕ) (settled : Bool) (line : ℕ → List ℕ)
       → Ran P moves (Unsettled events last) s t → count ≡ length last → now ≡ with_line t (unsettled_line cycle count) → settled ≡ false
       → IsPrinted cycle line (Unsettled events last) s settled now
   printed-halted s t now moves events last cycle count settled line h counted is off = record {
@@ -63,7 +64,7 @@ module _ {F : Type 0} (P : F → ℕ → ℕ → ℕ → Type 0) where
   cycle-settled s r t now cycle pins row m n (d, h, counted, few) (e, k, counted', few') is row_is =
       let moves = ap (λ (c : Setup). latching_moves c.roles) h.same_setup in
       let all = ran-more P s r t (evaluation_moves s.setup.roles pins) (latching_moves s.setup.roles) d (Settled e) h
-      (subst (λ (l : List Move). Ran P l (Settled e) r t) moves k) in
+      (subst (λ (l : List (List PortValue)). Ran P l (Settled e) r t) moves k) in
       let number : m + n ≡ length (d ++ e) = (λ i. counted i + counted' i) ∙ sym (length-append d e) in
       let line : cycle_line row ≡ row_line s.setup cycle pins r.state (length (d ++ e)) =
       ap cycle_line row_is
@@ -104,7 +105,7 @@ module _ {F : Type 0} (P : F → ℕ → ℕ → ℕ → Type 0) where
     r.state,
     h.course_is,
     ran-more P s r t (evaluation_moves s.setup.roles pins) (latching_moves s.setup.roles) d (Unsettled e last) h
-        (subst (λ (l : List Move). Ran P l (Unsettled e last) r t) (ap (λ (c : Setup). latching_moves c.roles) h.same_setup) k),
+        (subst (λ (l : List (List PortValue)). Ran P l (Unsettled e last) r t) (ap (λ (c : Setup). latching_moves c.roles) h.same_setup) k),
     counted',
   )
   cycle-read s r t pins m halts.Memory h k = tt

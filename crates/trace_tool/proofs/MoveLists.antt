@@ -4,10 +4,12 @@ use Rattle.dom_base.specs.declared.tri.Tri.TheVariants.{Zero}
 use Rattle.deck.specs.PortLayout.{first_clock, first_pin, master_pair, reset_pair, slave_pair}
 use Rattle.deck.specs.declared.role.Roles.{Roles}
 use Rattle.trace_tool.specs.RunData.{rises}
-use Rattle.trace_tool.specs.Moves.{close_pair, evaluation_moves, latching_moves, open_pair, power_moves, set_bits, set_from, value_of_bit}
+use Rattle.port_runs.specs.Environment.{bit}
+use Rattle.port_runs.specs.Moves.{set_from}
+use Rattle.trace_tool.specs.Moves.{close_pair, evaluation_moves, latching_moves, open_pair, power_moves, set_bits}
 
 -- so many of four bits that are off
-pub some_of_four : (n : ℕ) → n ≤ 4 → map value_of_bit (take n (false ∷ false ∷ false ∷ false ∷ [])) ≡ replicate n Zero
+pub some_of_four : (n : ℕ) → n ≤ 4 → map bit (take n (false ∷ false ∷ false ∷ false ∷ [])) ≡ replicate n Zero
 some_of_four zero le = refl
 some_of_four (suc zero) le = refl
 some_of_four (suc (suc zero)) le = refl
@@ -15,7 +17,7 @@ some_of_four (suc (suc (suc zero))) le = refl
 some_of_four (suc (suc (suc (suc zero)))) le = refl
 some_of_four (suc (suc (suc (suc (suc n))))) le = absurd (omega (arith, le))
 
-pub latching_are : (roles : Roles) (m f s : ℕ) (bits : List Bool) → m ≡ master_pair roles → f ≡ first_clock → s ≡ slave_pair roles → map value_of_bit bits ≡ replicate roles.clocks Zero
+pub latching_are : (roles : Roles) (m f s : ℕ) (bits : List Bool) → m ≡ master_pair roles → f ≡ first_clock → s ≡ slave_pair roles → map bit bits ≡ replicate roles.clocks Zero
     → ((open_pair m ∷ close_pair m ∷ []) ++ (set_bits f bits ∷ [])) ++ (open_pair s ∷ close_pair s ∷ []) ≡ latching_moves roles
 latching_are roles m f s bits p c q z = λ i. open_pair (p i) ∷ close_pair (p i) ∷ set_from (c i) (z i) ∷ open_pair (q i) ∷ close_pair (q i) ∷ []
 

@@ -8,7 +8,7 @@ use Rattle.event_sim.specs.declared.event.Settled.TheVariants as answers
 use Rattle.event_sim.specs.Orders.{By}
 use Rattle.event_sim.specs.Settling.{EndsAtRest, EndsUnsettled}
 use Rattle.event_sim.proofs.OneSettling.{settling_has_one_chain}
-use Rattle.trace_tool.specs.Moves.{Move}
+use Rattle.port_runs.specs.Moves.{PortValue}
 use Rattle.trace_tool.specs.Courses.{Course, EndsWithin, IsCourse, LeadsTo, Settled, State, Unsettled, after, moved}
 use Rattle.trace_tool.specs.declared.setup.Setup.{Setup}
 
@@ -32,7 +32,7 @@ rest_or_unrest place links values step a b x y =
     y.unrest (subst (λ (l : List Event). EndsAtRest (By place) links values step l) same x).rest
 
 -- of the moves in turn one ends unsettled, from the first move on
-abbrev EndsFrom : (ℕ → ℕ → ℕ → Type 0) → LinksData → State → List Move → List Event → List Event → State → Type 0
+abbrev EndsFrom : (ℕ → ℕ → ℕ → Type 0) → LinksData → State → List (List PortValue) → List Event → List Event → State → Type 0
 EndsFrom order links s [] events last t = ⊥
 EndsFrom order links s (move ∷ moves) events last t =
     (EndsUnsettled order links (moved s move).values s.step last × (events ≡ last) × (t ≡ after (moved s move) last))
@@ -40,7 +40,7 @@ EndsFrom order links s (move ∷ moves) events last t =
     × EndsAtRest order links (moved s move).values s.step first
     × EndsFrom order links (after (moved s move) first) moves rest last t)
 
-ends_behind : (order : ℕ → ℕ → ℕ → Type 0) (links : LinksData) (s state t : State) (before : List Move) (move : Move) (never : List Move) (earlier last : List Event)
+ends_behind : (order : ℕ → ℕ → ℕ → Type 0) (links : LinksData) (s state t : State) (before : List (List PortValue)) (move : List PortValue) (never : List (List PortValue)) (earlier last : List Event)
     → LeadsTo order links s before earlier state → EndsUnsettled order links (moved state move).values state.step last → t ≡ after (moved state move) last
     → EndsFrom order links s (before ++ move ∷ never) (earlier ++ last) last t
 ends_behind order links s state t [] move never earlier last (none, same) unsettled reached = inl (
@@ -56,15 +56,15 @@ ends_behind order links s state t (m ∷ before) move never earlier last (first,
   ends_behind order links (after (moved s m) first) state t before move never rest last leads unsettled reached,
 )
 
-ends_from : (order : ℕ → ℕ → ℕ → Type 0) (links : LinksData) (s t : State) (moves : List Move) (events last : List Event)
+ends_from : (order : ℕ → ℕ → ℕ → Type 0) (links : LinksData) (s t : State) (moves : List (List PortValue)) (events last : List Event)
     → EndsWithin order links s moves events last t → EndsFrom order links s moves events last t
 ends_from order links s t moves events last e =
-    subst (λ (m : List Move). EndsFrom order links s m events last t) (sym e.moves_are)
+    subst (λ (m : List (List PortValue)). EndsFrom order links s m events last t) (sym e.moves_are)
     (subst (λ (l : List Event). EndsFrom order links s (e.before ++ e.move ∷ e.never) l last t) (sym e.events_are)
     (ends_behind order links s e.state t e.before e.move e.never e.earlier last e.leads e.unsettled e.reached))
 
 -- moves that come to rest do so by the same events, in the same state
-leads_are_one : (place : ℕ → ℕ → ℕ) (links : LinksData) (s : State) (moves : List Move) (a b : List Event) (t u : State)
+leads_are_one : (place : ℕ → ℕ → ℕ) (links : LinksData) (s : State) (moves : List (List PortValue)) (a b : List Event) (t u : State)
     → LeadsTo (By place) links s moves a t → LeadsTo (By place) links s moves b u → (a ≡ b) × (t ≡ u)
 leads_are_one place links s [] a b t u (none, same) (none', same') = (none ∙ sym none', same ∙ sym same')
 leads_are_one place links s (move ∷ moves) a b t u (first, rest, are, at_rest, leads) (first', rest', are', at_rest', leads') =
@@ -74,7 +74,7 @@ leads_are_one place links s (move ∷ moves) a b t u (first, rest, are, at_rest,
     (are ∙ ap (λ (l : List Event). l ++ rest) e ∙ ap (λ (l : List Event). first' ++ l) more.0 ∙ sym are', more.1)
 
 -- moves of which one ends unsettled do so by the same events
-ends_are_one : (place : ℕ → ℕ → ℕ) (links : LinksData) (s : State) (moves : List Move) (a b l k : List Event) (t u : State)
+ends_are_one : (place : ℕ → ℕ → ℕ) (links : LinksData) (s : State) (moves : List (List PortValue)) (a b l k : List Event) (t u : State)
     → EndsFrom (By place) links s moves a l t → EndsFrom (By place) links s moves b k u → (a ≡ b) × (l ≡ k) × (t ≡ u)
 ends_are_one place links s [] a b l k t u x y = absurd x
 ends_are_one place links s (move ∷ moves) a b l k t u (inl (unsettled, are, at)) (inl (unsettled', are', at')) =
@@ -91,7 +91,7 @@ ends_are_one place links s (move ∷ moves) a b l k t u (inr (first, rest, are, 
     (are ∙ ap (λ (f : List Event). f ++ rest) e ∙ ap (λ (f : List Event). first' ++ f) more.0 ∙ sym are', more.1, more.2)
 
 -- moves that settle have none that ends unsettled
-leads_or_ends : (place : ℕ → ℕ → ℕ) (links : LinksData) (s : State) (moves : List Move) (a b last : List Event) (t u : State)
+leads_or_ends : (place : ℕ → ℕ → ℕ) (links : LinksData) (s : State) (moves : List (List PortValue)) (a b last : List Event) (t u : State)
     → LeadsTo (By place) links s moves a t → EndsFrom (By place) links s moves b last u → ⊥
 leads_or_ends place links s [] a b last t u x y = y
 leads_or_ends place links s (move ∷ moves) a b last t u (first, rest, are, at_rest, leads) (inl (unsettled, are', at')) =
@@ -102,7 +102,7 @@ leads_or_ends place links s (move ∷ moves) a b last t u (first, rest, are, at_
     (subst (λ (f : List Event). EndsFrom (By place) links (after (moved s move) f) moves rest' last u) (sym e) ends)
 
 -- two courses of the same moves from one state are the same, and end in the same state
-pub course_is_one : (place : ℕ → ℕ → ℕ) (setup : Setup) (s : State) (moves : List Move) (c d : Course) (t u : State)
+pub course_is_one : (place : ℕ → ℕ → ℕ) (setup : Setup) (s : State) (moves : List (List PortValue)) (c d : Course) (t u : State)
     → IsCourse (By place) setup s moves c t → IsCourse (By place) setup s moves d u → (c ≡ d) × (t ≡ u)
 course_is_one place setup s moves (Settled a) (Settled b) t u x y =
     let same = leads_are_one place (links_of setup.circuit setup.roles) s moves a b t u x y in

@@ -14,8 +14,9 @@ use Rattle.event_sim.specs.SimData.{SimData, ran}
 use Rattle.event_sim.specs.declared.event.Event.{Event}
 use Rattle.event_sim.proofs.EventChains.{length-values_after}
 use Rattle.event_sim.proofs.PowerState.{joined_length}
+use Rattle.port_runs.proofs.RunOrder.{length-set_all}
 use Rattle.trace_tool.specs.RunData.{IsRunning, with_move}
-use Rattle.trace_tool.specs.Moves.{Move, set_all}
+use Rattle.port_runs.specs.Moves.{PortValue, set_all}
 use Rattle.trace_tool.specs.declared.setup.Setup.{Setup}
 
 outs_within : (l a b c n p d o : ℕ) → a + (b + c) ≡ l → a ≡ d + 8 → b ≡ p → c ≡ o → l ≤ n → d + 8 + p + o ≤ n
@@ -32,10 +33,6 @@ pub step_after-fits : (step : ℕ) (events : List Event) → step < 2 ^ 64 → s
 step_after-fits step [] fits = fits
 step_after-fits step (e ∷ es) fits = step_after-fits (next_step step) es (mod_below (step + 1) (2 ^ 64) (omega arith))
 
-pub length-set_all : (values : List Tri) (move : Move) → length (set_all values move) ≡ length values
-length-set_all values [] = refl
-length-set_all values (s ∷ more) = length-set_all (slice_set values s.port s.value) more ∙ length-set values s.port s.value
-
 module _ {F : Type 0} where
   -- events leave a simulation of the setup's circuit
   pub running-ran : (setup : Setup) (s : SimData F) (events : List Event) → IsRunning setup s → IsRunning setup (ran s events)
@@ -48,7 +45,7 @@ module _ {F : Type 0} where
   }
 
   -- and so do moves
-  pub running-set : (setup : Setup) (s : SimData F) (move : Move) → IsRunning setup s → IsRunning setup (with_move s move)
+  pub running-set : (setup : Setup) (s : SimData F) (move : List PortValue) → IsRunning setup s → IsRunning setup (with_move s move)
   running-set setup s move running = record {
     are_roles = running.are_roles;
     links_are = running.links_are;

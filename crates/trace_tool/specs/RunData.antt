@@ -10,7 +10,8 @@ use Rattle.event_sim.specs.Settling.{EndsAtRest, EndsUnsettled}
 use Rattle.event_sim.specs.SimData.{SimData}
 use Rattle.event_sim.specs.declared.event.Event.{Event}
 use Rattle.trace_tool.specs.Courses.{Course, IsCourse, Settled, State, Unsettled, after, moved}
-use Rattle.trace_tool.specs.Moves.{Move, cycle_moves, evaluation_moves, power_moves, set_all, set_from}
+use Rattle.port_runs.specs.Moves.{PortValue, set_all, set_from}
+use Rattle.trace_tool.specs.Moves.{cycle_moves, evaluation_moves, power_moves}
 use Rattle.trace_tool.specs.TraceLines.{event_lines, lines_of, power_line, unsettled_line}
 use Rattle.trace_tool.specs.Traces.{AreCycles, IsCycle, power_state, row_line}
 use Rattle.trace_tool.specs.declared.halt.Halt.{Halt}
@@ -22,7 +23,7 @@ abbrev pub values_from : ℕ → ℕ → List Tri → List Tri
 values_from net count values = take count (drop net values)
 
 -- so many ports from one on rise one after the other
-abbrev pub rises : ℕ → ℕ → List Move
+abbrev pub rises : ℕ → ℕ → List (List PortValue)
 rises port count = map (λ s. s ∷ []) (set_from port (replicate count One))
 
 -- a run: its setup, who picks, the state of the nets, and the text so far
@@ -44,7 +45,7 @@ is_settled (Unsettled events last) = false
 
 module _ {F : Type 0} where
   -- a simulation after a move
-  abbrev pub with_move : SimData F → Move → SimData F
+  abbrev pub with_move : SimData F → List PortValue → SimData F
   with_move s move = record s { values = set_all s.values move }
 
   -- a simulation of the setup's circuit, which has the setup's roles
@@ -60,14 +61,15 @@ module _ {F : Type 0} where
   power_run pick setup = record { setup = setup; pick = pick; state = power_state setup; text = [] }
 
   -- a run after a move, with a further line, and after events with their lines
-  abbrev pub with_moved : RunData F → Move → RunData F
+  abbrev pub with_moved : RunData F → List PortValue → RunData F
   with_moved r move = record { setup = r.setup; pick = r.pick; state = moved r.state move; text = r.text }
 
   abbrev pub with_line : RunData F → List ℕ → RunData F
   with_line r line = record { setup = r.setup; pick = r.pick; state = r.state; text = r.text ++ line }
 
   abbrev pub with_events : RunData F → List Event → RunData F
-  with_events r events = record { setup = r.setup; pick = r.pick; state = after r.state events; text = r.text ++ event_lines r.setup events }
+  with_events r events =
+      record { setup = r.setup; pick = r.pick; state = after r.state events; text = r.text ++ event_lines r.setup events }
 
   -- one event, the chosen one; or there is rest
   abbrev pub Steps : (F → ℕ → ℕ → ℕ → Type 0) → RunData F → Bool → RunData F → Type 0
@@ -78,7 +80,7 @@ module _ {F : Type 0} where
   Steps P before false now = IsResting (links_of before.setup.circuit before.setup.roles) before.state.values × (now ≡ before)
 
   -- moves had this course in a run, whose text has the lines of the events
-  pub record Ran (P : F → ℕ → ℕ → ℕ → Type 0) (moves : List Move) (course : Course) (before now : RunData F) : Type 0 where
+  pub record Ran (P : F → ℕ → ℕ → ℕ → Type 0) (moves : List (List PortValue)) (course : Course) (before now : RunData F) : Type 0 where
     pub course_is : IsCourse (P before.pick) before.setup before.state moves course now.state
     pub text_is : now.text ≡ before.text ++ event_lines before.setup (events_of course)
     pub same_setup : now.setup ≡ before.setup
@@ -97,7 +99,7 @@ module _ {F : Type 0} where
   Settles P before (Err halts.Memory) now = Unit {0}
 
   -- moves settled with so many events, or one of them ended unsettled after so many of its own
-  abbrev pub Runs : (F → ℕ → ℕ → ℕ → Type 0) → List Move → RunData F → Result ℕ Halt → RunData F → Type 0
+  abbrev pub Runs : (F → ℕ → ℕ → ℕ → Type 0) → List (List PortValue) → RunData F → Result ℕ Halt → RunData F → Type 0
   Runs P moves before (Ok count) now =
       (events : List Event) × Ran P moves (Settled events) before now × (count ≡ length events) × (count ≤ length moves * 2 ^ 53)
   Runs P moves before (Err (halts.Unsettled count)) now =
@@ -110,7 +112,8 @@ module _ {F : Type 0} where
   IsHalted cycle halts.Memory before now = ⊥
 
   -- a course settled or not, and the text has its lines
-  pub record IsPrinted (cycle : ℕ) (line : ℕ → List ℕ) (course : Course) (before : RunData F) (settled : Bool) (now : RunData F) : Type 0 where
+  pub record IsPrinted (cycle : ℕ) (line : ℕ → List ℕ) (course : Course) (before : RunData F) (settled : Bool) (now : RunData F)
+      : Type 0 where
     pub settled_is : settled ≡ is_settled course
     pub text_is : now.text ≡ before.text ++ lines_of before.setup cycle line course
     pub same_setup : now.setup ≡ before.setup

@@ -74,4 +74,5 @@ pub record IsTraceOf (deck stim : List ℕ) (options : TraceOptionsData) (trace 
   pub is_deck : IsDeckOf deck circuit
   pub are_roles : AreRoles (ports_of circuit) roles
   pub is_stimulus : IsStimulusOf roles.pins stim cycles
-  pub is_run : IsRun (By (order_of options.order options.seed)) (record { circuit = circuit; roles = roles; events = options.events }) cycles trace
+  pub is_run : IsRun (By (order_of options.order options.seed))
+      (record { circuit = circuit; roles = roles; events = options.events }) cycles trace

@@ -1,6 +1,7 @@
 //! Values of ports.
 ghost use Rattle.std.specs.Prelude.{◌≡◌, ◌+◌, ◌<◌, ◌≤◌, ◌^◌, IfOk, length};
-ghost use Rattle.trace_tool.specs.Moves.{set_bits, value_of_bit};
+ghost use Rattle.port_runs.specs.Environment.{bit};
+ghost use Rattle.trace_tool.specs.Moves.{set_bits};
 ghost use Rattle.trace_tool.specs.RunData.{values_from, with_move};
 
 use dom_base::{OutOfMemory, Tri};
@@ -14,16 +15,16 @@ pub fn set_ports<F: Fn(u64, u64) -> u64>(sim: &mut Sim<F>, port: u32, bits: &[bo
     requires few { port + length bits.now < 2 ^ 32 }
     ensures set { sim.new ≡ with_move sim.old (set_bits port bits.now) }
 {
-    for (number, bit) in bits.iter().enumerate() {
-        sim.set_pin(port + number as u32, value_of(*bit));
+    for (number, on) in bits.iter().enumerate() {
+        sim.set_pin(port + number as u32, value_of(*on));
     }
 }
 
 /// The value of a bit.
-fn value_of(bit: bool) -> Tri
-    ensures { result ≡ value_of_bit bit }
+fn value_of(on: bool) -> Tri
+    ensures { result ≡ bit on }
 {
-    if bit { Tri::One } else { Tri::Zero }
+    if on { Tri::One } else { Tri::Zero }
 }
 
 /// The values of so many nets from one on.

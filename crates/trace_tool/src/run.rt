@@ -37,7 +37,12 @@ impl<F: Fn(u64, u64) -> u64> Model for Run<F> {
 
     ghost Value = { RunData F };
 
-    ghost view = { λ r. record { setup = r.setup; pick = r.sim.pick; state = record { values = r.sim.values; step = r.sim.step }; text = r.text.items } };
+    ghost view = { λ r. record {
+      setup = r.setup;
+      pick = r.sim.pick;
+      state = record { values = r.sim.values; step = r.sim.step };
+      text = r.text.items;
+    } };
 
     ghost invariant = { λ r. IsRunning r.setup r.sim };
 }
