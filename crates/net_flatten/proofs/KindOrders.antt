@@ -1,6 +1,7 @@
 -- Kinds of refusals by their orders.
 use Rattle.std.proofs.Common.{◌≡◌, List, [], ◌∷◌, refl, arith, inl, inr}
-use Rattle.dom_base.proofs.Faults.{IsAmong, Rises, number_of-injective}
+use Rattle.dom_base.specs.FaultKinds.{IsAmong, RisesAbove}
+use Rattle.dom_base.proofs.Faults.{number_of-injective}
 use Rattle.net_flatten.specs.declared.fault.FlatKind.{FlatKind}
 use Rattle.net_flatten.specs.declared.fault.FlatKind.TheVariants.{DuplicateModel, DuplicatePort, UnknownModel, BadFormal, Recursion, DrivenTwice, Undriven, Cycle, TwoControls, ControlUsed}
 use Rattle.net_flatten.specs.Refusal.{flat_kind_order}
@@ -20,7 +21,7 @@ is_kind Cycle = inr (inr (inr (inr (inr (inr (inr (inl refl)))))))
 is_kind TwoControls = inr (inr (inr (inr (inr (inr (inr (inr (inl refl))))))))
 is_kind ControlUsed = inr (inr (inr (inr (inr (inr (inr (inr (inr (inl refl)))))))))
 
-kinds_rise : Rises flat_kind_order 0 kinds
+kinds_rise : RisesAbove flat_kind_order 0 kinds
 kinds_rise = (omega arith, (omega arith, (omega arith, (omega arith, (omega arith, (omega arith, (omega arith, (omega arith, (omega arith, (omega arith, tt))))))))))
 
 -- kinds of one order are the same

@@ -25,5 +25,6 @@ pub mod OneAccepted
 pub mod OneUnrefused
 pub mod DeepEnough
 pub mod PairsApart
+pub mod ToFile
 pub mod Walks
 pub mod StableSort

@@ -25,11 +25,12 @@ use Rattle.net_flatten.specs.Signals.{Signal, signal_of}
 use Rattle.net_flatten.specs.Reaches.{Reaches, more, step}
 use Rattle.net_flatten.proofs.Apart.{Apart, Apart-append}
 use Rattle.net_flatten.proofs.Drivers.{driven}
-use Rattle.net_flatten.proofs.OneModel.{latch_lines, latches_here, name_once, table_lines, table_number, tables_here}
+use Rattle.net_flatten.specs.OneModelParts.{IsTableHere, latches_here, row, signal_at, tables_here}
+use Rattle.net_flatten.proofs.OneModel.{latch_lines, name_once, table_lines, table_number}
 use Rattle.net_flatten.proofs.Lists.{contains_map}
 use Rattle.net_flatten.proofs.EachPart.{each_flat}
 use Rattle.net_flatten.proofs.Pairs.{contains_to}
-use Rattle.net_flatten.proofs.Ranges.{each_enumerated, enumerated_row, map_map, row, row_apart, row_bounds, row_contains, take_by_row}
+use Rattle.net_flatten.proofs.Ranges.{each_enumerated, enumerated_row, map_map, row_apart, row_bounds, row_contains, take_by_row}
 use Rattle.net_flatten.proofs.Rising.{Rising}
 
 -- what rises is in order
@@ -64,10 +65,10 @@ module _ (n : NetworkData) (is : IsNetwork n) where
   m = main_model (file_of n)
 
   abbrev pub tables_at : List PlacedTable
-  tables_at = map (λ t. record { path = []; table = t }) (tables_here n is)
+  tables_at = map (λ t. record { path = []; table = t }) (tables_here n)
 
   abbrev pub latches_at : List PlacedLatch
-  latches_at = map (λ l. record { path = []; latch = l }) (latches_here n is)
+  latches_at = map (λ l. record { path = []; latch = l }) (latches_here n)
 
   abbrev parts : List PlacedPart
   parts = map TablePart tables_at ++ map LatchPart latches_at
@@ -82,12 +83,12 @@ module _ (n : NetworkData) (is : IsNetwork n) where
       (row (2 + length n.tables) (length n.latches)) (row_bounds (2 + length n.tables) (length n.latches))) (row 2 (length n.tables)) (row_bounds 2 (length n.tables)))
 
   abbrev own_cards : List BodyCard
-  own_cards = map TableCard (tables_here n is) ++ map LatchCard (latches_here n is)
+  own_cards = map TableCard (tables_here n) ++ map LatchCard (latches_here n)
 
   lines_of_cards : map card_line own_cards ≡ own_lines
-  lines_of_cards = map-append card_line (map TableCard (tables_here n is)) (map LatchCard (latches_here n is))
-      ∙ ap (λ l. l ++ map card_line (map LatchCard (latches_here n is))) (map_map card_line TableCard (tables_here n is) ∙ table_lines n is)
-      ∙ ap (λ l. row 2 (length n.tables) ++ l) (map_map card_line LatchCard (latches_here n is) ∙ latch_lines n is)
+  lines_of_cards = map-append card_line (map TableCard (tables_here n)) (map LatchCard (latches_here n))
+      ∙ ap (λ l. l ++ map card_line (map LatchCard (latches_here n))) (map_map card_line TableCard (tables_here n) ∙ table_lines n is)
+      ∙ ap (λ l. row 2 (length n.tables) ++ l) (map_map card_line LatchCard (latches_here n) ∙ latch_lines n is)
 
   cards_are : ordered_cards m ≡ own_cards
   cards_are = ap (in_order card_line) (append-nil own_cards) ∙ rising_is_in_order card_line own_cards (rising_by card_line own_cards (subst (Rising (λ (k : ℕ). k)) (sym lines_of_cards) lines_rise))
@@ -108,9 +109,9 @@ module _ (n : NetworkData) (is : IsNetwork n) where
 
   pub expanded_is : expanded f ≡ parts
   expanded_is = unfold_once ∙ ap (flat_map (parts_of_card below [])) cards_are
-      ∙ flat_map-append (parts_of_card below []) (map TableCard (tables_here n is)) (map LatchCard (latches_here n is))
-      ∙ ap (λ l. l ++ flat_map (parts_of_card below []) (map LatchCard (latches_here n is))) (tables_part (tables_here n is))
-      ∙ ap (λ l. map TablePart tables_at ++ l) (latches_part (latches_here n is))
+      ∙ flat_map-append (parts_of_card below []) (map TableCard (tables_here n)) (map LatchCard (latches_here n))
+      ∙ ap (λ l. l ++ flat_map (parts_of_card below []) (map LatchCard (latches_here n))) (tables_part (tables_here n))
+      ∙ ap (λ l. map TablePart tables_at ++ l) (latches_part (latches_here n))
 
   only_tables : (ts : List PlacedTable) → filter_map part_table (map TablePart ts) ≡ ts
   only_tables [] = refl
@@ -136,36 +137,32 @@ module _ (n : NetworkData) (is : IsNetwork n) where
   latches_are = ap (filter_map part_latch) expanded_is ∙ filter_map-append part_latch (map TablePart tables_at) (map LatchPart latches_at)
       ∙ ap (λ l. l ++ filter_map part_latch (map LatchPart latches_at)) (no_latches tables_at) ∙ only_latches latches_at
 
-  -- the signal of a number
-  abbrev pub sig : ℕ → Signal
-  sig k = record { path = []; name = name_at n k }
-
   abbrev pub driver_numbers : List ℕ
   driver_numbers = row 0 n.inputs ++ (row (first_table n) (length n.tables) ++ row n.inputs (length n.latches))
 
-  pub inputs_are : map SignalOf (main_inputs f) ≡ map sig (row 0 n.inputs)
+  pub inputs_are : map SignalOf (main_inputs f) ≡ map (signal_at n) (row 0 n.inputs)
   inputs_are = map_map SignalOf (end_at [] 1) (take n.inputs n.names) ∙ ap (map (signal_of [])) (take_by_row [] n.names n.inputs (omega (arith, is.count))) ∙ map_map (signal_of []) (name_at n) (row 0 n.inputs)
 
-  driven_tables : map driven (map TablePart tables_at) ≡ map sig (row (first_table n) (length n.tables))
-  driven_tables = map_map driven TablePart tables_at ∙ map_map output_of (λ t. record { path = []; table = t }) (tables_here n is)
+  driven_tables : map driven (map TablePart tables_at) ≡ map (signal_at n) (row (first_table n) (length n.tables))
+  driven_tables = map_map driven TablePart tables_at ∙ map_map output_of (λ t. record { path = []; table = t }) (tables_here n)
       ∙ map_map (λ t. output_of (record { path = []; table = t })) (λ (p : ℕ × NetTableData). table_at n p.0 p.1) (enumerate_from 0 n.tables)
-      ∙ sym (map_map sig (λ (p : ℕ × NetTableData). first_table n + p.0) (enumerate_from 0 n.tables))
-      ∙ ap (map sig) (enumerated_row (first_table n) 0 n.tables ∙ ap (λ k. row k (length n.tables)) (let z : first_table n + 0 ≡ first_table n = omega arith in z))
+      ∙ sym (map_map (signal_at n) (λ (p : ℕ × NetTableData). first_table n + p.0) (enumerate_from 0 n.tables))
+      ∙ ap (map (signal_at n)) (enumerated_row (first_table n) 0 n.tables ∙ ap (λ k. row k (length n.tables)) (let z : first_table n + 0 ≡ first_table n = omega arith in z))
 
-  driven_latches : map driven (map LatchPart latches_at) ≡ map sig (row n.inputs (length n.latches))
-  driven_latches = map_map driven LatchPart latches_at ∙ map_map state_of (λ l. record { path = []; latch = l }) (latches_here n is)
+  driven_latches : map driven (map LatchPart latches_at) ≡ map (signal_at n) (row n.inputs (length n.latches))
+  driven_latches = map_map driven LatchPart latches_at ∙ map_map state_of (λ l. record { path = []; latch = l }) (latches_here n)
       ∙ map_map (λ l. state_of (record { path = []; latch = l })) (λ (p : ℕ × NetLatch). latch_at n p.0 p.1) (enumerate_from 0 n.latches)
-      ∙ sym (map_map sig (λ (p : ℕ × NetLatch). n.inputs + p.0) (enumerate_from 0 n.latches))
-      ∙ ap (map sig) (enumerated_row n.inputs 0 n.latches ∙ ap (λ k. row k (length n.latches)) (let z : n.inputs + 0 ≡ n.inputs = omega arith in z))
+      ∙ sym (map_map (signal_at n) (λ (p : ℕ × NetLatch). n.inputs + p.0) (enumerate_from 0 n.latches))
+      ∙ ap (map (signal_at n)) (enumerated_row n.inputs 0 n.latches ∙ ap (λ k. row k (length n.latches)) (let z : n.inputs + 0 ≡ n.inputs = omega arith in z))
 
-  driven_are : map driven (expanded f) ≡ map sig (row (first_table n) (length n.tables) ++ row n.inputs (length n.latches))
+  driven_are : map driven (expanded f) ≡ map (signal_at n) (row (first_table n) (length n.tables) ++ row n.inputs (length n.latches))
   driven_are = ap (map driven) expanded_is ∙ map-append driven (map TablePart tables_at) (map LatchPart latches_at)
-      ∙ ap (λ l. l ++ map driven (map LatchPart latches_at)) driven_tables ∙ ap (λ l. map sig (row (first_table n) (length n.tables)) ++ l) driven_latches
-      ∙ sym (map-append sig (row (first_table n) (length n.tables)) (row n.inputs (length n.latches)))
+      ∙ ap (λ l. l ++ map driven (map LatchPart latches_at)) driven_tables ∙ ap (λ l. map (signal_at n) (row (first_table n) (length n.tables)) ++ l) driven_latches
+      ∙ sym (map-append (signal_at n) (row (first_table n) (length n.tables)) (row n.inputs (length n.latches)))
 
-  all_driven : map SignalOf (main_inputs f) ++ map driven (expanded f) ≡ map sig driver_numbers
-  all_driven = ap (λ l. l ++ map driven (expanded f)) inputs_are ∙ ap (λ l. map sig (row 0 n.inputs) ++ l) driven_are
-      ∙ sym (map-append sig (row 0 n.inputs) (row (first_table n) (length n.tables) ++ row n.inputs (length n.latches)))
+  all_driven : map SignalOf (main_inputs f) ++ map driven (expanded f) ≡ map (signal_at n) driver_numbers
+  all_driven = ap (λ l. l ++ map driven (expanded f)) inputs_are ∙ ap (λ l. map (signal_at n) (row 0 n.inputs) ++ l) driven_are
+      ∙ sym (map-append (signal_at n) (row 0 n.inputs) (row (first_table n) (length n.tables) ++ row n.inputs (length n.latches)))
 
   -- the numbers of drivers differ and are in range
   apart_rows : (a b c d : ℕ) → ((j k : ℕ) → a ≤ j → j < a + b → c ≤ k → k < c + d → j ≢ k) → AllByRecursion (λ j. AllByRecursion (λ k. j ≢ k) (row c d)) (row a b)
@@ -191,14 +188,14 @@ module _ (n : NetworkData) (is : IsNetwork n) where
       (AllByRecursion-weaker (λ k. (first_table n ≤ k) × (k < first_table n + length n.tables)) (λ k. k < length n.names) (λ k h. omega (arith, h.1, is.count)) (row (first_table n) (length n.tables)) (row_bounds (first_table n) (length n.tables)))
       (AllByRecursion-weaker (λ k. (n.inputs ≤ k) × (k < n.inputs + length n.latches)) (λ k. k < length n.names) (λ k h. omega (arith, h.1, is.count)) (row n.inputs (length n.latches)) (row_bounds n.inputs (length n.latches))))
 
-  pub sig_once : (j k : ℕ) → j < length n.names → k < length n.names → sig j ≡ sig k → j ≡ k
+  pub sig_once : (j k : ℕ) → j < length n.names → k < length n.names → signal_at n j ≡ signal_at n k → j ≡ k
   sig_once j k a b e = name_once n is j k a b (ap (λ (s : Signal). s.name) e)
 
-  map_apart : (ks : List ℕ) → AllByRecursion (λ k. k < length n.names) ks → Apart ks → Apart (map sig ks)
+  map_apart : (ks : List ℕ) → AllByRecursion (λ k. k < length n.names) ks → Apart ks → Apart (map (signal_at n) ks)
   map_apart [] l a = tt
   map_apart (k ∷ ks) l a = (
-    AllByRecursion-map (λ s. sig k ≢ s) sig ks
-        (AllByRecursion-weaker (λ j. (j < length n.names) × (k ≢ j)) (λ j. sig k ≢ sig j) (λ j h e. h.1 (sig_once k j l.0 h.0 e)) ks (AllByRecursion-both (λ j. j < length n.names) (λ j. k ≢ j) ks l.1 a.0)),
+    AllByRecursion-map (λ s. signal_at n k ≢ s) (signal_at n) ks
+        (AllByRecursion-weaker (λ j. (j < length n.names) × (k ≢ j)) (λ j. signal_at n k ≢ signal_at n j) (λ j h e. h.1 (sig_once k j l.0 h.0 e)) ks (AllByRecursion-both (λ j. j < length n.names) (λ j. k ≢ j) ks l.1 a.0)),
     map_apart ks l.1 a.1,
   )
 
@@ -214,19 +211,19 @@ module _ (n : NetworkData) (is : IsNetwork n) where
     ])
   ]
 
-  pub is_driven : (k : ℕ) → k < length n.names → Contains (signals (drivers f)) (sig k)
-  is_driven k l = subst (λ s. Contains s (sig k))
+  pub is_driven : (k : ℕ) → k < length n.names → Contains (signals (drivers f)) (signal_at n k)
+  is_driven k l = subst (λ s. Contains s (signal_at n k))
       (sym (map-append SignalOf (main_inputs f) (map driven_end (expanded f)) ∙ ap (λ s. map SignalOf (main_inputs f) ++ s) (map_map SignalOf driven_end (expanded f)) ∙ all_driven))
-      (contains_to sig driver_numbers k (drives_number k l))
+      (contains_to (signal_at n) driver_numbers k (drives_number k l))
 
   pub each_table_here : (P : PlacedTable → Type 0) → ((k : ℕ) (t : NetTableData) → slice_get n.tables k ≡ Some t → P (record { path = []; table = table_at n k t })) → AllByRecursion P tables_at
-  each_table_here P h = AllByRecursion-map P (λ t. record { path = []; table = t }) (tables_here n is)
+  each_table_here P h = AllByRecursion-map P (λ t. record { path = []; table = t }) (tables_here n)
       (AllByRecursion-map (λ t. P (record { path = []; table = t })) (λ (p : ℕ × NetTableData). table_at n p.0 p.1) (enumerate_from 0 n.tables)
       (each_enumerated (λ (p : ℕ × NetTableData). P (record { path = []; table = table_at n p.0 p.1 })) 0 n.tables
       (λ k t e. subst (λ j. P (record { path = []; table = table_at n j t })) (let z : k ≡ 0 + k = omega arith in z) (h k t e))))
 
   pub each_latch_here : (P : PlacedLatch → Type 0) → ((k : ℕ) (l : NetLatch) → slice_get n.latches k ≡ Some l → P (record { path = []; latch = latch_at n k l })) → AllByRecursion P latches_at
-  each_latch_here P h = AllByRecursion-map P (λ l. record { path = []; latch = l }) (latches_here n is)
+  each_latch_here P h = AllByRecursion-map P (λ l. record { path = []; latch = l }) (latches_here n)
       (AllByRecursion-map (λ l. P (record { path = []; latch = l })) (λ (p : ℕ × NetLatch). latch_at n p.0 p.1) (enumerate_from 0 n.latches)
       (each_enumerated (λ (p : ℕ × NetLatch). P (record { path = []; latch = latch_at n p.0 p.1 })) 0 n.latches
       (λ k l e. subst (λ j. P (record { path = []; latch = latch_at n j l })) (let z : k ≡ 0 + k = omega arith in z) (h k l e))))
@@ -251,27 +248,23 @@ module _ (n : NetworkData) (is : IsNetwork n) where
       (AllByRecursion-map IsRead (end_at [] 1) (map (name_at n) n.outputs) (AllByRecursion-map (λ name. IsRead (end_at [] 1 name)) (name_at n) n.outputs
       (AllByRecursion-weaker (λ s. s < length n.names) (λ s. IsRead (end_at [] 1 (name_at n s))) (λ s l. is_driven s l) n.outputs (recursion_from_All (λ s. s < length n.names) n.outputs is.outputs))))
 
-  -- a table of the file is one of the network
-  abbrev pub IsTableHere : PlacedTable → Type 0
-  IsTableHere t = (k : ℕ) × (net : NetTableData) × (slice_get n.tables k ≡ Some net) × (t ≡ record { path = []; table = table_at n k net })
-
-  pub table_here : (t : PlacedTable) → Contains (tables f) t → IsTableHere t
-  table_here t c = AllByRecursion-contains IsTableHere tables_at t (each_table_here IsTableHere (λ k net e. (k, net, e, refl))) (subst (λ l. Contains l t) tables_are c)
+  pub table_here : (t : PlacedTable) → Contains (tables f) t → IsTableHere n t
+  table_here t c = AllByRecursion-contains (IsTableHere n) tables_at t (each_table_here (IsTableHere n) (λ k net e. (k, net, e, refl))) (subst (λ l. Contains l t) tables_are c)
 
   -- steps fall
-  fed_falls : (a b : Signal) → IsFedBy f a b → (x : ℕ) → a ≡ sig x → x < length n.names → (y : ℕ) × (b ≡ sig y) × (y < x)
+  fed_falls : (a b : Signal) → IsFedBy f a b → (x : ℕ) → a ≡ signal_at n x → x < length n.names → (y : ℕ) × (b ≡ signal_at n y) × (y < x)
   fed_falls a b fed x at l = by (table_here fed.0 fed.1)
     where
-      by : IsTableHere fed.0 → (y : ℕ) × (b ≡ sig y) × (y < x)
+      by : IsTableHere n fed.0 → (y : ℕ) × (b ≡ signal_at n y) × (y < x)
       by (k, net, e, same_table) =
-          let out : sig (first_table n + k) ≡ sig x = sym (ap output_of same_table) ∙ fed.2 ∙ at in
+          let out : signal_at n (first_table n + k) ≡ signal_at n x = sym (ap output_of same_table) ∙ fed.2 ∙ at in
           let number = sig_once (first_table n + k) x (table_number n is k net e) l out in
           let inside : Contains (map (signal_of []) (map (name_at n) net.inputs)) b = subst (λ u. Contains (inputs_of u) b) same_table fed.3 in
           let p = contains_map (signal_of []) (map (name_at n) net.inputs) b inside in
           let q = contains_map (name_at n) net.inputs p.0 p.1 in
           (q.0, p.2 ∙ ap (signal_of []) q.2, omega (arith, AllByRecursion-contains (λ s. s < first_table n + k) net.inputs q.0 (table_small k net e) q.1, number))
 
-  steps_fall : {a b : Signal} → Reaches (IsFedBy f) a b → (x : ℕ) → a ≡ sig x → x < length n.names → (y : ℕ) × (b ≡ sig y) × (y < x)
+  steps_fall : {a b : Signal} → Reaches (IsFedBy f) a b → (x : ℕ) → a ≡ signal_at n x → x < length n.names → (y : ℕ) × (b ≡ signal_at n y) × (y < x)
   steps_fall (step {a} {b} fed) = λ x at l. fed_falls a b fed x at l
   steps_fall (more {a} {b} {c} fed rest) = λ x at l.
       let p = fed_falls a b fed x at l in
@@ -281,9 +274,9 @@ module _ (n : NetworkData) (is : IsNetwork n) where
   pub no_cycle : (t : PlacedTable) → Contains (tables f) t → Reaches (IsFedBy f) (output_of t) (output_of t) → ⊥
   no_cycle t c steps = by (table_here t c)
     where
-      by : IsTableHere t → ⊥
+      by : IsTableHere n t → ⊥
       by (k, net, e, same_table) =
-          let at : output_of t ≡ sig (first_table n + k) = ap output_of same_table in
+          let at : output_of t ≡ signal_at n (first_table n + k) = ap output_of same_table in
           let p = steps_fall steps (first_table n + k) at (table_number n is k net e) in
           let once = sig_once (first_table n + k) p.0 (table_number n is k net e) (omega (arith, p.2, table_number n is k net e)) (sym at ∙ p.1) in
           omega (arith, once, p.2)

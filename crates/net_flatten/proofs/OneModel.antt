@@ -17,7 +17,8 @@ use Rattle.net_flatten.specs.Networks.{IsNetwork, first_table}
 use Rattle.net_flatten.specs.OneModel.{file_of, latch_at, name_at, table_at}
 use Rattle.net_flatten.specs.Occurrences.{main_model}
 use Rattle.net_flatten.proofs.Apart.{Apart, Apart-append, place_once}
-use Rattle.net_flatten.proofs.Ranges.{each_enumerated, enumerated_row, map_map, row, row_apart, row_bounds}
+use Rattle.net_flatten.specs.OneModelParts.{latches_here, row, tables_here}
+use Rattle.net_flatten.proofs.Ranges.{each_enumerated, enumerated_row, map_map, row_apart, row_bounds}
 
 distinct_apart : (names : List (List ℕ)) → IsDistinct same names → Apart names
 unfolding IsDistinct
@@ -33,12 +34,6 @@ apart_numbers [] a = tt
 apart_numbers (x ∷ xs) a = (AllByRecursion-weaker (λ y. x ≢ y) (λ y. nat_eq x y ≡ false) (λ y h. ne_eqb x y h) xs a.0, apart_numbers xs a.1)
 
 module _ (n : NetworkData) (is : IsNetwork n) where
-  abbrev pub tables_here : List TableData
-  tables_here = map (λ (p : ℕ × NetTableData). table_at n p.0 p.1) (enumerate_from 0 n.tables)
-
-  abbrev pub latches_here : List Latch
-  latches_here = map (λ (p : ℕ × NetLatch). latch_at n p.0 p.1) (enumerate_from 0 n.latches)
-
   pub good_at : (k : ℕ) → k < length n.names → IsGoodName (name_at n k)
   good_at k l = is.names k [] l
 
@@ -88,15 +83,15 @@ module _ (n : NetworkData) (is : IsNetwork n) where
       (row (2 + length n.tables) (length n.latches)) (row_bounds (2 + length n.tables) (length n.latches))) (row 2 (length n.tables)) (row_bounds 2 (length n.tables))))
       tt (AllByRecursion-every (λ k. Unit {0}) (λ k. tt) (row 2 (length n.tables) ++ row (2 + length n.tables) (length n.latches)))
 
-  pub table_lines : map (λ (t : TableData). t.line) tables_here ≡ row 2 (length n.tables)
+  pub table_lines : map (λ (t : TableData). t.line) (tables_here n) ≡ row 2 (length n.tables)
   table_lines = map_map (λ (t : TableData). t.line) (λ (p : ℕ × NetTableData). table_at n p.0 p.1) (enumerate_from 0 n.tables) ∙ enumerated_row 2 0 n.tables
 
-  pub latch_lines : map (λ (l : Latch). l.line) latches_here ≡ row (2 + length n.tables) (length n.latches)
+  pub latch_lines : map (λ (l : Latch). l.line) (latches_here n) ≡ row (2 + length n.tables) (length n.latches)
   latch_lines = map_map (λ (l : Latch). l.line) (λ (p : ℕ × NetLatch). latch_at n p.0 p.1) (enumerate_from 0 n.latches) ∙ enumerated_row (2 + length n.tables) 0 n.latches
       ∙ ap (λ k. row k (length n.latches)) (let z : 2 + length n.tables + 0 ≡ 2 + length n.tables = omega arith in z)
 
   lines_are : part_lines (main_model (file_of n)) ≡ lines_here
-  lines_are = ap (λ l. l ++ map (λ (k : Latch). k.line) latches_here ++ []) table_lines ∙ ap (λ l. row 2 (length n.tables) ++ l ++ []) latch_lines
+  lines_are = ap (λ l. l ++ map (λ (k : Latch). k.line) (latches_here n) ++ []) table_lines ∙ ap (λ l. row 2 (length n.tables) ++ l ++ []) latch_lines
 
   one_good : IsGoodModel (main_model (file_of n))
   one_good = record {
@@ -104,9 +99,9 @@ module _ (n : NetworkData) (is : IsNetwork n) where
     inputs = All-from_recursion IsGoodName (take n.inputs n.names) (AllByRecursion-take IsGoodName n.inputs n.names (recursion_from_All IsGoodName n.names is.names));
     outputs = All-from_recursion IsGoodName (map (name_at n) n.outputs) (AllByRecursion-map IsGoodName (name_at n) n.outputs
         (AllByRecursion-weaker (λ s. s < length n.names) (λ s. IsGoodName (name_at n s)) (λ s l. good_at s l) n.outputs (recursion_from_All (λ s. s < length n.names) n.outputs is.outputs)));
-    tables = All-from_recursion IsGoodTable tables_here (AllByRecursion-map IsGoodTable (λ (p : ℕ × NetTableData). table_at n p.0 p.1) (enumerate_from 0 n.tables)
+    tables = All-from_recursion IsGoodTable (tables_here n) (AllByRecursion-map IsGoodTable (λ (p : ℕ × NetTableData). table_at n p.0 p.1) (enumerate_from 0 n.tables)
         (each_enumerated (λ (p : ℕ × NetTableData). IsGoodTable (table_at n p.0 p.1)) 0 n.tables (λ k t e. subst (λ m. IsGoodTable (table_at n m t)) (let z : k ≡ 0 + k = omega arith in z) (good_table k t e))));
-    latches = All-from_recursion IsGoodLatch latches_here (AllByRecursion-map IsGoodLatch (λ (p : ℕ × NetLatch). latch_at n p.0 p.1) (enumerate_from 0 n.latches)
+    latches = All-from_recursion IsGoodLatch (latches_here n) (AllByRecursion-map IsGoodLatch (λ (p : ℕ × NetLatch). latch_at n p.0 p.1) (enumerate_from 0 n.latches)
         (each_enumerated (λ (p : ℕ × NetLatch). IsGoodLatch (latch_at n p.0 p.1)) 0 n.latches (λ k l e. subst (λ m. IsGoodLatch (latch_at n m l)) (let z : k ≡ 0 + k = omega arith in z) (good_latch k l e))));
     instances = All-from_recursion IsGoodInstance [] tt;
     apart = subst (IsDistinct nat_eq) (sym lines_are) (apart_numbers lines_here lines_apart);

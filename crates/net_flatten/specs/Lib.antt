@@ -11,6 +11,7 @@ pub mod NetworkData
 pub mod Networks
 pub mod Numbering
 pub mod OneModel
+pub mod OneModelParts
 pub mod Ordered
 pub mod Occurrences
 pub mod Refusal

@@ -20,9 +20,10 @@ use Rattle.net_flatten.specs.OneModel.{file_of, latch_at, name_at}
 use Rattle.net_flatten.specs.Signals.{Signal, signal_of}
 use Rattle.net_flatten.proofs.Apart.{each_in_order}
 use Rattle.net_flatten.proofs.Kept.{network_kept, same_length, same_place}
-use Rattle.net_flatten.proofs.OneAccepted.{IsTableHere, each_table_here, latches_are, no_clockings, sig, sig_once, table_small, tables_are}
-use Rattle.net_flatten.proofs.OneModel.{good_one_model, latches_here, table_number}
-use Rattle.net_flatten.proofs.Ranges.{enumerated_row, length_row, map_map, row, row_bounds, take_by_row}
+use Rattle.net_flatten.specs.OneModelParts.{IsTableHere, signal_at, latches_here, row}
+use Rattle.net_flatten.proofs.OneAccepted.{each_table_here, latches_are, no_clockings, sig_once, table_small, tables_are}
+use Rattle.net_flatten.proofs.OneModel.{good_one_model, table_number}
+use Rattle.net_flatten.proofs.Ranges.{enumerated_row, length_row, map_map, row_bounds, take_by_row}
 use Rattle.net_run.proofs.Valuations.{one_valuation}
 use Rattle.net_run.specs.Runs.{Cycle, IsNetworkCycle, IsNetworkRun, IsNetworkRunFrom, IsValuation, start, value_at}
 use Rattle.net_flatten.proofs.Lists.{get_of_map}
@@ -87,50 +88,50 @@ module _ (n m : NetworkData) (is : IsNetwork n) (of : IsNetworkOf (file_of n) m)
   pins_are = ap (λ (c : List End). filter (λ name. not (is_control_name (slice_get c 0) name)) (take n.inputs n.names)) (ap (filter_map (λ (c : Clocking). c.signal)) (no_clockings n is))
       ∙ keep_all (take n.inputs n.names)
 
-  here : AllByRecursion (IsTableHere n is) by
-  here = each_in_order (λ t. of.level (output_of t)) (IsTableHere n is) (tables f) (subst (AllByRecursion (IsTableHere n is)) (sym (tables_are n is)) (each_table_here n is (IsTableHere n is) (λ k t e. (k, t, e, refl))))
+  here : AllByRecursion (IsTableHere n) by
+  here = each_in_order (λ t. of.level (output_of t)) (IsTableHere n) (tables f) (subst (AllByRecursion (IsTableHere n)) (sym (tables_are n is)) (each_table_here n is (IsTableHere n) (λ k t e. (k, t, e, refl))))
 
   -- the numbers that the tables have in the other network
-  abbrev numbers : (ts : List PlacedTable) → AllByRecursion (IsTableHere n is) ts → List ℕ
+  abbrev numbers : (ts : List PlacedTable) → AllByRecursion (IsTableHere n) ts → List ℕ
   numbers [] h = []
   numbers (t ∷ ts) h = (first_table n + h.0.0) ∷ numbers ts h.1
 
-  numbers_sig : (ts : List PlacedTable) (h : AllByRecursion (IsTableHere n is) ts) → map output_of ts ≡ map (sig n is) (numbers ts h)
+  numbers_sig : (ts : List PlacedTable) (h : AllByRecursion (IsTableHere n) ts) → map output_of ts ≡ map (signal_at n) (numbers ts h)
   numbers_sig [] h = refl
-  numbers_sig (t ∷ ts) h = ap (λ s. s ∷ map output_of ts) (ap output_of h.0.3) ∙ ap (λ l. sig n is (first_table n + h.0.0) ∷ l) (numbers_sig ts h.1)
+  numbers_sig (t ∷ ts) h = ap (λ s. s ∷ map output_of ts) (ap output_of h.0.3) ∙ ap (λ l. signal_at n (first_table n + h.0.0) ∷ l) (numbers_sig ts h.1)
 
-  numbers_at : (ts : List PlacedTable) (h : AllByRecursion (IsTableHere n is) ts) (j : ℕ) (t : PlacedTable) → slice_get ts j ≡ Some t → (x : IsTableHere n is t) × (slice_get (numbers ts h) j ≡ Some (first_table n + x.0))
+  numbers_at : (ts : List PlacedTable) (h : AllByRecursion (IsTableHere n) ts) (j : ℕ) (t : PlacedTable) → slice_get ts j ≡ Some t → (x : IsTableHere n t) × (slice_get (numbers ts h) j ≡ Some (first_table n + x.0))
   numbers_at [] h j t e = absurd cc
-  numbers_at (u ∷ ts) h zero t e = let i : u ≡ t = cc in subst (λ w. (x : IsTableHere n is w) × (Some (first_table n + h.0.0) ≡ Some (first_table n + x.0))) i (h.0, refl)
+  numbers_at (u ∷ ts) h zero t e = let i : u ≡ t = cc in subst (λ w. (x : IsTableHere n w) × (Some (first_table n + h.0.0) ≡ Some (first_table n + x.0))) i (h.0, refl)
   numbers_at (u ∷ ts) h (suc j) t e = numbers_at ts h.1 j t e
 
   abbrev places : List ℕ
   places = row 0 n.inputs ++ row n.inputs (length n.latches) ++ numbers by here
 
-  states_are : map state_of (latches f) ≡ map (sig n is) (row n.inputs (length n.latches))
-  states_are = ap (map state_of) (latches_are n is) ∙ map_map state_of (λ l. record { path = []; latch = l }) (latches_here n is)
+  states_are : map state_of (latches f) ≡ map (signal_at n) (row n.inputs (length n.latches))
+  states_are = ap (map state_of) (latches_are n is) ∙ map_map state_of (λ l. record { path = []; latch = l }) (latches_here n)
       ∙ map_map (λ l. state_of (record { path = []; latch = l })) (λ (p : ℕ × NetLatch). latch_at n p.0 p.1) (enumerate_from 0 n.latches)
-      ∙ sym (map_map (sig n is) (λ (p : ℕ × NetLatch). n.inputs + p.0) (enumerate_from 0 n.latches))
-      ∙ ap (map (sig n is)) (enumerated_row n.inputs 0 n.latches ∙ ap (λ k. row k (length n.latches)) (let z : n.inputs + 0 ≡ n.inputs = omega arith in z))
+      ∙ sym (map_map (signal_at n) (λ (p : ℕ × NetLatch). n.inputs + p.0) (enumerate_from 0 n.latches))
+      ∙ ap (map (signal_at n)) (enumerated_row n.inputs 0 n.latches ∙ ap (λ k. row k (length n.latches)) (let z : n.inputs + 0 ≡ n.inputs = omega arith in z))
 
-  inputs_sig : map (signal_of []) (pins f) ≡ map (sig n is) (row 0 n.inputs)
+  inputs_sig : map (signal_of []) (pins f) ≡ map (signal_at n) (row 0 n.inputs)
   inputs_sig = ap (map (signal_of [])) (pins_are ∙ take_by_row [] n.names n.inputs (omega (arith, is.count))) ∙ map_map (signal_of []) (name_at n) (row 0 n.inputs)
 
-  signals_are : signals_m ≡ map (sig n is) places
+  signals_are : signals_m ≡ map (signal_at n) places
   signals_are =
       ap (λ l. l ++ map state_of (latches f) ++ map output_of by) inputs_sig
-      ∙ ap (λ l. map (sig n is) (row 0 n.inputs) ++ l ++ map output_of by) states_are
-      ∙ ap (λ l. map (sig n is) (row 0 n.inputs) ++ map (sig n is) (row n.inputs (length n.latches)) ++ l) (numbers_sig by here)
-      ∙ ap (λ l. l ++ map (sig n is) (numbers by here)) (sym (map-append (sig n is) (row 0 n.inputs) (row n.inputs (length n.latches))))
-      ∙ sym (map-append (sig n is) (row 0 n.inputs ++ row n.inputs (length n.latches)) (numbers by here))
+      ∙ ap (λ l. map (signal_at n) (row 0 n.inputs) ++ l ++ map output_of by) states_are
+      ∙ ap (λ l. map (signal_at n) (row 0 n.inputs) ++ map (signal_at n) (row n.inputs (length n.latches)) ++ l) (numbers_sig by here)
+      ∙ ap (λ l. l ++ map (signal_at n) (numbers by here)) (sym (map-append (signal_at n) (row 0 n.inputs) (row n.inputs (length n.latches))))
+      ∙ sym (map-append (signal_at n) (row 0 n.inputs ++ row n.inputs (length n.latches)) (numbers by here))
 
   -- a number of the one stands for a number of the other
-  stands : (x k : ℕ) → k < length n.names → AllByRecursion (λ j. j < length n.names) places → slice_get signals_m x ≡ Some (sig n is k) → slice_get places x ≡ Some k
+  stands : (x k : ℕ) → k < length n.names → AllByRecursion (λ j. j < length n.names) places → slice_get signals_m x ≡ Some (signal_at n k) → slice_get places x ≡ Some k
   stands x k l small e =
-      let p = get_of_map (sig n is) places x (sig n is k) (ap (λ s. slice_get s x) (sym signals_are) ∙ e) in
+      let p = get_of_map (signal_at n) places x (signal_at n k) (ap (λ s. slice_get s x) (sym signals_are) ∙ e) in
       p.1 ∙ ap Some (sig_once n is p.0 k (AllByRecursion-contains (λ j. j < length n.names) places p.0 small (Contains-slice_get places x p.0 p.1)) l p.2)
 
-  numbers_small : (ts : List PlacedTable) (h : AllByRecursion (IsTableHere n is) ts) → AllByRecursion (λ j. j < length n.names) (numbers ts h)
+  numbers_small : (ts : List PlacedTable) (h : AllByRecursion (IsTableHere n) ts) → AllByRecursion (λ j. j < length n.names) (numbers ts h)
   numbers_small [] h = tt
   numbers_small (t ∷ ts) h = (table_number n is h.0.0 h.0.1 h.0.2, numbers_small ts h.1)
 
@@ -146,17 +147,17 @@ module _ (n m : NetworkData) (is : IsNetwork n) (of : IsNetworkOf (file_of n) m)
 
   count_latches : length m.latches ≡ length n.latches
   count_latches = same_length (numbered_latch signals_m) placed_latch m.latches (latches f) of.network.latches_are
-      ∙ sym (length-map (latches f) state_of) ∙ ap length states_are ∙ length-map (row n.inputs (length n.latches)) (sig n is) ∙ length_row n.inputs (length n.latches)
+      ∙ sym (length-map (latches f) state_of) ∙ ap length states_are ∙ length-map (row n.inputs (length n.latches)) (signal_at n) ∙ length_row n.inputs (length n.latches)
 
   module _ (v : List Bool) where
     abbrev image : List Bool
     image = map (value_at v) places
 
-    same_value : (x k : ℕ) → k < length n.names → slice_get signals_m x ≡ Some (sig n is k) → value_at image x ≡ value_at v k
+    same_value : (x k : ℕ) → k < length n.names → slice_get signals_m x ≡ Some (signal_at n k) → value_at image x ≡ value_at v k
     same_value x k l e = value_map (value_at v) places x k (stands x k l places_small e)
 
-    same_values : (xs ks : List ℕ) → map (slice_get signals_m) xs ≡ map (λ k. Some (sig n is k)) ks → AllByRecursion (λ k. k < length n.names) ks → map (value_at image) xs ≡ map (value_at v) ks
-    same_values xs ks e small = same_map (slice_get signals_m) (λ k. Some (sig n is k)) (value_at image) (value_at v) (λ k. k < length n.names) (λ x k at l. same_value x k l at) xs ks e small
+    same_values : (xs ks : List ℕ) → map (slice_get signals_m) xs ≡ map (λ k. Some (signal_at n k)) ks → AllByRecursion (λ k. k < length n.names) ks → map (value_at image) xs ≡ map (value_at v) ks
+    same_values xs ks e small = same_map (slice_get signals_m) (λ k. Some (signal_at n k)) (value_at image) (value_at v) (λ k. k < length n.names) (λ x k at l. same_value x k l at) xs ks e small
 
     module _ (u s : List Bool) (is_v : IsValuation n u s v) where
       whole : n.inputs + length n.latches ≤ length v
@@ -201,9 +202,9 @@ module _ (n m : NetworkData) (is : IsNetwork n) (of : IsNetworkOf (file_of n) m)
               (get_behind (row 0 n.inputs ++ row n.inputs (length n.latches)) (numbers by here) j (first_table n + k) at.1) in
               let value : value_at image (first_table m + j) ≡ value_at v (first_table n + k) = value_map (value_at v) places (first_table m + j) (first_table n + k) place in
               let small = AllByRecursion-weaker (λ x. x < first_table n + k) (λ x. x < length n.names) (λ x l. omega (arith, l, table_number n is k t at.0.2)) t.inputs (table_small n is k t at.0.2) in
-              let reads : map (slice_get signals_m) q.inputs ≡ map (λ x. Some (sig n is x)) t.inputs =
+              let reads : map (slice_get signals_m) q.inputs ≡ map (λ x. Some (signal_at n x)) t.inputs =
               ap (λ (b : TableBySignals). b.inputs) alike ∙ ap (λ w. map Some (inputs_of w)) at.0.3
-              ∙ ap (map Some) (map_map (signal_of []) (name_at n) t.inputs) ∙ map_map Some (sig n is) t.inputs in
+              ∙ ap (map Some) (map_map (signal_of []) (name_at n) t.inputs) ∙ map_map Some (signal_at n) t.inputs in
               let ins : map (value_at image) q.inputs ≡ map (value_at v) t.inputs = same_values q.inputs t.inputs reads small in
               let on : q.on ≡ t.on = ap (λ (b : TableBySignals). b.on) alike ∙ ap (λ (w : PlacedTable). w.table.on) at.0.3 in
               let rows : q.rows ≡ t.rows = ap (λ (b : TableBySignals). b.rows) alike ∙ ap (λ (w : PlacedTable). w.table.rows) at.0.3 in
@@ -217,7 +218,7 @@ module _ (n m : NetworkData) (is : IsNetwork n) (of : IsNetworkOf (file_of n) m)
       image_valuation : IsValuation m u s image
       image_valuation = record {
         count = length-map places (value_at v) ∙ sym (ap length of.network.names_are
-            ∙ length-map (enumerate_from 0 signals_m) (λ (p : ℕ × Signal). name_by_number (letters_w of.width) p.0 p.1) ∙ length-enumerate_from 0 signals_m ∙ ap length signals_are ∙ length-map places (sig n is));
+            ∙ length-map (enumerate_from 0 signals_m) (λ (p : ℕ × Signal). name_by_number (letters_w of.width) p.0 p.1) ∙ length-enumerate_from 0 signals_m ∙ ap length signals_are ∙ length-map places (signal_at n));
         inputs = ap (take m.inputs) image_begins ∙ ap (λ k. take k (u ++ (s ++ map (value_at v) (numbers by here)))) (sym length_u) ∙ take-append_seam u (s ++ map (value_at v) (numbers by here));
         latches = ap (λ w. take (length m.latches) (drop m.inputs w)) image_begins
             ∙ ap (λ k. take (length m.latches) (drop k (u ++ (s ++ map (value_at v) (numbers by here))))) (sym length_u)
@@ -231,11 +232,11 @@ module _ (n m : NetworkData) (is : IsNetwork n) (of : IsNetworkOf (file_of n) m)
 
   -- latches of the file by those of the network
   abbrev net_latch : NetLatch → LatchBySignals
-  net_latch l = record { input = Some (sig n is l.input); init = (if l.init then 1 else 0) == 1 }
+  net_latch l = record { input = Some (signal_at n l.input); init = (if l.init then 1 else 0) == 1 }
 
   placed_are : map (numbered_latch signals_m) m.latches ≡ map net_latch n.latches
   placed_are = of.network.latches_are ∙ ap (map placed_latch) (latches_are n is)
-      ∙ map_map placed_latch (λ l. record { path = []; latch = l }) (latches_here n is)
+      ∙ map_map placed_latch (λ l. record { path = []; latch = l }) (latches_here n)
       ∙ map_map (λ l. placed_latch (record { path = []; latch = l })) (λ (p : ℕ × NetLatch). latch_at n p.0 p.1) (enumerate_from 0 n.latches)
       ∙ map_enumerated net_latch 0 n.latches
 

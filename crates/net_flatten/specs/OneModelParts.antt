@@ -1,0 +1,30 @@
+-- What stands in the file of one model of a network: its tables, latches and signals, by their numbers.
+use Rattle.std.specs.Prelude.{◌≡◌, ◌+◌, ℕ, zero, suc, List, [], ◌∷◌, map, slice_get, Some}
+use Rattle.std.specs.List.{enumerate_from}
+use Rattle.blif_ast.specs.declared.latch.Latch.{Latch}
+use Rattle.blif_ast.specs.TableData.{TableData}
+use Rattle.net_flatten.specs.declared.network.NetLatch.{NetLatch}
+use Rattle.net_flatten.specs.Expanded.{PlacedTable}
+use Rattle.net_flatten.specs.NetworkData.{NetTableData, NetworkData}
+use Rattle.net_flatten.specs.OneModel.{latch_at, name_at, table_at}
+use Rattle.net_flatten.specs.Signals.{Signal}
+
+-- so many numbers from one on
+abbrev pub row : ℕ → ℕ → List ℕ
+row a zero = []
+row a (suc m) = a ∷ row (a + 1) m
+
+-- its tables and latches in order
+abbrev pub tables_here : NetworkData → List TableData
+tables_here n = map (λ (p : ℕ × NetTableData). table_at n p.0 p.1) (enumerate_from 0 n.tables)
+
+abbrev pub latches_here : NetworkData → List Latch
+latches_here n = map (λ (p : ℕ × NetLatch). latch_at n p.0 p.1) (enumerate_from 0 n.latches)
+
+-- the signal of a number
+abbrev pub signal_at : NetworkData → ℕ → Signal
+signal_at n k = record { path = []; name = name_at n k }
+
+-- one of its tables, in the main model
+abbrev pub IsTableHere : NetworkData → PlacedTable → Type 0
+IsTableHere n t = (k : ℕ) × (net : NetTableData) × (slice_get n.tables k ≡ Some net) × (t ≡ record { path = []; table = table_at n k net })
