@@ -1,3 +1,10 @@
+pub mod ArmsOf
+pub mod EndsOf
 pub mod ForestOrders
+pub mod Marks
+pub mod PairLists
 pub mod PairValues
+pub mod RailsOf
+pub mod TargetsOf
+pub mod UsesOf
 pub mod Zips

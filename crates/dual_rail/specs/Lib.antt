@@ -1,4 +1,10 @@
+pub mod ArmPlaces
+pub mod EndPlaces
 pub mod ForestData
 pub mod ForestOrder
 pub mod ForestValues
 pub mod Forests
+pub mod Places
+pub mod Targets
+pub mod Uses
+pub mod WantedNodes

@@ -2,8 +2,16 @@
 //! inverters between them (Puri, Bjorksten, Rosser 1996).
 #![tactic(auto)]
 
+mod arms;
+mod ends;
 mod forest;
 mod laws;
+mod needed_rails;
+mod pairs_needed;
+mod targets;
+mod uses;
+mod wanted;
 
 pub use forest::{Arm, End, Forest, Pair, Rail};
 pub use laws::{forest_values_are_kept, forests_are_in_place};
+pub use needed_rails::{rails, size};

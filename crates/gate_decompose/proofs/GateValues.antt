@@ -12,7 +12,8 @@ use Rattle.gate_decompose.specs.Sinks.{leaf_count, sink_signals}
 use Rattle.gate_decompose.specs.NetworkOrder.{IsOrderedNetwork, SinksHaveValues}
 use Rattle.gate_decompose.specs.Terms.{Term, Constant, Signal, Not, And, Or, rows_term, table_term, term_value}
 use Rattle.gate_decompose.specs.Values.{AreNodeValues, AreSignalValues, node_value, ref_value}
-use Rattle.gate_decompose.proofs.Among.{Among, among_flat, among_left, among_place, among_right}
+use Rattle.gate_decompose.specs.Items.{Among}
+use Rattle.gate_decompose.proofs.Among.{among_flat, among_left, among_place, among_right}
 use Rattle.gate_decompose.proofs.NodeNames.{names_are_apart}
 use Rattle.gate_decompose.proofs.TermShapes.{AreRows, NoOr, SignalsBelow, rows_are, table_signals}
 use Rattle.dom_base.proofs.Bools.{and_false, and_true, or_false, or_true}

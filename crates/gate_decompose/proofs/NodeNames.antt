@@ -7,8 +7,9 @@ use Rattle.gate_decompose.specs.GateNodes.{AndOf, Joint, Left, NamedNode, NodeNa
 use Rattle.net_flatten.specs.NetworkData.{NetTableData}
 use Rattle.gate_decompose.specs.NodeNames.{NamesAreApart}
 use Rattle.gate_decompose.specs.Terms.{And, Constant, Not, Or, Signal, Term, rows_term}
-use Rattle.gate_decompose.proofs.Among.{Among, among_either}
-use Rattle.gate_decompose.proofs.Rising.{Rises, rises_append}
+use Rattle.gate_decompose.specs.Items.{Among, Rises}
+use Rattle.gate_decompose.proofs.Among.{among_either}
+use Rattle.gate_decompose.proofs.Rising.{rises_append}
 use Rattle.dom_base.proofs.Bools.{and_both}
 
 same_turn-is : (a b : Turn) → same_turn a b ≡ true → a ≡ b

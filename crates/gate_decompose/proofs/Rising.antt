@@ -1,11 +1,7 @@
 -- Lists in which each item precedes those behind it.
 use Rattle.std.proofs.Common.{◌≡◌, inl, inr, refl, sym, subst, ◌∙◌, ℕ, zero, suc, ◌<◌, List, [], ◌∷◌, ◌++◌, length, get_or, AllPairs, arith}
-use Rattle.gate_decompose.proofs.Among.{Among, among_either, among-contains}
-
--- each item precedes those behind it
-abbrev pub Rises : {X : Type 0} → (X → X → Type 0) → List X → Type 0
-Rises R [] = Unit {0}
-Rises {X} R (x ∷ xs) = ((y : X) → Among y xs → R x y) × Rises R xs
+use Rattle.gate_decompose.specs.Items.{Among, Rises}
+use Rattle.gate_decompose.proofs.Among.{among_either, among-contains}
 
 pub rises_of : {X : Type 0} (R : X → X → Type 0) (xs : List X) → AllPairs R xs → Rises R xs
 rises_of R [] h = tt

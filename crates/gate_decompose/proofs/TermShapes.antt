@@ -5,7 +5,8 @@ use Rattle.blif_ast.specs.declared.letter.Letter.{Letter}
 use Rattle.blif_ast.specs.declared.letter.Letter.TheVariants.{Zero, One, Any}
 use Rattle.net_flatten.specs.NetworkData.{NetTableData}
 use Rattle.gate_decompose.specs.Terms.{Term, Constant, Signal, Not, And, Or, items, row_term, rows_term, table_term}
-use Rattle.gate_decompose.proofs.Among.{Among, among_mapped}
+use Rattle.gate_decompose.specs.Items.{Among}
+use Rattle.gate_decompose.proofs.Among.{among_mapped}
 use Rattle.gate_decompose.proofs.TermValues.{balanced_keeps}
 
 -- a term without Or, and one in which Or joins such terms
@@ -47,7 +48,7 @@ item_is m (s ∷ inputs) (Zero ∷ row) h x (inl e) = rw (← e) (tt, All-head (
 item_is m (s ∷ inputs) (Zero ∷ row) h x (inr at) = item_is m inputs row (All-tail (λ n. n < m) s inputs h) x at
 item_is m (s ∷ inputs) (Any ∷ row) h x at = item_is m inputs row (All-tail (λ n. n < m) s inputs h) x at
 
-row_is : (m : ℕ) (inputs : List ℕ) (row : List Letter) → All (λ s. s < m) inputs → NoOr (row_term inputs row) × SignalsBelow m (row_term inputs row)
+pub row_is : (m : ℕ) (inputs : List ℕ) (row : List Letter) → All (λ s. s < m) inputs → NoOr (row_term inputs row) × SignalsBelow m (row_term inputs row)
 row_is m inputs row h =
     balanced_keeps (λ t. NoOr t × SignalsBelow m t) And (Constant true) (items inputs row) (tt, tt) (λ a b x y. ((x.0, y.0), (x.1, y.1))) (λ x at. item_is m inputs row h x at)
 

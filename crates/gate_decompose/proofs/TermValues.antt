@@ -15,7 +15,8 @@ use Rattle.gate_decompose.specs.Terms.{Term, Constant, Not, And, Or, items, row_
 use Rattle.dom_base.proofs.Bools.{and_both, and_true, false_from_not, or_false, or_one}
 use Rattle.std.proofs.lemmas.Bool.{and_from, or_left, or_right}
 use Rattle.sp_network.proofs.BalancedExpressions.{balanced-halves, by_halves}
-use Rattle.gate_decompose.proofs.Among.{Among, among_left, among_right}
+use Rattle.gate_decompose.specs.Items.{Among}
+use Rattle.gate_decompose.proofs.Among.{among_left, among_right}
 
 among_take : {X : Type 0} (n : ℕ) (x : X) (xs : List X) → Among x (take n xs) → Among x xs
 among_take n x xs at = subst (Among x) (take-append-drop n xs) (among_left x (take n xs) (drop n xs) at)

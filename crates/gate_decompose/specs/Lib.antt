@@ -1,10 +1,14 @@
 pub mod GateNodes
 pub mod GatesData
 pub mod GatesOrder
+pub mod Items
 pub mod Needed
 pub mod NeededPass
 pub mod NetworkOrder
 pub mod NodeNames
+pub mod RowItems
+pub mod RowsMade
 pub mod Sinks
+pub mod TermNodes
 pub mod Terms
 pub mod Values

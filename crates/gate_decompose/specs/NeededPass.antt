@@ -1,12 +1,13 @@
 -- Needed pairs by one pass over the nodes, from the last to the first: a node that is wanted with a sign wants what it
 -- reads with that sign, and a Not with the other.
-use Rattle.std.specs.Prelude.{ℕ, zero, suc, ◌≡◌, ◌↔◌, Bool, true, false, not, ◌&&◌, ◌||◌, ◌==◌, List, [], ◌∷◌, Option, Some, None, slice_get, length}
+use Rattle.std.specs.Prelude.{ℕ, zero, suc, ◌≡◌, ◌↔◌, Bool, true, false, not, ◌&&◌, ◌||◌, ◌==◌, List, [], ◌∷◌, Option, Some, None, slice_get, length, cond, ◌++◌, flat_map}
+use Rattle.std.specs.List.{range_with_len}
 use Rattle.gate_decompose.specs.declared.gates.Node.{Node}
 use Rattle.gate_decompose.specs.declared.gates.Node.TheVariants.{And, Or, Not}
 use Rattle.gate_decompose.specs.declared.gates.Ref.{Ref}
 use Rattle.gate_decompose.specs.declared.gates.Ref.TheVariants.{Const, Leaf, Node as node_ref}
 use Rattle.gate_decompose.specs.GatesData.{GatesData}
-use Rattle.gate_decompose.specs.GatesOrder.{AreOrderedGates}
+use Rattle.gate_decompose.specs.GatesOrder.{AreOrderedGates, is_operator}
 use Rattle.gate_decompose.specs.Needed.{AreNeeded, IsGateNode, IsNeeded, signed}
 
 -- the reference is this node
@@ -35,6 +36,25 @@ pass nodes wanted (suc k) m s = pass nodes (λ n t. wanted n t || asked_by (want
 
 abbrev pub wanted_by_pass : GatesData → List Bool → ℕ → Bool → Bool
 wanted_by_pass gates signs = pass gates.nodes (asked_by_sinks gates.sinks signs) (length gates.nodes)
+
+-- whether a node is an And or an Or
+abbrev pub is_gate : Option Node → Bool
+is_gate None = false
+is_gate (Some x) = is_operator x
+
+-- the pairs of one node that pass a test, plus before minus, and those of some nodes in order
+abbrev pub signs_at : (ℕ → Bool → Bool) → ℕ → List (ℕ × Bool)
+signs_at test n = cond (test n true) ((n, true) ∷ []) [] ++ cond (test n false) ((n, false) ∷ []) []
+
+abbrev pub pairs_from : (ℕ → Bool → Bool) → ℕ → ℕ → List (ℕ × Bool)
+pairs_from test first count = flat_map (signs_at test) (range_with_len first count)
+
+-- the pairs of all And and Or nodes that are marked, in order
+abbrev pub is_marked_gate : List Node → (ℕ → Bool → Bool) → ℕ → Bool → Bool
+is_marked_gate nodes marks n s = is_gate (slice_get nodes n) && marks n s
+
+abbrev pub marked_pairs : List Node → (ℕ → Bool → Bool) → List (ℕ × Bool)
+marked_pairs nodes marks = pairs_from (is_marked_gate nodes marks) 0 (length nodes)
 
 -- which marks exactly the needed pairs
 abbrev pub PassIsNeeded : Type 0

@@ -1,0 +1,104 @@
+-- The leaves are known; a table more; and the gates of all tables are gates.
+use Rattle.std.proofs.Common.{◌≡◌, ◌<◌, ◌≤◌, ◌+◌, false, All, Some, length, map, get_or, sym, ap, subst, ◌∙◌, arith, add-zero, zero-add, rules, vec_len}
+use Rattle.std.specs.List.{range_with_len}
+use Rattle.std.proofs.lemmas.Grind.{common_steps}
+use Rattle.std.proofs.lemmas.List.FromFn.{get_or-map-range_with_len, length-map-range_with_len}
+use Rattle.std.proofs.lemmas.List.Sums.{sum_by_more}
+use Rattle.std.proofs.lemmas.Option.{slice_get-get_or}
+use Rattle.net_flatten.specs.Limits.{letters}
+use Rattle.net_flatten.specs.Networks.{IsNetwork}
+use Rattle.net_flatten.specs.NetworkData.{NetTableData, NetworkData}
+use Rattle.gate_decompose.specs.declared.gates.Ref.TheVariants.{Const, Leaf}
+use Rattle.gate_decompose.specs.GateNodes.{node_names}
+use Rattle.gate_decompose.specs.NetworkOrder.{IsOrderedNetwork}
+use Rattle.gate_decompose.specs.RowItems.{AreRefs, ref_at}
+use Rattle.gate_decompose.specs.Sinks.{leaf_count, sink_signals}
+use Rattle.gate_decompose.proofs.NetworkGates.{are_gates, gates_within, leaves_known, table_next}
+use Rattle.gate_decompose.proofs.NetworkOrder.{networks_are_ordered}
+use Rattle.gate_decompose.proofs.Operands.{operands_of}
+use Rattle.gate_decompose.proofs.tables.decompose.Goals as goal
+
+pub loop-table-init : goal.loop-table-init
+loop-table-init c =
+    let is : IsNetwork c.args.network.now = subst IsNetwork c.network.view_is c.network.invariant in
+    let long : vec_len c.network.inside.latches ≡ length c.network.inside.latches.items = search rules in
+    let leaves : c.network.inside.inputs + c.len.result ≡ leaf_count c.args.network.now = ap (λ n. c.network.inside.inputs + n) (c.len.ensures ∙ long) ∙ ap leaf_count c.network.view_is in
+    let refs = c.in_ok-refs.ensures ∙ ap (λ n. map Leaf (range_with_len 0 n)) leaves in
+    let count = ap length refs ∙ length-map-range_with_len Leaf 0 (leaf_count c.args.network.now) in
+    record {
+      count = count ∙ sym (add-zero (leaf_count c.args.network.now));
+      known = leaves_known c.args.network.now (networks_are_ordered c.args.network.now is) c.in_ok-refs.refs.items count
+          (λ s lt. ap (λ xs. get_or xs s (Const false)) refs ∙ get_or-map-range_with_len Leaf 0 (leaf_count c.args.network.now) s s (Const false) lt (zero-add s));
+      nodes = c.new-nodes.ensures.items;
+      few = rw c.new-nodes.ensures.items (omega arith);
+      operators = rw c.new-nodes.ensures.items (omega arith);
+    }
+
+pub table_part-requires-clause-below : goal.table_part-requires-clause-below
+table_part-requires-clause-below c =
+    let is : IsNetwork c.args.network.now = subst IsNetwork c.network.view_is c.network.invariant in
+    let tables : c.deref-table-items.result.now ≡ c.args.network.now.tables = c.deref-table-items.ensures.value ∙ ap (λ (n : NetworkData). n.tables) c.network.view_is in
+    let lt : c.loop-table.table-index < length c.args.network.now.tables = subst (λ xs. c.loop-table.table-index < length xs) tables c.loop-table-test.true in
+    let at = slice_get-get_or c.args.network.now.tables c.loop-table.table-index c.table-item.result lt
+    ∙ ap (λ xs. Some (get_or xs c.loop-table.table-index c.table-item.result)) (sym tables) ∙ ap Some (sym c.table-item.is) in
+    subst (λ n. All (λ signal. signal < n) c.table-item.result.inputs) (sym (ap length c.as_slice.ensures.value ∙ c.loop-table.invariant.count))
+    (is.tables c.loop-table.table-index c.table-item.result at).inputs
+
+pub table_part-requires-clause-fits : goal.table_part-requires-clause-fits
+table_part-requires-clause-fits c =
+    let is : IsNetwork c.args.network.now = subst IsNetwork c.network.view_is c.network.invariant in
+    let tables : c.deref-table-items.result.now ≡ c.args.network.now.tables = c.deref-table-items.ensures.value ∙ ap (λ (n : NetworkData). n.tables) c.network.view_is in
+    let lt : c.loop-table.table-index < length c.args.network.now.tables = subst (λ xs. c.loop-table.table-index < length xs) tables c.loop-table-test.true in
+    let at = slice_get-get_or c.args.network.now.tables c.loop-table.table-index c.table-item.result lt
+    ∙ ap (λ xs. Some (get_or xs c.loop-table.table-index c.table-item.result)) (sym tables) ∙ ap Some (sym c.table-item.is) in
+    (is.tables c.loop-table.table-index c.table-item.result at).rows
+
+pub loop-table-preserved : goal.loop-table-preserved
+loop-table-preserved c =
+    let is : IsNetwork c.args.network.now = subst IsNetwork c.network.view_is c.network.invariant in
+    let order : IsOrderedNetwork c.args.network.now = networks_are_ordered c.args.network.now is in
+    let tables : c.deref-table-items.result.now ≡ c.args.network.now.tables = c.deref-table-items.ensures.value ∙ ap (λ (n : NetworkData). n.tables) c.network.view_is in
+    let lt : c.loop-table.table-index < length c.args.network.now.tables = subst (λ xs. c.loop-table.table-index < length xs) tables c.loop-table-test.true in
+    let here : get_or c.args.network.now.tables c.loop-table.table-index c.table-item.result ≡ c.table-item.result =
+    ap (λ xs. get_or xs c.loop-table.table-index c.table-item.result) (sym tables) ∙ sym c.table-item.is in
+    let more = sum_by_more (λ (t : NetTableData). letters (length t.inputs) t.rows) c.args.network.now.tables c.loop-table.table-index c.table-item.result lt in
+    let same = ap (λ (t : NetTableData). letters (length t.inputs) t.rows) here in
+    let next = table_next c.args.network.now order c.loop-table.table-index c.table-item.result c.loop-table.refs.items c.loop-table.nodes.items c.table_part.new.nodes.items c.in_ok-part.part lt here
+    c.loop-table.invariant.count c.loop-table.invariant.known c.loop-table.invariant.nodes
+    (c.in_ok-part.ensures.makes (node_names (operands_of c.args.network.now) c.args.network.now) (operands_of c.args.network.now) c.loop-table.table-index
+    (subst (AreRefs (node_names (operands_of c.args.network.now) c.args.network.now) (operands_of c.args.network.now)) (sym c.as_slice.ensures.value) c.loop-table.invariant.known)) in
+    record {
+      count = let so_far = c.loop-table.invariant.count in rw c.in_ok-push.ensures.items (grind (arith, common_steps));
+      known = subst (AreRefs (node_names (operands_of c.args.network.now) c.args.network.now) (operands_of c.args.network.now)) (sym c.in_ok-push.ensures.items) next.0;
+      nodes = next.1;
+      few = omega (arith, more, same, c.loop-table.invariant.few, c.in_ok-part.ensures.few);
+      operators = omega (arith, more, same, c.loop-table.invariant.operators, c.in_ok-part.ensures.operators);
+    }
+
+pub invariant_of-result : goal.invariant_of-result
+invariant_of-result c =
+    let is : IsNetwork c.args.network.now = subst IsNetwork c.network.view_is c.network.invariant in
+    let order : IsOrderedNetwork c.args.network.now = networks_are_ordered c.args.network.now is in
+    let long : vec_len c.network.inside.latches ≡ length c.network.inside.latches.items = search rules in
+    let leaves : c.network.inside.inputs + c.len.result ≡ leaf_count c.args.network.now = ap (λ n. c.network.inside.inputs + n) (c.len.ensures ∙ long) ∙ ap leaf_count c.network.view_is in
+    let tables : c.deref-table-items.result.now ≡ c.args.network.now.tables = c.deref-table-items.ensures.value ∙ ap (λ (n : NetworkData). n.tables) c.network.view_is in
+    let done : length c.args.network.now.tables ≤ c.loop-table.table-index = subst (λ xs. length xs ≤ c.loop-table.table-index) tables c.loop-table-test.false in
+    let most : c.loop-table.table-index ≤ length c.args.network.now.tables = subst (λ xs. c.loop-table.table-index ≤ length xs) tables c.loop-table.auto.table-index-end in
+    gates_within c.args.network.now _ c.loop-table.table-index is order
+    (are_gates c.args.network.now order c.loop-table.table-index (c.network.inside.inputs + c.len.result) c.loop-table.refs.items c.in_ok-sinks.sinks.items c.loop-table.nodes.items
+    leaves done c.loop-table.invariant.known (omega (arith, c.loop-table.invariant.count, done, most)) c.loop-table.invariant.nodes
+    (c.in_ok-sinks.ensures ∙ ap (λ xs. map (ref_at xs) (sink_signals c.args.network.now)) c.as_slice-2.ensures.value))
+    c.loop-table.invariant.few c.loop-table.invariant.operators
+
+pub returns : goal.returns
+returns c =
+    let is : IsNetwork c.args.network.now = subst IsNetwork c.network.view_is c.network.invariant in
+    let order : IsOrderedNetwork c.args.network.now = networks_are_ordered c.args.network.now is in
+    let long : vec_len c.network.inside.latches ≡ length c.network.inside.latches.items = search rules in
+    let leaves : c.network.inside.inputs + c.len.result ≡ leaf_count c.args.network.now = ap (λ n. c.network.inside.inputs + n) (c.len.ensures ∙ long) ∙ ap leaf_count c.network.view_is in
+    let tables : c.deref-table-items.result.now ≡ c.args.network.now.tables = c.deref-table-items.ensures.value ∙ ap (λ (n : NetworkData). n.tables) c.network.view_is in
+    let done : length c.args.network.now.tables ≤ c.loop-table.table-index = subst (λ xs. length xs ≤ c.loop-table.table-index) tables c.loop-table-test.false in
+    let most : c.loop-table.table-index ≤ length c.args.network.now.tables = subst (λ xs. c.loop-table.table-index ≤ length xs) tables c.loop-table.auto.table-index-end in
+    are_gates c.args.network.now order c.loop-table.table-index (c.network.inside.inputs + c.len.result) c.loop-table.refs.items c.in_ok-sinks.sinks.items c.loop-table.nodes.items
+    leaves done c.loop-table.invariant.known (omega (arith, c.loop-table.invariant.count, done, most)) c.loop-table.invariant.nodes
+    (c.in_ok-sinks.ensures ∙ ap (λ xs. map (ref_at xs) (sink_signals c.args.network.now)) c.as_slice-2.ensures.value)
