@@ -22,10 +22,10 @@ use Rattle.domino_law.proofs.Places.{bit-known}
 use Rattle.domino_law.proofs.Rests.{rest_at, rest_complement, rest_dynamic, rest_next, rest_output, rest_precharged, rest_sink}
 
 module _ (devices : List Device) (is_source : ℕ → Bool) (net : Net → ℕ) (s : Shape) (deck : HoldsDeck devices is_source net s)
-    (place : Place) (risen : ℕ) (old new pins : ℕ → Bool) (kept : ℕ → Tri) where
+    (place : Place) (up : ℕ → Bool) (old new pins : ℕ → Bool) (kept : ℕ → Tri) where
   -- an honest rest
   pub record IsResting (values : List Tri) : Type 0 where
-    pub honest : IsHonest devices is_source net s place risen old new pins kept values
+    pub honest : IsHonest devices is_source net s place up old new pins kept values
     pub rest : IsAtRest devices is_source values
     pub range : (part : Part) (a : Spot) → IsSpotOf s part a → net (At part a) < length values
 
@@ -33,7 +33,7 @@ module _ (devices : List Device) (is_source : ℕ → Bool) (net : Net → ℕ) 
   slave_rests : (values : List Tri) → IsResting values → (j : ℕ) (b : Latch) → IsLatchAt s j b → value_of values (net (At (Slave j) Top)) ≡ slave_goal place (bit (old j)) (bit (new j))
   slave_rests values r j b e = by place refl r.honest
     where
-      by : (pl : Place) → place ≡ pl → IsHonest devices is_source net s pl risen old new pins kept values → value_of values (net (At (Slave j) Top)) ≡ slave_goal pl (bit (old j)) (bit (new j))
+      by : (pl : Place) → place ≡ pl → IsHonest devices is_source net s pl up old new pins kept values → value_of values (net (At (Slave j) Top)) ≡ slave_goal pl (bit (old j)) (bit (new j))
       by Launch z h =
           rest_at devices is_source net s deck values r.rest r.range (Slave j) (b, e) _
           (slave_open devices is_source net values (h.sources Vdd tt) (h.sources Vss tt) (λ a. net (At (Slave j) a)) (At (Master j) Top) b.init (slave_is devices is_source net s deck j b e) (h.sources Lsb tt) (h.sources Ls tt) (h.sources Rs tt) (h.sources Rsb tt)
@@ -53,7 +53,7 @@ module _ (devices : List Device) (is_source : ℕ → Bool) (net : Net → ℕ) 
   unfolding master_rest
   master_rests values r j b e = by place refl r.honest
     where
-      by : (pl : Place) → place ≡ pl → IsHonest devices is_source net s pl risen old new pins kept values → value_of values (net (At (Master j) Top)) ≡ master_rest pl (kept j) (bit (new j))
+      by : (pl : Place) → place ≡ pl → IsHonest devices is_source net s pl up old new pins kept values → value_of values (net (At (Master j) Top)) ≡ master_rest pl (kept j) (bit (new j))
       by Capture z h =
           rest_at devices is_source net s deck values r.rest r.range (Master j) (b, e) _
           (clocked_target devices is_source net values (h.sources Vdd tt) (h.sources Vss tt) (λ a. net (At (Master j) a)) Lmb Lm (At (Next j) Top) [] (master_is devices is_source net s deck j b e) (h.sources Lmb tt) (h.sources Lm tt) tt (h.nexts j b e))
@@ -70,8 +70,8 @@ module _ (devices : List Device) (is_source : ℕ → Bool) (net : Net → ℕ) 
 
     complement_alike : (l : DeckSignal) → HasComplement s l → value_of a (net (At (Complement l) Top)) ≡ value_of b (net (At (Complement l) Top))
     complement_alike l i =
-        rest_complement devices is_source net s deck place risen old new pins kept a ra.honest ra.rest ra.range l i
-        ∙ (ap opposite (own_alike l ((deck.shape).complements_are l i)) ∙ sym (rest_complement devices is_source net s deck place risen old new pins kept b rb.honest rb.rest rb.range l i))
+        rest_complement devices is_source net s deck place up old new pins kept a ra.honest ra.rest ra.range l i
+        ∙ (ap opposite (own_alike l ((deck.shape).complements_are l i)) ∙ sym (rest_complement devices is_source net s deck place up old new pins kept b rb.honest rb.rest rb.range l i))
 
     Alike : ℕ → Type 0
     Alike k = (value_of a (net (At (Dynamic k) Top)) ≡ value_of b (net (At (Dynamic k) Top))) × (value_of a (net (At (Output k) Top)) ≡ value_of b (net (At (Output k) Top)))
@@ -93,19 +93,19 @@ module _ (devices : List Device) (is_source : ℕ → Bool) (net : Net → ℕ) 
         clock = source_alike (Clock c.clock) ((deck.shape).clocks_are k c e)
 
         dyn : value_of a (net (At (Dynamic k) Top)) ≡ value_of b (net (At (Dynamic k) Top))
-        dyn = elim (clock-known devices is_source net s deck place risen old new pins kept a ra.honest k c e) [
-          | inl z ↦ (rest_precharged devices is_source net s deck place risen old new pins kept a ra.honest ra.rest ra.range k c e z).0.0
-              ∙ sym ((rest_precharged devices is_source net s deck place risen old new pins kept b rb.honest rb.rest rb.range k c e (sym clock ∙ z)).0.0)
-          | inr z ↦ rest_dynamic devices is_source net s deck place risen old new pins kept a ra.honest ra.rest ra.range k c e z
+        dyn = elim (clock-known devices is_source net s deck place up old new pins kept a ra.honest k c e) [
+          | inl z ↦ (rest_precharged devices is_source net s deck place up old new pins kept a ra.honest ra.rest ra.range k c e z).0.0
+              ∙ sym ((rest_precharged devices is_source net s deck place up old new pins kept b rb.honest rb.rest rb.range k c e (sym clock ∙ z)).0.0)
+          | inr z ↦ rest_dynamic devices is_source net s deck place up old new pins kept a ra.honest ra.rest ra.range k c e z
               ∙ (ap opposite (sym (tree_conduction-same nch (λ g. value_of b (net (gate_net g))) (λ g. value_of a (net (gate_net g))) c.tree
               (EachLeaf-weaker _ (λ g. value_of b (net (gate_net g)) ≡ value_of a (net (gate_net g))) (leaf_alike k below) c.tree ((deck.shape).leaves k c e))))
-              ∙ sym (rest_dynamic devices is_source net s deck place risen old new pins kept b rb.honest rb.rest rb.range k c e (sym clock ∙ z)))
+              ∙ sym (rest_dynamic devices is_source net s deck place up old new pins kept b rb.honest rb.rest rb.range k c e (sym clock ∙ z)))
         ]
 
         out : value_of a (net (At (Output k) Top)) ≡ value_of b (net (At (Output k) Top))
         out =
-            rest_output devices is_source net s deck place risen old new pins kept a ra.honest ra.rest ra.range k c e
-            ∙ (ap opposite dyn ∙ sym (rest_output devices is_source net s deck place risen old new pins kept b rb.honest rb.rest rb.range k c e))
+            rest_output devices is_source net s deck place up old new pins kept a ra.honest ra.rest ra.range k c e
+            ∙ (ap opposite dyn ∙ sym (rest_output devices is_source net s deck place up old new pins kept b rb.honest rb.rest rb.range k c e))
 
     cells_alike : (m k : ℕ) (c : DominoCell) → k < m → IsCellAt s k c → Alike k
     cells_alike zero k c l e = absurd (omega arith)
@@ -131,11 +131,11 @@ module _ (devices : List Device) (is_source : ℕ → Bool) (net : Net → ℕ) 
     part_alike (Master j) i = master_rests a ra j i.0 i.1 ∙ sym (master_rests b rb j i.0 i.1)
     part_alike (Slave j) i = own_alike (FromLatch j) i
     part_alike (Next j) i =
-        rest_next devices is_source net s deck place risen old new pins kept a ra.honest ra.rest ra.range j i.0 i.1
-        ∙ (ap opposite (gate_alike (i.0).next ((deck.shape).nexts j i.0 i.1)) ∙ sym (rest_next devices is_source net s deck place risen old new pins kept b rb.honest rb.rest rb.range j i.0 i.1))
+        rest_next devices is_source net s deck place up old new pins kept a ra.honest ra.rest ra.range j i.0 i.1
+        ∙ (ap opposite (gate_alike (i.0).next ((deck.shape).nexts j i.0 i.1)) ∙ sym (rest_next devices is_source net s deck place up old new pins kept b rb.honest rb.rest rb.range j i.0 i.1))
     part_alike (Sink x) i =
-        rest_sink devices is_source net s deck place risen old new pins kept a ra.honest ra.rest ra.range x i.0 i.1
-        ∙ (ap opposite (gate_alike i.0 ((deck.shape).outputs_are x i.0 i.1)) ∙ sym (rest_sink devices is_source net s deck place risen old new pins kept b rb.honest rb.rest rb.range x i.0 i.1))
+        rest_sink devices is_source net s deck place up old new pins kept a ra.honest ra.rest ra.range x i.0 i.1
+        ∙ (ap opposite (gate_alike i.0 ((deck.shape).outputs_are x i.0 i.1)) ∙ sym (rest_sink devices is_source net s deck place up old new pins kept b rb.honest rb.rest rb.range x i.0 i.1))
 
     -- so they agree on each net that gates a device
     pub main_alike : (n : ℕ) → IsMain net s n → value_of a n ≡ value_of b n

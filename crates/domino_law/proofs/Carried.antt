@@ -11,21 +11,21 @@ use Rattle.deck.specs.declared.device.Device.{Device}
 use Rattle.sp_network.specs.Known.{IsKnown}
 use Rattle.sp_network.proofs.TreeImages.{tree_conduction-same}
 use Rattle.domino_cell.specs.Stage.{Spot, Top}
-use Rattle.port_runs.specs.Environment.{Place, Reset, bit}
+use Rattle.port_runs.specs.Environment.{Place, Reset, bit, Precharge}
 use Rattle.domino_law.specs.Honest.{AtCapture, IsDynamicSpot, IsHonest, IsHonestCell, IsMasterAt, IsOpposed, IsSlaveAt, Pair, cell_conduction}
 use Rattle.domino_law.specs.LooseDeck.{HoldsDeck, IsPart}
 use Rattle.domino_law.specs.Nets.{At, Clock, Complement, Dynamic, FromDynamic, FromLatch, FromOutput, FromPin, Gate, High, Low, Master, Minus, Net, Next, Output, Part, Pin, Plus, DeckSignal, Sink, Slave, Vdd, Vss, gate_net, own}
-use Rattle.domino_law.specs.Places.{AreSources}
 use Rattle.domino_law.specs.Runs.{ChangesSources}
 use Rattle.domino_law.specs.Shape.{DominoCell, HasComplement, IsCellAt, IsGate, IsLatchAt, IsOutputAt, IsSignal, Latch, Shape}
 use Rattle.domino_law.proofs.Cells.{spot_pulled}
 use Rattle.domino_law.proofs.DeckParts.{dynamic_is, leaf_is_gate, part-free, spot-free, zero_or_one}
 use Rattle.domino_law.proofs.Leaves.{EachLeaf-weaker}
 use Rattle.domino_law.proofs.Rests.{IsFresh}
+use Rattle.domino_law.specs.Places.{AreSourcesBy, IsClockAt}
 
 module _ (devices : List Device) (is_source : ℕ → Bool) (net : Net → ℕ) (s : Shape) (deck : HoldsDeck devices is_source net s)
-    (place : Place) (risen : ℕ) (old new pins : ℕ → Bool) (kept : ℕ → Tri) (before : List Tri) (h : IsHonest devices is_source net s place risen old new pins kept before)
-    (place' : Place) (risen' : ℕ) (pins' : ℕ → Bool) (after : List Tri) (sources : AreSources net s place' risen' pins' after) (only : ChangesSources is_source before after) where
+    (place : Place) (up : ℕ → Bool) (old new pins : ℕ → Bool) (kept : ℕ → Tri) (before : List Tri) (h : IsHonest devices is_source net s place up old new pins kept before)
+    (place' : Place) (up' : ℕ → Bool) (pins' : ℕ → Bool) (after : List Tri) (sources : AreSourcesBy net s place' up' pins' after) (only : ChangesSources is_source before after) where
   pub same : (part : Part) → IsPart s part → value_of after (net (At part Top)) ≡ value_of before (net (At part Top))
   same part a = only.others (net (At part Top)) (part-free devices is_source net s deck part a)
 
@@ -59,7 +59,7 @@ module _ (devices : List Device) (is_source : ℕ → Bool) (net : Net → ℕ) 
   -- a precharged cell is honest whatever its clock
   pub fresh_cell : (k : ℕ) (c : DominoCell) (e : IsCellAt s k c) → IsFresh net s.style before k c
       → AtCapture place' ((value_of after (net (At (Dynamic k) Top)) ≡ opposite (cell_conduction net after c)) × (value_of after (net (At (Output k) Top)) ≡ opposite (value_of after (net (At (Dynamic k) Top)))))
-      → IsHonestCell devices is_source net s.style place' after k c
+      → IsHonestCell devices is_source net s.style place' (place' ≡ Precharge) after k c
   fresh_cell k c e p st =
       let q = pair-same k c e One Zero p.0 in
       record {
@@ -88,19 +88,20 @@ module _ (devices : List Device) (is_source : ℕ → Bool) (net : Net → ℕ) 
       ((h.cells k c e).pulled on a i (sym (spot-same k c e a i) ∙ z))
 
   -- what stays known, with the rest of the next state
-  pub carry : (old' new' : ℕ → Bool) (kept' : ℕ → Tri)
+  pub carry : ((i : ℕ) → IsClockAt place' (bit (up' i))) → (old' new' : ℕ → Bool) (kept' : ℕ → Tri)
       → ((l : DeckSignal) → HasComplement s l → IsOpposed place' (value_of after (net (own l))) (value_of after (net (At (Complement l) Top))))
-      → ((k : ℕ) (c : DominoCell) → IsCellAt s k c → IsHonestCell devices is_source net s.style place' after k c)
+      → ((k : ℕ) (c : DominoCell) → IsCellAt s k c → IsHonestCell devices is_source net s.style place' (place' ≡ Precharge) after k c)
       → ((j : ℕ) (b : Latch) → IsLatchAt s j b → IsSlaveAt place' (bit (old' j)) (bit (new' j)) (value_of after (net (At (Slave j) Top))))
       → ((j : ℕ) (b : Latch) → IsLatchAt s j b → IsMasterAt place' (kept' j) (bit (new' j)) (value_of after (net (At (Master j) Top))))
       → (place' ≢ Reset)
       → ((j : ℕ) (b : Latch) → IsLatchAt s j b → AtCapture place' (value_of after (net (At (Next j) Top)) ≡ bit (new' j)))
       → ((j : ℕ) (b : Latch) → IsLatchAt s j b → AtCapture place' (value_of after (net (At (Next j) Top)) ≡ opposite (value_of after (net (gate_net b.next)))))
       → ((i : ℕ) (g : Gate) → IsOutputAt s i g → AtCapture place' (value_of after (net (At (Sink i) Top)) ≡ opposite (value_of after (net (gate_net g)))))
-      → IsHonest devices is_source net s place' risen' old' new' pins' kept' after
-  carry old' new' kept' opposed cells slaves masters not_reset next_values next_settled output_settled =
+      → IsHonest devices is_source net s place' up' old' new' pins' kept' after
+  carry clocks old' new' kept' opposed cells slaves masters not_reset next_values next_settled output_settled =
       record {
         sources = sources;
+        clocks = clocks;
         complements = λ l a. rw (same (Complement l) a) (h.complements l a);
         opposed = opposed;
         cells = cells;

@@ -13,7 +13,7 @@ use Rattle.sp_network.proofs.Known.{IsKnown-tree_conduction}
 use Rattle.sp_network.proofs.TreeImages.{inner_count-map_tree}
 use Rattle.domino_cell.specs.Stage.{Inside, Spot, Top}
 use Rattle.switch_model.specs.Targets.{IsTarget}
-use Rattle.switch_model.proofs.Decided.{dec_tri}
+use Rattle.dom_base.proofs.Decided.{dec_tri}
 use Rattle.switch_model.proofs.Targets.{target_exists, target_unique}
 use Rattle.stage_law.specs.Precharged.{IsPrecharged}
 use Rattle.stage_law.specs.Tapped.{IsTapped}

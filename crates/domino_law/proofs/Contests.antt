@@ -130,7 +130,7 @@ module _ (devices : List Device) (is_source : ℕ → Bool) (net : Net → ℕ) 
       no b x y = cc
 
 module _ (devices : List Device) (is_source : ℕ → Bool) (net : Net → ℕ) (s : Shape) (deck : HoldsDeck devices is_source net s)
-    (place : Place) (risen : ℕ) (old new pins : ℕ → Bool) (kept : ℕ → Tri) (values : List Tri) (h : IsHonest devices is_source net s place risen old new pins kept values) where
+    (place : Place) (up : ℕ → Bool) (old new pins : ℕ → Bool) (kept : ℕ → Tri) (values : List Tri) (h : IsHonest devices is_source net s place up old new pins kept values) where
   -- the keeper of cell k is overpowered
   pub record IsPulled (k : ℕ) : Type 0 where
     pub low_gate : value_of values (net (At (Output k) Top)) ≡ Zero
@@ -140,10 +140,10 @@ module _ (devices : List Device) (is_source : ℕ → Bool) (net : Net → ℕ) 
       → (p : List Device) → Path is_source (net (At (Dynamic k) Top)) p (net Vss) → AllByRecursion (Contains devices) p → AllByRecursion (IsNotOff values) p → IsPulled k
   pulled_where_open k c e o p r m n =
       record {
-        low_gate = elim (output-known devices is_source net s deck place risen old new pins kept values h k c e) [ inl z ↦ z | inr z ↦ absurd (o (rw z refl)) ];
+        low_gate = elim (output-known devices is_source net s deck place up old new pins kept values h k c e) [ inl z ↦ z | inr z ↦ absurd (o (rw z refl)) ];
         pulled = pulls devices is_source net values (h.sources Vdd tt) (h.sources Vss tt) s.style (λ a. net (At (Dynamic k) a)) k c (dynamic_is devices is_source net s deck k c e)
-            (known_one _ (clock-known devices is_source net s deck place risen old new pins kept values h k c e) opened.1)
-            (known_one _ (known_tree devices is_source net s deck place risen old new pins kept values h k c e) (λ z. opened.0 (tree_conduction-map_tree nch (value_of values) (λ g. net (gate_net g)) c.tree ∙ z)));
+            (known_one _ (clock-known devices is_source net s deck place up old new pins kept values h k c e) opened.1)
+            (known_one _ (known_tree devices is_source net s deck place up old new pins kept values h k c e) (λ z. opened.0 (tree_conduction-map_tree nch (value_of values) (λ g. net (gate_net g)) c.tree ∙ z)));
       }
     where
       opened : (tree_conduction nch (value_of values) (numbered net c.tree) ≢ Zero) × (value_of values (net (Clock c.clock)) ≢ Zero)
@@ -223,8 +223,8 @@ module _ (devices : List Device) (is_source : ℕ → Bool) (net : Net → ℕ) 
       by k c e u =
           let conducts = pulled_conducts devices is_source net values (h.sources Vdd tt) (h.sources Vss tt) s.style (λ a. net (At (Dynamic k) a)) k c (dynamic_is devices is_source net s deck k c e) (deck.sources Vss tt) u.pulled in
           let on = pulled_clock devices is_source net values (h.sources Vdd tt) (h.sources Vss tt) s.style (λ a. net (At (Dynamic k) a)) k c (dynamic_is devices is_source net s deck k c e) (deck.sources Vss tt) u.pulled in
-          let low : value_of values (net (At (Dynamic k) Top)) ≡ Zero = rest_dynamic devices is_source net s deck place risen old new pins kept values h rest range k c e on ∙ rw conducts refl in
-          let high : value_of values (net (At (Output k) Top)) ≡ One = rest_output devices is_source net s deck place risen old new pins kept values h rest range k c e ∙ rw low refl in
+          let low : value_of values (net (At (Dynamic k) Top)) ≡ Zero = rest_dynamic devices is_source net s deck place up old new pins kept values h rest range k c e on ∙ rw conducts refl in
+          let high : value_of values (net (At (Output k) Top)) ≡ One = rest_output devices is_source net s deck place up old new pins kept values h rest range k c e ∙ rw low refl in
           zero_or_one (sym u.low_gate ∙ high)
 
 -- in the style with precharge there is no keeper, and so no contest

@@ -22,7 +22,8 @@ use Rattle.domino_law.specs.LooseDeck.{HoldsDeck, IsPart, IsSpotOf}
 use Rattle.domino_law.specs.Nets.{At, Clock, Complement, Dynamic, FromDynamic, FromLatch, FromOutput, FromPin, Gate, High, Low, Master, Minus, Net, Next, Output, Part, Pin, Plus, DeckSignal, Sink, Slave, Vdd, Vss, gate_net, own}
 use Rattle.domino_law.specs.Shape.{DominoCell, HasComplement, IsCellAt, IsGate, IsLatchAt, IsLeafOf, IsOutputAt, IsSignal, Latch, Shape, Style, WithKeeper, WithPrecharge}
 use Rattle.domino_law.proofs.Leaves.{EachLeaf-weaker}
-use Rattle.domino_law.proofs.Places.{IsClockAt, bit-known, clock_is_at, clock_known, slave_known}
+use Rattle.domino_law.proofs.Places.{bit-known, clock_known, slave_known}
+use Rattle.domino_law.specs.Places.{IsClockAt}
 
 pub zero_or_one : Zero ≡ One → ⊥
 zero_or_one e = cc
@@ -107,10 +108,10 @@ module _ (devices : List Device) (is_source : ℕ → Bool) (net : Net → ℕ) 
   one_part p q a b e = let z : At p Top ≡ At q Top = deck.apart (At p Top) (At q Top) a b e in cc
 
 module _ (devices : List Device) (is_source : ℕ → Bool) (net : Net → ℕ) (s : Shape) (deck : HoldsDeck devices is_source net s)
-    (place : Place) (risen : ℕ) (old new pins : ℕ → Bool) (keeps_at : ℕ → Tri) (before : List Tri)
-    (h : IsHonest devices is_source net s place risen old new pins keeps_at before) where
+    (place : Place) (up : ℕ → Bool) (old new pins : ℕ → Bool) (keeps_at : ℕ → Tri) (before : List Tri)
+    (h : IsHonest devices is_source net s place up old new pins keeps_at before) where
   pub clocks_at : (i : ℕ) → i < s.clocks → IsClockAt place (value_of before (net (Clock i)))
-  clocks_at i l = rw (h.sources (Clock i) l) (clock_is_at place risen i)
+  clocks_at i l = rw (h.sources (Clock i) l) (h.clocks i)
 
   pub own-known : (l : DeckSignal) → IsSignal s l → IsKnown (value_of before (net (own l)))
   own-known (FromPin p) a = rw (h.sources (Pin p) a) (bit-known (pins p))

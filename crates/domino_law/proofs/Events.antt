@@ -12,23 +12,23 @@ use Rattle.sp_network.specs.Known.{IsKnown}
 use Rattle.sp_network.specs.Tree.{EachLeaf}
 use Rattle.domino_cell.specs.Stage.{IsStage, Spot, Top}
 use Rattle.switch_model.specs.Targets.{IsPending, IsTarget}
-use Rattle.switch_model.proofs.Decided.{dec_nat}
+use Rattle.dom_base.proofs.Decided.{dec_nat}
 use Rattle.switch_model.proofs.Targets.{target_unique}
 use Rattle.port_runs.specs.Environment.{Capture, Captured, Evaluation, Launch, Launched, Place, Precharge, Reset, bit}
 use Rattle.domino_law.specs.Branches.{inverter_branches}
 use Rattle.domino_law.specs.Honest.{IsDynamicSpot, IsHonest, IsSlaveAt, Pair, cell_conduction}
 use Rattle.domino_law.specs.LooseDeck.{HoldsDeck}
 use Rattle.domino_law.specs.Nets.{At, Clock, Complement, Dynamic, FromDynamic, FromLatch, FromOutput, FromPin, Gate, High, Low, Ls, Lsb, Master, Minus, Net, Output, Pin, Plus, Rs, Rsb, DeckSignal, Slave, Vdd, Vss, gate_net, own}
-use Rattle.domino_law.specs.Places.{ls_at, rs_at}
+use Rattle.domino_law.specs.Places.{ls_at, rs_at, IsClockAt}
 use Rattle.domino_law.specs.Shape.{DominoCell, IsCellAt, IsLatchAt, IsLeafOf, IsSignal, Latch, Shape}
 use Rattle.domino_law.proofs.Cells.{spot_falls, spot_precharges, spot_pulled}
 use Rattle.domino_law.proofs.DeckParts.{clock-known, clocks_at, complement_is, dynamic-known, dynamic_is, known_leaves, one_part, opposite-known, output_is, output_low, own-known, slave_is, spots_held, zero_or_one}
 use Rattle.domino_law.proofs.Leaves.{EachLeaf-weaker}
 use Rattle.domino_law.proofs.Parts.{inverter_target, precharges, pulled_conducts, slave_held, slave_reset}
-use Rattle.domino_law.proofs.Places.{IsClockAt, clock_opposed, clock_shut}
+use Rattle.domino_law.proofs.Places.{clock_opposed, clock_shut}
 
 module _ (devices : List Device) (is_source : ℕ → Bool) (net : Net → ℕ) (s : Shape) (deck : HoldsDeck devices is_source net s)
-    (place : Place) (risen : ℕ) (old new pins : ℕ → Bool) (keeps_at : ℕ → Tri) (before : List Tri) (h : IsHonest devices is_source net s place risen old new pins keeps_at before)
+    (place : Place) (up : ℕ → Bool) (old new pins : ℕ → Bool) (keeps_at : ℕ → Tri) (before : List Tri) (h : IsHonest devices is_source net s place up old new pins keeps_at before)
     (n : ℕ) (v : Tri) (lt : n < length before) (pending : IsPending devices is_source before n v) where
   pub now_at : (m : ℕ) → m ≡ n → value_of (slice_set before n v) m ≡ v
   now_at m e = rw e (get_or-set_same before n v Unknown lt)
@@ -105,7 +105,7 @@ module _ (devices : List Device) (is_source : ℕ → Bool) (net : Net → ℕ) 
   inverter_stays at gate is g o = stays_at_target (at Top) (opposite (value_of before (net gate))) o (inverter_target devices is_source net before (h.sources Vdd tt) (h.sources Vss tt) at gate is g)
 
   not_precharge : (i : ℕ) → i < s.clocks → value_of before (net (Clock i)) ≡ One → place ≡ Precharge → ⊥
-  not_precharge i l on z = no place (value_of before (net (Clock i))) z (clocks_at devices is_source net s deck place risen old new pins keeps_at before h i l) on
+  not_precharge i l on z = no place (value_of before (net (Clock i))) z (clocks_at devices is_source net s deck place up old new pins keeps_at before h i l) on
     where
       no : (pl : Place) (w : Tri) → pl ≡ Precharge → IsClockAt pl w → w ≡ One → ⊥
       no Precharge w z h o = zero_or_one (sym h ∙ o)
@@ -114,28 +114,28 @@ module _ (devices : List Device) (is_source : ℕ → Bool) (net : Net → ℕ) 
       no Captured w z h o = cc
       no _ w z h o = zero_or_one (sym h ∙ o)
 
-  -- while the clock of a cell is up, a leaf that is One stays_at_target One
+  -- while the clock of a cell is high, a leaf that is One stays_at_target One
   leaf_rises : (i : ℕ) → i < s.clocks → value_of before (net (Clock i)) ≡ One → (k : ℕ) (g : Gate) → IsLeafOf s k g
       → value_of before (net (gate_net g)) ≡ One → value_of (slice_set before n v) (net (gate_net g)) ≡ One
-  leaf_rises i l on k (Plus p) a one = leaf_stays p a (clock_shut place _ (clocks_at devices is_source net s deck place risen old new pins keeps_at before h i l) on) ∙ one
+  leaf_rises i l on k (Plus p) a one = leaf_stays p a (clock_shut place _ (clocks_at devices is_source net s deck place up old new pins keeps_at before h i l) on) ∙ one
   leaf_rises i l on k (Minus p) a one =
-      inverter_stays (λ b. net (At (Complement p) b)) (own p) (complement_is devices is_source net s deck p a) (own-known devices is_source net s deck place risen old new pins keeps_at before h p ((deck.shape).complements_are p a))
-      (clock_opposed place _ _ _ (clocks_at devices is_source net s deck place risen old new pins keeps_at before h i l) on (h.opposed p a)) ∙ one
+      inverter_stays (λ b. net (At (Complement p) b)) (own p) (complement_is devices is_source net s deck p a) (own-known devices is_source net s deck place up old new pins keeps_at before h p ((deck.shape).complements_are p a))
+      (clock_opposed place _ _ _ (clocks_at devices is_source net s deck place up old new pins keeps_at before h i l) on (h.opposed p a)) ∙ one
   leaf_rises i l on k (FromOutput j) a one =
       elim (dec_nat (net (At (Output j) Top)) n) [
         | inl z ↦ now_at (net (At (Output j) Top)) z
-            ∙ (inverted (λ b. net (At (Output j) b)) (At (Dynamic j) Top) (output_is devices is_source net s deck j a.1.0 a.1.1) (dynamic-known devices is_source net s deck place risen old new pins keeps_at before h j a.1.0 a.1.1) z ∙ rw pulled_low refl)
+            ∙ (inverted (λ b. net (At (Output j) b)) (At (Dynamic j) Top) (output_is devices is_source net s deck j a.1.0 a.1.1) (dynamic-known devices is_source net s deck place up old new pins keeps_at before h j a.1.0 a.1.1) z ∙ rw pulled_low refl)
         | inr z ↦ kept_at (net (At (Output j) Top)) z ∙ one
       ]
     where
       pulled_low : value_of before (net (At (Dynamic j) Top)) ≡ Zero
       pulled_low =
-          elim (clock-known devices is_source net s deck place risen old new pins keeps_at before h j a.1.0 a.1.1) [
+          elim (clock-known devices is_source net s deck place up old new pins keeps_at before h j a.1.0 a.1.1) [
             | inl off ↦ elim ((h.cells j a.1.0 a.1.1).idle off) [
               | inl q ↦ absurd (zero_or_one (sym q.1 ∙ one))
               | inr q ↦ absurd (not_precharge i l on q.0)
             ]
-            | inr up ↦ elim ((h.cells j a.1.0 a.1.1).evaluated up) [
+            | inr high ↦ elim ((h.cells j a.1.0 a.1.1).evaluated high) [
               | inl q ↦ absurd (zero_or_one (sym q.1 ∙ one))
               | inr q ↦ elim q [ inl y ↦ y.0 | inr y ↦ y.0 ]
             ]
@@ -144,7 +144,7 @@ module _ (devices : List Device) (is_source : ℕ → Bool) (net : Net → ℕ) 
   leaf_rises i l on k High a one = absurd a
   leaf_rises i l on k Low a one = absurd a
 
-  -- the leaves of a cell whose clock is up rise
+  -- the leaves of a cell whose clock is high rise
   leaves_rise : (k : ℕ) (c : DominoCell) → IsCellAt s k c → value_of before (net (Clock c.clock)) ≡ One
       → EachLeaf (λ g. value_of before (net (gate_net g)) ≡ One → value_of (slice_set before n v) (net (gate_net g)) ≡ One) c.tree
   leaves_rise k c e on =
@@ -158,8 +158,8 @@ module _ (devices : List Device) (is_source : ℕ → Bool) (net : Net → ℕ) 
         → (value_of before (net (At (Dynamic k) a)) ≡ One) × (v ≡ Zero) × DefiniteStrong devices is_source before (net (At (Dynamic k) a)) (net Vss)
     spot_event a i m =
         spot_falls devices is_source net before (h.sources Vdd tt) (h.sources Vss tt) s.style (λ x. net (At (Dynamic k) x)) k c (dynamic_is devices is_source net s deck k c e) (deck.sources Vss tt) on
-        (known_leaves devices is_source net s deck place risen old new pins keeps_at before h k c e)
-        (spots_held devices is_source net s deck place risen old new pins keeps_at before h k c e on) (output_low devices is_source net s deck place risen old new pins keeps_at before h k c e on)
+        (known_leaves devices is_source net s deck place up old new pins keeps_at before h k c e)
+        (spots_held devices is_source net s deck place up old new pins keeps_at before h k c e on) (output_low devices is_source net s deck place up old new pins keeps_at before h k c e on)
         a i v (rw m pending.1) (λ z. not_still (net (At (Dynamic k) a)) m z)
 
     pub dynamic_falls : net (At (Dynamic k) Top) ≡ n
@@ -169,12 +169,12 @@ module _ (devices : List Device) (is_source : ℕ → Bool) (net : Net → ℕ) 
           f.0,
           f.1,
           pulled_conducts devices is_source net before (h.sources Vdd tt) (h.sources Vss tt) s.style (λ a. net (At (Dynamic k) a)) k c (dynamic_is devices is_source net s deck k c e) (deck.sources Vss tt) f.2,
-          output_low devices is_source net s deck place risen old new pins keeps_at before h k c e on f.0,
+          output_low devices is_source net s deck place up old new pins keeps_at before h k c e on f.0,
         )
 
     pub output_rises : net (At (Output k) Top) ≡ n → (value_of before (net (At (Output k) Top)) ≡ Zero) × (v ≡ One) × (value_of before (net (At (Dynamic k) Top)) ≡ Zero)
     output_rises m =
-        let t : v ≡ opposite (value_of before (net (At (Dynamic k) Top))) = inverted (λ b. net (At (Output k) b)) (At (Dynamic k) Top) (output_is devices is_source net s deck k c e) (dynamic-known devices is_source net s deck place risen old new pins keeps_at before h k c e) m in
+        let t : v ≡ opposite (value_of before (net (At (Dynamic k) Top))) = inverted (λ b. net (At (Output k) b)) (At (Dynamic k) Top) (output_is devices is_source net s deck k c e) (dynamic-known devices is_source net s deck place up old new pins keeps_at before h k c e) m in
         elim ((h.cells k c e).evaluated on) [
           | inl p ↦ absurd (not_still (net (At (Output k) Top)) m (p.1 ∙ sym (t ∙ rw p.0 refl)))
           | inr p ↦ elim p [
@@ -219,7 +219,7 @@ module _ (devices : List Device) (is_source : ℕ → Bool) (net : Net → ℕ) 
   pub spots_known_after : (k : ℕ) (c : DominoCell) → IsCellAt s k c → (a : Spot) → IsDynamicSpot s.style c a → IsKnown (value_of (slice_set before n v) (net (At (Dynamic k) a)))
   spots_known_after k c e a i =
       elim (dec_nat (net (At (Dynamic k) a)) n) [
-        | inl m ↦ elim (clock-known devices is_source net s deck place risen old new pins keeps_at before h k c e) [
+        | inl m ↦ elim (clock-known devices is_source net s deck place up old new pins keeps_at before h k c e) [
           | inl off ↦ inr (now_at (net (At (Dynamic k) a)) m ∙ spot_charged k c e off a i m)
           | inr on ↦ inl (now_at (net (At (Dynamic k) a)) m ∙ (spot_event k c e on a i m).1)
         ]
@@ -239,8 +239,8 @@ module _ (devices : List Device) (is_source : ℕ → Bool) (net : Net → ℕ) 
   idle_after k c e off =
       elim (dec_nat (net (At (Dynamic k) Top)) n) [
         | inl m ↦
-            let up : v ≡ One = moved_to (net (At (Dynamic k) Top)) One m (precharges devices is_source net before (h.sources Vdd tt) (h.sources Vss tt) s.style (λ a. net (At (Dynamic k) a)) k c (dynamic_is devices is_source net s deck k c e) off) in
-            let d = now_at (net (At (Dynamic k) Top)) m ∙ up in
+            let high : v ≡ One = moved_to (net (At (Dynamic k) Top)) One m (precharges devices is_source net before (h.sources Vdd tt) (h.sources Vss tt) s.style (λ a. net (At (Dynamic k) a)) k c (dynamic_is devices is_source net s deck k c e) off) in
+            let d = now_at (net (At (Dynamic k) Top)) m ∙ high in
             let z = kept_at (net (At (Output k) Top)) (different k c e m) in
             elim ((h.cells k c e).idle off) [
               | inl p ↦ inl (d, z ∙ p.1)
@@ -248,7 +248,7 @@ module _ (devices : List Device) (is_source : ℕ → Bool) (net : Net → ℕ) 
             ]
         | inr a ↦ elim (dec_nat (net (At (Output k) Top)) n) [
           | inl m ↦
-              let t : v ≡ opposite (value_of before (net (At (Dynamic k) Top))) = inverted (λ b. net (At (Output k) b)) (At (Dynamic k) Top) (output_is devices is_source net s deck k c e) (dynamic-known devices is_source net s deck place risen old new pins keeps_at before h k c e) m in
+              let t : v ≡ opposite (value_of before (net (At (Dynamic k) Top))) = inverted (λ b. net (At (Output k) b)) (At (Dynamic k) Top) (output_is devices is_source net s deck k c e) (dynamic-known devices is_source net s deck place up old new pins keeps_at before h k c e) m in
               let d = kept_at (net (At (Dynamic k) Top)) a in
               let z = now_at (net (At (Output k) Top)) m in
               elim ((h.cells k c e).idle off) [

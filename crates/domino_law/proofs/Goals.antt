@@ -9,7 +9,7 @@ use Rattle.deck.specs.declared.device.Device.{Device}
 use Rattle.sp_network.specs.Known.{IsKnown}
 use Rattle.domino_cell.specs.Stage.{IsStage, Spot, Top}
 use Rattle.switch_model.specs.Targets.{IsPending}
-use Rattle.switch_model.proofs.Decided.{dec_nat}
+use Rattle.dom_base.proofs.Decided.{dec_nat}
 use Rattle.port_runs.specs.Environment.{Capture, Captured, Evaluation, Launch, Place, bit}
 use Rattle.domino_law.specs.Branches.{inverter_branches}
 use Rattle.domino_law.specs.Honest.{IsHonest}
@@ -21,35 +21,36 @@ use Rattle.domino_law.proofs.Events.{dynamic_falls, inverted, kept_at, moved_to,
 use Rattle.domino_law.proofs.EventsHonest.{dynamic_stays, master_moves, master_stays, output_stays, slave_moves}
 use Rattle.domino_law.proofs.Lags.{IsInStep, IsLag, dynamic_goal, gate_goal, own_goal, slave_goal}
 use Rattle.domino_law.proofs.Parts.{precharges}
-use Rattle.domino_law.proofs.Places.{IsCap, IsClockAt}
+use Rattle.domino_law.proofs.Places.{IsCap}
+use Rattle.domino_law.specs.Places.{IsClockAt}
 
 module _ (devices : List Device) (is_source : ℕ → Bool) (net : Net → ℕ) (s : Shape) (deck : HoldsDeck devices is_source net s)
-    (place : Place) (risen : ℕ) (old new pins : ℕ → Bool) (keeps_at : ℕ → Tri) (before : List Tri) (h : IsHonest devices is_source net s place risen old new pins keeps_at before)
+    (place : Place) (up : ℕ → Bool) (old new pins : ℕ → Bool) (keeps_at : ℕ → Tri) (before : List Tri) (h : IsHonest devices is_source net s place up old new pins keeps_at before)
     (n : ℕ) (v : Tri) (lt : n < length before) (pending : IsPending devices is_source before n v) where
   -- Each event of a net that gates a device gives it its goal, and keeps the inverters in step.
   module _ (lag : IsInStep net s place old new pins before) where
     -- where a net doesn't change it has no event
     pub no_event : (m : ℕ) → m ≡ n → value_of (slice_set before n v) m ≡ value_of before m → ⊥
-    no_event m e z = not_still devices is_source net s deck place risen old new pins keeps_at before h n v lt pending m e (sym z ∙ now_at devices is_source net s deck place risen old new pins keeps_at before h n v lt pending m e)
+    no_event m e z = not_still devices is_source net s deck place up old new pins keeps_at before h n v lt pending m e (sym z ∙ now_at devices is_source net s deck place up old new pins keeps_at before h n v lt pending m e)
 
     pub slave_event : (j : ℕ) (b : Latch) → IsLatchAt s j b → net (At (Slave j) Top) ≡ n → v ≡ slave_goal place (bit (old j)) (bit (new j))
     slave_event j b e m = go place refl
       where
         go : (pl : Place) → place ≡ pl → v ≡ slave_goal pl (bit (old j)) (bit (new j))
-        go Launch z = elim (slave_moves devices is_source net s deck place risen old new pins keeps_at before h n v lt pending j b e z) [ inl w ↦ absurd (no_event _ m w) | inr w ↦ sym (now_at devices is_source net s deck place risen old new pins keeps_at before h n v lt pending _ m) ∙ w ]
-        go _ z = absurd (no_event _ m (slave_stays devices is_source net s deck place risen old new pins keeps_at before h n v lt pending j b e (rw z refl)))
+        go Launch z = elim (slave_moves devices is_source net s deck place up old new pins keeps_at before h n v lt pending j b e z) [ inl w ↦ absurd (no_event _ m w) | inr w ↦ sym (now_at devices is_source net s deck place up old new pins keeps_at before h n v lt pending _ m) ∙ w ]
+        go _ z = absurd (no_event _ m (slave_stays devices is_source net s deck place up old new pins keeps_at before h n v lt pending j b e (rw z refl)))
 
     pub own_event : (l : DeckSignal) → IsSignal s l → net (own l) ≡ n → v ≡ own_goal place old new pins l
-    own_event (FromPin p) a m = absurd (no_event _ m (source_kept devices is_source net s deck place risen old new pins keeps_at before h n v lt pending (net (Pin p)) (deck.sources (Pin p) a)))
+    own_event (FromPin p) a m = absurd (no_event _ m (source_kept devices is_source net s deck place up old new pins keeps_at before h n v lt pending (net (Pin p)) (deck.sources (Pin p) a)))
     own_event (FromLatch j) a m = slave_event j a.0 a.1 m
 
     -- an inverter_branches's event, where it may lag
     pub lag_event : (at : Spot → ℕ) (gate : Net) (goal : Tri) → IsStage devices is_source at (inverter_branches net gate) → IsKnown (value_of before (net gate)) → IsLag before goal (net gate) (at Top) → at Top ≡ n → v ≡ opposite goal
-    lag_event at gate goal is k (inl e) m = inverted devices is_source net s deck place risen old new pins keeps_at before h n v lt pending at gate is k m ∙ rw e refl
-    lag_event at gate goal is k (inr e) m = absurd (not_still devices is_source net s deck place risen old new pins keeps_at before h n v lt pending (at Top) m (e ∙ sym (inverted devices is_source net s deck place risen old new pins keeps_at before h n v lt pending at gate is k m)))
+    lag_event at gate goal is k (inl e) m = inverted devices is_source net s deck place up old new pins keeps_at before h n v lt pending at gate is k m ∙ rw e refl
+    lag_event at gate goal is k (inr e) m = absurd (not_still devices is_source net s deck place up old new pins keeps_at before h n v lt pending (at Top) m (e ∙ sym (inverted devices is_source net s deck place up old new pins keeps_at before h n v lt pending at gate is k m)))
 
     pub complement_event : (l : DeckSignal) → HasComplement s l → net (At (Complement l) Top) ≡ n → v ≡ opposite (own_goal place old new pins l)
-    complement_event l a m = lag_event (λ b. net (At (Complement l) b)) (own l) (own_goal place old new pins l) (complement_is devices is_source net s deck l a) (own-known devices is_source net s deck place risen old new pins keeps_at before h l ((deck.shape).complements_are l a)) (lag.complements l a) m
+    complement_event l a m = lag_event (λ b. net (At (Complement l) b)) (own l) (own_goal place old new pins l) (complement_is devices is_source net s deck l a) (own-known devices is_source net s deck place up old new pins keeps_at before h l ((deck.shape).complements_are l a)) (lag.complements l a) m
 
     pub clock_place : (pl : Place) (w : Tri) → IsClockAt pl w → w ≡ One → (pl ≡ Evaluation) ⊎ IsCap pl
     clock_place Evaluation w h e = inl refl
@@ -59,32 +60,32 @@ module _ (devices : List Device) (is_source : ℕ → Bool) (net : Net → ℕ) 
 
     pub dynamic_event : (k : ℕ) (c : DominoCell) → IsCellAt s k c → net (At (Dynamic k) Top) ≡ n → v ≡ dynamic_goal place
     dynamic_event k c e m =
-        elim (clock-known devices is_source net s deck place risen old new pins keeps_at before h k c e) [
-          | inr on ↦ elim (clock_place place _ (clocks_at devices is_source net s deck place risen old new pins keeps_at before h c.clock ((deck.shape).clocks_are k c e)) on) [
-            | inl z ↦ (dynamic_falls devices is_source net s deck place risen old new pins keeps_at before h n v lt pending k c e on m).1 ∙ sym (rw z refl)
-            | inr cap ↦ absurd (no_event _ m (dynamic_stays devices is_source net s deck place risen old new pins keeps_at before h n v lt pending cap k c e))
+        elim (clock-known devices is_source net s deck place up old new pins keeps_at before h k c e) [
+          | inr on ↦ elim (clock_place place _ (clocks_at devices is_source net s deck place up old new pins keeps_at before h c.clock ((deck.shape).clocks_are k c e)) on) [
+            | inl z ↦ (dynamic_falls devices is_source net s deck place up old new pins keeps_at before h n v lt pending k c e on m).1 ∙ sym (rw z refl)
+            | inr cap ↦ absurd (no_event _ m (dynamic_stays devices is_source net s deck place up old new pins keeps_at before h n v lt pending cap k c e))
           ]
           | inl off ↦
-              let up : v ≡ One = moved_to devices is_source net s deck place risen old new pins keeps_at before h n v lt pending (net (At (Dynamic k) Top)) One m (precharges devices is_source net before (h.sources Vdd tt) (h.sources Vss tt) s.style (λ a. net (At (Dynamic k) a)) k c (dynamic_is devices is_source net s deck k c e) off) in
+              let high : v ≡ One = moved_to devices is_source net s deck place up old new pins keeps_at before h n v lt pending (net (At (Dynamic k) Top)) One m (precharges devices is_source net before (h.sources Vdd tt) (h.sources Vss tt) s.style (λ a. net (At (Dynamic k) a)) k c (dynamic_is devices is_source net s deck k c e) off) in
               elim ((h.cells k c e).idle off) [
-                | inl p ↦ absurd (not_still devices is_source net s deck place risen old new pins keeps_at before h n v lt pending _ m (p.0 ∙ sym up))
-                | inr p ↦ up ∙ sym (rw p.0 refl)
+                | inl p ↦ absurd (not_still devices is_source net s deck place up old new pins keeps_at before h n v lt pending _ m (p.0 ∙ sym high))
+                | inr p ↦ high ∙ sym (rw p.0 refl)
               ]
         ]
 
     pub output_event : (k : ℕ) (c : DominoCell) → IsCellAt s k c → net (At (Output k) Top) ≡ n → v ≡ opposite (dynamic_goal place)
     output_event k c e m =
-        elim (clock-known devices is_source net s deck place risen old new pins keeps_at before h k c e) [
-          | inr on ↦ elim (clock_place place _ (clocks_at devices is_source net s deck place risen old new pins keeps_at before h c.clock ((deck.shape).clocks_are k c e)) on) [
-            | inl z ↦ (output_rises devices is_source net s deck place risen old new pins keeps_at before h n v lt pending k c e on m).1 ∙ sym (rw z refl)
-            | inr cap ↦ absurd (no_event _ m (output_stays devices is_source net s deck place risen old new pins keeps_at before h n v lt pending cap k c e))
+        elim (clock-known devices is_source net s deck place up old new pins keeps_at before h k c e) [
+          | inr on ↦ elim (clock_place place _ (clocks_at devices is_source net s deck place up old new pins keeps_at before h c.clock ((deck.shape).clocks_are k c e)) on) [
+            | inl z ↦ (output_rises devices is_source net s deck place up old new pins keeps_at before h n v lt pending k c e on m).1 ∙ sym (rw z refl)
+            | inr cap ↦ absurd (no_event _ m (output_stays devices is_source net s deck place up old new pins keeps_at before h n v lt pending cap k c e))
           ]
           | inl off ↦
-              let t : v ≡ opposite (value_of before (net (At (Dynamic k) Top))) = inverted devices is_source net s deck place risen old new pins keeps_at before h n v lt pending (λ b. net (At (Output k) b)) (At (Dynamic k) Top) (output_is devices is_source net s deck k c e) (dynamic-known devices is_source net s deck place risen old new pins keeps_at before h k c e) m in
+              let t : v ≡ opposite (value_of before (net (At (Dynamic k) Top))) = inverted devices is_source net s deck place up old new pins keeps_at before h n v lt pending (λ b. net (At (Output k) b)) (At (Dynamic k) Top) (output_is devices is_source net s deck k c e) (dynamic-known devices is_source net s deck place up old new pins keeps_at before h k c e) m in
               elim ((h.cells k c e).idle off) [
-                | inl p ↦ absurd (not_still devices is_source net s deck place risen old new pins keeps_at before h n v lt pending _ m (p.1 ∙ sym (t ∙ rw p.0 refl)))
+                | inl p ↦ absurd (not_still devices is_source net s deck place up old new pins keeps_at before h n v lt pending _ m (p.1 ∙ sym (t ∙ rw p.0 refl)))
                 | inr p ↦ elim p.1 [
-                  | inl q ↦ absurd (not_still devices is_source net s deck place risen old new pins keeps_at before h n v lt pending _ m (q.1 ∙ sym (t ∙ rw q.0 refl)))
+                  | inl q ↦ absurd (not_still devices is_source net s deck place up old new pins keeps_at before h n v lt pending _ m (q.1 ∙ sym (t ∙ rw q.0 refl)))
                   | inr q ↦ let u : v ≡ Zero = t ∙ rw q.0 refl in u ∙ sym (rw p.0 refl)
                 ]
               ]
@@ -95,34 +96,34 @@ module _ (devices : List Device) (is_source : ℕ → Bool) (net : Net → ℕ) 
     gate_event (Minus l) a m = complement_event l a m
     gate_event (FromOutput j) a m = output_event j a.0 a.1 m
     gate_event (FromDynamic j) a m = dynamic_event j a.0 a.1 m
-    gate_event High a m = absurd (no_event (net Vdd) m (source_kept devices is_source net s deck place risen old new pins keeps_at before h n v lt pending (net Vdd) (deck.sources Vdd tt)))
-    gate_event Low a m = absurd (no_event (net Vss) m (source_kept devices is_source net s deck place risen old new pins keeps_at before h n v lt pending (net Vss) (deck.sources Vss tt)))
+    gate_event High a m = absurd (no_event (net Vdd) m (source_kept devices is_source net s deck place up old new pins keeps_at before h n v lt pending (net Vdd) (deck.sources Vdd tt)))
+    gate_event Low a m = absurd (no_event (net Vss) m (source_kept devices is_source net s deck place up old new pins keeps_at before h n v lt pending (net Vss) (deck.sources Vss tt)))
 
     pub master_event : (j : ℕ) (b : Latch) → IsLatchAt s j b → net (At (Master j) Top) ≡ n → v ≡ opposite (bit (new j))
     master_event j b e m = go place refl
       where
         go : (pl : Place) → place ≡ pl → v ≡ opposite (bit (new j))
-        go Capture z = elim (master_moves devices is_source net s deck place risen old new pins keeps_at before h n v lt pending j b e z) [ inl w ↦ absurd (no_event _ m w) | inr w ↦ sym (now_at devices is_source net s deck place risen old new pins keeps_at before h n v lt pending _ m) ∙ w ]
-        go _ z = absurd (no_event _ m (master_stays devices is_source net s deck place risen old new pins keeps_at before h n v lt pending j b e (rw z refl)))
+        go Capture z = elim (master_moves devices is_source net s deck place up old new pins keeps_at before h n v lt pending j b e z) [ inl w ↦ absurd (no_event _ m w) | inr w ↦ sym (now_at devices is_source net s deck place up old new pins keeps_at before h n v lt pending _ m) ∙ w ]
+        go _ z = absurd (no_event _ m (master_stays devices is_source net s deck place up old new pins keeps_at before h n v lt pending j b e (rw z refl)))
 
     lag_after : (at : Spot → ℕ) (gate : Net) (goal : Tri) → IsStage devices is_source at (inverter_branches net gate) → IsKnown (value_of before (net gate)) → (net gate ≡ n → v ≡ goal)
         → IsLag before goal (net gate) (at Top) → IsLag (slice_set before n v) goal (net gate) (at Top)
     lag_after at gate goal is k move l =
         elim (dec_nat (net gate) n) [
-          | inl m ↦ inl (now_at devices is_source net s deck place risen old new pins keeps_at before h n v lt pending (net gate) m ∙ move m)
+          | inl m ↦ inl (now_at devices is_source net s deck place up old new pins keeps_at before h n v lt pending (net gate) m ∙ move m)
           | inr a ↦ elim (dec_nat (at Top) n) [
-            | inl m ↦ inr (now_at devices is_source net s deck place risen old new pins keeps_at before h n v lt pending (at Top) m ∙ (inverted devices is_source net s deck place risen old new pins keeps_at before h n v lt pending at gate is k m ∙ sym (rw (kept_at devices is_source net s deck place risen old new pins keeps_at before h n v lt pending (net gate) a) refl)))
-            | inr b ↦ elim l [ inl e ↦ inl (kept_at devices is_source net s deck place risen old new pins keeps_at before h n v lt pending (net gate) a ∙ e) | inr e ↦ inr (kept_at devices is_source net s deck place risen old new pins keeps_at before h n v lt pending (at Top) b ∙ (e ∙ sym (rw (kept_at devices is_source net s deck place risen old new pins keeps_at before h n v lt pending (net gate) a) refl))) ]
+            | inl m ↦ inr (now_at devices is_source net s deck place up old new pins keeps_at before h n v lt pending (at Top) m ∙ (inverted devices is_source net s deck place up old new pins keeps_at before h n v lt pending at gate is k m ∙ sym (rw (kept_at devices is_source net s deck place up old new pins keeps_at before h n v lt pending (net gate) a) refl)))
+            | inr b ↦ elim l [ inl e ↦ inl (kept_at devices is_source net s deck place up old new pins keeps_at before h n v lt pending (net gate) a ∙ e) | inr e ↦ inr (kept_at devices is_source net s deck place up old new pins keeps_at before h n v lt pending (at Top) b ∙ (e ∙ sym (rw (kept_at devices is_source net s deck place up old new pins keeps_at before h n v lt pending (net gate) a) refl))) ]
           ]
         ]
 
     pub in_step_after : IsInStep net s place old new pins (slice_set before n v)
     in_step_after =
         record {
-          complements = λ l a. lag_after (λ b. net (At (Complement l) b)) (own l) (own_goal place old new pins l) (complement_is devices is_source net s deck l a) (own-known devices is_source net s deck place risen old new pins keeps_at before h l ((deck.shape).complements_are l a))
+          complements = λ l a. lag_after (λ b. net (At (Complement l) b)) (own l) (own_goal place old new pins l) (complement_is devices is_source net s deck l a) (own-known devices is_source net s deck place up old new pins keeps_at before h l ((deck.shape).complements_are l a))
               (own_event l ((deck.shape).complements_are l a)) (lag.complements l a);
-          nexts = λ j b e. lag_after (λ a. net (At (Next j) a)) (gate_net b.next) (gate_goal place old new pins b.next) (next_is devices is_source net s deck j b e) (gate-known devices is_source net s deck place risen old new pins keeps_at before h b.next ((deck.shape).nexts j b e))
+          nexts = λ j b e. lag_after (λ a. net (At (Next j) a)) (gate_net b.next) (gate_goal place old new pins b.next) (next_is devices is_source net s deck j b e) (gate-known devices is_source net s deck place up old new pins keeps_at before h b.next ((deck.shape).nexts j b e))
               (gate_event b.next ((deck.shape).nexts j b e)) (lag.nexts j b e);
-          outputs = λ i g e. lag_after (λ a. net (At (Sink i) a)) (gate_net g) (gate_goal place old new pins g) (sink_is devices is_source net s deck i g e) (gate-known devices is_source net s deck place risen old new pins keeps_at before h g ((deck.shape).outputs_are i g e))
+          outputs = λ i g e. lag_after (λ a. net (At (Sink i) a)) (gate_net g) (gate_goal place old new pins g) (sink_is devices is_source net s deck i g e) (gate-known devices is_source net s deck place up old new pins keeps_at before h g ((deck.shape).outputs_are i g e))
               (gate_event g ((deck.shape).outputs_are i g e)) (lag.outputs i g e);
         }

@@ -4,9 +4,7 @@ pub mod Carried
 pub mod Cells
 pub mod Contests
 pub mod DeckLists
-pub mod DeckNames
 pub mod DeckParts
-pub mod Digits
 pub mod DominoDecks
 pub mod DominoNets
 pub mod DynamicDevices
@@ -34,6 +32,7 @@ pub mod PowerStates
 pub mod ReadRuns
 pub mod Rests
 pub mod RunOrder
+pub mod RunsByPorts
 pub mod RunsHonest
 pub mod SettingMoves
 pub mod SettingPorts

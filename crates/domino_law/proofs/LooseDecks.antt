@@ -12,7 +12,8 @@ use Rattle.sp_network.specs.Tree.{Leaf, Series, inner_count}
 use Rattle.sp_network.proofs.TreeImages.{inner_count-map_tree}
 use Rattle.domino_cell.specs.Stage.{Branch, Inside, IsSpot, Spot, Top, stage}
 use Rattle.domino_cell.proofs.Stages.{each_branch}
-use Rattle.domino_cell.proofs.Trees.{IsIn, spell-ends}
+use Rattle.domino_cell.specs.TreeColours.{IsIn}
+use Rattle.domino_cell.proofs.Trees.{spell-ends}
 use Rattle.switch_model.specs.LinksData.{LinksData, is_first}
 use Rattle.switch_model.proofs.Searches.{clash, first-false, first-true}
 use Rattle.stage_law.specs.Precharged.{taps_from}

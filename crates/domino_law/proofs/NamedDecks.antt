@@ -1,7 +1,7 @@
 -- A circuit of a deck's cards under names is a loose domino deck.
 use Rattle.std.specs.List.{AllByRecursion}
 use Rattle.std.specs.Prelude.{Some, slice_get, ◌≢◌}
-use Rattle.std.proofs.Common.{List, [], add-zero, ap, arith, inl, inr, length, length-append, map, refl, subst, suc, sym, zero, zero-add, ℕ, ◌++◌, ◌+◌, ◌<◌, ◌∙◌, ◌∷◌, ◌≡◌, ◌≤◌}
+use Rattle.std.proofs.Common.{List, [], add-zero, ap, arith, inl, inr, length, length-append, map, refl, subst, suc, sym, zero, zero-add, ℕ, ◌++◌, ◌+◌, ◌<◌, ◌∙◌, ◌∷◌, ◌≡◌, ◌≤◌, take, ap₂}
 use Rattle.dom_base.specs.declared.kind.Kind.{Kind}
 use Rattle.dom_base.specs.declared.kind.Kind.TheVariants.{N as nch, P as pch}
 use Rattle.dom_base.proofs.Lists.{AllByRecursion-contains, AllByRecursion-left, AllByRecursion-right, AllByRecursion-weaker}
@@ -9,7 +9,7 @@ use Rattle.deck.specs.CircuitData.{CircuitData}
 use Rattle.deck.specs.Nets.{net_number}
 use Rattle.deck.specs.declared.role.Roles.{Roles}
 use Rattle.deck.specs.NamedDevices.{NamedDevice, map_device}
-use Rattle.deck.specs.PortLayout.{source_count}
+use Rattle.deck.specs.PortLayout.{source_count, first_output}
 use Rattle.deck.specs.NumberedDevices.{HasNumber, IsNumberedDevice}
 use Rattle.deck.proofs.NetNumbers.{HasNumber-append, HasNumber-from, net_number-append, same_number}
 use Rattle.deck.proofs.CircuitGrowth.{with_devices-grew, with_devices-numbered}
@@ -19,15 +19,18 @@ use Rattle.domino_cell.specs.Cell.{inverter as inverter_cards}
 use Rattle.domino_cell.specs.Stage.{Inside, Spot, Top}
 use Rattle.domino_cell.specs.Spelling.{spell}
 use Rattle.switch_model.specs.LinksData.{links_of}
-use Rattle.switch_model.proofs.Decided.{dec_nat, lt_or_ge}
+use Rattle.dom_base.proofs.Decided.{dec_nat, lt_or_ge}
 use Rattle.domino_law.specs.LooseDeck.{IsNet, IsSourceNet, IsSpotOf}
 use Rattle.domino_law.specs.NamedDeck.{HasDeckNames, NamedIsLoose}
 use Rattle.domino_law.specs.Nets.{At, Clock, Complement, Dynamic, Gate, Lm, Lmb, Ls, Lsb, Master, Net, Next, Output, Part, Pin, Rs, Rsb, DeckSignal, Sink, Slave, Vdd, Vss, gate_net}
 use Rattle.domino_law.specs.Settings.{HasPorts, port_number}
-use Rattle.domino_law.specs.Shape.{DominoCell, IsCellAt, IsLatchAt, Latch, Shape}
-use Rattle.domino_law.specs.Spelled.{IsSpelledDeck, after_precharge, cell_cards, complement_cards, shape_cards, deck_circuit, latch_cards, net_cell, next_cards, one_latch, output_cards, pull_down, styled_cell}
+use Rattle.domino_law.specs.Shape.{DominoCell, IsCellAt, IsLatchAt, Latch, Shape, IsOutputAt}
+use Rattle.domino_law.specs.Spelled.{IsSpelledDeck, after_precharge, cell_cards, complement_cards, shape_cards, named_circuit, latch_cards, net_cell, next_cards, one_latch, output_cards, pull_down, styled_cell}
 use Rattle.domino_law.proofs.OwnRuns.{below_length}
 use Rattle.domino_law.proofs.SpelledParts.{named_is_spelled}
+use Rattle.domino_law.specs.DominoDeck.{IsLooseDominoDeck}
+use Rattle.deck.specs.Roles.{AreRoles, ports_of}
+use Rattle.std.proofs.Math.Seq.{take-append_seam}
 
 slice_get-first : {X : Type 0} (xs ys : List X) (i : ℕ) → i < length xs → slice_get (xs ++ ys) i ≡ slice_get xs i
 slice_get-first [] ys i l = absurd (omega arith)
@@ -207,7 +210,7 @@ module _ (ports : CircuitData) (roles : Roles) (name : Net → List ℕ) (s : Sh
   more : List (List ℕ)
   more = (with_devices-grew ports (map (map_device name) (shape_cards s))).more_nets
 
-  nets_are : (deck_circuit ports name s).nets ≡ ports.nets ++ more
+  nets_are : (named_circuit ports name s).nets ≡ ports.nets ++ more
   unfolding more
   nets_are = (with_devices-grew ports (map (map_device name) (shape_cards s))).nets
 
@@ -227,17 +230,17 @@ module _ (ports : CircuitData) (roles : Roles) (name : Net → List ℕ) (s : Sh
   source_stands : (a : Net) → IsSourceNet s a → HasNumber ports.nets (name a)
   source_stands a i = HasNumber-from ports.nets (port_number roles a) (name a) (h.stands a i)
 
-  part_stands : (part : Part) (spot : Spot) → IsSpotOf s part spot → HasNumber (deck_circuit ports name s).nets (name (At part spot))
+  part_stands : (part : Part) (spot : Spot) → IsSpotOf s part spot → HasNumber (named_circuit ports name s).nets (name (At part spot))
   part_stands =
-      part_nets_have (λ a. HasNumber (deck_circuit ports name s).nets (name a)) s
+      part_nets_have (λ a. HasNumber (named_circuit ports name s).nets (name a)) s
       (ends (shape_cards s) (with_devices-numbered ports (map (map_device name) (shape_cards s))))
     where
-      ends : (cards : List (NamedDevice Net)) → AllByRecursion (IsNumberedDevice (deck_circuit ports name s).nets) (map (map_device name) cards)
-          → AllByRecursion (λ c. HasNumber (deck_circuit ports name s).nets (name c.drain) × HasNumber (deck_circuit ports name s).nets (name c.source)) cards
+      ends : (cards : List (NamedDevice Net)) → AllByRecursion (IsNumberedDevice (named_circuit ports name s).nets) (map (map_device name) cards)
+          → AllByRecursion (λ c. HasNumber (named_circuit ports name s).nets (name c.drain) × HasNumber (named_circuit ports name s).nets (name c.source)) cards
       ends [] k = tt
       ends (c ∷ cards) k = ((k.0.0, k.0.2), ends cards k.1)
 
-  net_stands : (a : Net) → IsNet s a → HasNumber (deck_circuit ports name s).nets (name a)
+  net_stands : (a : Net) → IsNet s a → HasNumber (named_circuit ports name s).nets (name a)
   net_stands (At part spot) i = part_stands part spot i
   net_stands Vdd i = rw nets_are (HasNumber-append ports.nets more (name Vdd) (source_stands Vdd i))
   net_stands Vss i = rw nets_are (HasNumber-append ports.nets more (name Vss) (source_stands Vss i))
@@ -250,36 +253,36 @@ module _ (ports : CircuitData) (roles : Roles) (name : Net → List ℕ) (s : Sh
   net_stands Rsb i = rw nets_are (HasNumber-append ports.nets more (name Rsb) (source_stands Rsb i))
   net_stands (Pin p) i = rw nets_are (HasNumber-append ports.nets more (name (Pin p)) (source_stands (Pin p) i))
 
-  source_number : (a : Net) → IsSourceNet s a → net_number (deck_circuit ports name s).nets (name a) ≡ port_number roles a
+  source_number : (a : Net) → IsSourceNet s a → net_number (named_circuit ports name s).nets (name a) ≡ port_number roles a
   source_number a i = ap (λ l. net_number l (name a)) nets_are ∙ (net_number-append ports.nets more (name a) (source_stands a i) ∙ h.numbers a i)
 
-  longer : length ports.nets ≤ length (deck_circuit ports name s).nets
+  longer : length ports.nets ≤ length (named_circuit ports name s).nets
   longer = rw nets_are (simp length-append (omega arith))
 
   other_number : (part : Part) (spot : Spot) → IsSpotOf s part spot
-      → (source_count roles ≤ net_number (deck_circuit ports name s).nets (name (At part spot))) × (net_number (deck_circuit ports name s).nets (name (At part spot)) < length (deck_circuit ports name s).nets)
+      → (source_count roles ≤ net_number (named_circuit ports name s).nets (name (At part spot))) × (net_number (named_circuit ports name s).nets (name (At part spot)) < length (named_circuit ports name s).nets)
   other_number part spot i = (
-    elim (lt_or_ge (net_number (deck_circuit ports name s).nets (name (At part spot))) (source_count roles)) [
+    elim (lt_or_ge (net_number (named_circuit ports name s).nets (name (At part spot))) (source_count roles)) [
       | inr g ↦ g
-      | inl l ↦ absurd (h.others part spot i _ l (sym (slice_get-first ports.nets more _ (before l h.few)) ∙ (ap (λ ns. slice_get ns (net_number (deck_circuit ports name s).nets (name (At part spot)))) (sym nets_are) ∙ part_stands part spot i)))
+      | inl l ↦ absurd (h.others part spot i _ l (sym (slice_get-first ports.nets more _ (before l h.few)) ∙ (ap (λ ns. slice_get ns (net_number (named_circuit ports name s).nets (name (At part spot)))) (sym nets_are) ∙ part_stands part spot i)))
     ],
-    below_length (deck_circuit ports name s).nets _ (name (At part spot)) (part_stands part spot i),
+    below_length (named_circuit ports name s).nets _ (name (At part spot)) (part_stands part spot i),
   )
     where
       before : {a b c : ℕ} → a < b → b ≤ c → a < c
       before l m = omega arith
 
-  pub named_spelled : IsSpelledDeck (links_of (deck_circuit ports name s) roles) (λ a. net_number (deck_circuit ports name s).nets (name a)) s
+  pub named_spelled : IsSpelledDeck (links_of (named_circuit ports name s) roles) (λ a. net_number (named_circuit ports name s).nets (name a)) s
   named_spelled =
       record {
         shape = h.shape;
-        apart = λ a b i j e. h.apart a b i j (same_number (deck_circuit ports name s).nets (name a) (name b) (net_stands a i) (net_stands b j) e);
+        apart = λ a b i j e. h.apart a b i j (same_number (named_circuit ports name s).nets (name a) (name b) (net_stands a i) (net_stands b j) e);
         sources = λ a i. rw (source_number a i) (below_sources a i);
         others = other_number;
         devices_are = named_is_spelled ports name s h.no_devices;
       }
 
-  pub named_ports : HasPorts roles (links_of (deck_circuit ports name s) roles) (λ a. net_number (deck_circuit ports name s).nets (name a)) s
+  pub named_ports : HasPorts roles (links_of (named_circuit ports name s) roles) (λ a. net_number (named_circuit ports name s).nets (name a)) s
   named_ports =
       record {
         some_clock = h.some_clock;
@@ -293,5 +296,21 @@ module _ (ports : CircuitData) (roles : Roles) (name : Net → List ℕ) (s : Sh
       at_most : {a b c : ℕ} → a ≤ b → b ≤ c → a ≤ c
       at_most l m = omega arith
 
+  -- the outputs are the output ports, in order
+  sink_number : (i : ℕ) (g : Gate) → IsOutputAt s i g → net_number (named_circuit ports name s).nets (name (At (Sink i) Top)) ≡ first_output roles + i
+  sink_number i g e =
+      ap (λ l. net_number l (name (At (Sink i) Top))) nets_are
+      ∙ (net_number-append ports.nets more (name (At (Sink i) Top)) (HasNumber-from ports.nets (first_output roles + i) (name (At (Sink i) Top)) (h.sinks_stand i g e)) ∙ h.sink_numbers i g e)
+
+  pub named_loose : IsLooseDominoDeck roles (links_of (named_circuit ports name s) roles) (λ a. net_number (named_circuit ports name s).nets (name a)) s
+  named_loose = record { spelled = named_spelled; ports = named_ports; outs_are = h.outs_are; outputs = sink_number }
+
+  -- the ports have their roles
+  pub named_roles : AreRoles (ports_of (named_circuit ports name s)) roles
+  named_roles = subst (λ l. AreRoles l roles) (sym same) h.roles_are
+    where
+      same : ports_of (named_circuit ports name s) ≡ ports.nets
+      same = ap₂ (λ n l. take n l) ((with_devices-grew ports (map (map_device name) (shape_cards s))).ports ∙ h.all_ports) nets_are ∙ take-append_seam ports.nets more
+
 pub named_is_loose : NamedIsLoose
-named_is_loose ports roles name s h = (named_spelled ports roles name s h, named_ports ports roles name s h)
+named_is_loose ports roles name s h = (named_loose ports roles name s h, named_roles ports roles name s h)

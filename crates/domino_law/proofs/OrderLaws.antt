@@ -17,6 +17,7 @@ use Rattle.domino_law.proofs.Periods.{part_once}
 use Rattle.domino_law.proofs.Shorts.{one_value}
 use Rattle.domino_law.proofs.Tracked.{IsTracked, events_few, gate_once, power_tracked, run_tracked}
 use Rattle.domino_law.proofs.Worlds.{good_beyond, good_rests, power_good, range_of, run_good}
+use Rattle.domino_law.specs.Places.{up_at}
 
 honest_at : (links : LinksData) (net : Net → ℕ) (s : Shape) (steps : List Step) (w w' : World) → IsLooseDeck links net s
     → IsPower links net s w → Run links net s steps w w' → (w'.place ≢ Reset) ⊎ RestsIn links w' → IsHonestWorld links net s w' × (length w'.values ≡ links.nets)
@@ -27,17 +28,17 @@ honest_at links net s steps w w' loose power run at =
 pub no_short : OfRuns HasNoShort
 no_short links net s steps w w' loose power run at a b t =
     let h = (honest_at links net s steps w w' loose power run at).0 in
-    t.differ (one_value links.devices (is_first links.sources) net s loose.deck w'.place w'.risen _ _ _ _ w'.values h a b t.from t.to t.joined)
+    t.differ (one_value links.devices (is_first links.sources) net s loose.deck w'.place (up_at w'.place w'.risen) _ _ _ _ w'.values h a b t.from t.to t.joined)
 
 pub contests_overpowered : OfRuns ContestsAreOverpowered
 contests_overpowered links net s steps w w' loose power run at p t =
     let h = (honest_at links net s steps w w' loose power run at).0 in
-    (contest links.devices (is_first links.sources) net s loose.deck w'.place w'.risen _ _ _ _ w'.values h p t).1
+    (contest links.devices (is_first links.sources) net s loose.deck w'.place (up_at w'.place w'.risen) _ _ _ _ w'.values h p t).1
 
 pub no_contest_at_rest : OfRuns HasNoContestAtRest
 no_contest_at_rest links net s steps w w' loose power run at rest p t =
     let h = honest_at links net s steps w w' loose power run at in
-    no_contest links.devices (is_first links.sources) net s loose.deck w'.place w'.risen _ _ _ _ w'.values h.0 rest (range_of links net s loose w'.values h.1) p t
+    no_contest links.devices (is_first links.sources) net s loose.deck w'.place (up_at w'.place w'.risen) _ _ _ _ w'.values h.0 rest (range_of links net s loose w'.values h.1) p t
 
 tracked_at : (links : LinksData) (net : Net → ℕ) (s : Shape) (steps : List Step) (w w' : World) (loose : IsLooseDeck links net s)
     → IsPower links net s w → Run links net s steps w w' → IsTracked links net s loose w'

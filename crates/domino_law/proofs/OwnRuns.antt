@@ -10,7 +10,7 @@ use Rattle.sp_network.specs.Known.{IsKnown}
 use Rattle.sp_network.specs.Tree.{joins}
 use Rattle.domino_cell.specs.Stage.{Spot, Top}
 use Rattle.switch_model.specs.Targets.{IsAtRest}
-use Rattle.switch_model.proofs.Decided.{lt_or_ge}
+use Rattle.dom_base.proofs.Decided.{lt_or_ge}
 use Rattle.port_runs.specs.Environment.{Evaluation, bit}
 use Rattle.domino_law.specs.Honest.{IsHonest, cell_conduction}
 use Rattle.domino_law.specs.LooseDeck.{HoldsDeck, IsSpotOf}
@@ -21,6 +21,7 @@ use Rattle.domino_law.proofs.DeckParts.{dynamic-known, opposite_twice}
 use Rattle.domino_law.proofs.Leaves.{EachLeaf-weaker, tree_bit}
 use Rattle.domino_law.proofs.Moves.{below_one}
 use Rattle.domino_law.proofs.Rests.{rest_complement, rest_dynamic, rest_next, rest_output, rest_sink}
+use Rattle.domino_law.specs.Places.{up_at}
 
 pub opposite_bit : (b : Bool) → opposite (bit b) ≡ bit (not b)
 opposite_bit true = refl
@@ -31,12 +32,12 @@ below_length [] k x e = absurd (cc)
 below_length (y ∷ ys) zero x e = omega arith
 below_length (y ∷ ys) (suc k) x e = let l : k < length ys = below_length ys k x e in omega arith
 
-bit_at-before : (xs : List Bool) (x : Bool) (k : ℕ) → k < length xs → bit_at (xs ++ x ∷ []) k ≡ bit_at xs k
-bit_at-before [] x k l = absurd (omega arith)
-bit_at-before (y ∷ ys) x zero l = refl
-bit_at-before (y ∷ ys) x (suc k) l = bit_at-before ys x k (omega arith)
+pub bit_at-front : (xs ys : List Bool) (k : ℕ) → k < length xs → bit_at (xs ++ ys) k ≡ bit_at xs k
+bit_at-front [] ys k l = absurd (omega arith)
+bit_at-front (x ∷ xs) ys zero l = refl
+bit_at-front (x ∷ xs) ys (suc k) l = bit_at-front xs ys k (omega arith)
 
-bit_at-last : (xs : List Bool) (x : Bool) → bit_at (xs ++ x ∷ []) (length xs) ≡ x
+pub bit_at-last : (xs : List Bool) (x : Bool) → bit_at (xs ++ x ∷ []) (length xs) ≡ x
 bit_at-last [] x = refl
 bit_at-last (y ∷ ys) x = bit_at-last ys x
 
@@ -46,7 +47,7 @@ bit_at-map f (y ∷ ys) zero x e = let z : y ≡ x = cc in ap f z
 bit_at-map f (y ∷ ys) (suc k) x e = bit_at-map f ys k x e
 
 module _ (devices : List Device) (is_source : ℕ → Bool) (net : Net → ℕ) (s : Shape) (deck : HoldsDeck devices is_source net s)
-    (old new pins : ℕ → Bool) (kept : ℕ → Tri) (before : List Tri) (h : IsHonest devices is_source net s Evaluation s.clocks old new pins kept before)
+    (old new pins : ℕ → Bool) (kept : ℕ → Tri) (before : List Tri) (h : IsHonest devices is_source net s Evaluation (up_at Evaluation s.clocks) old new pins kept before)
     (rest : IsAtRest devices is_source before) (range : (part : Part) (a : Spot) → IsSpotOf s part a → net (At part a) < length before) where
   signal_is : (l : DeckSignal) → IsSignal s l → value_of before (net (own l)) ≡ bit (signal_bit pins old l)
   signal_is (FromPin p) a = h.sources (Pin p) a
@@ -54,7 +55,7 @@ module _ (devices : List Device) (is_source : ℕ → Bool) (net : Net → ℕ) 
 
   minus_is : (l : DeckSignal) → HasComplement s l → value_of before (net (At (Complement l) Top)) ≡ bit (not (signal_bit pins old l))
   minus_is l a =
-      rest_complement devices is_source net s deck Evaluation s.clocks old new pins kept before h rest range l a
+      rest_complement devices is_source net s deck Evaluation (up_at Evaluation s.clocks) old new pins kept before h rest range l a
       ∙ (rw (signal_is l ((deck.shape).complements_are l a)) (opposite_bit (signal_bit pins old l)))
 
   -- the outputs of the first cells have these bits
@@ -77,15 +78,15 @@ module _ (devices : List Device) (is_source : ℕ → Bool) (net : Net → ℕ) 
   -- a cell has the value of its tree
   output_is_tree : (k : ℕ) (c : DominoCell) → IsCellAt s k c → (b : Bool) → cell_conduction net before c ≡ bit b → value_of before (net (At (Output k) Top)) ≡ bit b
   output_is_tree k c e b t =
-      rest_output devices is_source net s deck Evaluation s.clocks old new pins kept before h rest range k c e
-      ∙ rw (rest_dynamic devices is_source net s deck Evaluation s.clocks old new pins kept before h rest range k c e (clock_up k c e), t) (opposite_twice b)
+      rest_output devices is_source net s deck Evaluation (up_at Evaluation s.clocks) old new pins kept before h rest range k c e
+      ∙ rw (rest_dynamic devices is_source net s deck Evaluation (up_at Evaluation s.clocks) old new pins kept before h rest range k c e (clock_up k c e), t) (opposite_twice b)
 
   known_more : (bits : List Bool) → Known bits → (c : DominoCell) → IsCellAt s (length bits) c
       → Known (bits ++ joins (gate_bit (signal_bit pins old) bits) c.tree ∷ [])
   unfolding Known
   known_more bits known c e k d l f =
       elim (lt_or_ge k (length bits)) [
-        | inl lt ↦ known k d lt f ∙ sym (ap bit (bit_at-before bits b k lt))
+        | inl lt ↦ known k d lt f ∙ sym (ap bit (bit_at-front bits (b ∷ []) k lt))
         | inr ge ↦ at_end (here (length bits) (length (bits ++ b ∷ [])) (length-append bits (b ∷ [])) ge l)
       ]
     where
@@ -136,8 +137,8 @@ module _ (devices : List Device) (is_source : ℕ → Bool) (net : Net → ℕ) 
   gate_is_own (Minus l) a = minus_is l a
   gate_is_own (FromOutput k) a = output_is_own k a.0 a.1
   gate_is_own (FromDynamic k) a =
-      turned (value_of before (net (At (Dynamic k) Top))) (value_of before (net (At (Output k) Top))) _ (dynamic-known devices is_source net s deck Evaluation s.clocks old new pins kept before h k a.0 a.1)
-      (rest_output devices is_source net s deck Evaluation s.clocks old new pins kept before h rest range k a.0 a.1) (output_is_own k a.0 a.1)
+      turned (value_of before (net (At (Dynamic k) Top))) (value_of before (net (At (Output k) Top))) _ (dynamic-known devices is_source net s deck Evaluation (up_at Evaluation s.clocks) old new pins kept before h k a.0 a.1)
+      (rest_output devices is_source net s deck Evaluation (up_at Evaluation s.clocks) old new pins kept before h rest range k a.0 a.1) (output_is_own k a.0 a.1)
     where
       turned : (d z : Tri) (b : Bool) → IsKnown d → z ≡ opposite d → z ≡ bit b → d ≡ bit (not b)
       turned d z true (inl e) f g = e
@@ -150,10 +151,10 @@ module _ (devices : List Device) (is_source : ℕ → Bool) (net : Net → ℕ) 
   -- so have the outputs and the latch inputs
   pub sink_is_own : (i : ℕ) (g : Gate) → IsOutputAt s i g → value_of before (net (At (Sink i) Top)) ≡ bit (sink_bit s pins old g)
   sink_is_own i g e =
-      rest_sink devices is_source net s deck Evaluation s.clocks old new pins kept before h rest range i g e
+      rest_sink devices is_source net s deck Evaluation (up_at Evaluation s.clocks) old new pins kept before h rest range i g e
       ∙ (rw (gate_is_own g ((deck.shape).outputs_are i g e)) (opposite_bit (gate_bit (signal_bit pins old) (cell_bits (signal_bit pins old) s.cells []) g)))
 
   pub next_is_own : (j : ℕ) (b : Latch) → IsLatchAt s j b → value_of before (net (At (Next j) Top)) ≡ bit (sink_bit s pins old b.next)
   next_is_own j b e =
-      rest_next devices is_source net s deck Evaluation s.clocks old new pins kept before h rest range j b e
+      rest_next devices is_source net s deck Evaluation (up_at Evaluation s.clocks) old new pins kept before h rest range j b e
       ∙ (rw (gate_is_own b.next ((deck.shape).nexts j b e)) (opposite_bit (gate_bit (signal_bit pins old) (cell_bits (signal_bit pins old) s.cells []) b.next)))

@@ -13,11 +13,11 @@ use Rattle.domino_cell.specs.Stage.{Spot, Top}
 use Rattle.switch_model.specs.LinksData.{LinksData, is_first}
 use Rattle.switch_model.specs.Targets.{IsPending}
 use Rattle.port_runs.specs.Environment.{Capture, Captured, Evaluation, Happens, IsNext, Launched, Moves, Open, Place, Precharge, Released, Reset, Rise, Step, Take, World}
+use Rattle.port_runs.specs.Periods.{IsAtMostOnce, IsInPeriod, IsNever}
 use Rattle.domino_law.specs.Honest.{IsHonest}
 use Rattle.domino_law.specs.LooseDeck.{HoldsDeck, IsLooseDeck}
 use Rattle.domino_law.specs.Nets.{At, Net, Next, Output, Part, Sink, gate_net}
 use Rattle.domino_law.specs.OrderLaws.{InPeriod, IsOnceFrom}
-use Rattle.domino_law.specs.Periods.{IsAtMostOnce, IsInPeriod, IsNever}
 use Rattle.domino_law.specs.Runs.{TakesStep, IsHonestWorld, Run}
 use Rattle.domino_law.specs.Shape.{Shape}
 use Rattle.domino_law.proofs.DeckParts.{clock-known, gate-known, next_is, output-known, part-free, sink_is, spot-free, zero_or_one}
@@ -28,6 +28,7 @@ use Rattle.domino_law.proofs.Goals.{lag_event, no_event, output_event}
 use Rattle.domino_law.proofs.Lags.{IsInStep, dynamic_goal, gate_goal}
 use Rattle.domino_law.proofs.Places.{IsCap}
 use Rattle.domino_law.proofs.Tracked.{InStepWorld, IsTracked, power_tracked, run_tracked, step_tracked}
+use Rattle.domino_law.specs.Places.{up_at}
 
 -- evaluation, capture and captured
 abbrev pub IsPeriod : Place → Type 0
@@ -58,14 +59,14 @@ clash_goal s part spot x y (rises_next e f) p q = zero_or_one (sym p ∙ q)
 clash_goal s part spot x y (rises_sink e f) p q = zero_or_one (sym p ∙ q)
 
 module _ (devices : List Device) (is_source : ℕ → Bool) (net : Net → ℕ) (s : Shape) (deck : HoldsDeck devices is_source net s)
-    (place : Place) (risen : ℕ) (old new pins : ℕ → Bool) (kept : ℕ → Tri) (before : List Tri)
-    (h : IsHonest devices is_source net s place risen old new pins kept before) (lag : IsInStep net s place old new pins before) (period : IsPeriod place)
+    (place : Place) (up : ℕ → Bool) (old new pins : ℕ → Bool) (kept : ℕ → Tri) (before : List Tri)
+    (h : IsHonest devices is_source net s place up old new pins kept before) (lag : IsInStep net s place old new pins before) (period : IsPeriod place)
     (n : ℕ) (v : Tri) (lt : n < length before) (pending : IsPending devices is_source before n v) where
   in_evaluation : (x : ℕ) → x ≡ n → (IsCap place → value_of (slice_set before n v) x ≡ value_of before x) → place ≡ Evaluation
   in_evaluation x m f =
       elim (period_place place period) [
         | inl e ↦ e
-        | inr cap ↦ absurd (no_event devices is_source net s deck place risen old new pins kept before h n v lt pending lag x m (f cap))
+        | inr cap ↦ absurd (no_event devices is_source net s deck place up old new pins kept before h n v lt pending lag x m (f cap))
       ]
 
   goal_there : (pl : Place) → pl ≡ Evaluation → dynamic_goal pl ≡ Zero
@@ -75,35 +76,35 @@ module _ (devices : List Device) (is_source : ℕ → Bool) (net : Net → ℕ) 
   -- an event gives a dynamic net Zero, and a domino output One
   pub domino_event : (part : Part) (spot : Spot) (goal : Tri) → IsDomino s part spot goal → net (At part spot) ≡ n → v ≡ goal
   domino_event part spot goal (falls {k = k} {c = c} {a = a} e x) m =
-      elim (clock-known devices is_source net s deck place risen old new pins kept before h k c e) [
+      elim (clock-known devices is_source net s deck place up old new pins kept before h k c e) [
         | inl off ↦ absurd (elim ((h.cells k c e).spots_idle off a x) [
-          | inl one ↦ pending.2 ((rw m at one) ∙ sym (spot_charged devices is_source net s deck place risen old new pins kept before h n v lt pending k c e off a x m))
+          | inl one ↦ pending.2 ((rw m at one) ∙ sym (spot_charged devices is_source net s deck place up old new pins kept before h n v lt pending k c e off a x m))
           | inr pre ↦ no_precharge place pre period
         ])
-        | inr on ↦ (spot_event devices is_source net s deck place risen old new pins kept before h n v lt pending k c e on a x m).1
+        | inr on ↦ (spot_event devices is_source net s deck place up old new pins kept before h n v lt pending k c e on a x m).1
       ]
     where
       no_precharge : (pl : Place) → pl ≡ Precharge → IsPeriod pl → ⊥
       no_precharge Precharge z p = p
       no_precharge _ z p = absurd (cc)
   domino_event part spot goal (rises_output {k = k} {c = c} e) m =
-      output_event devices is_source net s deck place risen old new pins kept before h n v lt pending lag k c e m
-      ∙ ap opposite (goal_there place (in_evaluation (net (At (Output k) Top)) m (λ cap. output_stays devices is_source net s deck place risen old new pins kept before h n v lt pending cap k c e)))
+      output_event devices is_source net s deck place up old new pins kept before h n v lt pending lag k c e m
+      ∙ ap opposite (goal_there place (in_evaluation (net (At (Output k) Top)) m (λ cap. output_stays devices is_source net s deck place up old new pins kept before h n v lt pending cap k c e)))
   domino_event part spot goal (rises_next {j = j} {k = k} {b = b} e f) m =
-      let ev : place ≡ Evaluation = in_evaluation (net (At (Next j) Top)) m (λ cap. next_stays devices is_source net s deck place risen old new pins kept before h n v lt pending cap j b e) in
-      lag_event devices is_source net s deck place risen old new pins kept before h n v lt pending lag (λ a. net (At (Next j) a)) (gate_net b.next) (gate_goal place old new pins b.next)
-      (next_is devices is_source net s deck j b e) (gate-known devices is_source net s deck place risen old new pins kept before h b.next ((deck.shape).nexts j b e)) (lag.nexts j b e) m
+      let ev : place ≡ Evaluation = in_evaluation (net (At (Next j) Top)) m (λ cap. next_stays devices is_source net s deck place up old new pins kept before h n v lt pending cap j b e) in
+      lag_event devices is_source net s deck place up old new pins kept before h n v lt pending lag (λ a. net (At (Next j) a)) (gate_net b.next) (gate_goal place old new pins b.next)
+      (next_is devices is_source net s deck j b e) (gate-known devices is_source net s deck place up old new pins kept before h b.next ((deck.shape).nexts j b e)) (lag.nexts j b e) m
       ∙ (ap (λ g. opposite (gate_goal place old new pins g)) f ∙ ap opposite (goal_there place ev))
   domino_event part spot goal (rises_sink {i = i} {k = k} {g = g} e f) m =
-      let ev : place ≡ Evaluation = in_evaluation (net (At (Sink i) Top)) m (λ cap. sink_stays devices is_source net s deck place risen old new pins kept before h n v lt pending cap i g e) in
-      lag_event devices is_source net s deck place risen old new pins kept before h n v lt pending lag (λ a. net (At (Sink i) a)) (gate_net g) (gate_goal place old new pins g)
-      (sink_is devices is_source net s deck i g e) (gate-known devices is_source net s deck place risen old new pins kept before h g ((deck.shape).outputs_are i g e)) (lag.outputs i g e) m
+      let ev : place ≡ Evaluation = in_evaluation (net (At (Sink i) Top)) m (λ cap. sink_stays devices is_source net s deck place up old new pins kept before h n v lt pending cap i g e) in
+      lag_event devices is_source net s deck place up old new pins kept before h n v lt pending lag (λ a. net (At (Sink i) a)) (gate_net g) (gate_goal place old new pins g)
+      (sink_is devices is_source net s deck i g e) (gate-known devices is_source net s deck place up old new pins kept before h g ((deck.shape).outputs_are i g e)) (lag.outputs i g e) m
       ∙ (ap (λ x. opposite (gate_goal place old new pins x)) f ∙ ap opposite (goal_there place ev))
 
   -- before it was the other value
   domino-known : (part : Part) (spot : Spot) (goal : Tri) → IsDomino s part spot goal → IsKnown (value_of before (net (At part spot))) × IsKnown goal
   domino-known part spot goal (falls {k = k} {c = c} {a = a} e x) = ((h.cells k c e).spots_known a x, inl refl)
-  domino-known part spot goal (rises_output {k = k} {c = c} e) = (output-known devices is_source net s deck place risen old new pins kept before h k c e, inr refl)
+  domino-known part spot goal (rises_output {k = k} {c = c} e) = (output-known devices is_source net s deck place up old new pins kept before h k c e, inr refl)
   domino-known part spot goal (rises_next {j = j} {b = b} e f) = (h.nexts j b e, inr refl)
   domino-known part spot goal (rises_sink {i = i} {g = g} e f) = (h.outputs i g e, inr refl)
 
@@ -152,10 +153,10 @@ module _ (links : LinksData) (net : Net → ℕ) (s : Shape) (loose : IsLooseDec
   event_there w w' r t p =
       let h = state_there w t p in
       let e = r.2 in (
-        domino_before links.devices (is_first links.sources) net s loose.deck w.place w.risen _ _ _ _ w.values h.0 h.1 p (net (At part spot)) e.0 e.1 e.2 part spot goal d refl,
+        domino_before links.devices (is_first links.sources) net s loose.deck w.place (up_at w.place w.risen) _ _ _ _ w.values h.0 h.1 p (net (At part spot)) e.0 e.1 e.2 part spot goal d refl,
         subst (λ u. value_of u.values (net (At part spot)) ≡ goal) (sym r.1)
             (rw e.3 (get_or-set_same w.values (net (At part spot)) e.0 Unknown e.1)
-            ∙ domino_event links.devices (is_first links.sources) net s loose.deck w.place w.risen _ _ _ _ w.values h.0 h.1 p (net (At part spot)) e.0 e.1 e.2 part spot goal d refl),
+            ∙ domino_event links.devices (is_first links.sources) net s loose.deck w.place (up_at w.place w.risen) _ _ _ _ w.values h.0 h.1 p (net (At part spot)) e.0 e.1 e.2 part spot goal d refl),
       )
 
   -- another step leaves its value

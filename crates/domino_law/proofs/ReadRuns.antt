@@ -10,9 +10,10 @@ use Rattle.switch_model.specs.LinksData.{links_of}
 use Rattle.port_runs.specs.Environment.{Capture, Captured, Evaluation, Happens, IsNext, Launch, Launched, Move, Moves, Open, Pins, Place, Precharge, Released, Reset, Rise, Step, Take, World, after_move, risen_at, settings_of, stream_of}
 use Rattle.port_runs.specs.Moves.{set_all}
 use Rattle.port_runs.specs.PortRuns.{Leads, MayMove, Rests, Runs, power_world}
+use Rattle.port_runs.specs.Readings.{IsLaunched, IsRead}
 use Rattle.domino_law.specs.LooseDeck.{IsLooseDeck}
 use Rattle.domino_law.specs.Nets.{Net}
-use Rattle.domino_law.specs.RunLaws.{IsLaunched, IsRead, RunsReadEachStream}
+use Rattle.domino_law.specs.RunLaws.{RunsReadEachStream}
 use Rattle.domino_law.specs.Runs.{Run}
 use Rattle.domino_law.specs.Settings.{HasPorts}
 use Rattle.domino_law.specs.Shape.{Shape}
@@ -164,7 +165,7 @@ module _ (c : CircuitData) (roles : Roles) (net : Net → ℕ) (s : Shape) (loos
   reads_each_stream past pins h =
       let at = reading past pins h in
       let end = launched (past ++ pins ∷ []) at in (
-        (at.steps, at.world, record { run = at.run; stream_is = at.stream_is; place = at.place_is; risen = at.risen_is; rests = at.rests }),
+        (at.steps, at.world, record { run = at.run; stream_is = at.stream_is; reading = record { place = at.place_is; risen = at.risen_is; rests = at.rests } }),
         (end.steps, end.world, record { run = end.run; stream_is = end.stream_is; place = end.place_is; rests = end.rests }),
       )
 

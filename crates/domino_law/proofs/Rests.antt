@@ -7,7 +7,7 @@ use Rattle.deck.specs.Switches.{value_of}
 use Rattle.deck.specs.declared.device.Device.{Device}
 use Rattle.domino_cell.specs.Stage.{Spot, Top}
 use Rattle.switch_model.specs.Targets.{IsAtRest, IsTarget}
-use Rattle.switch_model.proofs.Decided.{dec_tri}
+use Rattle.dom_base.proofs.Decided.{dec_tri}
 use Rattle.port_runs.specs.Environment.{Place}
 use Rattle.domino_law.specs.Honest.{IsDynamicSpot, IsHonest, Pair, cell_conduction}
 use Rattle.domino_law.specs.LooseDeck.{HoldsDeck, IsPart, IsSpotOf}
@@ -45,33 +45,33 @@ abbrev pub IsFresh : (Net → ℕ) → Style → List Tri → ℕ → DominoCell
 IsFresh net style values k c = Pair net values k One Zero × ((a : Spot) → IsDynamicSpot style c a → value_of values (net (At (Dynamic k) a)) ≡ One)
 
 module _ (devices : List Device) (is_source : ℕ → Bool) (net : Net → ℕ) (s : Shape) (deck : HoldsDeck devices is_source net s)
-    (place : Place) (risen : ℕ) (old new pins : ℕ → Bool) (kept : ℕ → Tri) (before : List Tri) (h : IsHonest devices is_source net s place risen old new pins kept before)
+    (place : Place) (up : ℕ → Bool) (old new pins : ℕ → Bool) (kept : ℕ → Tri) (before : List Tri) (h : IsHonest devices is_source net s place up old new pins kept before)
     (rest : IsAtRest devices is_source before) (range : (part : Part) (a : Spot) → IsSpotOf s part a → net (At part a) < length before) where
   pub rest_output : (k : ℕ) (c : DominoCell) (e : IsCellAt s k c) → value_of before (net (At (Output k) Top)) ≡ opposite (value_of before (net (At (Dynamic k) Top)))
   rest_output k c e =
       rest_at devices is_source net s deck before rest range (Output k) (c, e) _ (inverter_target devices is_source net before (h.sources Vdd tt) (h.sources Vss tt) (λ a. net (At (Output k) a)) (At (Dynamic k) Top) (output_is devices is_source net s deck k c e)
-      (dynamic-known devices is_source net s deck place risen old new pins kept before h k c e))
+      (dynamic-known devices is_source net s deck place up old new pins kept before h k c e))
 
   pub rest_complement : (l : DeckSignal) (a : HasComplement s l) → value_of before (net (At (Complement l) Top)) ≡ opposite (value_of before (net (own l)))
   rest_complement l a =
       rest_at devices is_source net s deck before rest range (Complement l) a _ (inverter_target devices is_source net before (h.sources Vdd tt) (h.sources Vss tt) (λ b. net (At (Complement l) b)) (own l) (complement_is devices is_source net s deck l a)
-      (own-known devices is_source net s deck place risen old new pins kept before h l ((deck.shape).complements_are l a)))
+      (own-known devices is_source net s deck place up old new pins kept before h l ((deck.shape).complements_are l a)))
 
   pub rest_next : (j : ℕ) (b : Latch) (e : IsLatchAt s j b) → value_of before (net (At (Next j) Top)) ≡ opposite (value_of before (net (gate_net b.next)))
   rest_next j b e =
       rest_at devices is_source net s deck before rest range (Next j) (b, e) _ (inverter_target devices is_source net before (h.sources Vdd tt) (h.sources Vss tt) (λ a. net (At (Next j) a)) (gate_net b.next) (next_is devices is_source net s deck j b e)
-      (gate-known devices is_source net s deck place risen old new pins kept before h b.next ((deck.shape).nexts j b e)))
+      (gate-known devices is_source net s deck place up old new pins kept before h b.next ((deck.shape).nexts j b e)))
 
   pub rest_sink : (i : ℕ) (g : Gate) (e : IsOutputAt s i g) → value_of before (net (At (Sink i) Top)) ≡ opposite (value_of before (net (gate_net g)))
   rest_sink i g e =
       rest_at devices is_source net s deck before rest range (Sink i) (g, e) _ (inverter_target devices is_source net before (h.sources Vdd tt) (h.sources Vss tt) (λ a. net (At (Sink i) a)) (gate_net g) (sink_is devices is_source net s deck i g e)
-      (gate-known devices is_source net s deck place risen old new pins kept before h g ((deck.shape).outputs_are i g e)))
+      (gate-known devices is_source net s deck place up old new pins kept before h g ((deck.shape).outputs_are i g e)))
 
   -- at rest an evaluated cell's dynamic net is the opposite of its tree
   pub rest_dynamic : (k : ℕ) (c : DominoCell) (e : IsCellAt s k c) → value_of before (net (Clock c.clock)) ≡ One
       → value_of before (net (At (Dynamic k) Top)) ≡ opposite (cell_conduction net before c)
   rest_dynamic k c e on =
-      elim (known_tree devices is_source net s deck place risen old new pins kept before h k c e) [
+      elim (known_tree devices is_source net s deck place up old new pins kept before h k c e) [
         | inl t ↦ elim ((h.cells k c e).evaluated on) [
           | inl p ↦ p.0 ∙ sym (rw t refl)
           | inr p ↦ let low : value_of before (net (At (Dynamic k) Top)) ≡ Zero = elim p [ inl q ↦ q.0 | inr q ↦ q.0 ] in

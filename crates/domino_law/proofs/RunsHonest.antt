@@ -16,7 +16,7 @@ use Rattle.domino_law.specs.Honest.{IsHonest, IsMasterAt}
 use Rattle.domino_law.specs.LooseDeck.{HoldsDeck, IsSpotOf}
 use Rattle.domino_law.specs.Nets.{At, Lm, Lmb, Master, Net, Next, Part, Vdd, Vss}
 use Rattle.domino_law.specs.OwnRun.{bit_at, next_state, sink_bit, start_state, state_after, state_from}
-use Rattle.domino_law.specs.Places.{AreSources}
+use Rattle.domino_law.specs.Places.{AreSources, up_at}
 use Rattle.domino_law.specs.Runs.{ChangesSources, held_before}
 use Rattle.domino_law.specs.Shape.{IsLatchAt, Latch, Shape}
 use Rattle.domino_law.proofs.DeckParts.{master_is}
@@ -39,7 +39,7 @@ module _ (devices : List Device) (is_source : ℕ → Bool) (net : Net → ℕ) 
   -- honest, by the own run
   abbrev pub Honest : Place → ℕ → List (List Bool) → List Bool → List Tri → Type 0
   Honest place risen past pins values =
-      IsHonest devices is_source net s place risen (bit_at (state_after s past)) (bit_at (next_state s (state_after s past) pins)) (bit_at pins)
+      IsHonest devices is_source net s place (up_at place risen) (bit_at (state_after s past)) (bit_at (next_state s (state_after s past) pins)) (bit_at pins)
       (λ j. held_before past (bit_at (state_after s past) j)) values
 
   -- on the way to the rest of reset
@@ -53,11 +53,12 @@ module _ (devices : List Device) (is_source : ℕ → Bool) (net : Net → ℕ) 
   InRange values = (part : Part) (a : Spot) → IsSpotOf s part a → net (At part a) < length values
 
   -- the same by another history of the masters
-  kept_as : (place : Place) (risen : ℕ) (old new pins : ℕ → Bool) (kept kept' : ℕ → Tri) (values : List Tri) → ((j : ℕ) → kept j ≡ kept' j)
-      → IsHonest devices is_source net s place risen old new pins kept values → IsHonest devices is_source net s place risen old new pins kept' values
-  kept_as place risen old new pins kept kept' values alike h =
+  kept_as : (place : Place) (up : ℕ → Bool) (old new pins : ℕ → Bool) (kept kept' : ℕ → Tri) (values : List Tri) → ((j : ℕ) → kept j ≡ kept' j)
+      → IsHonest devices is_source net s place up old new pins kept values → IsHonest devices is_source net s place up old new pins kept' values
+  kept_as place up old new pins kept kept' values alike h =
       record {
         sources = h.sources;
+        clocks = h.clocks;
         complements = h.complements;
         opposed = h.opposed;
         cells = h.cells;
@@ -122,8 +123,8 @@ module _ (devices : List Device) (is_source : ℕ → Bool) (net : Net → ℕ) 
   takes Released risen past pins pins' before after f rest range only src h =
       to_pins devices is_source net s deck risen risen _ _ _ _ before after only rest range (bit_at pins') _ h src
   takes Launched risen past pins pins' before after f rest range only src h =
-      subst (λ state. IsHonest devices is_source net s Pins risen (bit_at state) (bit_at (next_state s state pins')) (bit_at pins') (λ j. held_before (past ++ pins ∷ []) (bit_at state j)) after)
+      subst (λ state. IsHonest devices is_source net s Pins (up_at Pins risen) (bit_at state) (bit_at (next_state s state pins')) (bit_at pins') (λ j. held_before (past ++ pins ∷ []) (bit_at state j)) after)
       (sym (state_from-more s (start_state s) past pins))
-      (kept_as Pins risen _ _ (bit_at pins') _ _ after (λ j. sym (held_before-more past pins (bit_at (next_state s (state_after s past) pins) j)))
+      (kept_as Pins (up_at Pins risen) _ _ (bit_at pins') _ _ after (λ j. sym (held_before-more past pins (bit_at (next_state s (state_after s past) pins) j)))
       (to_next_pins devices is_source net s deck risen risen _ _ _ _ before after only rest range (bit_at pins') (bit_at (next_state s (next_state s (state_after s past) pins) pins')) h src))
   takes _ risen past pins pins' before after f rest range only src h = absurd (elim f [ inl z ↦ cc | inr z ↦ cc ])

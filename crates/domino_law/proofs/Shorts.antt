@@ -11,7 +11,8 @@ use Rattle.deck.specs.Paths.{Ends, PossibleStrong}
 use Rattle.deck.specs.Switches.{value_of}
 use Rattle.deck.specs.declared.device.Device.{Device}
 use Rattle.deck.specs.NamedDevices.{device_of}
-use Rattle.deck.proofs.Reach.{Reach, Reach-weaker, last, step}
+use Rattle.deck.specs.Reach.{Reach, last, step}
+use Rattle.deck.proofs.Reach.{Reach-weaker}
 use Rattle.sp_network.specs.Known.{IsKnown, is_not_zero}
 use Rattle.sp_network.specs.Tree.{tree_conduction}
 use Rattle.domino_cell.specs.Stage.{Branch, IsStage, Top}
@@ -39,7 +40,7 @@ abbrev Agreeing : List Tri → Tri → List Branch → Type 0
 Agreeing values w bs = AllByRecursion (λ b. (b.kind ≡ Keep) ⊎ ((tree_conduction b.kind (value_of values) b.tree ≡ Zero) ⊎ (value_of values b.supply ≡ w))) bs
 
 module _ (devices : List Device) (is_source : ℕ → Bool) (net : Net → ℕ) (s : Shape) (deck : HoldsDeck devices is_source net s)
-    (place : Place) (risen : ℕ) (old new pins : ℕ → Bool) (kept : ℕ → Tri) (values : List Tri) (h : IsHonest devices is_source net s place risen old new pins kept values) where
+    (place : Place) (up : ℕ → Bool) (old new pins : ℕ → Bool) (kept : ℕ → Tri) (values : List Tri) (h : IsHonest devices is_source net s place up old new pins kept values) where
   agree_inverter : (gate : Net) → IsKnown (value_of values (net gate)) → (w : Tri) × Agreeing values w (inverter_branches net gate)
   agree_inverter gate (inl z) = (One, (inr (inr (h.sources Vdd tt)), (inr (inl z), tt)))
   agree_inverter gate (inr z) = (Zero, (inr (inl (rw z refl)), (inr (inr (h.sources Vss tt)), tt)))
@@ -86,7 +87,7 @@ module _ (devices : List Device) (is_source : ℕ → Bool) (net : Net → ℕ) 
 
   agree_dynamic : (k : ℕ) (c : DominoCell) → IsCellAt s k c → (w : Tri) × Agreeing values w (dynamic WithKeeper net k c)
   agree_dynamic k c e =
-      elim (clock-known devices is_source net s deck place risen old new pins kept values h k c e) [
+      elim (clock-known devices is_source net s deck place up old new pins kept values h k c e) [
         | inl z ↦ (One, (inr (inl (rw z (both-right_zero (tree_conduction nch (value_of values) (numbered net c.tree))))), (inr (inr (h.sources Vdd tt)), (inl refl, tt))))
         | inr z ↦ (Zero, (inr (inr (h.sources Vss tt)), (inr (inl (rw z refl)), (inl refl, tt))))
       ]
@@ -97,12 +98,12 @@ module _ (devices : List Device) (is_source : ℕ → Bool) (net : Net → ℕ) 
   part_stage (Dynamic k) bs taps (c, e, z, y) WithKeeper u f =
       let is : IsTapped devices is_source (λ a. net (At (Dynamic k) a)) (dynamic WithKeeper net k c) [] = rw u at (dynamic_is devices is_source net s deck k c e) in
       (y ∙ rw u refl, rw (z, u) (untapped devices is_source (λ a. net (At (Dynamic k) a)) (dynamic WithKeeper net k c) is, agree_dynamic k c e))
-  part_stage (Output k) bs taps (c, e, z, y) style u f = (y, rw z (output_is devices is_source net s deck k c e, agree_inverter (At (Dynamic k) Top) (dynamic-known devices is_source net s deck place risen old new pins kept values h k c e)))
-  part_stage (Complement l) bs taps (e, z, y) style u f = (y, rw z (complement_is devices is_source net s deck l e, agree_inverter (own l) (own-known devices is_source net s deck place risen old new pins kept values h l ((deck.shape).complements_are l e))))
+  part_stage (Output k) bs taps (c, e, z, y) style u f = (y, rw z (output_is devices is_source net s deck k c e, agree_inverter (At (Dynamic k) Top) (dynamic-known devices is_source net s deck place up old new pins kept values h k c e)))
+  part_stage (Complement l) bs taps (e, z, y) style u f = (y, rw z (complement_is devices is_source net s deck l e, agree_inverter (own l) (own-known devices is_source net s deck place up old new pins kept values h l ((deck.shape).complements_are l e))))
   part_stage (Master j) bs taps (b, e, z, y) style u f = (y, rw z (master_is devices is_source net s deck j b e, agree_master (At (Next j) Top) (h.nexts j b e)))
   part_stage (Slave j) bs taps (b, e, z, y) style u f = (y, rw z (slave_is devices is_source net s deck j b e, agree_slave j b e))
-  part_stage (Next j) bs taps (b, e, z, y) style u f = (y, rw z (next_is devices is_source net s deck j b e, agree_inverter (gate_net b.next) (gate-known devices is_source net s deck place risen old new pins kept values h b.next ((deck.shape).nexts j b e))))
-  part_stage (Sink i) bs taps (g, e, z, y) style u f = (y, rw z (sink_is devices is_source net s deck i g e, agree_inverter (gate_net g) (gate-known devices is_source net s deck place risen old new pins kept values h g ((deck.shape).outputs_are i g e))))
+  part_stage (Next j) bs taps (b, e, z, y) style u f = (y, rw z (next_is devices is_source net s deck j b e, agree_inverter (gate_net b.next) (gate-known devices is_source net s deck place up old new pins kept values h b.next ((deck.shape).nexts j b e))))
+  part_stage (Sink i) bs taps (g, e, z, y) style u f = (y, rw z (sink_is devices is_source net s deck i g e, agree_inverter (gate_net g) (gate-known devices is_source net s deck place up old new pins kept values h g ((deck.shape).outputs_are i g e))))
 
   -- a net is the end of a path, or the path goes on from it
   abbrev IsRest : ℕ → ℕ → Type 0
@@ -140,7 +141,7 @@ module _ (devices : List Device) (is_source : ℕ → Bool) (net : Net → ℕ) 
       by_cell d m k c g u q n e r =
           let is : IsTapped devices is_source (λ a. net (At (Dynamic k) a)) (dynamic WithPrecharge net k c) (dynamic_taps WithPrecharge net c) = rw u at (dynamic_is devices is_source net s deck k c g) in
           let z : a ≡ b = one_source devices is_source (λ a. net (At (Dynamic k) a)) (net Vdd) (net Vss) (net (Clock c.clock)) (numbered net c.tree) is values
-          (clock-known devices is_source net s deck place risen old new pins kept values h k c g) d m sa sb (step_of d q) (rw u at n) e
+          (clock-known devices is_source net s deck place up old new pins kept values h k c g) d m sa sb (step_of d q) (rw u at n) e
           (elim r [ inl z ↦ inl z | inr z ↦ inr (z.0, Reach-weaker step_of z.1) ]) in
           rw z refl
 

@@ -19,7 +19,7 @@ use Rattle.stage_law.specs.Tapped.{tap_card}
 use Rattle.domino_law.specs.Branches.{clocked, dynamic, dynamic_taps, inverter_branches, keepers, master, numbered, reset_branch, slave}
 use Rattle.domino_law.specs.Nets.{At, Clock, Complement, Dynamic, Gate, Ls, Lsb, Master, Net, Next, Output, DeckSignal, Sink, Slave, Vdd, Vss, gate_net, own}
 use Rattle.domino_law.specs.Shape.{DominoCell, Latch, Shape, Style, WithKeeper, WithPrecharge}
-use Rattle.domino_law.specs.Spelled.{NamedIsSpelled, after_precharge, cell_cards, complement_cards, shape_cards, deck_circuit, deck_devices, inner_cards, latch_cards, net_cell, next_cards, one_latch, output_cards, pull_down, styled_cell}
+use Rattle.domino_law.specs.Spelled.{NamedIsSpelled, after_precharge, cell_cards, complement_cards, shape_cards, named_circuit, deck_devices, inner_cards, latch_cards, net_cell, next_cards, one_latch, output_cards, pull_down, styled_cell}
 use Rattle.domino_law.proofs.DeckLists.{LatchIsSpelled, StagePart, cell_parts, complement_parts, deck_parts, latch_devices, latch_parts, next_parts, output_parts, part_devices, parts_devices}
 
 latch_is : LatchIsSpelled
@@ -201,7 +201,7 @@ named_is_spelled ports name s none =
     ∙ (ap (λ ds. ds ++ map (λ c. device_of (map_device (net_number nets) c)) (map (map_device name) (shape_cards s))) none ∙ by (shape_cards s))
   where
     nets : List (List ℕ)
-    nets = (deck_circuit ports name s).nets
+    nets = (named_circuit ports name s).nets
 
     by : (cards : List (NamedDevice Net)) → map (λ c. device_of (map_device (net_number nets) c)) (map (map_device name) cards) ≡ map device_of (map (map_device (λ a. net_number nets (name a))) cards)
     by [] = refl

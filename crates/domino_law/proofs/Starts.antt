@@ -14,7 +14,7 @@ use Rattle.domino_law.specs.Honest.{IsDynamicSpot, IsHonest}
 use Rattle.domino_law.specs.LooseDeck.{HoldsDeck, IsPart, IsSpotOf}
 use Rattle.domino_law.specs.Nets.{At, Clock, Complement, Dynamic, FromDynamic, FromLatch, FromOutput, FromPin, Gate, High, Low, Ls, Lsb, Master, Minus, Net, Next, Output, Part, Pin, Plus, Rs, Rsb, DeckSignal, Sink, Slave, Vdd, Vss, gate_net, own}
 use Rattle.domino_law.specs.OwnRun.{bit_at, start_state}
-use Rattle.domino_law.specs.Places.{AreSources}
+use Rattle.domino_law.specs.Places.{AreSources, up_at}
 use Rattle.domino_law.specs.Shape.{DominoCell, HasComplement, IsCellAt, IsGate, IsLatchAt, IsSignal, Latch, Shape}
 use Rattle.domino_law.proofs.DeckParts.{complement_is, dynamic_is, next_is, opposite-known, output_is, sink_is, slave_is, zero_or_one}
 use Rattle.domino_law.proofs.OwnRuns.{bit_at-map}
@@ -71,10 +71,11 @@ module _ (devices : List Device) (is_source : ℕ → Bool) (net : Net → ℕ) 
   start_bit : (j : ℕ) (b : Latch) → IsLatchAt s j b → bit_at (start_state s) j ≡ b.init
   start_bit j b e = bit_at-map (λ l. l.init) s.latches j b e
 
-  pub reset_rests : (new : ℕ → Bool) → IsHonest devices is_source net s Reset risen (bit_at (start_state s)) new pins kept values
+  pub reset_rests : (new : ℕ → Bool) → IsHonest devices is_source net s Reset (up_at Reset risen) (bit_at (start_state s)) new pins kept values
   reset_rests new =
       record {
         sources = sources;
+        clocks = λ i. refl;
         complements = complement-known;
         opposed = complement-known;
         cells = λ k c e. record {

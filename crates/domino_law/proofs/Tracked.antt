@@ -8,7 +8,7 @@ use Rattle.dom_base.specs.declared.tri.Tri.TheVariants.{Unknown}
 use Rattle.domino_cell.specs.Stage.{Top}
 use Rattle.switch_model.specs.LinksData.{LinksData, is_first}
 use Rattle.switch_model.specs.Targets.{EventAt}
-use Rattle.switch_model.proofs.Decided.{lt_or_ge}
+use Rattle.dom_base.proofs.Decided.{lt_or_ge}
 use Rattle.switch_model.proofs.Searches.{clash, first-true}
 use Rattle.circuit_law.specs.Counts.{Events, Gates, IsBetween}
 use Rattle.port_runs.specs.Environment.{Evaluation, Happens, Move, Moves, Open, Pins, Place, Reset, Rise, Step, Take, World, after_move, risen_at}
@@ -16,7 +16,7 @@ use Rattle.domino_law.specs.Honest.{IsHonest}
 use Rattle.domino_law.specs.LooseDeck.{IsLooseDeck}
 use Rattle.domino_law.specs.Nets.{At, Net}
 use Rattle.domino_law.specs.OwnRun.{bit_at}
-use Rattle.domino_law.specs.Places.{AreSources}
+use Rattle.domino_law.specs.Places.{AreSources, up_at}
 use Rattle.domino_law.specs.Runs.{ChangesSources, TakesStep, IsHonestWorld, IsPower, IsReady, Run, held_before, state_before, state_next}
 use Rattle.domino_law.specs.Shape.{Shape}
 use Rattle.domino_law.proofs.DeckParts.{part-free}
@@ -43,7 +43,7 @@ module _ (links : LinksData) (net : Net → ℕ) (s : Shape) (loose : IsLooseDec
       → (IsHonestWorld links net s w × InStepWorld w) ⊎ ((w.place ≡ Reset) × AwakingWorld w)
       → (IsHonestWorld links net s (record w { values = values }) × InStepWorld (record w { values = values })) ⊎ ((w.place ≡ Reset) × AwakingWorld (record w { values = values }))
   event_state n w values e (inl h) =
-      inl (after_event links.devices (is_first links.sources) net s loose.deck w.place w.risen _ _ _ _ n w.values values h.0 h.1 e)
+      inl (after_event links.devices (is_first links.sources) net s loose.deck w.place (up_at w.place w.risen) _ _ _ _ n w.values values h.0 h.1 e)
   event_state n w values e (inr h) =
       inr (h.0, rw e.3 (awaking_after links.devices (is_first links.sources) net s loose.deck w.risen (bit_at w.pins) w.values h.1 n e.0 e.1 e.2))
 
@@ -51,14 +51,14 @@ module _ (links : LinksData) (net : Net → ℕ) (s : Shape) (loose : IsLooseDec
       → AreSources net s (after_move move w).place (after_move move w).risen (bit_at (after_move move w).pins) values → IsTracked w
       → InStepWorld (record (after_move move w) { values = values })
   move_step (Open place) w values r only src t =
-      in_step_opens links.devices (is_first links.sources) net s loose.deck w.place w.risen _ _ _ _ w.values (ready_honest links net s loose (Open place) w r t.good)
-      place (risen_at place w.risen) (bit_at w.pins) values src only r.1 (range_of links net s loose w.values t.good.whole) _ _
+      in_step_opens links.devices (is_first links.sources) net s loose.deck w.place (up_at w.place w.risen) _ _ _ _ w.values (ready_honest links net s loose (Open place) w r t.good)
+      place (up_at place (risen_at place w.risen)) (bit_at w.pins) values src only r.1 (range_of links net s loose w.values t.good.whole) _ _
   move_step (Take pins) w values r only src t =
-      in_step_opens links.devices (is_first links.sources) net s loose.deck w.place w.risen _ _ _ _ w.values (ready_honest links net s loose (Take pins) w r t.good)
-      Pins w.risen (bit_at pins) values src only r.1 (range_of links net s loose w.values t.good.whole) _ _
+      in_step_opens links.devices (is_first links.sources) net s loose.deck w.place (up_at w.place w.risen) _ _ _ _ w.values (ready_honest links net s loose (Take pins) w r t.good)
+      Pins (up_at Pins w.risen) (bit_at pins) values src only r.1 (range_of links net s loose w.values t.good.whole) _ _
   move_step Rise w values r only src t =
       elim t.state [
-        | inl h ↦ in_step_rises links.devices (is_first links.sources) net s loose.deck w.place w.risen _ _ (bit_at w.pins) _ w.values h.0 (w.risen + 1) values src only h.1
+        | inl h ↦ in_step_rises links.devices (is_first links.sources) net s loose.deck w.place (up_at w.place w.risen) _ _ (bit_at w.pins) _ w.values h.0 (up_at w.place (w.risen + 1)) values src only h.1
         | inr h ↦ absurd (later w.place r.0 h.0)
       ]
     where
@@ -124,11 +124,11 @@ module _ (links : LinksData) (net : Net → ℕ) (s : Shape) (loose : IsLooseDec
       let b = events_between ns w.values w'.values t.good.whole e in
       elim t.state [
         | inl h ↦ few_events links.devices (is_first links.sources) net s loose.deck
-            (λ v. IsHonest links.devices (is_first links.sources) net s w.place w.risen (bit_at (state_before s w)) (bit_at (state_next s w)) (bit_at w.pins) (λ j. held_before w.past (bit_at (state_before s w) j)) v
+            (λ v. IsHonest links.devices (is_first links.sources) net s w.place (up_at w.place w.risen) (bit_at (state_before s w)) (bit_at (state_next s w)) (bit_at w.pins) (λ j. held_before w.past (bit_at (state_before s w) j)) v
             × IsInStep net s w.place (bit_at (state_before s w)) (bit_at (state_next s w)) (bit_at w.pins) v)
-            (part_goal links.devices (is_first links.sources) net s loose.deck w.place w.risen (bit_at (state_before s w)) (bit_at (state_next s w)) (bit_at w.pins) (λ j. held_before w.past (bit_at (state_before s w) j)))
-            (λ n before after k e. after_event links.devices (is_first links.sources) net s loose.deck w.place w.risen _ _ _ _ n before after k.0 k.1 e)
-            (λ n before after k e part a m. event_goal links.devices (is_first links.sources) net s loose.deck w.place w.risen _ _ _ _ n before after k.0 k.1 e part a m)
+            (part_goal links.devices (is_first links.sources) net s loose.deck w.place (up_at w.place w.risen) (bit_at (state_before s w)) (bit_at (state_next s w)) (bit_at w.pins) (λ j. held_before w.past (bit_at (state_before s w) j)))
+            (λ n before after k e. after_event links.devices (is_first links.sources) net s loose.deck w.place (up_at w.place w.risen) _ _ _ _ n before after k.0 k.1 e)
+            (λ n before after k e part a m. event_goal links.devices (is_first links.sources) net s loose.deck w.place (up_at w.place w.risen) _ _ _ _ n before after k.0 k.1 e part a m)
             links.sources (links.nets - links.sources) ns w.values w'.values h e b
         | inr h ↦ few_events links.devices (is_first links.sources) net s loose.deck
             (IsAwaking links.devices (is_first links.sources) net s loose.deck w.risen (bit_at w.pins))
@@ -145,11 +145,11 @@ module _ (links : LinksData) (net : Net → ℕ) (s : Shape) (loose : IsLooseDec
       let e = run_events (n ∷ ns) w w' r in
       elim t.state [
         | inl h ↦ gate_done links.devices (is_first links.sources) net s loose.deck
-            (λ v. IsHonest links.devices (is_first links.sources) net s w.place w.risen (bit_at (state_before s w)) (bit_at (state_next s w)) (bit_at w.pins) (λ j. held_before w.past (bit_at (state_before s w) j)) v
+            (λ v. IsHonest links.devices (is_first links.sources) net s w.place (up_at w.place w.risen) (bit_at (state_before s w)) (bit_at (state_next s w)) (bit_at w.pins) (λ j. held_before w.past (bit_at (state_before s w) j)) v
             × IsInStep net s w.place (bit_at (state_before s w)) (bit_at (state_next s w)) (bit_at w.pins) v)
-            (part_goal links.devices (is_first links.sources) net s loose.deck w.place w.risen (bit_at (state_before s w)) (bit_at (state_next s w)) (bit_at w.pins) (λ j. held_before w.past (bit_at (state_before s w) j)))
-            (λ n before after k e. after_event links.devices (is_first links.sources) net s loose.deck w.place w.risen _ _ _ _ n before after k.0 k.1 e)
-            (λ n before after k e part a m. event_goal links.devices (is_first links.sources) net s loose.deck w.place w.risen _ _ _ _ n before after k.0 k.1 e part a m)
+            (part_goal links.devices (is_first links.sources) net s loose.deck w.place (up_at w.place w.risen) (bit_at (state_before s w)) (bit_at (state_next s w)) (bit_at w.pins) (λ j. held_before w.past (bit_at (state_before s w) j)))
+            (λ n before after k e. after_event links.devices (is_first links.sources) net s loose.deck w.place (up_at w.place w.risen) _ _ _ _ n before after k.0 k.1 e)
+            (λ n before after k e part a m. event_goal links.devices (is_first links.sources) net s loose.deck w.place (up_at w.place w.risen) _ _ _ _ n before after k.0 k.1 e part a m)
             n ns w.values w'.values h e g
         | inr h ↦ gate_done links.devices (is_first links.sources) net s loose.deck
             (IsAwaking links.devices (is_first links.sources) net s loose.deck w.risen (bit_at w.pins))

@@ -10,7 +10,7 @@ use Rattle.deck.specs.declared.device.Device.{Device}
 use Rattle.sp_network.specs.Known.{IsKnown}
 use Rattle.domino_cell.specs.Stage.{IsStage, Top}
 use Rattle.switch_model.specs.Targets.{IsPending, IsTarget}
-use Rattle.switch_model.proofs.Decided.{dec_nat}
+use Rattle.dom_base.proofs.Decided.{dec_nat}
 use Rattle.switch_model.proofs.Searches.{clash}
 use Rattle.switch_model.proofs.Targets.{target_unique}
 use Rattle.port_runs.specs.Environment.{Reset, bit}

@@ -13,8 +13,8 @@ use Rattle.sp_network.specs.Tree.{inner_count, tree_conduction}
 use Rattle.domino_cell.specs.Stage.{Inside, Spot, Top}
 use Rattle.port_runs.specs.Environment.{Capture, Captured, Evaluation, Launch, Launched, Pins, Place, Precharge, Released, Reset, bit}
 use Rattle.domino_law.specs.Nets.{At, Clock, Complement, Dynamic, Gate, Master, Net, Next, Output, DeckSignal, Sink, Slave, Vss, gate_net, own}
-use Rattle.domino_law.specs.Places.{AreSources}
 use Rattle.domino_law.specs.Shape.{DominoCell, HasComplement, IsCellAt, IsLatchAt, IsOutputAt, Latch, Shape, Style, WithKeeper, WithPrecharge}
+use Rattle.domino_law.specs.Places.{AreSourcesBy, IsClockAt}
 
 -- the values of a cell's dynamic net and of its output
 abbrev pub Pair : (Net → ℕ) → List Tri → ℕ → Tri → Tri → Type 0
@@ -59,33 +59,36 @@ IsDynamicSpot style c Top = Unit {0}
 IsDynamicSpot WithKeeper c (Inside i j) = ⊥
 IsDynamicSpot WithPrecharge c (Inside i j) = (i ≡ 0) × (0 < j) × (j < 1 + inner_count c.tree)
 
-pub record IsHonestCell (devices : List Device) (is_source : ℕ → Bool) (net : Net → ℕ) (style : Style) (place : Place) (values : List Tri)
-    (k : ℕ) (c : DominoCell) : Type 0 where
+-- a cell; it may be late, not yet precharged though its clock is at 0, where `late` holds
+pub record IsHonestCell (devices : List Device) (is_source : ℕ → Bool) (net : Net → ℕ) (style : Style) (place : Place)
+    (late : Type 0) (values : List Tri) (k : ℕ) (c : DominoCell) : Type 0 where
   -- with its clock at 1 a cell has (1,0), (0,0) or (0,1), and where one of its dynamic nets is 0 there is a definite strong path to ground
   pub evaluated : value_of values (net (Clock c.clock)) ≡ One
       → Pair net values k One Zero ⊎ (Pair net values k Zero Zero ⊎ Pair net values k Zero One)
   pub pulled : value_of values (net (Clock c.clock)) ≡ One → (a : Spot) → IsDynamicSpot style c a
       → value_of values (net (At (Dynamic k) a)) ≡ Zero → DefiniteStrong devices is_source values (net (At (Dynamic k) a)) (net Vss)
-  -- its dynamic nets are known, and with its clock at 0 they are 1, but for precharge
+  -- its dynamic nets are known, and with its clock at 0 they are 1, but where it is late
   pub spots_known : (a : Spot) → IsDynamicSpot style c a → IsKnown (value_of values (net (At (Dynamic k) a)))
   pub spots_idle : value_of values (net (Clock c.clock)) ≡ Zero → (a : Spot) → IsDynamicSpot style c a
-      → (value_of values (net (At (Dynamic k) a)) ≡ One) ⊎ (place ≡ Precharge)
-  -- with its clock at 0 it has (1,0), and in precharge also (0,1) or (1,1)
+      → (value_of values (net (At (Dynamic k) a)) ≡ One) ⊎ late
+  -- with its clock at 0 it has (1,0), and where it is late also (0,1) or (1,1)
   pub idle : value_of values (net (Clock c.clock)) ≡ Zero
-      → Pair net values k One Zero ⊎ ((place ≡ Precharge) × (Pair net values k Zero One ⊎ Pair net values k One One))
+      → Pair net values k One Zero ⊎ (late × (Pair net values k Zero One ⊎ Pair net values k One One))
   -- in capture and captured both nets are at their targets
   pub settled : AtCapture place
       ((value_of values (net (At (Dynamic k) Top)) ≡ opposite (cell_conduction net values c))
       × (value_of values (net (At (Output k) Top)) ≡ opposite (value_of values (net (At (Dynamic k) Top)))))
 
--- old and new are the states before the cycle and after it, pins the bits of the pins, kept what the masters held before capture
-pub record IsHonest (devices : List Device) (is_source : ℕ → Bool) (net : Net → ℕ) (s : Shape) (place : Place) (risen : ℕ)
+-- up tells which clocks are up, old and new are the states before the cycle and after it, pins the bits of the pins, kept what the
+-- masters held before capture
+pub record IsHonest (devices : List Device) (is_source : ℕ → Bool) (net : Net → ℕ) (s : Shape) (place : Place) (up : ℕ → Bool)
     (old new pins : ℕ → Bool) (kept : ℕ → Tri) (values : List Tri) : Type 0 where
-  pub sources : AreSources net s place risen pins values
+  pub sources : AreSourcesBy net s place up pins values
+  pub clocks : (i : ℕ) → IsClockAt place (bit (up i))
   pub complements : (l : DeckSignal) → HasComplement s l → IsKnown (value_of values (net (At (Complement l) Top)))
   pub opposed : (l : DeckSignal) → HasComplement s l
       → IsOpposed place (value_of values (net (own l))) (value_of values (net (At (Complement l) Top)))
-  pub cells : (k : ℕ) (c : DominoCell) → IsCellAt s k c → IsHonestCell devices is_source net s.style place values k c
+  pub cells : (k : ℕ) (c : DominoCell) → IsCellAt s k c → IsHonestCell devices is_source net s.style place (place ≡ Precharge) values k c
   pub slaves : (j : ℕ) (b : Latch) → IsLatchAt s j b
       → IsSlaveAt place (bit (old j)) (bit (new j)) (value_of values (net (At (Slave j) Top)))
   pub masters : (j : ℕ) (b : Latch) → IsLatchAt s j b → IsMasterAt place (kept j) (bit (new j)) (value_of values (net (At (Master j) Top)))

@@ -1,5 +1,4 @@
 pub mod Branches
-pub mod DeckNames
 pub mod DominoDeck
 pub mod Honest
 pub mod Joins

@@ -9,11 +9,12 @@ use Rattle.domino_cell.specs.Stage.{Top}
 use Rattle.switch_model.specs.LinksData.{LinksData, is_first}
 use Rattle.circuit_law.specs.Counts.{Gates}
 use Rattle.port_runs.specs.Environment.{Evaluation, Happens, Moves, Open, Reset, Step, World, stream_of}
+use Rattle.port_runs.specs.Periods.{IsAtMostOnce, IsInPeriod, IsNever}
 use Rattle.domino_law.specs.Joins.{IsContest, IsOverpowered, IsShort}
 use Rattle.domino_law.specs.Laws.{RestsIn}
 use Rattle.domino_law.specs.LooseDeck.{IsLooseDeck}
 use Rattle.domino_law.specs.Nets.{At, Gate, Net, Sink, Vdd, Vss}
-use Rattle.domino_law.specs.Periods.{IsAtMostOnce, IsDominoOutput, IsDynamicNet, IsInPeriod, IsNever}
+use Rattle.domino_law.specs.Periods.{IsDeckDominoOutput, IsDeckDynamicNet}
 use Rattle.domino_law.specs.Runs.{TakesStep, IsPower, Run}
 use Rattle.domino_law.specs.Shape.{IsOutputAt, Shape, WithPrecharge}
 
@@ -75,13 +76,13 @@ pub record IsOnceFrom (links : LinksData) (net : Net → ℕ) (s : Shape) (steps
 abbrev pub DynamicFallsOnce : Type 0
 DynamicFallsOnce =
     (links : LinksData) (net : Net → ℕ) (s : Shape) (steps : List Step) (u : World) (n : ℕ) → IsLooseDeck links net s
-    → InPeriod links net s steps u → IsDynamicNet links net s n → IsOnceFrom links net s steps u n One Zero
+    → InPeriod links net s steps u → IsDeckDynamicNet links net s n → IsOnceFrom links net s steps u n One Zero
 
 -- a domino output rises at most once
 abbrev pub OutputRisesOnce : Type 0
 OutputRisesOnce =
     (links : LinksData) (net : Net → ℕ) (s : Shape) (steps : List Step) (u : World) (n : ℕ) → IsLooseDeck links net s
-    → InPeriod links net s steps u → IsDominoOutput links net s n → IsOnceFrom links net s steps u n Zero One
+    → InPeriod links net s steps u → IsDeckDominoOutput links net s n → IsOnceFrom links net s steps u n Zero One
 
 -- two legal runs from power that took the same stream of pins and rest at the same place, in evaluation with as many clocks up, have
 -- the same value on each net that gates a device and on each output port

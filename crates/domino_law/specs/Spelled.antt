@@ -115,11 +115,11 @@ abbrev pub SpelledIsLoose : Type 0
 SpelledIsLoose = (links : LinksData) (net : Net → ℕ) (s : Shape) → IsSpelledDeck links net s → IsLooseDeck links net s
 
 -- the circuit of a deck whose nets have these names, behind ports
-abbrev pub deck_circuit : CircuitData → (Net → List ℕ) → Shape → CircuitData
-deck_circuit ports name s = with_devices ports (map (map_device name) (shape_cards s))
+abbrev pub named_circuit : CircuitData → (Net → List ℕ) → Shape → CircuitData
+named_circuit ports name s = with_devices ports (map (map_device name) (shape_cards s))
 
 -- it has the deck's devices, where each net is numbered by the place of its name
 abbrev pub NamedIsSpelled : Type 0
 NamedIsSpelled =
     (ports : CircuitData) (name : Net → List ℕ) (s : Shape) → ports.devices ≡ []
-    → (deck_circuit ports name s).devices ≡ deck_devices (λ a. net_number (deck_circuit ports name s).nets (name a)) s
+    → (named_circuit ports name s).devices ≡ deck_devices (λ a. net_number (named_circuit ports name s).nets (name a)) s

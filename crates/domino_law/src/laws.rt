@@ -12,7 +12,6 @@ ghost use Rattle.domino_law.specs.OrderLaws.{
   OutputRisesOnce,
   RestsAlike,
 };
-ghost use Rattle.domino_law.specs.DeckNames.{NamesDiffer};
 ghost use Rattle.domino_law.specs.DominoDeck.{
   DominoDeckIsLoose,
   PortsReadOwnRun,
@@ -24,9 +23,10 @@ ghost use Rattle.domino_law.specs.RunLaws.{
   DeckRunsAreCutAnywhere,
   RunsReadEachStream,
   DeckRunsStandInOrder,
+  RunsArePortRuns,
 };
 ghost use Rattle.domino_law.specs.NamedDeck.{NamedIsLoose};
-ghost use Rattle.domino_law.specs.Settings.{PowerIsPower, SettingsAreMoves};
+ghost use Rattle.domino_law.specs.Settings.{MovesAreSettings, PowerIsPower, SettingsAreMoves};
 ghost use Rattle.domino_law.specs.Spelled.{NamedIsSpelled, SpelledIsLoose};
 ghost use Rattle.domino_law.specs.WorkedDeck.{ToggleHasPower, ToggleIsDeck, ToggleRuns};
 ghost use Rattle.domino_law.specs.Laws.{
@@ -114,13 +114,12 @@ pub fn counts_events()
 /// A circuit whose devices are, in order, those of the cells of one style, of the complements, of
 /// the latches and of the sinks is a loose domino deck. A circuit that is made by pushing these
 /// cards under names has these devices, each net numbered by the place of its name, and where the
-/// names differ and the ports stand in order it is a loose domino deck by these numbers. The names of
-/// a deck's nets differ.
+/// names differ and the ports stand in order it is a loose domino deck by these numbers, whose ports
+/// have their roles.
 pub fn spelled_decks_are_loose()
     ensures loose { SpelledIsLoose }
     ensures named { NamedIsSpelled }
     ensures deck { NamedIsLoose }
-    ensures names { NamesDiffer }
 {}
 
 /// A deck of the style with precharge, with a cell, two complements, a latch and an output, meets
@@ -132,20 +131,23 @@ pub fn worked_deck_is_loose()
 {}
 
 /// Where the ports of a deck stand in the order of roles, to set the ports of a move together is
-/// to make it, and the power values of the circuit are a power state.
+/// to make it, each move sets these ports and no others, and the power values of the circuit are a
+/// power state.
 pub fn settings_are_moves()
     ensures moves { SettingsAreMoves }
+    ensures settings { MovesAreSettings }
     ensures power { PowerIsPower }
 {}
 
 /// In a legal run each net has a value, the sources are as the place says, and pins came in cycles,
 /// one bit for each pin. Cut anywhere, it is a legal run. A legal run by ports is one of the deck, and
-/// for each stream of pins there is one to the reading of its last cycle and one to where the slaves
-/// have been closed after it.
+/// a legal run of the deck from power is one by ports. For each stream of pins there is one to the
+/// reading of its last cycle and one to where the slaves have been closed after it.
 pub fn runs_stand_in_order()
     ensures order { DeckRunsStandInOrder }
     ensures cut { DeckRunsAreCutAnywhere }
     ensures ports { PortRunsAreRuns }
+    ensures back { RunsArePortRuns }
     ensures reads { RunsReadEachStream }
 {}
 

@@ -12,29 +12,19 @@ use Rattle.blif_ast.specs.declared.letter.Letter.TheVariants.{Zero, One, Any}
 use Rattle.blif_ast.specs.BlifFileData.{BlifFileData}
 use Rattle.blif_ast.specs.BlifModelData.{BlifModelData}
 use Rattle.blif_ast.specs.TableData.{TableData}
-use Rattle.deck.proofs.PortDecisions.{Decided}
-use Rattle.domsyn.specs.OneTable.{HasGoodRows, IsFileOfTable, IsOneTable, IsRow, IsSmall, IsTableOver, is_one_letter}
+use Rattle.dom_base.specs.Decided.{Decided}
+use Rattle.dom_base.proofs.Decided.{dec_nat, lt_or_ge}
+use Rattle.domsyn.specs.OneTable.{HasGoodRows, IsFileOfTable, IsOneTable, IsRow, is_one_letter}
 use Rattle.domsyn.specs.OneTableData.{OneTableData}
 use Rattle.domsyn.proofs.FilesOfTables.{file_of_table}
 use Rattle.domsyn.proofs.OneDeck.{networks_alike}
 
 le_decided : (a b : ℕ) → Decided (a ≤ b)
-le_decided a b = by (le_or_lt a b)
+le_decided a b = by (lt_or_ge b a)
   where
-    le_or_lt : (a b : ℕ) → (a ≤ b) ⊎ (b < a)
-    le_or_lt a b = grind arith
-
-    by : (a ≤ b) ⊎ (b < a) → Decided (a ≤ b)
-    by (inl le) = inl le
-    by (inr lt) = inr (λ le. omega (arith, le, lt))
-
-eq_decided : (a b : ℕ) → Decided (a ≡ b)
-eq_decided a b = by (le_decided a b) (le_decided b a)
-  where
-    by : Decided (a ≤ b) → Decided (b ≤ a) → Decided (a ≡ b)
-    by (inl x) (inl y) = inl (omega (arith, x, y))
-    by (inl x) (inr fails) = inr (λ e. fails (omega (arith, e)))
-    by (inr fails) y = inr (λ e. fails (omega (arith, e)))
+    by : (b < a) ⊎ (a ≤ b) → Decided (a ≤ b)
+    by (inl lt) = inr (λ le. omega (arith, le, lt))
+    by (inr le) = inl le
 
 all_decided : {X : Type 0} (P : X → Type 0) → ((x : X) → Decided (P x)) → (xs : List X) → Decided (All P xs)
 all_decided P each [] = inl (All-nil P)
@@ -51,7 +41,7 @@ not_zero One = inl (λ e. cc)
 not_zero Any = inl (λ e. cc)
 
 row_decided : (width : ℕ) (row : List Letter) → Decided (IsRow width row)
-row_decided width row = by (eq_decided (length row) width) (all_decided (λ letter. letter ≢ Zero) not_zero row) (le_decided 1 (count_by is_one_letter row)) (le_decided (count_by is_one_letter row) 4)
+row_decided width row = by (dec_nat (length row) width) (all_decided (λ letter. letter ≢ Zero) not_zero row) (le_decided 1 (count_by is_one_letter row)) (le_decided (count_by is_one_letter row) 4)
   where
     by : Decided (length row ≡ width) → Decided (All (λ letter. letter ≢ Zero) row) → Decided (1 ≤ count_by is_one_letter row) → Decided (count_by is_one_letter row ≤ 4) → Decided (IsRow width row)
     by (inl a) (inl b) (inl c) (inl d) = inl (record { fits = a; no_zero = b; some_one = c; few_ones = d })
@@ -71,7 +61,7 @@ rows_decided width rows = by (le_decided 1 (length rows)) (le_decided (length ro
     by (inr fails) b c d = inr (λ is. fails is.some_row)
 
 distinct_decided : (names : List (List ℕ)) → Decided (IsDistinct (pointwise nat_eq) names)
-distinct_decided names = by (eq_decided (distinct_count (pointwise nat_eq) names) (length names))
+distinct_decided names = by (dec_nat (distinct_count (pointwise nat_eq) names) (length names))
   where
     by : Decided (distinct_count (pointwise nat_eq) names ≡ length names) → Decided (IsDistinct (pointwise nat_eq) names)
     by (inl e) = inl (IsDistinct-from_count nat_list_eq_equiv names e)

@@ -5,9 +5,8 @@ use Rattle.std.specs.List.{list_any, list_all, AllByRecursion}
 use Rattle.std.proofs.lemmas.List.{length-map}
 use Rattle.std.proofs.lemmas.List.Sums.{AllPass-from_list_all}
 use Rattle.dom_base.proofs.Names.{IsNetName-from_test}
-use Rattle.dom_base.specs.Names.{is_net_name}
+use Rattle.dom_base.specs.Names.{is_net_name, IsNetName}
 use Rattle.std.specs.Cmp.Lexicographic.{pointwise}
-use Rattle.dom_base.specs.Names.{IsNetName}
 use Rattle.dom_base.specs.declared.kind.Kind.TheVariants.{N as nch}
 use Rattle.dom_base.proofs.Lists.{AllByRecursion-append}
 use Rattle.deck.specs.CircuitData.{CircuitData}
@@ -15,7 +14,7 @@ use Rattle.deck.specs.Nets.{with_net}
 use Rattle.deck.specs.Pushes.{pushed}
 use Rattle.deck.specs.DeckText.{HasNetNames, HasNoEquals, IsGoodCircuit}
 use Rattle.deck.specs.declared.phase.Phase.{Phase}
-use Rattle.deck.proofs.CircuitGrowth.{Grew}
+use Rattle.deck.specs.CircuitGrowth.{Grew}
 use Rattle.deck.proofs.CircuitGrowth.{with_devices-grew}
 use Rattle.deck.specs.Ports.{leading_ports}
 use Rattle.domino_cell.specs.Cell.{cell, dynamic_stage, inverter}

@@ -3,16 +3,15 @@ pub mod BuiltFiles
 pub mod Causes
 pub mod CircuitCell
 pub mod CommandFailures
-pub mod Commands
 pub mod DeckFacts
 pub mod DeckNames
 pub mod FileNames
 pub mod FilesOfTables
 pub mod Literals
 pub mod OneDeck
+pub mod OneItem
 pub mod OneOutcome
 pub mod OutcomeThere
-pub mod PortPlaces
 pub mod PulledDown
 pub mod ReportedFailures
 pub mod Rooms

@@ -1,20 +1,19 @@
 -- Over files that are known, a command has an outcome.
-use Rattle.std.proofs.Common.{◌≡◌, ◌<◌, ◌≤◌, ◌⊎◌, inl, inr, ℕ, List, [], ◌∷◌, length, take, refl, arith}
+use Rattle.std.proofs.Common.{◌<◌, ◌≤◌, ◌⊎◌, inl, inr, ℕ, List, [], ◌∷◌, length, take, refl, arith}
 use Rattle.std.specs.Prelude.{All, Some, if◌then◌else◌}
 use Rattle.std.proofs.lemmas.List.Elements.{All-head, All-tail}
-use Rattle.dom_base.specs.Answers.{HasOneAnswer, IsOnlyAnswer, IsOnlyRefusal}
-use Rattle.dom_io.specs.Held.{file_limit, held}
+use Rattle.dom_base.specs.Answers.{HasOneAnswer}
+use Rattle.dom_io.specs.Held.{file_limit}
 use Rattle.blif_ast.specs.BlifFileData.{BlifFileData}
-use Rattle.blif_ast.specs.declared.kind.BlifKind.{BlifKind}
 use Rattle.blif_ast.specs.Reading.{IsBlifFault, IsBlifFaultAt, IsFileOf}
 use Rattle.blif_read.proofs.OneAnswer.{one_answer as blif_answer}
 use Rattle.deck.specs.CircuitData.{CircuitData}
 use Rattle.deck.specs.DeckFaults.{IsDeckFault, IsDeckFaultAt}
 use Rattle.deck.specs.DeckText.{IsDeckOf}
-use Rattle.deck.specs.Ports.{HasRoles, leading_ports}
-use Rattle.deck.specs.Roles.{AreRoles, LeavesRolesAt, ports_of}
+use Rattle.deck.specs.Ports.{HasRoles, leading_ports, HasSomeRoles}
+use Rattle.deck.specs.Roles.{AreRoles, HaveRolesOrLeave, ports_of}
 use Rattle.deck.specs.declared.role.Roles.{Roles}
-use Rattle.deck.proofs.PortDecisions.{HasSomeRoles, has_roles}
+use Rattle.deck.proofs.PortDecisions.{has_roles, roles_or_leave}
 use Rattle.deck.proofs.PortLayout.{HasRoles-same}
 use Rattle.spice_read.proofs.OneAnswer.{one_answer as deck_answer}
 use Rattle.spice_text.specs.Text.{IsWritten, text_with}
@@ -31,10 +30,9 @@ use Rattle.domsyn.specs.Deck.{circuit_of}
 use Rattle.domsyn.specs.Laws.{IsKnownFile}
 use Rattle.domsyn.specs.OneTable.{IsFileOfTable, IsOneTable}
 use Rattle.domsyn.specs.OneTableData.{OneTableData}
-use Rattle.domsyn.specs.Outcomes.{IsFile, IsNoTrace, IsOutcome, Outcome, Printed, Refused}
+use Rattle.domsyn.specs.Outcomes.{IsNoTrace, IsOutcome, Outcome, Printed, Refused}
 use Rattle.domsyn.proofs.BuiltFiles.{built_or_not}
 use Rattle.domsyn.proofs.FileNames.{HasByteNames-read}
-use Rattle.domsyn.proofs.PortPlaces.{OrderOrPlace, order_or_place}
 
 abbrev Pairs : Type 0
 Pairs = List (List ℕ × List ℕ)
@@ -133,12 +131,12 @@ sim_there known deck stim options d s = by (fits_or_not d.bytes file_limit) (fit
     cycles short few c roles is are (inr r) =
         (Refused stim (Stim r.0 r.1), (refl, no_trace short few (stim_fault r.0 r.1) (record { circuit = c; roles = roles; is_deck = is; are_roles = are; fault = r.2.is_refused })))
 
-    ports : length d.bytes ≤ file_limit → length s.bytes ≤ file_limit → (c : CircuitData) → IsDeckOf d.bytes c → OrderOrPlace (ports_of c) → HasOne known (Sim deck stim options)
+    ports : length d.bytes ≤ file_limit → length s.bytes ≤ file_limit → (c : CircuitData) → IsDeckOf d.bytes c → HaveRolesOrLeave (ports_of c) → HasOne known (Sim deck stim options)
     ports short few c is (inl r) = cycles short few c r.0 is r.1 (stim_answer r.0.pins s.bytes)
     ports short few c is (inr p) = (Refused deck (Ports p.0), (refl, no_trace short few (port_fault p.0) (record { circuit = c; is_deck = is; leaves = p.1 })))
 
     read : length d.bytes ≤ file_limit → length s.bytes ≤ file_limit → HasOneAnswer (IsDeckOf d.bytes) (IsDeckFault d.bytes) (IsDeckFaultAt d.bytes) → HasOne known (Sim deck stim options)
-    read short few (inl c) = ports short few c.0 c.1.is_answer (order_or_place (ports_of c.0))
+    read short few (inl c) = ports short few c.0 c.1.is_answer (roles_or_leave (ports_of c.0))
     read short few (inr r) = (Refused deck (Deck r.0 r.1), (refl, no_trace short few (deck_fault r.0 r.1) r.2.is_refused))
 
     by : (length d.bytes ≤ file_limit) ⊎ (file_limit < length d.bytes) → (length s.bytes ≤ file_limit) ⊎ (file_limit < length s.bytes) → HasOne known (Sim deck stim options)

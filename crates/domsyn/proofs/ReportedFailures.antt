@@ -19,12 +19,12 @@ pub data FailureReported (files : Files) (words : List (List ℕ)) (Rises : Type
   unread : (file : List ℕ) → MeetsUnread files words file → Rises → status ≡ 3 → Reports (unread_line file) → FailureReported files words Rises status Reports
   memory : status ≡ 5 → Reports (line_of 5) → FailureReported files words Rises status Reports
 
-pub failure_reported : (files : Files) (words : List (List ℕ)) (command : Command) (Rises : Type 0) (why : Failure) (status : ℕ) (Reports : List ℕ → Type 0) → Asks words command → IsFailureOf files command Rises why
+pub failure_reported : {files : Files} {words : List (List ℕ)} {Rises : Type 0} {status : ℕ} {Reports : List ℕ → Type 0} (command : Command) (why : Failure) → Asks words command → IsFailureOf files command Rises why
     → IsReportedAt why status Reports → FailureReported files words Rises status Reports
-failure_reported files words command Rises (failure.Refused file why) status Reports asks is (inl known) = refusal file.now why (record { command = command; asks = asks; outcome_is = is }) known.0 known.1
-failure_reported files words command Rises (failure.Refused file why) status Reports asks is (inr known) = memory known.0 known.1
-failure_reported files words command Rises (failure.Unread file) status Reports asks is known = unread file.now (record { command = command; asks = asks; unread = is.0 }) is.1 known.0 known.1
-failure_reported files words command Rises failure.Memory status Reports asks is known = memory known.0 known.1
+failure_reported command (failure.Refused file why) asks is (inl known) = refusal file.now why (record { command = command; asks = asks; outcome_is = is }) known.0 known.1
+failure_reported command (failure.Refused file why) asks is (inr known) = memory known.0 known.1
+failure_reported command (failure.Unread file) asks is known = unread file.now (record { command = command; asks = asks; unread = is.0 }) is.1 known.0 known.1
+failure_reported command failure.Memory asks is known = memory known.0 known.1
 
 pub reported_unread : {files : Files} {words : List (List ℕ)} {Rises : Type 0} {status : ℕ} {Reports : List ℕ → Type 0} → FailureReported files words Rises status Reports → status ≡ 3
     → Rises × ((file : List ℕ) × MeetsUnread files words file × Reports (unread_line file))
@@ -58,7 +58,7 @@ reported_complete {files = Some known} Fails (memory five tells) = λ outcome co
 pub reported_built : {files : Files} {words : List (List ℕ)} {Rises : Type 0} {status : ℕ} {Reports : List ℕ → Type 0} (Fails : Type 0) → FailureReported files words Rises status Reports
     → IfSome files (λ known. (file whole : List ℕ) → Asks words (Synth file) → held known file ≡ Some whole → IsBuildable whole → (Rises → ⊥) → (Fails → ⊥) → (status ≡ 0) ⊎ (status ≡ 5))
 reported_built {files = None} Fails stop = tt
-reported_built {files = Some known} {words = words} Fails (refusal name why comes one tells) = λ file whole asks found built same_shelf same_out. absurd (refused_not_built known words name why file whole comes asks found built)
+reported_built {files = Some known} {words = words} Fails (refusal name why comes one tells) = λ file whole asks found built same_shelf same_out. absurd (refused_not_built known name why file comes asks found built)
 reported_built {files = Some known} Fails (unread name meets rises three tells) = λ file whole asks found built same_shelf same_out. absurd (same_shelf rises)
 reported_built {files = Some known} Fails (memory five tells) = λ file whole asks found built same_shelf same_out. inr five
 

@@ -42,21 +42,21 @@ deck_outcome files words outcome file comes asks =
     subst (λ command. IsOutcome files command outcome) (asks_one words comes.command (Synth file) comes.asks asks) comes.outcome_is
 
 -- a text for words that ask for the deck of a file has the status 0, and the bytes of the file are built
-printed_is_done : (files : Files) (words : List (List ℕ)) (status : ℕ) (text file : List ℕ) → HasOutcome files words (Printed status text) → Asks words (Synth file) → status ≡ 0
-printed_is_done files words status text file comes asks = (deck_outcome files words (Printed status text) file comes asks).done
+printed_is_done : {files : Files} {words : List (List ℕ)} {status : ℕ} (text file : List ℕ) → HasOutcome files words (Printed status text) → Asks words (Synth file) → status ≡ 0
+printed_is_done {files} {words} {status} text file comes asks = (deck_outcome files words (Printed status text) file comes asks).done
 
-printed_is_built : (known : List (List ℕ × List ℕ)) (words : List (List ℕ)) (status : ℕ) (text file whole : List ℕ) → HasOutcome (Some known) words (Printed status text) → Asks words (Synth file)
+printed_is_built : (known : List (List ℕ × List ℕ)) {words : List (List ℕ)} {status : ℕ} (text file : List ℕ) {whole : List ℕ} → HasOutcome (Some known) words (Printed status text) → Asks words (Synth file)
     → held known file ≡ Some whole → IsBuildable whole
-printed_is_built known words status text file whole comes asks found =
+printed_is_built known {words} {status} text file {whole} comes asks found =
     let deck = deck_outcome (Some known) words (Printed status text) file comes asks in
     let same : Some deck.bytes ≡ Some whole = sym deck.is_file.holds ∙ found in
     let bytes : deck.bytes ≡ whole = cc in
     subst IsBuildable bytes deck.deck.buildable
 
 -- a file that is refused isn't built
-pub refused_not_built : (known : List (List ℕ × List ℕ)) (words : List (List ℕ)) (name : List ℕ) (why : Refusal) (file whole : List ℕ) → HasOutcome (Some known) words (Refused name why) → Asks words (Synth file)
+pub refused_not_built : (known : List (List ℕ × List ℕ)) {words : List (List ℕ)} (name : List ℕ) (why : Refusal) (file : List ℕ) {whole : List ℕ} → HasOutcome (Some known) words (Refused name why) → Asks words (Synth file)
     → held known file ≡ Some whole → IsBuildable whole → ⊥
-refused_not_built known words name why file whole comes asks found built =
+refused_not_built known {words} name why file {whole} comes asks found built =
     let none = deck_outcome (Some known) words (Refused name why) file comes asks in
     let same : Some whole ≡ Some none.bytes = sym found ∙ none.holds in
     let bytes : whole ≡ none.bytes = cc in
@@ -86,8 +86,8 @@ network_deck bytes text is = let pulls = is.pulls in record {
   foot = pulls.foot;
 }
 
-pub printed_is_deck : (files : Files) (words : List (List ℕ)) (status : ℕ) (text file : List ℕ) → HasOutcome files words (Printed status text) → Asks words (Synth file) → IsDeckOfFile files file text
-printed_is_deck files words status text file outcome asks =
+pub printed_is_deck : {files : Files} {words : List (List ℕ)} {status : ℕ} (text file : List ℕ) → HasOutcome files words (Printed status text) → Asks words (Synth file) → IsDeckOfFile files file text
+printed_is_deck {files} {words} {status} text file outcome asks =
     let deck = deck_outcome files words (Printed status text) file outcome asks in
     record { bytes = deck.bytes; is_file = deck.is_file; deck = network_deck deck.bytes text (pulled_deck deck.bytes text deck.deck) }
 
@@ -98,21 +98,21 @@ none_asked None words P none = tt
 none_asked (Some known) words P none = λ file whole asks. absurd (none (Synth file) asks)
 
 -- the status of a text that was put out, where no count rose: that of each outcome, 0 where the file is built
-pub finished_complete : (files : Files) (words : List (List ℕ)) (status : ℕ) (text : List ℕ) (result : ℕ) (Rises Fails : Type 0) → HasOutcome files words (Printed status text) → (result ≡ status) ⊎ (result ≡ 4)
+pub finished_complete : {files : Files} {words : List (List ℕ)} {status : ℕ} (text : List ℕ) {result : ℕ} (Rises : Type 0) {Fails : Type 0} → HasOutcome files words (Printed status text) → (result ≡ status) ⊎ (result ≡ 4)
     → (result ≡ 4 → Fails) → IfSome files (λ known. (outcome : Outcome) → HasOutcome (Some known) words outcome → (Rises → ⊥) → (Fails → ⊥) → (result ≡ status_of outcome) ⊎ (result ≡ 5))
-finished_complete files words status text result Rises Fails comes known four =
+finished_complete {files} {words} {status} text {result} Rises {Fails} comes known four =
     each_outcome files words (Printed status text) (λ outcome. (Rises → ⊥) → (Fails → ⊥) → (result ≡ status_of outcome) ⊎ (result ≡ 5)) comes
     (λ same_shelf same_out. elim known [ inl e ↦ inl e | inr e ↦ absurd (same_out (four e)) ])
 
-pub finished_built : (files : Files) (words : List (List ℕ)) (status : ℕ) (text : List ℕ) (result : ℕ) (Rises Fails : Type 0) → HasOutcome files words (Printed status text) → (result ≡ status) ⊎ (result ≡ 4)
+pub finished_built : {files : Files} {words : List (List ℕ)} {status : ℕ} (text : List ℕ) {result : ℕ} (Rises : Type 0) {Fails : Type 0} → HasOutcome files words (Printed status text) → (result ≡ status) ⊎ (result ≡ 4)
     → (result ≡ 4 → Fails) → IfSome files (λ known. (file whole : List ℕ) → Asks words (Synth file) → held known file ≡ Some whole → IsBuildable whole
     → (Rises → ⊥) → (Fails → ⊥) → (result ≡ 0) ⊎ (result ≡ 5))
-finished_built None words status text result Rises Fails comes known four = tt
-finished_built (Some known) words status text result Rises Fails comes (inl e) four = λ file whole asks found built same_shelf same_out. inl (e ∙ printed_is_done (Some known) words status text file comes asks)
-finished_built (Some known) words status text result Rises Fails comes (inr e) four = λ file whole asks found built same_shelf same_out. absurd (same_out (four e))
+finished_built {files = None} text Rises comes known four = tt
+finished_built {files = Some known} text Rises comes (inl e) four = λ file whole asks found built same_shelf same_out. inl (e ∙ printed_is_done text file comes asks)
+finished_built {files = Some known} text Rises comes (inr e) four = λ file whole asks found built same_shelf same_out. absurd (same_out (four e))
 
 -- a text is put out for no file that isn't built
-pub finished_other : (files : Files) (words : List (List ℕ)) (status : ℕ) (text : List ℕ) (result : ℕ) (Rises : Type 0) → HasOutcome files words (Printed status text)
+pub finished_other : {files : Files} {words : List (List ℕ)} {status : ℕ} (text : List ℕ) (result : ℕ) (Rises : Type 0) → HasOutcome files words (Printed status text)
     → IfSome files (λ known. (file whole : List ℕ) → Asks words (Synth file) → held known file ≡ Some whole → (IsBuildable whole → ⊥) → (Rises → ⊥) → (result ≡ 1) ⊎ (result ≡ 5))
-finished_other None words status text result Rises comes = tt
-finished_other (Some known) words status text result Rises comes = λ file whole asks found other same_shelf. absurd (other (printed_is_built known words status text file whole comes asks found))
+finished_other {files = None} text result Rises comes = tt
+finished_other {files = Some known} text result Rises comes = λ file whole asks found other same_shelf. absurd (other (printed_is_built known text file comes asks found))

@@ -38,5 +38,6 @@ cell_devices t =
 abbrev pub circuit_of : OneTableData → CircuitData
 circuit_of t =
     with_devices
-    (new_circuit (escaped t.model) (record { net = output_name t.output; plus = true } ∷ []) 1 (map pin_name t.inputs) (output_name t.output ∷ []))
+    (new_circuit (escaped t.model) (record { net = output_name t.output; plus = true } ∷ []) 1
+    (map pin_name t.inputs) (output_name t.output ∷ []))
     (cell_devices t)

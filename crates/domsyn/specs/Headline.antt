@@ -19,6 +19,7 @@ use Rattle.deck.specs.Switches.{value_of}
 use Rattle.spice_text.specs.Text.{IsWritten}
 use Rattle.command_words.specs.Commands.{Asks, Synth}
 use Rattle.deck.specs.PortNames.{pin_name, output_name}
+use Rattle.deck_law.specs.Headline.{IsRightDeck}
 use Rattle.domsyn.specs.Decks.{IsBuildable}
 use Rattle.domsyn.specs.OneTable.{IsFileOfTable, IsOneTable}
 use Rattle.domsyn.specs.OneTableData.{OneTableData}
@@ -62,6 +63,15 @@ pub record IsDeckOfFile (files : Files) (name text : List ℕ) : Type 0 where
   pub bytes : List ℕ
   pub is_file : IsFile files name bytes
   pub deck : IsNetworkDeck bytes text
+
+-- The claim for any network, in every order of events: the text is a right deck of a file, with trees within a width and a height, on
+-- so many clocks. `IsRightDeck` says it by the ports of the deck alone (`deck_law/specs/Headline`). It is proved of each text that stands
+-- for a deck of a network as those are defined, with any signs and any plan (`deck_law`, `decks_are_right`); no clause of `top` says it
+-- yet of what `synth` writes.
+pub record IsRightDeckOfFile (files : Files) (name : List ℕ) (w h phases : ℕ) (text : List ℕ) : Type 0 where
+  pub bytes : List ℕ
+  pub is_file : IsFile files name bytes
+  pub is_right : IsRightDeck bytes w h phases text
 
 -- where the words ask for the deck of a file, such a text is put out
 abbrev pub GivesDeck : Files → List (List ℕ) → (List ℕ → Type 0) → Type 0

@@ -19,7 +19,8 @@ IsNumber c name net = slice_get c.nets net ≡ Some name
 -- the pin of each input has the value of the input's bit
 abbrev pub HasBits : CircuitData → List (List ℕ) → List Bool → List Tri → Type 0
 HasBits c inputs bits values =
-    (k : ℕ) (input : List ℕ) (bit : Bool) (pin : ℕ) → slice_get inputs k ≡ Some input → slice_get bits k ≡ Some bit → IsNumber c (pin_name input) pin
+    (k : ℕ) (input : List ℕ) (bit : Bool) (pin : ℕ) → slice_get inputs k ≡ Some input → slice_get bits k ≡ Some bit
+    → IsNumber c (pin_name input) pin
     → value_of values pin ≡ tri_of bit
 
 -- the pull-down of the circuit is the table: with the clock at 1 and each pin at its bit there is a definite strong
@@ -33,8 +34,10 @@ pub record PullsDown (c : CircuitData) (t : OneTableData) : Type 0 where
   pub dynamic_is : IsNumber c (codes "d0") dynamic
   pub ground_is : IsNumber c (codes "vss") ground
   pub clock_is : IsNumber c (codes "ck1") clock
-  pub definite : (values : List Tri) (bits : List Bool) → length bits ≡ length t.inputs → HasBits c t.inputs bits values → value_of values clock ≡ One
+  pub definite : (values : List Tri) (bits : List Bool) → length bits ≡ length t.inputs → HasBits c t.inputs bits values
+      → value_of values clock ≡ One
       → DefiniteStrong c.devices (is_source c) values dynamic ground ↔ IsOneAt true t.rows bits
-  pub possible : (values : List Tri) (bits : List Bool) → length bits ≡ length t.inputs → HasBits c t.inputs bits values → value_of values clock ≡ One
+  pub possible : (values : List Tri) (bits : List Bool) → length bits ≡ length t.inputs → HasBits c t.inputs bits values
+      → value_of values clock ≡ One
       → (IsOneAt true t.rows bits → ⊥) → Possible c.devices (is_source c) values dynamic ground → ⊥
   pub foot : (values : List Tri) → value_of values clock ≡ Zero → Possible c.devices (is_source c) values dynamic ground → ⊥

@@ -48,7 +48,8 @@ fn without_devices(
     requires names { HasByteNames table.now }
     requires pins { pins.now ≡ map pin_name table.now.inputs }
     requires out { out.now ≡ output_name table.now.output }
-    ensures { IfOk result (λ circuit. circuit ≡ new_circuit (escaped table.now.model) (record { net = out.now; plus = true } ∷ []) 1 pins.now (out.now ∷ [])) }
+    ensures { IfOk result (λ circuit. circuit
+        ≡ new_circuit (escaped table.now.model) (record { net = out.now; plus = true } ∷ []) 1 pins.now (out.now ∷ [])) }
 {
     let name = escaped_name(alloc, b"", &table.model)?;
     let net = net_name(alloc, b"", out.as_bytes())?;
@@ -71,7 +72,8 @@ fn push_series(
     requires room { length circuit.old.devices + length nets.now ≤ 2 ^ 24 }
     requires numbers { inner + length nets.now < 2 ^ 32 }
     ensures next { IfOk result (λ next. next + 1 ≡ inner + length nets.now) }
-    ensures cards { OnOk result (circuit.new ≡ with_devices circuit.old (spell nch cell_nets.inner (row_tree [] nets.now) top.now bottom.now inner)) }
+    ensures cards { OnOk result (circuit.new
+        ≡ with_devices circuit.old (spell nch cell_nets.inner (row_tree [] nets.now) top.now bottom.now inner)) }
     ensures count { OnOk result (length circuit.new.devices ≡ length circuit.old.devices + length nets.now) }
 {
     if nets.len() == 1 {
@@ -99,7 +101,8 @@ fn push_row(
     requires numbers { inner + 4 < 2 ^ 32 }
     ensures next { IfOk result (λ next. next ≡ inner + inner_count (row_tree [] (literals row.now pins.now))) }
     ensures few { IfOk result (λ next. next ≤ inner + 4) }
-    ensures cards { OnOk result (circuit.new ≡ with_devices circuit.old (spell nch cell_nets.inner (row_tree [] (literals row.now pins.now)) top.now bottom.now inner)) }
+    ensures cards { OnOk result (circuit.new
+        ≡ with_devices circuit.old (spell nch cell_nets.inner (row_tree [] (literals row.now pins.now)) top.now bottom.now inner)) }
     ensures count { OnOk result (length circuit.new.devices ≤ length circuit.old.devices + 4) }
 {
     let nets = literals_of(alloc, row, pins)?;
@@ -123,7 +126,8 @@ fn push_parallel(
     requires numbers { inner + 4 * length rows.now < 2 ^ 32 }
     ensures next { IfOk result (λ next. next ≡ inner + inner_count (table_tree [] rows.now pins.now)) }
     ensures few { IfOk result (λ next. next ≤ inner + 4 * length rows.now) }
-    ensures cards { OnOk result (circuit.new ≡ with_devices circuit.old (spell nch cell_nets.inner (table_tree [] rows.now pins.now) top.now bottom.now inner)) }
+    ensures cards { OnOk result (circuit.new
+        ≡ with_devices circuit.old (spell nch cell_nets.inner (table_tree [] rows.now pins.now) top.now bottom.now inner)) }
     ensures count { OnOk result (length circuit.new.devices ≤ length circuit.old.devices + 4 * length rows.now) }
 {
     if rows.len() == 1 {

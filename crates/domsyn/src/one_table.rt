@@ -62,7 +62,8 @@ fn is_table_over(inputs: &[Name], output: &Name, table: &Table) -> bool
 
 /// The network of a model with one table and one output.
 fn network_of(model: &BlifModel, output: &Name, table: &Table) -> Result<OneTable, OutOfMemory>
-    ensures { IfOk result (λ t. t ≡ (record { model = model.now.name; inputs = model.now.inputs; output = output.now; rows = table.now.rows })) }
+    ensures { IfOk result (λ t. t
+        ≡ (record { model = model.now.name; inputs = model.now.inputs; output = output.now; rows = table.now.rows })) }
 {
     Ok(OneTable {
         model: model.name.clone()?,

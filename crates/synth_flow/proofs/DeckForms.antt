@@ -4,7 +4,7 @@ use Rattle.net_flatten.proofs.Lists.{get_of_map}
 use Rattle.gate_decompose.specs.NetworkOrder.{IsOrderedNetwork}
 use Rattle.dual_rail.proofs.ForestOrders.{forests_are_in_place}
 use Rattle.dual_rail.proofs.Zips.{all_from, all_zip_back}
-use Rattle.dual_rail.specs.ForestOrder.{IsEndOfForest, IsForestInPlace}
+use Rattle.dual_rail.specs.ForestOrder.{IsEndOfForest, IsForestInPlace, AreInOrder, HasLeaves}
 use Rattle.clock_phase.proofs.Levels.{clock_within, level_at_most}
 use Rattle.std.proofs.Common.{◌≡◌, inl, inr, refl, sym, ap, ap₂, subst, ◌∙◌, ℕ, zero, suc, ◌+◌, ◌*◌, ◌≤◌, ◌<◌, Bool, true, false, cond, List, [], ◌∷◌, ◌++◌, length, map, filter, zip, Some, slice_get, get_or, count_by, All, codes, eq-eqb, length-append, arith}
 use Rattle.std.specs.List.{AllZip, range_with_len}
@@ -23,19 +23,18 @@ use Rattle.dual_rail.specs.declared.forest.End.TheVariants.{Const, Literal, From
 use Rattle.gate_decompose.specs.declared.gates.Ref.{Ref}
 use Rattle.synth_flow.specs.ChosenDecks.{IsPlannedDeck, end_at_cell, planned}
 use Rattle.synth_flow.specs.DeckLaws.{ChosenDecksAreDomino, PlannedDecksAreDomino, DominoDecksAreLoose}
-use Rattle.synth_flow.specs.DeckNets.{DominoCell, deck_devices}
+use Rattle.synth_flow.specs.DeckNets.{CellPlan, named_devices}
 use Rattle.synth_flow.specs.DominoDecks.{HasSign, IsDominoDeck, cells_of, complements_of, outs_of, phases_of, pins_of, signal_name, starts_of}
-use Rattle.dual_rail.specs.ForestOrder.{AreInOrder}
 use Rattle.dual_rail.specs.Forests.{IsEndOf, end_uses, is_end_from}
-use Rattle.dual_rail.specs.ForestOrder.{HasLeaves}
 use Rattle.clock_phase.specs.Levels.{clock_of, greatest}
-use Rattle.synth_flow.specs.LooseDecks.{IsEndIn, ReadsBelow, names_complement}
+use Rattle.synth_flow.specs.NamedDecks.{IsEndIn, ReadsBelow, names_complement}
 use Rattle.net_flatten.specs.NetworkData.{NetworkData}
 use Rattle.gate_decompose.specs.Sinks.{leaf_count, sink_signals}
 use Rattle.tree_map.specs.Plans.{IsTreeOf, cell_of, is_kept, roots}
-use Rattle.gate_decompose.proofs.Among.{Among, among-contains, contains-among}
+use Rattle.gate_decompose.specs.Items.{Among, Rises}
+use Rattle.gate_decompose.proofs.Among.{among-contains, contains-among}
 use Rattle.synth_flow.proofs.CellOrder.{cell_before, root_of_cell, roots_count, tree_reads}
-use Rattle.gate_decompose.proofs.Rising.{Rises, rises_at}
+use Rattle.gate_decompose.proofs.Rising.{rises_at}
 use Rattle.std.proofs.lemmas.Option.{same_Some}
 
 pub length_map : {X Y : Type 0} (f : X → Y) (xs : List X) → length (map f xs) ≡ length xs
@@ -114,7 +113,7 @@ module _ (network : NetworkData) (w h phases : ℕ) (circuit : CircuitData) (is 
       let r = all_zip_back (IsTreeOf is.forest is.kept) (roots is.kept) is.trees k (m.0).0 is.is_plan.trees_are z.0 in
       let root = root_of_cell is.kept k r.0 r.1 in
       let low = tree_reads is.forest is.kept order leaves r.0 (omega (arith, root.2)) (m.0).0 r.2 in
-      subst (λ (d : DominoCell). EachLeaf (λ gate. gate < 2 * leaf_count network + k) d.tree) m.2
+      subst (λ (d : CellPlan). EachLeaf (λ gate. gate < 2 * leaf_count network + k) d.tree) m.2
       (subst (λ n. EachLeaf (λ gate. gate < 2 * n + k) (m.0).0) leaves_are (subst (λ n. EachLeaf (λ gate. gate < 2 * is.forest.leaves + n) (m.0).0) root.0 low))
 
   pub sinks_count : length is.gates.sinks ≡ length (sink_signals network)
@@ -220,7 +219,7 @@ domino_decks_are_loose = λ network w h phases circuit is.
     length-append network.outputs (map (λ l. l.input) network.latches) ∙ ap (λ n. length network.outputs + n) (length_map (λ l. l.input) network.latches) in
     let ends_count = all_zip_length HasSign is.signs is.ends is.signs_are in
     let bare = new_circuit (escaped network.name) (phases_of network is.signs) phases pins outs in
-    let cards = deck_devices pins outs starts cells complements is.ends in
+    let cards = named_devices pins outs starts cells complements is.ends in
     let same_name : circuit.name ≡ escaped network.name = ap (λ (c : CircuitData). c.name) is.circuit_is ∙ (named_cards bare cards).0 in
     let same_phases : circuit.phases ≡ phases_of network is.signs = ap (λ (c : CircuitData). c.phases) is.circuit_is ∙ (named_cards bare cards).1 in
     record {
@@ -239,21 +238,21 @@ domino_decks_are_loose = λ network w h phases circuit is.
         order = refl;
       };
       reads_below = subst (λ n. ReadsBelow n cells) leaf_total is.reads_below;
-      clocks_are = all_from (λ (c : DominoCell). (1 ≤ c.clock) × (c.clock ≤ phases)) cells (λ k c at. clocks network w h phases circuit is k c at);
+      clocks_are = all_from (λ (c : CellPlan). (1 ≤ c.clock) × (c.clock ≤ phases)) cells (λ k c at. clocks network w h phases circuit is k c at);
       in_order = λ i j d lt high. rises_at (λ x y. x < y) complements range.0 i j d lt high;
       of_leaves = all_from (λ leaf. leaf < length pins + length starts) complements
           (λ k leaf at. let f = range.1 leaf (contains-among complements leaf (k, slice_get_within complements k leaf at, get_or_from_slice_get complements k leaf leaf at)) in omega (arith, f.1, leaf_total));
       named = λ leaf lt e. among-contains complements leaf (filter_has (names_complement cells is.ends) 0 (leaf_count network) leaf (omega arith) (omega (arith, lt, leaf_total)) e);
       one_end = omega (arith, ends_count, is.one_sign, sinks, out_count, start_count);
       ends_are = subst (λ n. All (IsEndIn (length pins + length starts) n) is.ends) (sym cell_count) (subst (λ n. All (IsEndIn n (length is.trees)) is.ends) leaf_total is.ends_are);
-      circuit_is = is.circuit_is ∙ (λ i. with_devices (new_circuit (sym same_name i) (sym same_phases i) phases pins outs) (deck_devices pins outs starts cells complements is.ends));
+      circuit_is = is.circuit_is ∙ (λ i. with_devices (new_circuit (sym same_name i) (sym same_phases i) phases pins outs) (named_devices pins outs starts cells complements is.ends));
     }
   where
-    clocks : (network : NetworkData) (w h phases : ℕ) (circuit : CircuitData) (is : IsDominoDeck network w h phases circuit) (k : ℕ) (c : DominoCell)
+    clocks : (network : NetworkData) (w h phases : ℕ) (circuit : CircuitData) (is : IsDominoDeck network w h phases circuit) (k : ℕ) (c : CellPlan)
         → slice_get (cells_of phases is.levels is.trees) k ≡ Some c → (1 ≤ c.clock) × (c.clock ≤ phases)
     clocks network w h phases circuit is k c at =
         let m = get_of_map (λ (p : Tree ℕ × ℕ). record { tree = p.0; clock = clock_of phases (greatest is.levels) p.1 }) (zip is.trees is.levels) k c at in
         let z = zipped_get is.trees is.levels k m.0 m.1 in
         let level = is.levels_are.levels_are k (m.0).0 (m.0).1 z.0 z.1 in
         let high = level_at_most is.levels k (m.0).1 z.1 in
-        subst (λ (d : DominoCell). (1 ≤ d.clock) × (d.clock ≤ phases)) m.2 (clock_within phases (greatest is.levels) (m.0).1 is.some_clock (omega (arith, level)) high)
+        subst (λ (d : CellPlan). (1 ≤ d.clock) × (d.clock ≤ phases)) m.2 (clock_within phases (greatest is.levels) (m.0).1 is.some_clock (omega (arith, level)) high)

@@ -54,7 +54,8 @@ pub record IsChosenDeck (network : NetworkData) (w h phases : ℕ) (circuit : Ci
   pub circuit_is : circuit ≡ deck_circuit network phases trees levels signs (map (end_at_cell kept) forest.ends)
 
 -- which is one of these
-abbrev pub planned : {network : NetworkData} {w h phases : ℕ} {circuit : CircuitData} → IsChosenDeck network w h phases circuit → IsPlannedDeck network w h phases circuit
+abbrev pub planned : {network : NetworkData} {w h phases : ℕ} {circuit : CircuitData}
+    → IsChosenDeck network w h phases circuit → IsPlannedDeck network w h phases circuit
 planned is = record {
   gates = is.gates;
   signs = is.signs;

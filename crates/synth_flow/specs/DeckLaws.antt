@@ -3,14 +3,14 @@ use Rattle.std.specs.Prelude.{ℕ, ◌≤◌}
 use Rattle.deck.specs.CircuitData.{CircuitData}
 use Rattle.synth_flow.specs.ChosenDecks.{IsChosenDeck, IsPlannedDeck}
 use Rattle.synth_flow.specs.DominoDecks.{IsDominoDeck}
-use Rattle.synth_flow.specs.LooseDecks.{IsLooseDeck}
+use Rattle.synth_flow.specs.NamedDecks.{IsNamedDeck}
 use Rattle.net_flatten.specs.NetworkData.{NetworkData}
 use Rattle.gate_decompose.specs.NetworkOrder.{IsOrderedNetwork}
 
 -- every domino deck is a loose one
 abbrev pub DominoDecksAreLoose : Type 0
 DominoDecksAreLoose =
-    (network : NetworkData) (w h phases : ℕ) (circuit : CircuitData) → IsDominoDeck network w h phases circuit → IsLooseDeck circuit
+    (network : NetworkData) (w h phases : ℕ) (circuit : CircuitData) → IsDominoDeck network w h phases circuit → IsNamedDeck circuit
 
 -- the circuit of any signs and any plan is a domino deck
 abbrev pub PlannedDecksAreDomino : Type 0

@@ -47,32 +47,32 @@ rail_net pins leaf true = own_net pins leaf
 rail_net pins leaf false = complement_net leaf
 
 -- the net of a gate, of so many leaves: their rails, two each, and then the outputs of the cells
-abbrev pub gate_net : List (List ℕ) → ℕ → ℕ → List ℕ
-gate_net pins leaf_count gate =
+abbrev pub named_gate : List (List ℕ) → ℕ → ℕ → List ℕ
+named_gate pins leaf_count gate =
     cond (nat_lt gate (2 * leaf_count)) (rail_net pins (gate / 2) (gate % 2 == 0)) (output_net (gate - 2 * leaf_count))
 
 -- a domino cell: its tree over gates, and the number of its clock
-pub record DominoCell : Type 0 where
+pub record CellPlan : Type 0 where
   pub tree : Tree ℕ
   pub clock : ℕ
 
-abbrev pub cell_cards : List (List ℕ) → ℕ → ℕ × DominoCell → List (NamedDevice (List ℕ))
-cell_cards pins leaf_count p = cell (nets_of_cell p.1.clock p.0) (map_tree (gate_net pins leaf_count) p.1.tree)
+abbrev pub named_cell : List (List ℕ) → ℕ → ℕ × CellPlan → List (NamedDevice (List ℕ))
+named_cell pins leaf_count p = cell (nets_of_cell p.1.clock p.0) (map_tree (named_gate pins leaf_count) p.1.tree)
 
-abbrev pub complement_cards : List (List ℕ) → ℕ → List (NamedDevice (List ℕ))
-complement_cards pins leaf = inverter vdd vss (own_net pins leaf) (complement_net leaf)
+abbrev pub named_complement : List (List ℕ) → ℕ → List (NamedDevice (List ℕ))
+named_complement pins leaf = inverter vdd vss (own_net pins leaf) (complement_net leaf)
 
 abbrev pub data_net : ℕ → List ℕ
 data_net j = codes "x" ++ decimal j
 
 -- the device that resets the output of latch j to its start value
-abbrev pub reset_card : ℕ → Bool → NamedDevice (List ℕ)
-reset_card j false = record { kind = nch; drain = codes "q" ++ decimal j; gate = codes "rs"; source = vss }
-reset_card j true = record { kind = pch; drain = codes "q" ++ decimal j; gate = codes "rsb"; source = vdd }
+abbrev pub named_reset : ℕ → Bool → NamedDevice (List ℕ)
+named_reset j false = record { kind = nch; drain = codes "q" ++ decimal j; gate = codes "rs"; source = vss }
+named_reset j true = record { kind = pch; drain = codes "q" ++ decimal j; gate = codes "rsb"; source = vdd }
 
 -- latch j with its start value: the master takes the data while `lm` is 1, and the output the master while `ls` is 1
-abbrev pub latch_cards : ℕ × Bool → List (NamedDevice (List ℕ))
-latch_cards (j, start) =
+abbrev pub named_latch : ℕ × Bool → List (NamedDevice (List ℕ))
+named_latch (j, start) =
     record { kind = pch; drain = codes "m" ++ decimal j; gate = codes "lmb"; source = codes "m" ++ decimal j ++ codes "p" }
     ∷ record { kind = pch; drain = codes "m" ++ decimal j ++ codes "p"; gate = data_net j; source = vdd }
     ∷ record { kind = nch; drain = codes "m" ++ decimal j; gate = codes "lm"; source = codes "m" ++ decimal j ++ codes "n" }
@@ -81,7 +81,7 @@ latch_cards (j, start) =
     ∷ record { kind = pch; drain = codes "q" ++ decimal j ++ codes "p"; gate = codes "m" ++ decimal j; source = vdd }
     ∷ record { kind = nch; drain = codes "q" ++ decimal j; gate = codes "ls"; source = codes "q" ++ decimal j ++ codes "n" }
     ∷ record { kind = nch; drain = codes "q" ++ decimal j ++ codes "n"; gate = codes "m" ++ decimal j; source = vss }
-    ∷ reset_card j start
+    ∷ named_reset j start
     ∷ []
 
 -- what a sink is taken from: a constant, a leaf as it is (true) or its opposite, or the dynamic net or the output of a cell
@@ -99,17 +99,17 @@ sink_gate pins (OfLeaf leaf plus) = cond plus (complement_net leaf) (own_net pin
 sink_gate pins (OfDynamic k) = dynamic_net k
 sink_gate pins (OfOutput k) = output_net k
 
-abbrev pub sink_cards : List (List ℕ) → List ℕ × SinkEnd → List (NamedDevice (List ℕ))
-sink_cards pins p = inverter vdd vss (sink_gate pins p.1) p.0
+abbrev pub named_sink : List (List ℕ) → List ℕ × SinkEnd → List (NamedDevice (List ℕ))
+named_sink pins p = inverter vdd vss (sink_gate pins p.1) p.0
 
 -- the nets of the sinks: the outputs, and the data of each of so many latches
 abbrev pub sink_nets : List (List ℕ) → List Bool → List (List ℕ)
 sink_nets outs starts = outs ++ map (λ p. data_net p.0) (enumerate_from 0 starts)
 
 -- the cards of a deck, in order: domino cells, inverters of complements, latches, inverters of sinks
-abbrev pub deck_devices : List (List ℕ) → List (List ℕ) → List Bool → List DominoCell → List ℕ → List SinkEnd → List (NamedDevice (List ℕ))
-deck_devices pins outs starts cells complements ends =
-    flat_map (cell_cards pins (length pins + length starts)) (enumerate_from 0 cells)
-    ++ flat_map (complement_cards pins) complements
-    ++ flat_map latch_cards (enumerate_from 0 starts)
-    ++ flat_map (sink_cards pins) (zip (sink_nets outs starts) ends)
+abbrev pub named_devices : List (List ℕ) → List (List ℕ) → List Bool → List CellPlan → List ℕ → List SinkEnd → List (NamedDevice (List ℕ))
+named_devices pins outs starts cells complements ends =
+    flat_map (named_cell pins (length pins + length starts)) (enumerate_from 0 cells)
+    ++ flat_map (named_complement pins) complements
+    ++ flat_map named_latch (enumerate_from 0 starts)
+    ++ flat_map (named_sink pins) (zip (sink_nets outs starts) ends)

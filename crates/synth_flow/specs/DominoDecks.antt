@@ -7,9 +7,9 @@ use Rattle.deck.specs.Escapes.{escaped}
 use Rattle.deck.specs.Pushes.{new_circuit}
 use Rattle.deck.specs.NamedDevices.{with_devices}
 use Rattle.sp_network.specs.Tree.{Tree}
-use Rattle.synth_flow.specs.DeckNets.{DominoCell, SinkEnd, Fixed, OfLeaf, OfDynamic, OfOutput, deck_devices, sink_nets}
+use Rattle.synth_flow.specs.DeckNets.{CellPlan, SinkEnd, Fixed, OfLeaf, OfDynamic, OfOutput, named_devices, sink_nets}
 use Rattle.clock_phase.specs.Levels.{AreLevels, clock_of, greatest}
-use Rattle.synth_flow.specs.LooseDecks.{IsEndIn, ReadsBelow, names_complement}
+use Rattle.synth_flow.specs.NamedDecks.{IsEndIn, ReadsBelow, names_complement}
 use Rattle.net_flatten.specs.NetworkData.{NetworkData}
 use Rattle.gate_decompose.specs.Sinks.{leaf_count, sink_signals}
 use Rattle.tree_map.specs.Bounds.{IsWithin}
@@ -29,7 +29,7 @@ abbrev pub starts_of : NetworkData → List Bool
 starts_of network = map (λ l. l.init) network.latches
 
 -- each tree with the clock of its level
-abbrev pub cells_of : ℕ → List ℕ → List (Tree ℕ) → List DominoCell
+abbrev pub cells_of : ℕ → List ℕ → List (Tree ℕ) → List CellPlan
 cells_of phases levels trees = map (λ p. record { tree = p.0; clock = clock_of phases (greatest levels) p.1 }) (zip trees levels)
 
 -- the phases: the net and the sign of each sink
@@ -37,14 +37,14 @@ abbrev pub phases_of : NetworkData → List Bool → List Phase
 phases_of network signs = map (λ p. record { net = p.0; plus = p.1 }) (zip (sink_nets (outs_of network) (starts_of network)) signs)
 
 -- the complements that are named, in order
-abbrev pub complements_of : NetworkData → List DominoCell → List SinkEnd → List ℕ
+abbrev pub complements_of : NetworkData → List CellPlan → List SinkEnd → List ℕ
 complements_of network cells ends = filter (names_complement cells ends) (range_with_len 0 (leaf_count network))
 
 -- the circuit of a network with these trees, levels, signs and ends, where an end names its cell
 abbrev pub deck_circuit : NetworkData → ℕ → List (Tree ℕ) → List ℕ → List Bool → List SinkEnd → CircuitData
 deck_circuit network phases trees levels signs ends =
     with_devices (new_circuit (escaped network.name) (phases_of network signs) phases (pins_of network) (outs_of network))
-    (deck_devices (pins_of network) (outs_of network) (starts_of network) (cells_of phases levels trees)
+    (named_devices (pins_of network) (outs_of network) (starts_of network) (cells_of phases levels trees)
     (complements_of network (cells_of phases levels trees) ends) ends)
 
 -- a sink whose sign is plus isn't taken from the output of a cell, and one whose sign is minus not from a dynamic net

@@ -4,4 +4,4 @@ pub mod DeckLaws
 pub mod DeckNets
 pub mod DeckTexts
 pub mod DominoDecks
-pub mod LooseDecks
+pub mod NamedDecks

@@ -1,4 +1,3 @@
-use Rattle.domino_law.proofs.DeckNames.{names_differ}
 use Rattle.domino_law.proofs.LooseDecks.{spelled_is_loose}
 use Rattle.domino_law.proofs.NamedDecks.{named_is_loose}
 use Rattle.domino_law.proofs.SpelledParts.{named_is_spelled}
@@ -12,6 +11,3 @@ returns-clause-named c = named_is_spelled
 
 pub returns-clause-deck : goal.returns-clause-deck
 returns-clause-deck c = named_is_loose
-
-pub returns-clause-names : goal.returns-clause-names
-returns-clause-names c = names_differ

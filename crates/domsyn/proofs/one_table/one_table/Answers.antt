@@ -5,7 +5,7 @@ use Rattle.blif_ast.specs.TableData.{TableData}
 use Rattle.domsyn.specs.OneTable.{IsFileOfTable, IsOneTable, IsSmall, IsTableOver}
 use Rattle.domsyn.specs.OneTableData.{OneTableData}
 use Rattle.dom_base.proofs.Lists.{length-none}
-use Rattle.domsyn.proofs.Commands.{one_item}
+use Rattle.domsyn.proofs.OneItem.{one_item}
 use Rattle.domsyn.proofs.FilesOfTables.{file_of_table}
 use Rattle.domsyn.proofs.one_table.one_table.Goals as goal
 

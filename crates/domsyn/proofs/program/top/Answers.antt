@@ -23,20 +23,20 @@ finish-requires-clause-out_room g c =
 
 pub returns-in-Ok-clause-complete : goal.returns-in-Ok-clause-complete
 returns-in-Ok-clause-complete g c =
-    finished_complete _ _ _ c.in-Ok.answer.text.items _ _ _ (record { command = asked c.in-Some.command; asks = c.in-Some.ensures; outcome_is = c.in-Ok.ensures.text }) c.finish.ensures.known c.finish.ensures.cannot_write
+    finished_complete c.in-Ok.answer.text.items _ (record { command = asked c.in-Some.command; asks = c.in-Some.ensures; outcome_is = c.in-Ok.ensures.text }) c.finish.ensures.known c.finish.ensures.cannot_write
 
 pub returns-in-Ok-clause-built : goal.returns-in-Ok-clause-built
 returns-in-Ok-clause-built g c =
-    finished_built _ _ _ c.in-Ok.answer.text.items _ _ _ (record { command = asked c.in-Some.command; asks = c.in-Some.ensures; outcome_is = c.in-Ok.ensures.text }) c.finish.ensures.known c.finish.ensures.cannot_write
+    finished_built c.in-Ok.answer.text.items _ (record { command = asked c.in-Some.command; asks = c.in-Some.ensures; outcome_is = c.in-Ok.ensures.text }) c.finish.ensures.known c.finish.ensures.cannot_write
 
 pub returns-in-Ok-clause-other : goal.returns-in-Ok-clause-other
 returns-in-Ok-clause-other g c =
-    finished_other _ _ _ c.in-Ok.answer.text.items _ _ (record { command = asked c.in-Some.command; asks = c.in-Some.ensures; outcome_is = c.in-Ok.ensures.text })
+    finished_other c.in-Ok.answer.text.items _ _ (record { command = asked c.in-Some.command; asks = c.in-Some.ensures; outcome_is = c.in-Ok.ensures.text })
 
 pub returns-in-Ok-clause-pulled : goal.returns-in-Ok-clause-pulled
 returns-in-Ok-clause-pulled g c = λ zero file asks. (
   c.in-Ok.answer.text.items,
-  printed_is_deck _ _ _ c.in-Ok.answer.text.items file (record { command = asked c.in-Some.command; asks = c.in-Some.ensures; outcome_is = c.in-Ok.ensures.text }) asks,
+  printed_is_deck c.in-Ok.answer.text.items file (record { command = asked c.in-Some.command; asks = c.in-Some.ensures; outcome_is = c.in-Ok.ensures.text }) asks,
   c.finish.ensures.done (λ four. absurd (omega (arith, zero, four))),
 )
 
@@ -47,23 +47,23 @@ report_failure-requires-clause-failure_room g c =
 
 pub returns-clause-cannot_read : goal.returns-clause-cannot_read
 returns-clause-cannot_read g c = λ three.
-    (reported_unread (failure_reported _ _ (asked c.in-Some.command) _ c.in-Err.failure _ _ c.in-Some.ensures (c.in-Err.ensures.failed c.in-Err.failure refl) c.report_failure.ensures.reported) three).0
+    (reported_unread (failure_reported (asked c.in-Some.command) c.in-Err.failure c.in-Some.ensures (c.in-Err.ensures.failed c.in-Err.failure refl) c.report_failure.ensures.reported) three).0
 
 pub returns-clause-refused : goal.returns-clause-refused
-returns-clause-refused g c = reported_refused (failure_reported _ _ (asked c.in-Some.command) _ c.in-Err.failure _ _ c.in-Some.ensures (c.in-Err.ensures.failed c.in-Err.failure refl) c.report_failure.ensures.reported)
+returns-clause-refused g c = reported_refused (failure_reported (asked c.in-Some.command) c.in-Err.failure c.in-Some.ensures (c.in-Err.ensures.failed c.in-Err.failure refl) c.report_failure.ensures.reported)
 
 pub returns-clause-cause : goal.returns-clause-cause
-returns-clause-cause g c = reported_cause (failure_reported _ _ (asked c.in-Some.command) _ c.in-Err.failure _ _ c.in-Some.ensures (c.in-Err.ensures.failed c.in-Err.failure refl) c.report_failure.ensures.reported)
+returns-clause-cause g c = reported_cause (failure_reported (asked c.in-Some.command) c.in-Err.failure c.in-Some.ensures (c.in-Err.ensures.failed c.in-Err.failure refl) c.report_failure.ensures.reported)
 
 pub returns-clause-complete : goal.returns-clause-complete
-returns-clause-complete g c = reported_complete _ (failure_reported _ _ (asked c.in-Some.command) _ c.in-Err.failure _ _ c.in-Some.ensures (c.in-Err.ensures.failed c.in-Err.failure refl) c.report_failure.ensures.reported)
+returns-clause-complete g c = reported_complete _ (failure_reported (asked c.in-Some.command) c.in-Err.failure c.in-Some.ensures (c.in-Err.ensures.failed c.in-Err.failure refl) c.report_failure.ensures.reported)
 
 pub returns-clause-built : goal.returns-clause-built
-returns-clause-built g c = reported_built _ (failure_reported _ _ (asked c.in-Some.command) _ c.in-Err.failure _ _ c.in-Some.ensures (c.in-Err.ensures.failed c.in-Err.failure refl) c.report_failure.ensures.reported)
+returns-clause-built g c = reported_built _ (failure_reported (asked c.in-Some.command) c.in-Err.failure c.in-Some.ensures (c.in-Err.ensures.failed c.in-Err.failure refl) c.report_failure.ensures.reported)
 
 pub returns-clause-other : goal.returns-clause-other
-returns-clause-other g c = reported_other (failure_reported _ _ (asked c.in-Some.command) _ c.in-Err.failure _ _ c.in-Some.ensures (c.in-Err.ensures.failed c.in-Err.failure refl) c.report_failure.ensures.reported)
+returns-clause-other g c = reported_other (failure_reported (asked c.in-Some.command) c.in-Err.failure c.in-Some.ensures (c.in-Err.ensures.failed c.in-Err.failure refl) c.report_failure.ensures.reported)
 
 pub returns-clause-unread : goal.returns-clause-unread
 returns-clause-unread g c = λ three.
-    (reported_unread (failure_reported _ _ (asked c.in-Some.command) _ c.in-Err.failure _ _ c.in-Some.ensures (c.in-Err.ensures.failed c.in-Err.failure refl) c.report_failure.ensures.reported) three).1
+    (reported_unread (failure_reported (asked c.in-Some.command) c.in-Err.failure c.in-Some.ensures (c.in-Err.ensures.failed c.in-Err.failure refl) c.report_failure.ensures.reported) three).1

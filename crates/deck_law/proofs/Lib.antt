@@ -1,0 +1,17 @@
+pub mod BitsInTurn
+pub mod CellDevices
+pub mod DeckDevices
+pub mod DeviceLists
+pub mod ForestBits
+pub mod GateNames
+pub mod GoodDecks
+pub mod NamedNets
+pub mod Names
+pub mod NetworkRuns
+pub mod Numbers
+pub mod OwnRun
+pub mod PortLaws
+pub mod PortNumbers
+pub mod RightDecks
+pub mod SpelledDecks
+pub mod WorkedDecks
