@@ -1,0 +1,97 @@
+//! Signs of sinks.
+use crate::gates::PlainGates;
+use crate::pairs::needed;
+use std::alloc::{AllocError, Global};
+
+/// The most passes over the sinks.
+const MOST_PASSES: usize = 1_000;
+
+/// The most sinks of which all signs are tried.
+const MOST_SINKS: usize = 8;
+
+/// How many pairs are needed.
+pub fn size(alloc: Global, gates: &PlainGates, signs: &[bool]) -> Result<usize, AllocError> {
+    Ok(needed(alloc, gates, signs)?.len())
+}
+
+/// These signs with one of them changed.
+fn changed(alloc: Global, signs: &[bool], sink: usize) -> Result<Vec<bool>, AllocError> {
+    let mut other = Vec::new(alloc);
+    for (index, sign) in signs.iter().enumerate() {
+        other.push(*sign != (index == sink))?;
+    }
+    Ok(other)
+}
+
+/// Whether changing no one sink lowers the number of needed pairs.
+pub fn are_settled(alloc: Global, gates: &PlainGates, signs: &[bool]) -> Result<bool, AllocError> {
+    let own = size(alloc, gates, signs)?;
+    for sink in 0..signs.len() {
+        if size(alloc, gates, &changed(alloc, signs, sink)?)? < own {
+            return Ok(false);
+        }
+    }
+    Ok(true)
+}
+
+/// Changes each sink in order where that lowers the number of needed pairs.
+fn pass(alloc: Global, gates: &PlainGates, before: &[bool]) -> Result<Vec<bool>, AllocError> {
+    let mut signs = Vec::new(alloc);
+    signs.extend_from_slice(before)?;
+    for sink in 0..before.len() {
+        let other = changed(alloc, &signs, sink)?;
+        if size(alloc, gates, &other)? < size(alloc, gates, &signs)? {
+            signs = other;
+        }
+    }
+    Ok(signs)
+}
+
+/// All sinks with the sign plus.
+pub fn all_plus(alloc: Global, gates: &PlainGates) -> Result<Vec<bool>, AllocError> {
+    let mut signs = Vec::new(alloc);
+    for _ in 0..gates.sinks.len() {
+        signs.push(true)?;
+    }
+    Ok(signs)
+}
+
+/// From all plus, pass after pass up to one that changes nothing.
+pub fn chosen_signs(alloc: Global, gates: &PlainGates) -> Result<Vec<bool>, AllocError> {
+    let mut signs = all_plus(alloc, gates)?;
+    for _ in 0..MOST_PASSES {
+        let after = pass(alloc, gates, &signs)?;
+        if after.as_slice() == signs.as_slice() {
+            return Ok(signs);
+        }
+        signs = after;
+    }
+    Ok(signs)
+}
+
+/// The least number of needed pairs over all signs of few sinks.
+pub fn least_size(alloc: Global, gates: &PlainGates) -> Result<Option<usize>, AllocError> {
+    let sinks = gates.sinks.len();
+    if sinks > MOST_SINKS {
+        return Ok(None);
+    }
+    let mut count = 1usize;
+    for _ in 0..sinks {
+        count = count.saturating_mul(2);
+    }
+    let mut least = None;
+    for number in 0..count {
+        let mut signs = Vec::new(alloc);
+        let mut rest = number;
+        for _ in 0..sinks {
+            signs.push(rest % 2 == 0)?;
+            rest /= 2;
+        }
+        let found = size(alloc, gates, &signs)?;
+        least = Some(match least {
+            Some(before) => found.min(before),
+            None => found,
+        });
+    }
+    Ok(least)
+}
