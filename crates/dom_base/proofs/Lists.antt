@@ -2,9 +2,10 @@
 use Rattle.std.proofs.Common.{◌≡◌, ℕ, zero, suc, Bool, true, false, List, [], ◌∷◌, ◌++◌, map, filter, take, drop, refl, ap, arith, ◌≢◌, ◌<◌, ◌+◌, cond, not, ◌==◌, length, get_or, reverse, All, Option, None, eqb-true, sym, ap₂, ◌∙◌, subst, append_assoc}
 use Rattle.std.specs.Prelude.{◌&&◌, ◌||◌, Contains, Some, slice_get}
 use Rattle.std.specs.List.{AllByRecursion, flat_map, list_all, list_any, prefix_len, take_while, before_first, cons_option, filter_map, IsDistinct}
-use Rattle.std.proofs.lemmas.List.Elements.{All-contains, All-from_recursion, Contains-append_left, Contains-append_right, All-head, All-tail}
+use Rattle.std.proofs.lemmas.List.Elements.{recursion_from_All, All-contains, All-from_recursion, Contains-append_left, Contains-append_right, All-head, All-tail}
 use Rattle.std.specs.Option.{option_to_list}
 use Rattle.std.proofs.lemmas.List.{reverse-append}
+use Rattle.std.proofs.lemmas.Option.{slice_get-get_or}
 use Rattle.dom_base.specs.Apart.{AreApart}
 use Rattle.dom_base.proofs.Bools.{false_from_not}
 
@@ -173,6 +174,19 @@ pub slice_get-append : {X : Type 0} (xs ys : List X) (i : ℕ) (x : X) → slice
 slice_get-append [] ys i x at = absurd (cc)
 slice_get-append (y ∷ xs) ys zero x at = at
 slice_get-append (y ∷ xs) ys (suc i) x at = slice_get-append xs ys i x at
+
+-- what stands at an index behind a list
+pub slice_get-behind : {X : Type 0} (xs ys : List X) (i : ℕ) → slice_get (xs ++ ys) (length xs + i) ≡ slice_get ys i
+slice_get-behind [] ys i = ap (slice_get ys) (let z : 0 + i ≡ i = omega arith in z)
+slice_get-behind (x ∷ xs) ys i = ap (slice_get (x ∷ xs ++ ys)) (let z : suc (length xs) + i ≡ suc (length xs + i) = omega arith in z) ∙ slice_get-behind xs ys i
+
+-- what a list has stands at an index
+pub slice_get-contained : {X : Type 0} (xs : List X) (x : X) → Contains xs x → (i : ℕ) × (slice_get xs i ≡ Some x)
+slice_get-contained xs x c = (c.0, slice_get-get_or xs c.0 x c.1 ∙ ap Some c.2)
+
+-- what holds of all elements holds of the one at an index
+pub All-at : {X : Type 0} (P : X → Type 0) (xs : List X) (i : ℕ) (x : X) → All P xs → slice_get xs i ≡ Some x → P x
+All-at P xs i x all at = AllByRecursion-contains P xs x (recursion_from_All P xs all) (Contains-slice_get xs i x at)
 
 -- an option in front of a list
 pub cons_option-list : {X : Type 0} (o : Option X) (xs : List X) → cons_option o xs ≡ option_to_list o ++ xs

@@ -8,4 +8,5 @@ pub mod Joined
 pub mod LineFaults
 pub mod Lines
 pub mod Names
+pub mod Polarity
 pub mod Tri
