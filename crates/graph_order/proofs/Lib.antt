@@ -1,0 +1,12 @@
+pub mod Circles
+pub mod Lists
+pub mod Traversals
+pub mod Placed
+pub mod Joined
+pub mod ComponentSearches
+pub mod ComponentSteps
+pub mod ComponentClosings
+pub mod ComponentMeasures
+pub mod ComponentEnds
+pub mod CircleMarks
+pub mod WalkSums

@@ -1,0 +1,5 @@
+pub mod Components
+pub mod ComponentSearches
+pub mod Orders
+pub mod Traversals
+pub mod WalkSums
