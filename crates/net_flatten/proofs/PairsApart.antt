@@ -31,7 +31,7 @@ pairs_across p qs h = AllByRecursion-weaker (λ (s : Signal). s.path ≡ p.path)
     (λ s on. each_flat (λ t. s ≢ t) pairs_of qs (AllByRecursion-weaker (λ q. path_of p ≢ path_of q) (λ q. AllByRecursion (λ t. s ≢ t) (pairs_of q))
     (λ q other. AllByRecursion-weaker (λ (t : Signal). t.path ≡ q.path) (λ t. s ≢ t) (λ t at e. other (sym on ∙ ap (λ (r : Signal). r.path) e ∙ at)) (pairs_of q) (on_path q)) qs h)) (pairs_of p) (on_path p)
 
-all_pairs_apart : (ps : List Occurrence) → ApartBy path_of ps → Apart (flat_map pairs_of ps)
+pub all_pairs_apart : (ps : List Occurrence) → ApartBy path_of ps → Apart (flat_map pairs_of ps)
 all_pairs_apart [] a = tt
 all_pairs_apart (p ∷ ps) a = Apart-append (pairs_of p) (flat_map pairs_of ps) (own_apart p (unique_keys same (names_of p.model)) (unique_apart (names_of p.model))) (all_pairs_apart ps a.1) (pairs_across p ps a.0)
 

@@ -27,9 +27,13 @@ pub record Port : Type 0 where
 abbrev pub ports_in : ℕ → List (List ℕ) → List Port
 ports_in line list = map (λ name. record { line = line; list = list; name = name }) list
 
--- the ports of all models: of each the inputs before the outputs
+-- the ports of a model: the inputs before the outputs
+abbrev pub ports_of_model : BlifModelData → List Port
+ports_of_model m = ports_in m.line m.inputs ++ ports_in m.line m.outputs
+
+-- the ports of all models
 abbrev pub ports : BlifFileData → List Port
-ports f = flat_map (λ (m : BlifModelData). ports_in m.line m.inputs ++ ports_in m.line m.outputs) f.models
+ports f = flat_map ports_of_model f.models
 
 -- 11: the list has the name twice
 abbrev pub IsDuplicatePort : List Port → Port → Type 0
@@ -40,9 +44,13 @@ pub record Use : Type 0 where
   pub model : BlifModelData
   pub instance : InstanceData
 
+-- the instances of a model
+abbrev pub uses_in : BlifModelData → List Use
+uses_in m = map (λ i. record { model = m; instance = i }) m.instances
+
 -- the instances of all models
 abbrev pub uses : BlifFileData → List Use
-uses f = flat_map (λ (m : BlifModelData). map (λ i. record { model = m; instance = i }) m.instances) f.models
+uses f = flat_map uses_in f.models
 
 -- 12: the instance names no model of the file
 abbrev pub IsUnknownModel : BlifFileData → List Use → Use → Type 0
@@ -60,13 +68,20 @@ formals_of i = map (λ (b : Binding). b.formal) i.bindings
 abbrev pub formals_with : InstanceData → BlifModelData → List Formal
 formals_with i unit = map (BoundFormal i unit) (formals_of i) ++ map (InputFormal i) unit.inputs
 
-abbrev pub formals : BlifFileData → List Formal
-formals f = flat_map (λ (u : Use). flat_map (formals_with u.instance) (models_called f.models u.instance.unit)) (uses f)
+abbrev pub formals_of_use : BlifFileData → Use → List Formal
+formals_of_use f u = flat_map (formals_with u.instance) (models_called f.models u.instance.unit)
 
--- 13: the formal is no port of the model or is bound twice, or the input isn't bound
+abbrev pub formals : BlifFileData → List Formal
+formals f = flat_map (formals_of_use f) (uses f)
+
+-- the formal is no port of the model or is bound twice, or the input isn't bound
+abbrev pub IsWrongFormal : Formal → Type 0
+IsWrongFormal (BoundFormal i unit name) = (Contains (unit.inputs ++ unit.outputs) name → ⊥) ⊎ IsTwiceIn (formals_of i) name
+IsWrongFormal (InputFormal i name) = Contains (formals_of i) name → ⊥
+
+-- 13: the formal is wrong
 abbrev pub IsBadFormal : List Formal → Formal → Type 0
-IsBadFormal before (BoundFormal i unit name) = (Contains (unit.inputs ++ unit.outputs) name → ⊥) ⊎ IsTwiceIn (formals_of i) name
-IsBadFormal before (InputFormal i name) = Contains (formals_of i) name → ⊥
+IsBadFormal before formal = IsWrongFormal formal
 
 abbrev pub line_of_formal : Formal → ℕ
 line_of_formal (BoundFormal i unit name) = i.line

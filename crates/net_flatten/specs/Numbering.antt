@@ -54,14 +54,18 @@ pub record IsPrefixedNumber (prefix name : List ℕ) : Type 0 where
   pub some : digits ≢ []
   pub all : All IsDecimalDigit digits
 
--- so many letters `w`, at least one, are a prefix that no name of the model is followed by digits only
-pub record IsFreePrefix (m : BlifModelData) (width : ℕ) : Type 0 where
+-- so many letters `w`, at least one, are a prefix that none of these names is followed by digits only
+pub record IsFreePrefix (names : List (List ℕ)) (width : ℕ) : Type 0 where
   pub some : 1 ≤ width
-  pub free : All (λ name. IsPrefixedNumber (letters_w width) name → ⊥) (names_of m)
+  pub free : All (λ name. IsPrefixedNumber (letters_w width) name → ⊥) names
 
-pub record IsLeastPrefix (m : BlifModelData) (width : ℕ) : Type 0 where
-  pub is_free : IsFreePrefix m width
-  pub least : (other : ℕ) → IsFreePrefix m other → width ≤ other
+pub record IsLeastPrefixAmong (names : List (List ℕ)) (width : ℕ) : Type 0 where
+  pub is_free : IsFreePrefix names width
+  pub least : (other : ℕ) → IsFreePrefix names other → width ≤ other
+
+-- the same among all names of a model
+abbrev pub IsLeastPrefix : BlifModelData → ℕ → Type 0
+IsLeastPrefix m width = IsLeastPrefixAmong (names_of m) width
 
 -- the name of a signal of this number: its own where it is one of the main model's, else the prefix and the number
 abbrev pub name_by_number : List ℕ → ℕ → Signal → List ℕ

@@ -1,0 +1,18 @@
+use Rattle.std.proofs.Common.{◌≡◌, ◌+◌, List, length, map, take, Some, sym, subst, refl}
+use Rattle.std.specs.Prelude.{slice_index_or}
+use Rattle.std.proofs.lemmas.Option.{slice_get-get_or, slice_get_read}
+use Rattle.net_flatten.specs.declared.table_order.LevelledTable.{LevelledTable}
+use Rattle.net_flatten.specs.NetworkData.{NetTableData}
+use Rattle.net_flatten.specs.NetworkParts.{levelled_in_network}
+use Rattle.net_flatten.proofs.NetworkSteps.{part_of_levelled, tables_next}
+use Rattle.net_flatten.proofs.network_parts.net_tables.Goals as goal
+
+pub loop-index-preserved : goal.loop-index-preserved
+loop-index-preserved c =
+    let table : LevelledTable = slice_index_or c.args.ordered.now c.loop-index.index (record { level = 0; part = 0 }) in
+    let at = slice_get-get_or c.args.ordered.now c.loop-index.index (record { level = 0; part = 0 }) c.loop-index-test.true in
+    let inside = part_of_levelled c.args.file.now c.args.places.now c.args.parts.now c.args.ordered.now c.loop-index.index table c.requires.there at in
+    let part = slice_get_read c.args.parts.now (length c.args.parts.now) table.part c.index-parts-table.result refl inside c.index-parts-table.is in
+    subst (λ l. map Some l ≡ map (levelled_in_network c.args.file.now c.args.places.now c.args.parts.now) (take (c.loop-index.index + 1) c.args.ordered.now)) (sym {A = List NetTableData} (c.in_ok-push.ensures {u = tt}).items)
+    (tables_next c.args.file.now c.args.places.now c.args.parts.now c.args.ordered.now c.loop-index.index table c.index-parts-table.result c.loop-index.tables.items c.in_ok-net_table.field-0
+    at part c.in_ok-net_table.ensures c.loop-index.invariant)

@@ -1,0 +1,52 @@
+//! Whether the network of a file is within the limits.
+ghost use Rattle.std.specs.Prelude.{◌≡◌, ◌≤◌, OnOk};
+ghost use Rattle.blif_ast.specs.Good.{IsGoodFile};
+ghost use Rattle.net_flatten.specs.Counts.{signal_count};
+ghost use Rattle.net_flatten.specs.declared.fault.FlatFault.TheVariants.{TooMany};
+ghost use Rattle.net_flatten.specs.Limits.{most_signals};
+ghost use Rattle.net_flatten.specs.ModelPlans.{AreModelPlans};
+ghost use Rattle.net_flatten.specs.NetworkSizes.{IsSizeCheck};
+
+use crate::counting::count_network;
+use crate::fault::{FlatFault, Limit};
+use crate::models::ModelPlans;
+use blif_ast::BlifFile;
+use std::alloc::Global;
+
+const MOST_SIGNALS: u64 = 200_000;
+
+const MOST_INSTANCES: u64 = 200_000;
+
+const MOST_LETTERS: u64 = 400_000;
+
+const MOST_SINKS: u64 = 8_192;
+
+/// Looks for the first count of a file's network that is above its limit: signals, instances, letters
+/// and sinks, in this order.
+pub fn check_sizes(alloc: Global, file: &BlifFile, plans: &ModelPlans) -> Result<(), FlatFault>
+    requires good { IsGoodFile file.now }
+    requires planned { AreModelPlans file.now plans.now }
+    ensures check { IsSizeCheck file.now result }
+    ensures few { OnOk result (signal_count file.now ≤ most_signals) }
+{
+    let sizes = count_network(alloc, file, plans)?;
+    if MOST_SIGNALS < sizes.signals {
+        return Err(too_many(Limit::Signals, sizes.signals));
+    }
+    if MOST_INSTANCES < sizes.instances {
+        return Err(too_many(Limit::Instances, sizes.instances));
+    }
+    if MOST_LETTERS < sizes.letters {
+        return Err(too_many(Limit::Letters, sizes.letters));
+    }
+    if MOST_SINKS < sizes.sinks {
+        return Err(too_many(Limit::Sinks, sizes.sinks));
+    }
+    Ok(())
+}
+
+fn too_many(limit: Limit, count: u64) -> FlatFault
+    ensures { result ≡ TooMany limit count }
+{
+    FlatFault::TooMany { limit, count }
+}

@@ -1,0 +1,42 @@
+//! Whether all latches are clocked alike, by a signal that nothing else uses.
+ghost use Rattle.std.specs.Prelude.{◌≢◌, []};
+ghost use Rattle.net_flatten.specs.declared.fault.FlatKind.TheVariants.{ControlUsed, TwoControls};
+ghost use Rattle.net_flatten.specs.CheckOutcomes.{IsCheckOf};
+ghost use Rattle.net_flatten.specs.NumberedFiles.{HasNumbers};
+
+use crate::clocking::{find_control, find_number, find_other_clock, has};
+use crate::fault::{FlatFault, FlatKind};
+use crate::numbered::NumberedFile;
+use crate::part_cards::{fault_at_control, fault_at_main_control, fault_at_output};
+use blif_ast::BlifFile;
+
+/// Looks for the first latch with an edge or a signal that is another than an earlier latch's.
+pub fn check_clocks(file: &BlifFile, numbered: &NumberedFile) -> Result<(), FlatFault>
+    requires numbers { HasNumbers file.now numbered.now }
+    ensures check { IsCheckOf file.now TwoControls result }
+{
+    match find_other_clock(file, numbered) {
+        None => Ok(()),
+        Some(index) => Err(fault_at_output(FlatKind::TwoControls, file, numbered, index)),
+    }
+}
+
+/// Looks for the first reader or driver, main outputs being last, of the signal that controls the
+/// latches. A main input is no such driver.
+pub fn check_control(file: &BlifFile, numbered: &NumberedFile) -> Result<(), FlatFault>
+    requires some { file.now.models ≢ [] }
+    requires numbers { HasNumbers file.now numbered.now }
+    ensures check { IsCheckOf file.now ControlUsed result }
+{
+    let parts = numbered.parts();
+    let Some(control) = find_control(parts) else {
+        return Ok(());
+    };
+    if let Some(index) = find_number(parts, control.number) {
+        return Err(fault_at_control(FlatKind::ControlUsed, file, numbered, index, control.latch));
+    }
+    if has(numbered.outputs(), control.number) {
+        return Err(fault_at_main_control(FlatKind::ControlUsed, file, numbered, control.latch));
+    }
+    Ok(())
+}

@@ -1,0 +1,51 @@
+//! Whether each signal that is read has a driver, and none has two.
+ghost use Rattle.std.specs.Prelude.{IfOk};
+ghost use Rattle.net_flatten.specs.declared.fault.FlatKind.TheVariants.{DrivenTwice, Undriven};
+ghost use Rattle.net_flatten.specs.CheckOutcomes.{IsCheckOf};
+ghost use Rattle.net_flatten.specs.NumberSets.{IsSetOf};
+ghost use Rattle.net_flatten.specs.NumberedFaults.{driven_by};
+ghost use Rattle.net_flatten.specs.NumberedFiles.{HasNumbers};
+
+use crate::driven::{Drivers, find_drivers, find_outside, find_read_outside};
+use crate::fault::{FlatFault, FlatKind};
+use crate::number_set::NumberSet;
+use crate::numbered::NumberedFile;
+use crate::part_cards::{fault_at_input, fault_at_main_output, fault_at_output};
+use blif_ast::BlifFile;
+use std::alloc::Global;
+
+/// Looks for the first part that drives a signal with an earlier driver, main inputs being earliest.
+/// It gives the set of all that is driven.
+pub fn check_drivers(
+    alloc: Global,
+    file: &BlifFile,
+    numbered: &NumberedFile,
+) -> Result<NumberSet, FlatFault>
+    requires numbers { HasNumbers file.now numbered.now }
+    ensures check { IsCheckOf file.now DrivenTwice result }
+    ensures driven { IfOk result (IsSetOf numbered.now.signals (driven_by numbered.now.inputs numbered.now.parts)) }
+{
+    match find_drivers(alloc, numbered.signals, numbered.inputs(), numbered.parts())? {
+        Drivers::Once(driven) => Ok(driven),
+        Drivers::Twice(index) => Err(fault_at_output(FlatKind::DrivenTwice, file, numbered, index)),
+    }
+}
+
+/// Looks for the first reader of a signal that isn't driven, main outputs being last.
+pub fn check_readers(
+    file: &BlifFile,
+    numbered: &NumberedFile,
+    driven: &NumberSet,
+) -> Result<(), FlatFault>
+    requires numbers { HasNumbers file.now numbered.now }
+    requires driven { IsSetOf numbered.now.signals (driven_by numbered.now.inputs numbered.now.parts) driven.now }
+    ensures check { IsCheckOf file.now Undriven result }
+{
+    if let Some(at) = find_read_outside(driven, numbered.parts()) {
+        return Err(fault_at_input(FlatKind::Undriven, file, numbered, at.part, at.read));
+    }
+    match find_outside(driven, numbered.outputs()) {
+        None => Ok(()),
+        Some(index) => Err(fault_at_main_output(FlatKind::Undriven, file, index)),
+    }
+}

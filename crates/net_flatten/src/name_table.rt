@@ -1,0 +1,171 @@
+//! The names of a model by numbers.
+ghost use Rattle.std.specs.Prelude.{◌≡◌, ◌<◌, ◌-◌, ◌++◌, ◌∷◌, IfOk, [], OnOk, Some, length, map, position, slice_get};
+ghost use Rattle.std.specs.List.{flat_map};
+ghost use Rattle.std.specs.Set.{unique_keys};
+ghost use Rattle.blif_ast.specs.Cards.{same};
+ghost use Rattle.indexmap.specs.IndexSet.{insert_key};
+ghost use Rattle.net_flatten.specs.Occurrences.{actuals_of, names_of, names_of_latch, names_of_table, signal_of_control};
+
+use blif_ast::{BlifModel, Instance, Latch, Table};
+use dom_base::{Name, OutOfMemory};
+use indexmap::IndexSet;
+use std::alloc::Global;
+use std::marker::Model;
+
+/// The names that occur in a model, each once: the index of a name is its number there.
+#[derive(Drop)]
+pub struct NameTable {
+    pub names: IndexSet<Name>,
+}
+
+impl Model for NameTable {
+    ghost use Rattle.std.specs.Prelude.{List, ℕ};
+
+    ghost Value = { List (List ℕ) };
+
+    ghost view = { λ t. t.names.keys };
+}
+
+impl NameTable {
+    /// The names of a model.
+    pub fn of_model(alloc: Global, model: &BlifModel) -> Result<NameTable, OutOfMemory>
+        ensures { IfOk result (λ table. table ≡ unique_keys same (names_of model.now)) }
+    {
+        let all = all_names(alloc, model)?;
+        let mut table = NameTable {
+            names: IndexSet::new(alloc),
+        };
+        for index in 0..all.len() {
+            table.insert(from_last(&all, index))?;
+        }
+        table.names.reverse();
+        Ok(table)
+    }
+
+    /// Adds a name, unless it is there.
+    fn insert(&mut self, name: &Name) -> Result<(), OutOfMemory>
+        ensures { OnOk result (self.new ≡ insert_key same self.old name.now) }
+    {
+        self.names.insert(name.clone()?)?;
+        Ok(())
+    }
+
+    /// How many names there are.
+    pub fn len(&self) -> usize
+        ensures { result ≡ length self.now }
+    {
+        self.names.len()
+    }
+
+    /// The names, in order of their numbers.
+    pub fn names(&self, alloc: Global) -> Result<Vec<Name>, OutOfMemory>
+        ensures { IfOk result (λ names. names.items ≡ self.now) }
+    {
+        let mut names = Vec::new(alloc);
+        for index in 0..self.len() {
+            put_clone(&mut names, self.name(index))?;
+        }
+        Ok(names)
+    }
+
+    fn name(&self, index: usize) -> &Name
+        requires { index < length self.now }
+        ensures { slice_get self.now index ≡ Some result.now }
+    {
+        self.names.get_index(index).unwrap()
+    }
+
+    /// The number of a name of the model.
+    pub fn number(&self, name: &Name) -> Option<usize>
+        ensures { result ≡ position (same name.now) self.now }
+    {
+        self.names.get_index_of(name)
+    }
+}
+
+fn put_clone(names: &mut Vec<Name>, name: &Name) -> Result<(), OutOfMemory>
+    ensures { OnOk result (names.new.items ≡ names.old.items ++ name.now ∷ []) }
+{
+    names.push(name.clone()?)?;
+    Ok(())
+}
+
+/// The name at this index from the last one on.
+fn from_last<'a>(all: &[&'a Name], index: usize) -> &'a Name
+    requires { index < length all.now }
+    ensures { slice_get (map (λ r. r.now) all.now) (length all.now - 1 - index) ≡ Some result.now }
+{
+    all[all.len() - 1 - index]
+}
+
+/// All names on the cards of a model, ports first, as often as they stand there.
+fn all_names<'a>(alloc: Global, model: &'a BlifModel) -> Result<Vec<&'a Name>, OutOfMemory>
+    ensures { IfOk result (λ all. map (λ r. r.now) all.items ≡ names_of model.now) }
+{
+    let mut all = Vec::new(alloc);
+    put_names(&mut all, &model.inputs)?;
+    put_names(&mut all, &model.outputs)?;
+    put_tables(&mut all, &model.tables)?;
+    put_latches(&mut all, &model.latches)?;
+    put_instances(&mut all, &model.instances)?;
+    Ok(all)
+}
+
+fn put_names<'a>(all: &mut Vec<&'a Name>, names: &'a [Name]) -> Result<(), OutOfMemory>
+    ensures { OnOk result (map (λ r. r.now) all.new.items ≡ map (λ r. r.now) all.old.items ++ names.now) }
+{
+    for name in names {
+        all.push(name)?;
+    }
+    Ok(())
+}
+
+fn put_tables<'a>(all: &mut Vec<&'a Name>, tables: &'a [Table]) -> Result<(), OutOfMemory>
+    ensures { OnOk result (map (λ r. r.now) all.new.items ≡ map (λ r. r.now) all.old.items ++ flat_map names_of_table tables.now) }
+{
+    for table in tables {
+        put_names(all, &table.inputs)?;
+        all.push(&table.output)?;
+    }
+    Ok(())
+}
+
+fn put_latches<'a>(all: &mut Vec<&'a Name>, latches: &'a [Latch]) -> Result<(), OutOfMemory>
+    ensures { OnOk result (map (λ r. r.now) all.new.items ≡ map (λ r. r.now) all.old.items ++ flat_map names_of_latch latches.now) }
+{
+    for latch in latches {
+        all.push(&latch.input)?;
+        all.push(&latch.output)?;
+        put_control(all, latch)?;
+    }
+    Ok(())
+}
+
+fn put_control<'a>(all: &mut Vec<&'a Name>, latch: &'a Latch) -> Result<(), OutOfMemory>
+    ensures { OnOk result (map (λ r. r.now) all.new.items ≡ map (λ r. r.now) all.old.items ++ signal_of_control latch.now.control) }
+{
+    if let Some(control) = &latch.control {
+        if let Some(signal) = &control.signal {
+            all.push(signal)?;
+        }
+    }
+    Ok(())
+}
+
+fn put_instances<'a>(all: &mut Vec<&'a Name>, instances: &'a [Instance]) -> Result<(), OutOfMemory>
+    ensures { OnOk result (map (λ r. r.now) all.new.items ≡ map (λ r. r.now) all.old.items ++ flat_map actuals_of instances.now) }
+{
+    for instance in instances {
+        put_actuals(all, instance)?;
+    }
+    Ok(())
+}
+
+fn put_actuals<'a>(all: &mut Vec<&'a Name>, instance: &'a Instance) -> Result<(), OutOfMemory>
+    ensures { OnOk result (map (λ r. r.now) all.new.items ≡ map (λ r. r.now) all.old.items ++ actuals_of instance.now) }
+{
+    for binding in &instance.bindings {
+        all.push(&binding.actual)?;
+    }
+    Ok(())
+}

@@ -1,0 +1,124 @@
+//! The names of a network's signals: those of the main model, and for the other signals a prefix and a number.
+ghost use Rattle.std.specs.Prelude.{ℕ, ◌≡◌, ◌≢◌, ◌≤◌, ◌<◌, ◌++◌, ◌==◌, All, IfOk, MatchOption, Some, length, not, position, slice_get, true};
+ghost use Rattle.std.specs.Char.{is_ascii_digit};
+ghost use Rattle.std.specs.Fmt.{decimal};
+ghost use Rattle.std.specs.List.{list_all};
+ghost use Rattle.net_flatten.specs.NetworkNames.{AreNetworkNames, MarksTaken, network_name};
+ghost use Rattle.net_flatten.specs.Numbering.{IsLeastPrefixAmong, IsPrefixedNumber, letters_w};
+
+use dom_base::{Name, OutOfMemory, append_number};
+use std::alloc::Global;
+
+/// The place of the first byte that is no `w`.
+fn first_other(name: &[u8]) -> Option<usize>
+    ensures { result ≡ position (λ byte. not (byte == 119)) name.now }
+{
+    name.iter().position(|byte| *byte != b'w')
+}
+
+fn are_digits(bytes: &[u8]) -> bool
+    ensures { result ≡ list_all is_ascii_digit bytes.now }
+{
+    bytes.iter().all(|byte| byte.is_ascii_digit())
+}
+
+/// How many letters `w` a name begins with, where digits alone follow, at least one.
+fn taken_width(name: &[u8]) -> Option<usize>
+    ensures { MatchOption result ((width : ℕ) → IsPrefixedNumber (letters_w width) name.now → ⊥)
+        (λ width. IsPrefixedNumber (letters_w width) name.now) }
+{
+    let width = first_other(name)?;
+    if are_digits(&name[width..]) {
+        Some(width)
+    } else {
+        None
+    }
+}
+
+/// The length of the longest name.
+fn longest(names: &[Name]) -> usize
+    ensures { All (λ name. length name ≤ result) names.now }
+{
+    let mut longest = 0;
+    for name in names {
+        longest = longest.max(name.as_bytes().len());
+    }
+    longest
+}
+
+/// A mark for each width that a name takes.
+fn taken_widths(alloc: Global, names: &[Name]) -> Result<Vec<bool>, OutOfMemory>
+    ensures { IfOk result (λ marks. MarksTaken names.now marks.items) }
+{
+    let mut marks = vec![in alloc; false; longest(names)]?;
+    for name in names {
+        if let Some(width) = taken_width(name.as_bytes()) {
+            marks[width] = true;
+        }
+    }
+    Ok(marks)
+}
+
+/// The first width, at least 1, that isn't marked.
+fn first_free(marks: &[bool]) -> usize
+    ensures some { 1 ≤ result }
+    ensures free { slice_get marks.now result ≢ Some true }
+    ensures first { (width : ℕ) → 1 ≤ width → width < result → slice_get marks.now width ≡ Some true }
+{
+    let mut width = 1;
+    while width < marks.len() && marks[width] {
+        width += 1;
+    }
+    width
+}
+
+/// The least number of letters `w`, at least one, such that no name is so many of them followed by digits only. The one
+/// error is want of memory.
+pub fn least_prefix(alloc: Global, names: &[Name]) -> Result<usize, OutOfMemory>
+    ensures { IfOk result (λ width. IsLeastPrefixAmong names.now width) }
+{
+    let marks = taken_widths(alloc, names)?;
+    Ok(first_free(&marks))
+}
+
+/// So many letters `w` and a number.
+fn prefixed_number(alloc: Global, width: usize, number: usize) -> Result<Name, OutOfMemory>
+    ensures { IfOk result (λ name. name ≡ letters_w width ++ decimal number) }
+{
+    let mut bytes = vec![in alloc; b'w'; width]?;
+    append_number(&mut bytes, number as u64)?;
+    Ok(Name(bytes))
+}
+
+/// The name at an index of a network of the signal of this number in the file.
+fn signal_name(
+    alloc: Global,
+    main_names: &[Name],
+    width: usize,
+    index: usize,
+    number: u32,
+) -> Result<Name, OutOfMemory>
+    ensures { IfOk result (λ name. name ≡ network_name main_names.now (letters_w width) index number) }
+{
+    match main_names.get(number as usize) {
+        Some(name) => Ok(name.clone()?),
+        None => prefixed_number(alloc, width, index),
+    }
+}
+
+/// The names of the signals that have these numbers in the file, where names of the main model have the first numbers:
+/// a name of the main model stays, and any other is the prefix and the signal's index. The one error is want of memory.
+pub fn names_of_network(
+    alloc: Global,
+    main_names: &[Name],
+    numbers: &[u32],
+) -> Result<Vec<Name>, OutOfMemory>
+    ensures { IfOk result (λ names. AreNetworkNames main_names.now numbers.now names.items) }
+{
+    let width = least_prefix(alloc, main_names)?;
+    let mut names = Vec::with_capacity(alloc, numbers.len())?;
+    for index in 0..numbers.len() {
+        names.push(signal_name(alloc, main_names, width, index, numbers[index])?)?;
+    }
+    Ok(names)
+}

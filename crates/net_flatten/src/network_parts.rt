@@ -1,0 +1,109 @@
+//! The tables and latches of a network, from those of a file by numbers.
+ghost use Rattle.std.specs.Prelude.{◌≡◌, ◌<◌, All, IfOk, IsSome, Some, length, map};
+ghost use Rattle.net_flatten.specs.NetworkNumbers.{latches_among};
+ghost use Rattle.net_flatten.specs.NetworkParts.{latch_in_network, levelled_in_network, network_place, table_in_network};
+ghost use Rattle.net_flatten.specs.NumberedFaults.{IsPartWithin};
+
+use crate::network::{NetLatch, NetTable};
+use crate::numbered::{NumberedPart, PartCard};
+use crate::part_cards::{latch_at, table_at};
+use crate::table_order::LevelledTable;
+use blif_ast::BlifFile;
+use dom_base::OutOfMemory;
+use std::alloc::Global;
+
+/// The places of some numbers. The one error is want of memory.
+pub fn places_of(alloc: Global, places: &[u32], numbers: &[u32]) -> Result<Vec<u32>, OutOfMemory>
+    requires within { All (λ number. number < length places.now) numbers.now }
+    ensures { IfOk result (λ found. found.items ≡ map (network_place places.now) numbers.now) }
+{
+    let mut found = Vec::with_capacity(alloc, numbers.len())?;
+    for number in numbers {
+        found.push(places[*number as usize])?;
+    }
+    Ok(found)
+}
+
+/// A table in the network. The one error is want of memory.
+fn net_table(
+    alloc: Global,
+    file: &BlifFile,
+    part: &NumberedPart,
+    places: &[u32],
+) -> Result<NetTable, OutOfMemory>
+    requires there { IsSome (table_in_network file.now places.now part.now) }
+    requires within { IsPartWithin (length places.now) part.now }
+    ensures { IfOk result (λ table. table_in_network file.now places.now part.now ≡ Some table) }
+{
+    let PartCard::Table(index) = part.card else {
+        unreachable!()
+    };
+    let table = table_at(file, part.model, index);
+    let rows = table.rows.clone()?;
+    let inputs = places_of(alloc, places, part.reads.as_slice())?;
+    Ok(NetTable {
+        inputs,
+        on: table.on,
+        rows,
+    })
+}
+
+/// A latch in the network.
+fn net_latch(file: &BlifFile, part: &NumberedPart, places: &[u32]) -> NetLatch
+    requires there { IsSome (latch_in_network file.now places.now part.now) }
+    requires within { IsPartWithin (length places.now) part.now }
+    ensures { latch_in_network file.now places.now part.now ≡ Some result }
+{
+    let PartCard::Latch(index) = part.card else {
+        unreachable!()
+    };
+    NetLatch {
+        input: places[part.reads[0] as usize],
+        init: latch_at(file, part.model, index).init == 1,
+    }
+}
+
+/// The tables of a network in an order of theirs, by their indices among the parts. The one error is
+/// want of memory.
+pub fn net_tables(
+    alloc: Global,
+    file: &BlifFile,
+    parts: &[NumberedPart],
+    ordered: &[LevelledTable],
+    places: &[u32],
+) -> Result<Vec<NetTable>, OutOfMemory>
+    requires within { All (IsPartWithin (length places.now)) parts.now }
+    requires there { All (λ t. IsSome (levelled_in_network file.now places.now parts.now t)) ordered.now }
+    ensures { IfOk result (λ tables. map Some tables.items
+        ≡ map (levelled_in_network file.now places.now parts.now) ordered.now) }
+{
+    let mut tables = Vec::with_capacity(alloc, ordered.len())?;
+    for index in 0..ordered.len() {
+        let table = ordered[index];
+        let part = &parts[table.part];
+        tables.push(net_table(alloc, file, part, places)?)?;
+    }
+    Ok(tables)
+}
+
+/// The latches of a network in the order of the parts. The one error is want of memory.
+pub fn net_latches(
+    alloc: Global,
+    file: &BlifFile,
+    parts: &[NumberedPart],
+    places: &[u32],
+) -> Result<Vec<NetLatch>, OutOfMemory>
+    requires within { All (IsPartWithin (length places.now)) parts.now }
+    requires there { All (λ p. IsSome (latch_in_network file.now places.now p)) (latches_among parts.now) }
+    ensures { IfOk result (λ latches. map Some latches.items
+        ≡ map (latch_in_network file.now places.now) (latches_among parts.now)) }
+{
+    let mut latches = Vec::new(alloc);
+    for index in 0..parts.len() {
+        let part = &parts[index];
+        if let PartCard::Latch(_) = part.card {
+            latches.push(net_latch(file, part, places))?;
+        }
+    }
+    Ok(latches)
+}

@@ -1,0 +1,41 @@
+//! Whether anything of the signals of a file refuses it.
+ghost use Rattle.std.specs.Prelude.{◌≢◌, ℕ, List, [], IfOk, IsErrOf};
+ghost use Rattle.net_flatten.specs.declared.fault.FlatKind.{FlatKind};
+ghost use Rattle.net_flatten.specs.declared.fault.Limit.{Limit};
+ghost use Rattle.net_flatten.specs.Dependences.{AreTableLevels};
+ghost use Rattle.net_flatten.specs.NumberedFiles.{HasNumbers};
+ghost use Rattle.net_flatten.specs.Refusal.{At, Refusal};
+ghost use Rattle.net_flatten.specs.Refusals.{HasRefusal, IsRefusal};
+ghost use Rattle.net_flatten.specs.Unrefused.{HasNoRefusal};
+
+use crate::clock_checks::{check_clocks, check_control};
+use crate::cycle_check::check_cycles;
+use crate::driver_checks::{check_drivers, check_readers};
+use crate::fault::FlatFault;
+use crate::numbered::NumberedFile;
+use blif_ast::BlifFile;
+use std::alloc::Global;
+
+/// Looks for what refuses a file because of its signals, in order: drivers, readers, loops, clocks.
+/// It gives the levels of all signals.
+pub fn check_signals(
+    alloc: Global,
+    file: &BlifFile,
+    numbered: &NumberedFile,
+) -> Result<Vec<usize>, FlatFault>
+    requires some { file.now.models ≢ [] }
+    requires numbers { HasNumbers file.now numbered.now }
+    requires before { HasNoRefusal file.now 6 }
+    ensures accepted { IfOk result (λ levels. (r : Refusal) → HasRefusal file.now r → ⊥) }
+    ensures levels { IfOk result (λ levels. AreTableLevels numbered.now.signals numbered.now.parts levels.items) }
+    ensures refused { (line : ℕ) (kind : FlatKind) (name : List ℕ) → IsErrOf result (FlatFault.At line kind name)
+        → IsRefusal file.now (At kind line name) }
+    ensures no_count { (limit : Limit) (count : ℕ) → IsErrOf result (FlatFault.TooMany limit count) → ⊥ }
+{
+    let driven = check_drivers(alloc, file, numbered)?;
+    check_readers(file, numbered, &driven)?;
+    let levels = check_cycles(alloc, file, numbered)?;
+    check_clocks(file, numbered)?;
+    check_control(file, numbered)?;
+    Ok(levels)
+}
