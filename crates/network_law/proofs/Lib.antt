@@ -1,0 +1,10 @@
+pub mod Answered
+pub mod FreePrefixes
+pub mod Heights
+pub mod KindDecisions
+pub mod LevelsExist
+pub mod ListDecisions
+pub mod NetworkExists
+pub mod Reaching
+pub mod ReadSignals
+pub mod SameSignals
