@@ -27,6 +27,18 @@ pushed-grew c kind d g s =
       devices = refl;
     }
 
+-- a circuit that stayed as it was
+pub Grew-same : {old new : CircuitData} → new ≡ old → Grew old new
+Grew-same {old} e = record {
+  more_nets = [];
+  more_devices = [];
+  name = ap (λ (c : CircuitData). c.name) e;
+  phases = ap (λ (c : CircuitData). c.phases) e;
+  ports = ap (λ (c : CircuitData). c.ports) e;
+  nets = ap (λ (c : CircuitData). c.nets) e ∙ sym (append-nil old.nets);
+  devices = ap (λ (c : CircuitData). c.devices) e ∙ sym (append-nil old.devices);
+}
+
 pub Grew-trans : (a b c : CircuitData) → Grew a b → Grew b c → Grew a c
 Grew-trans a b c x y = record {
   more_nets = x.more_nets ++ y.more_nets;
@@ -45,7 +57,7 @@ with_devices-push c (e ∷ ds) d = with_devices-push (pushed c e.kind e.drain e.
 
 -- devices only add to a circuit
 pub with_devices-grew : (c : CircuitData) (ds : List (NamedDevice (List ℕ))) → Grew c (with_devices c ds)
-with_devices-grew c [] = record { more_nets = []; more_devices = []; name = refl; phases = refl; ports = refl; nets = sym (append-nil c.nets); devices = sym (append-nil c.devices) }
+with_devices-grew c [] = Grew-same refl
 with_devices-grew c (d ∷ ds) =
     Grew-trans c (pushed c d.kind d.drain d.gate d.source) (with_devices c (d ∷ ds))
     (pushed-grew c d.kind d.drain d.gate d.source) (with_devices-grew (pushed c d.kind d.drain d.gate d.source) ds)

@@ -1,4 +1,5 @@
 pub mod CircuitGrowth
+pub mod Cuts
 pub mod DeckCircuits
 pub mod DeckExamples
 pub mod DeckNames

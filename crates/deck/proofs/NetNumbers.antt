@@ -97,6 +97,14 @@ HasNumber-from (x ∷ xs) (suc i) name at = by (pointwise nat_eq name x) refl (H
     by true e rest = HasNumber-head x xs name e
     by false e rest = HasNumber-cons x xs name e rest
 
+-- a name whose number is one of the nets stands there
+pub HasNumber-below : (nets : List (List ℕ)) (name : List ℕ) → net_number nets name < length nets → HasNumber nets name
+HasNumber-below nets name low = by (number_cases (pointwise nat_eq name) nets)
+  where
+    by : ((list_any (pointwise nat_eq name) nets ≡ true) × (net_number nets name < length nets)) ⊎ ((list_any (pointwise nat_eq name) nets ≡ false) × (net_number nets name ≡ length nets)) → HasNumber nets name
+    by (inl h) = rw h.0 at (slice_get-with_net nets name)
+    by (inr h) = absurd (omega (arith, h.1, low))
+
 -- it keeps its number in longer nets
 pub net_number-append : (nets more : List (List ℕ)) (name : List ℕ) → HasNumber nets name → net_number (nets ++ more) name ≡ net_number nets name
 net_number-append [] more name at = absurd (cc)

@@ -1,5 +1,6 @@
 pub mod CircuitData
 pub mod CircuitGrowth
+pub mod Cuts
 pub mod DeckCards
 pub mod DeckFaults
 pub mod DeckKinds

@@ -2,6 +2,7 @@
 #![tactic(auto)]
 
 mod circuit;
+mod cut;
 mod device;
 mod escape;
 mod fault;

@@ -1,9 +1,12 @@
 -- Circuits to which the devices of a cell are appended part by part.
-use Rattle.std.proofs.Common.{◌≡◌, ℕ, List, [], ◌∷◌, ◌++◌, refl, sym, ap, ◌∙◌}
+use Rattle.std.proofs.Common.{◌≡◌, ℕ, List, [], ◌∷◌, ◌++◌, refl, sym, subst, ap, ◌∙◌, ◌≤◌, arith, length, length-append}
+use Rattle.dom_base.specs.declared.kind.Kind.{Kind}
 use Rattle.dom_base.specs.declared.kind.Kind.TheVariants.{N as nch, P as pch, Keep}
 use Rattle.deck.specs.CircuitData.{CircuitData}
+use Rattle.deck.specs.CircuitGrowth.{Grew}
 use Rattle.deck.specs.NamedDevices.{NamedDevice, with_devices}
 use Rattle.deck.specs.Pushes.{pushed}
+use Rattle.deck.proofs.CircuitGrowth.{Grew-trans, pushed-grew}
 use Rattle.sp_network.specs.Tree.{Tree}
 use Rattle.domino_cell.specs.Cell.{CellNets, cell, dynamic_stage, inverter}
 use Rattle.domino_cell.specs.Spelling.{spell}
@@ -11,6 +14,15 @@ use Rattle.domino_cell.specs.Spelling.{spell}
 pub with_devices-append : (c : CircuitData) (xs ys : List (NamedDevice (List ℕ))) → with_devices c (xs ++ ys) ≡ with_devices (with_devices c xs) ys
 with_devices-append c [] ys = refl
 with_devices-append c (x ∷ xs) ys = with_devices-append (pushed c x.kind x.drain x.gate x.source) xs ys
+
+-- a circuit that grew and then got one more device
+pub Grew-pushed : (old between new : CircuitData) (kind : Kind) (d g s : List ℕ) → Grew old between → new ≡ pushed between kind d g s → Grew old new
+Grew-pushed old between new kind d g s grew more =
+    Grew-trans old between new grew (subst (Grew between) (sym more) (pushed-grew between kind d g s))
+
+-- a circuit that grew has as many devices or more
+pub Grew-longer : {old new : CircuitData} → Grew old new → length old.devices ≤ length new.devices
+Grew-longer {old} grew = omega (arith, ap length grew.devices, length-append old.devices grew.more_devices)
 
 -- the devices of a cell, appended part by part
 pub cell_devices_pushed : (old a b c d new : CircuitData) (nets : CellNets (List ℕ)) (tree : Tree (List ℕ))

@@ -43,7 +43,7 @@ inner_inside : (digits : List ℕ) (pins outs : List (List ℕ)) → All IsPin p
 inner_inside digits pins outs a b = no_port (codes "t0_" ++ digits) pins outs refl refl refl a b
 
 -- names differ where their first bytes do
-first_apart : (x y : ℕ) (xs ys : List ℕ) → x ≢ y → x ∷ xs ≢ y ∷ ys
+pub first_apart : (x y : ℕ) (xs ys : List ℕ) → x ≢ y → x ∷ xs ≢ y ∷ ys
 first_apart x y xs ys apart e = let same : x ≡ y = cc in apart same
 
 -- a name that begins with another byte than `d`, `f` and `t`
@@ -62,7 +62,7 @@ stage_inside pins outs tree a b name (inl e) = subst (IsInside pins outs) (sym e
 stage_inside pins outs tree a b name (inr (inl e)) = subst (IsInside pins outs) (sym e) (foot_inside pins outs a b)
 stage_inside pins outs tree a b name (inr (inr (j, lt, e))) = subst (IsInside pins outs) (sym e) (inner_inside (decimal j) pins outs a b)
 
-supplies_apart : codes "vdd" ≢ codes "vss"
+pub supplies_apart : codes "vdd" ≢ codes "vss"
 supplies_apart e = let never : true ≡ false = ap (pointwise nat_eq (codes "vdd")) e in absurd (cc)
 
 pub cell_names : (pins : List (List ℕ)) (output : List ℕ) (tree : Tree (List ℕ)) → All IsPin pins → inner_count tree ≤ 12

@@ -1,9 +1,14 @@
+pub mod AppendedNets
 pub mod CellCircuits
 pub mod CellLaws
 pub mod CellNetNames
 pub mod Cells
 pub mod NamedCells
+pub mod NetNames
 pub mod Paths
+pub mod PushedCells
+pub mod PushedGates
+pub mod PushedTrees
 pub mod SmallestCell
 pub mod Spellings
 pub mod Stages

@@ -35,6 +35,17 @@ spell-bottom P kind inner (Parallel l r) top bottom k h =
     spell-bottom P kind inner l top bottom k
     (AllByRecursion-left (λ c. P c.source) (spell kind inner l top bottom k) (spell kind inner r top bottom (k + inner_count l)) h)
 
+-- they begin at its top
+pub spell-top : {Net : Type 0} (P : Net → Type 0) (kind : Kind) (inner : ℕ → Net) (t : Tree Net) (top bottom : Net) (k : ℕ)
+    → AllByRecursion (λ c. P c.drain) (spell kind inner t top bottom k) → P top
+spell-top P kind inner (Leaf gate) top bottom k h = h.0
+spell-top P kind inner (Series l r) top bottom k h =
+    spell-top P kind inner l top (inner k) (k + 1)
+    (AllByRecursion-left (λ c. P c.drain) (spell kind inner l top (inner k) (k + 1)) (spell kind inner r (inner k) bottom (k + 1 + inner_count l)) h)
+spell-top P kind inner (Parallel l r) top bottom k h =
+    spell-top P kind inner l top bottom k
+    (AllByRecursion-left (λ c. P c.drain) (spell kind inner l top bottom k) (spell kind inner r top bottom (k + inner_count l)) h)
+
 in_parallel : (k j m n : ℕ) → k ≤ j → j < k + (m + n) → ((k ≤ j) × (j < k + m)) ⊎ ((k + m ≤ j) × (j < k + m + n))
 in_parallel k j m n low high = elim (cases_lt j (k + m)) [ inl lt ↦ inl (low, lt) | inr le ↦ inr (le, omega arith) ]
 
@@ -42,7 +53,7 @@ in_series : (k j m n : ℕ) → k ≤ j → j < k + (1 + (m + n)) → (k ≡ j) 
 in_series k j m n low high = elim (cases_lt k j) [ inl lt ↦ inr (in_parallel (k + 1) j m n (omega arith) (omega arith)) | inr le ↦ inl (omega arith) ]
 
 -- and at each of its inner nets
-spell-inner : {Net : Type 0} (P : Net → Type 0) (kind : Kind) (inner : ℕ → Net) (t : Tree Net) (top bottom : Net) (k j : ℕ)
+pub spell-inner : {Net : Type 0} (P : Net → Type 0) (kind : Kind) (inner : ℕ → Net) (t : Tree Net) (top bottom : Net) (k j : ℕ)
     → AllByRecursion (λ c. P c.source) (spell kind inner t top bottom k) → k ≤ j → j < k + inner_count t → P (inner j)
 spell-inner P kind inner (Leaf gate) top bottom k j h low high = absurd (omega arith)
 spell-inner P kind inner (Series l r) top bottom k j h low high =
@@ -109,11 +120,11 @@ is_source-port e n name lt at begins_not = rw (lt-ltb n e.ports lt, get_or_from_
 pub is_source-inside : (e : CircuitData) (n : ℕ) → e.ports ≤ n → is_source e n ≡ false
 is_source-inside e n le = rw (le-ltb n e.ports le) refl
 
-map_numbered_device : (all : List (List ℕ)) (cards : List (NamedDevice (List ℕ))) → map (numbered_device all) cards ≡ map device_of (map (map_device (net_number all)) cards)
+pub map_numbered_device : (all : List (List ℕ)) (cards : List (NamedDevice (List ℕ))) → map (numbered_device all) cards ≡ map device_of (map (map_device (net_number all)) cards)
 map_numbered_device all [] = refl
 map_numbered_device all (card ∷ cards) = ap (λ ds. numbered_device all card ∷ ds) (map_numbered_device all cards)
 
-each_there : (xs : List (NamedDevice ℕ)) (ys : List Device) → AllByRecursion (λ c. Contains (map device_of xs ++ ys) (device_of c)) xs
+pub each_there : (xs : List (NamedDevice ℕ)) (ys : List Device) → AllByRecursion (λ c. Contains (map device_of xs ++ ys) (device_of c)) xs
 each_there [] ys = tt
 each_there (x ∷ xs) ys = (
   Contains-first (device_of x) (map device_of xs ++ ys),

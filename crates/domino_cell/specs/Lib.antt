@@ -1,7 +1,11 @@
 pub mod Cell
 pub mod CellNames
+pub mod HeldNames
 pub mod Laws
 pub mod NamedCell
+pub mod NamedTrees
+pub mod PushedNames
+pub mod PushedPaths
 pub mod Spelling
 pub mod Stage
 pub mod Steps

@@ -4,6 +4,10 @@
 #![tactic(auto)]
 
 mod laws;
+mod names;
+mod push;
+mod tree;
 mod worked;
 
 pub use laws::{cell_pulls_down, tree_joins_foot};
+pub use push::{push_domino, push_static};

@@ -75,3 +75,9 @@ abbrev pub map_tree : {Net Image : Type 0} → (Net → Image) → Tree Net → 
 map_tree f (Leaf gate) = Leaf (f gate)
 map_tree f (Series l r) = Series (map_tree f l) (map_tree f r)
 map_tree f (Parallel l r) = Parallel (map_tree f l) (map_tree f r)
+
+-- the tree with series and parallel exchanged
+abbrev pub dual : {Net : Type 0} → Tree Net → Tree Net
+dual (Leaf gate) = Leaf gate
+dual (Series l r) = Parallel (dual l) (dual r)
+dual (Parallel l r) = Series (dual l) (dual r)

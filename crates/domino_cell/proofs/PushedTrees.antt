@@ -1,0 +1,64 @@
+-- The devices of a tree, appended part by part.
+use Rattle.std.proofs.Common.{◌≡◌, ℕ, ◌+◌, ◌<◌, List, refl, sym, ap, ◌∙◌, arith}
+use Rattle.dom_base.specs.declared.kind.Kind.{Kind}
+use Rattle.deck.specs.CircuitData.{CircuitData}
+use Rattle.deck.specs.NamedDevices.{with_devices}
+use Rattle.sp_network.specs.Tree.{Tree, Leaf, Series, Parallel, EachLeaf, dual, inner_count, leaves, map_tree}
+use Rattle.sp_network.proofs.TreeImages.{inner_count-map_tree}
+use Rattle.domino_cell.specs.Spelling.{spell}
+use Rattle.domino_cell.proofs.CellCircuits.{with_devices-append}
+
+-- a tree takes fewer inner nets than it has leaves
+pub inner_count-below : {Net : Type 0} (t : Tree Net) → inner_count t < leaves t
+inner_count-below (Leaf gate) = omega arith
+inner_count-below (Series l r) = omega (arith, inner_count-below l, inner_count-below r)
+inner_count-below (Parallel l r) = omega (arith, inner_count-below l, inner_count-below r)
+
+-- the dual of the image is the image of the dual, and it has as many leaves
+pub dual-map_tree : {Net Image : Type 0} (f : Net → Image) (t : Tree Net) → map_tree f (dual t) ≡ dual (map_tree f t)
+dual-map_tree f (Leaf gate) = refl
+dual-map_tree f (Series l r) = rw (dual-map_tree f l, dual-map_tree f r) refl
+dual-map_tree f (Parallel l r) = rw (dual-map_tree f l, dual-map_tree f r) refl
+
+pub leaves-dual : {Net : Type 0} (t : Tree Net) → leaves (dual t) ≡ leaves t
+leaves-dual (Leaf gate) = refl
+leaves-dual (Series l r) = rw (leaves-dual l, leaves-dual r) refl
+leaves-dual (Parallel l r) = rw (leaves-dual l, leaves-dual r) refl
+
+pub EachLeaf-dual : {Net : Type 0} (P : Net → Type 0) (t : Tree Net) → EachLeaf P t → EachLeaf P (dual t)
+EachLeaf-dual P (Leaf gate) h = h
+EachLeaf-dual P (Series l r) h = (EachLeaf-dual P l h.0, EachLeaf-dual P r h.1)
+EachLeaf-dual P (Parallel l r) h = (EachLeaf-dual P l h.0, EachLeaf-dual P r h.1)
+
+-- the parts of a series, one after the other
+pub series_pushed : (old between new : CircuitData) (kind : Kind) (inner : ℕ → List ℕ) (name : ℕ → List ℕ) (tree l r : Tree ℕ) (top bottom middle : List ℕ) (k next : ℕ)
+    → tree ≡ Series l r → middle ≡ inner k → next ≡ k + 1 + inner_count l
+    → between ≡ with_devices old (spell kind inner (map_tree name l) top middle (k + 1))
+    → new ≡ with_devices between (spell kind inner (map_tree name r) middle bottom next)
+    → new ≡ with_devices old (spell kind inner (map_tree name tree) top bottom k)
+series_pushed old between new kind inner name tree l r top bottom middle k next is_tree is_middle is_next one two =
+    let start : next ≡ k + 1 + inner_count (map_tree name l) = is_next ∙ ap (λ n. k + 1 + n) (sym (inner_count-map_tree name l)) in
+    two
+    ∙ ap (λ c. with_devices c (spell kind inner (map_tree name r) middle bottom next)) one
+    ∙ (λ i. with_devices (with_devices old (spell kind inner (map_tree name l) top (is_middle i) (k + 1)))
+    (spell kind inner (map_tree name r) (is_middle i) bottom (start i)))
+    ∙ sym (with_devices-append old (spell kind inner (map_tree name l) top (inner k) (k + 1))
+    (spell kind inner (map_tree name r) (inner k) bottom (k + 1 + inner_count (map_tree name l))))
+    ∙ ap (λ t. with_devices old (spell kind inner (map_tree name t) top bottom k)) (sym is_tree)
+
+-- the parts of a parallel, one after the other
+pub parallel_pushed : (old between new : CircuitData) (kind : Kind) (inner : ℕ → List ℕ) (name : ℕ → List ℕ) (tree l r : Tree ℕ) (top bottom : List ℕ) (k next : ℕ)
+    → tree ≡ Parallel l r → next ≡ k + inner_count l
+    → between ≡ with_devices old (spell kind inner (map_tree name l) top bottom k)
+    → new ≡ with_devices between (spell kind inner (map_tree name r) top bottom next)
+    → new ≡ with_devices old (spell kind inner (map_tree name tree) top bottom k)
+parallel_pushed old between new kind inner name tree l r top bottom k next is_tree is_next one two =
+    let start : next ≡ k + inner_count (map_tree name l) = is_next ∙ ap (λ n. k + n) (sym (inner_count-map_tree name l)) in
+    two
+    ∙ ap (λ c. with_devices c (spell kind inner (map_tree name r) top bottom next)) one
+    ∙ (λ i. with_devices (with_devices old (spell kind inner (map_tree name l) top bottom k)) (spell kind inner (map_tree name r) top bottom (start i)))
+    ∙ sym (with_devices-append old (spell kind inner (map_tree name l) top bottom k)
+    (spell kind inner (map_tree name r) top bottom (k + inner_count (map_tree name l))))
+    ∙ ap (λ t. with_devices old (spell kind inner (map_tree name t) top bottom k)) (sym is_tree)
+
+pub ruleset tree_counts = (inner_count-below)

@@ -1,0 +1,13 @@
+-- Trees over the names of nets, as they are appended to a circuit (Rabaey, Digital Integrated Circuits: pull-down networks).
+use Rattle.std.specs.Prelude.{ℕ, List, ◌++◌}
+use Rattle.std.specs.Fmt.{decimal}
+use Rattle.deck.specs.Nets.{net_name}
+use Rattle.sp_network.specs.Tree.{Tree, map_tree}
+
+-- an inner net: how all of them begin, and its number
+abbrev pub inner_net : List ℕ → ℕ → List ℕ
+inner_net front j = front ++ decimal j
+
+-- the tree over the names of the nets that gate its leaves
+abbrev pub named_tree : List (List ℕ) → Tree ℕ → Tree (List ℕ)
+named_tree gates tree = map_tree (net_name gates) tree

@@ -1,0 +1,145 @@
+//! Calls that append the devices of a cell or a static gate.
+ghost use Rattle.std.specs.Prelude.{◌≡◌, ◌≤◌, ◌<◌, ◌+◌, ◌*◌, OnErr, OnOk, length};
+ghost use Rattle.deck.specs.CircuitGrowth.{Grew};
+ghost use Rattle.deck.specs.Limits.{most_devices};
+ghost use Rattle.deck.specs.NamedDevices.{with_devices};
+ghost use Rattle.sp_network.specs.Tree.{EachLeaf, dual, leaves};
+ghost use Rattle.sp_network.specs.TypedTree.{tree_of};
+ghost use Rattle.domino_cell.specs.Cell.{cell};
+ghost use Rattle.domino_cell.specs.HeldNames.{AreNamesOfGate, held_nets};
+ghost use Rattle.domino_cell.specs.NamedTrees.{named_tree};
+ghost use Rattle.domino_cell.specs.PushedNames.{HasRoomForCell, HasRoomForGate, numbered_cell, static_gate};
+ghost use Rattle.domino_cell.specs.PushedPaths.{HoldsCell, IsDrivenByTree, JoinsWhereOne, MayJoinWhereNotZero};
+
+use crate::names::{CellNames, GateNames};
+use crate::tree::TreeNames;
+use deck::Circuit;
+use dom_base::{Kind, NetName, OutOfMemory, ToVdd, ToVss};
+use sp_network::{GatePlan, Sp};
+use std::alloc::Global;
+
+/// Appends the devices of domino cell `k`, on the clock of its plan: precharge, keeper, tree, foot
+/// and inverter. Gate by gate `names` has the net that gates it. Between the dynamic net `dK` and the
+/// foot net `fK` there is then, at all values of the nets, a definite strong path exactly where the
+/// tree conducts, and a possible one exactly where it may. The one error is out of memory, and it
+/// leaves the circuit as it was.
+pub fn push_domino(
+    alloc: Global,
+    circuit: &mut Circuit,
+    plan: &GatePlan,
+    names: &[NetName],
+    k: u32,
+) -> Result<(), OutOfMemory>
+    requires nets { HasRoomForCell circuit.old (numbered_cell plan.now.clock k) }
+    requires gates { EachLeaf (λ gate. gate < length names.now) (tree_of plan.now.tree) }
+    requires room { length circuit.old.devices + leaves (tree_of plan.now.tree) + 5 ≤ most_devices }
+    ensures devices { OnOk result (circuit.new
+        ≡ with_devices circuit.old (cell (numbered_cell plan.now.clock k) (named_tree names.now (tree_of plan.now.tree)))) }
+    ensures holds { OnOk result (HoldsCell circuit.new (numbered_cell plan.now.clock k) (named_tree names.now (tree_of plan.now.tree))) }
+    ensures definite { OnOk result (JoinsWhereOne circuit.new
+        (numbered_cell plan.now.clock k).dynamic (numbered_cell plan.now.clock k).foot (named_tree names.now (tree_of plan.now.tree))) }
+    ensures possible { OnOk result (MayJoinWhereNotZero circuit.new
+        (numbered_cell plan.now.clock k).dynamic (numbered_cell plan.now.clock k).foot (named_tree names.now (tree_of plan.now.tree))) }
+    ensures refused { OnErr result (circuit.new ≡ circuit.old) }
+{
+    let nets = CellNames::new(alloc, plan.clock, k)?;
+    let before = circuit.device_count();
+    match push_cell(alloc, circuit, plan, names, &nets) {
+        Ok(()) => Ok(()),
+        Err(failed) => {
+            circuit.cut(before);
+            Err(failed)
+        }
+    }
+}
+
+/// Appends the devices of a domino cell. After a refusal some of them may stand at the end.
+fn push_cell(
+    alloc: Global,
+    circuit: &mut Circuit,
+    plan: &GatePlan,
+    names: &[NetName],
+    nets: &CellNames,
+) -> Result<(), OutOfMemory>
+    requires gates { EachLeaf (λ gate. gate < length names.now) (tree_of plan.now.tree) }
+    requires room { length circuit.old.devices + leaves (tree_of plan.now.tree) + 5 ≤ most_devices }
+    ensures devices { OnOk result (circuit.new
+        ≡ with_devices circuit.old (cell (held_nets nets.now) (named_tree names.now (tree_of plan.now.tree)))) }
+    ensures grew { Grew circuit.old circuit.new }
+{
+    let tree = TreeNames {
+        gates: names,
+        front: nets.front.as_bytes(),
+    };
+    circuit.push(Kind::P, &nets.dynamic, &nets.clock, &nets.vdd)?;
+    circuit.push(Kind::Keep, &nets.dynamic, &nets.output, &nets.vdd)?;
+    tree.push(alloc, circuit, &plan.tree, &nets.dynamic, &nets.foot, 0)?;
+    circuit.push(Kind::N, &nets.foot, &nets.clock, &nets.vss)?;
+    circuit.push(Kind::P, &nets.output, &nets.dynamic, &nets.vdd)?;
+    circuit.push(Kind::N, &nets.output, &nets.dynamic, &nets.vss)?;
+    Ok(())
+}
+
+/// Appends a static gate with the output `out`: the dual of its tree from `out` to `vdd`, then the
+/// tree from `out` to `vss`. Gate by gate `names` has the net that gates it. Where the values of
+/// these nets are known, a definite strong path joins `out` to one supply, and no possible one joins
+/// it to the other: to `vss` where the tree conducts. The one error is out of memory, and it leaves
+/// the circuit as it was.
+pub fn push_static(
+    alloc: Global,
+    circuit: &mut Circuit,
+    tree: &Sp<ToVss>,
+    names: &[NetName],
+    out: &NetName,
+) -> Result<(), OutOfMemory>
+    requires nets { HasRoomForGate circuit.old out.now }
+    requires gates { EachLeaf (λ gate. gate < length names.now) (tree_of tree.now) }
+    requires room { length circuit.old.devices + 2 * leaves (tree_of tree.now) ≤ most_devices }
+    ensures devices { OnOk result (circuit.new
+        ≡ with_devices circuit.old (static_gate out.now (named_tree names.now (tree_of tree.now)))) }
+    ensures driven { OnOk result (IsDrivenByTree circuit.new out.now (named_tree names.now (tree_of tree.now))) }
+    ensures refused { OnErr result (circuit.new ≡ circuit.old) }
+{
+    let nets = GateNames::new(alloc, out)?;
+    let dual = tree.dual(alloc)?;
+    let before = circuit.device_count();
+    match push_gate(alloc, circuit, tree, &dual, names, &nets, out) {
+        Ok(()) => Ok(()),
+        Err(failed) => {
+            circuit.cut(before);
+            Err(failed)
+        }
+    }
+}
+
+/// Appends the devices of a static gate, given the dual of its tree. After a refusal some of them
+/// may stand at the end.
+fn push_gate(
+    alloc: Global,
+    circuit: &mut Circuit,
+    tree: &Sp<ToVss>,
+    upper: &Sp<ToVdd>,
+    names: &[NetName],
+    nets: &GateNames,
+    out: &NetName,
+) -> Result<(), OutOfMemory>
+    requires upper { tree_of upper.now ≡ dual (tree_of tree.now) }
+    requires named { AreNamesOfGate out.now nets.now }
+    requires gates { EachLeaf (λ gate. gate < length names.now) (tree_of tree.now) }
+    requires room { length circuit.old.devices + 2 * leaves (tree_of tree.now) ≤ most_devices }
+    ensures devices { OnOk result (circuit.new
+        ≡ with_devices circuit.old (static_gate out.now (named_tree names.now (tree_of tree.now)))) }
+    ensures grew { Grew circuit.old circuit.new }
+{
+    let to_vdd = TreeNames {
+        gates: names,
+        front: nets.upper.as_bytes(),
+    };
+    let to_vss = TreeNames {
+        gates: names,
+        front: nets.lower.as_bytes(),
+    };
+    to_vdd.push(alloc, circuit, upper, out, &nets.vdd, 0)?;
+    to_vss.push(alloc, circuit, tree, out, &nets.vss, 0)?;
+    Ok(())
+}

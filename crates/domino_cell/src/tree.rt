@@ -1,0 +1,66 @@
+//! The devices of a tree.
+ghost use Rattle.std.specs.Prelude.{◌≡◌, ◌≤◌, ◌<◌, ◌+◌, ◌^◌, All, IfOk, OnOk, length};
+ghost use Rattle.dom_base.specs.Names.{IsNetByte};
+ghost use Rattle.deck.specs.CircuitGrowth.{Grew};
+ghost use Rattle.deck.specs.Limits.{most_devices};
+ghost use Rattle.deck.specs.NamedDevices.{with_devices};
+ghost use Rattle.sp_network.specs.Tree.{EachLeaf, inner_count, leaves};
+ghost use Rattle.sp_network.specs.TypedTree.{tree_of};
+ghost use Rattle.domino_cell.specs.NamedTrees.{inner_net, named_tree};
+ghost use Rattle.domino_cell.specs.Spelling.{spell};
+
+use crate::names::numbered_name;
+use deck::Circuit;
+use dom_base::{NetName, OutOfMemory, Polarity};
+use sp_network::Sp;
+use std::alloc::Global;
+
+/// The names of the nets of a tree: gate by gate the net that gates it, and how each inner net
+/// begins, before its number.
+#[derive(Clone, Copy)]
+pub struct TreeNames<'a> {
+    pub gates: &'a [NetName],
+    pub front: &'a [u8],
+}
+
+impl<'a> TreeNames<'a> {
+    /// Appends the devices of a tree from `top` to `bottom`: left parts first, and a series takes its
+    /// inner net before its parts do, from the number `inner` on. Gives the number after the last
+    /// one. The one error is out of memory, and then some of the devices may stand at the end.
+    #[tactic(auto, using(crate::proofs::PushedTrees::tree_counts))]
+    pub fn push<S: Polarity>(
+        &self,
+        alloc: Global,
+        circuit: &mut Circuit,
+        tree: &Sp<S>,
+        top: &NetName,
+        bottom: &NetName,
+        inner: u32,
+    ) -> Result<u32, OutOfMemory>
+        requires gates { EachLeaf (λ gate. gate < length self.now.gates.now) (tree_of tree.now) }
+        requires front { All IsNetByte self.now.front.now }
+        requires room { length circuit.old.devices + leaves (tree_of tree.now) ≤ most_devices }
+        requires numbers { inner + inner_count (tree_of tree.now) < 2 ^ 32 }
+        ensures next { IfOk result (λ next. next ≡ inner + inner_count (tree_of tree.now)) }
+        ensures devices { OnOk result (circuit.new ≡ with_devices circuit.old
+            (spell S.KIND (inner_net self.now.front.now) (named_tree self.now.gates.now (tree_of tree.now)) top.now bottom.now inner)) }
+        ensures count { OnOk result (length circuit.new.devices ≡ length circuit.old.devices + leaves (tree_of tree.now)) }
+        ensures grew { Grew circuit.old circuit.new }
+    {
+        match tree {
+            Sp::Leaf { gate, .. } => {
+                circuit.push(S::KIND, top, &self.gates[*gate as usize], bottom)?;
+                Ok(inner)
+            }
+            Sp::Series(left, right) => {
+                let middle = numbered_name(alloc, self.front, inner)?;
+                let next = self.push(alloc, circuit, left, top, &middle, inner + 1)?;
+                self.push(alloc, circuit, right, &middle, bottom, next)
+            }
+            Sp::Parallel(left, right) => {
+                let next = self.push(alloc, circuit, left, top, bottom, inner)?;
+                self.push(alloc, circuit, right, top, bottom, next)
+            }
+        }
+    }
+}
