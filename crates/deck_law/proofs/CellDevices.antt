@@ -13,12 +13,13 @@ use Rattle.synth_flow.specs.DeckNets.{CellPlan, named_cell}
 use Rattle.deck_law.specs.NetNames.{cell_shape, deck_name}
 use Rattle.deck_law.proofs.GateNames.{tree_name}
 use Rattle.synth_flow.specs.DeckNets as named
+use Rattle.domino_cell.specs.PushedNames.{numbered_cell}
 
 next : (n : ℕ) → 1 + n ≡ suc n
 next n = omega arith
 
 module _ (pins outs : List (List ℕ)) where
-  same_nets : (leaf_count k : ℕ) (c : CellPlan) → 1 ≤ c.clock → named.nets_of_cell c.clock k ≡ map_nets (deck_name pins outs) (net_cell k (cell_shape (length pins) leaf_count c))
+  same_nets : (leaf_count k : ℕ) (c : CellPlan) → 1 ≤ c.clock → numbered_cell c.clock k ≡ map_nets (deck_name pins outs) (net_cell k (cell_shape (length pins) leaf_count c))
   same_nets leaf_count k c some =
       let clock : c.clock ≡ 1 + (c.clock - 1) = less c.clock some in
       λ i. record {

@@ -7,7 +7,7 @@ use Rattle.std.proofs.lemmas.Option.{slice_get-get_or, slice_get_within}
 use Rattle.std.proofs.lemmas.List.FromFn.{length-enumerate_from}
 use Rattle.std.proofs.lemmas.Bool.{and_parts, eqb-true}
 use Rattle.dom_base.specs.declared.kind.Kind.TheVariants.{N as nch}
-use Rattle.dom_base.proofs.Lists.{AllByRecursion-left}
+use Rattle.dom_base.proofs.Lists.{AllByRecursion-left, slice_get-contained, All-at}
 use Rattle.deck.specs.CircuitData.{CircuitData}
 use Rattle.deck.specs.Nets.{IsCircuit, net_number}
 use Rattle.deck.specs.Ports.{IsOutput, IsPin, leading_ports}
@@ -22,17 +22,18 @@ use Rattle.domino_law.specs.LooseDeck.{IsNet, IsSourceNet}
 use Rattle.domino_law.specs.Nets.{At, Clock, Complement, Dynamic, Gate, Lm, Lmb, Ls, Lsb, Master, Net, Next, Output, Pin, Rs, Rsb, DeckSignal, Sink, Slave, Vdd, Vss}
 use Rattle.domino_law.specs.Settings.{port_number}
 use Rattle.domino_law.specs.Shape.{DominoCell, HasComplement, IsCellAt, IsLatchAt, IsOutputAt, Latch}
-use Rattle.synth_flow.specs.DeckNets.{CellPlan, named_cell, nets_of_cell, named_latch}
+use Rattle.synth_flow.specs.DeckNets.{CellPlan, named_cell, named_latch}
 use Rattle.synth_flow.specs.NamedDecks.{IsNamedDeck}
 use Rattle.deck_law.specs.NetNames.{cell_shape, end_gate, gate_of, latch_shape, leaf_signal}
 use Rattle.deck_law.proofs.GateNames.{leaf_back}
 use Rattle.deck_law.proofs.Names.{read, signal_fits, read-clock, read-complement, read-dynamic, read-fixed, read-foot, read-inner, read-master, read-next, read-output, read-slave}
 use Rattle.deck_law.proofs.Numbers.{cell_in, complement_in, devices_are, grew, latch_in, name_of, nets_are, of_cells, of_complements, of_latches, of_sinks, out_at, source_at, the_net, the_roles, the_shape}
 use Rattle.deck_law.proofs.PortNumbers.{number_is}
-use Rattle.deck_law.proofs.DeviceLists.{contained_at, flat_longer, flat_many, enumerated, spell_longer}
+use Rattle.deck_law.proofs.DeviceLists.{flat_longer, flat_many, enumerated, spell_longer}
 use Rattle.net_flatten.proofs.Lists.{get_of_map}
-use Rattle.synth_flow.proofs.DeckForms.{zipped_get, all_at, length_map}
+use Rattle.synth_flow.proofs.DeckForms.{zipped_get, length_map}
 use Rattle.synth_flow.specs.DeckNets as named
+use Rattle.domino_cell.specs.PushedNames.{numbered_cell}
 
 distinct-left : (xs ys : List (List ℕ)) → IsDistinct (pointwise nat_eq) (xs ++ ys) → IsDistinct (pointwise nat_eq) xs
 unfolding IsDistinct
@@ -78,7 +79,7 @@ module _ (circuit : CircuitData) (d : IsNamedDeck circuit) (ok : IsCircuit circu
       let at : slice_get (enumerate_from 0 d.cells) k ≡ Some (k, c) = enumerated 0 d.cells k c e ∙ ap (λ n. Some (n, c)) (zero-add k) in
       let long = flat_longer (named_cell d.pins leaf_count) (enumerate_from 0 d.cells) k (k, c) at in
       let tree = map_tree (named.named_gate d.pins leaf_count) c.tree in
-      let nets = nets_of_cell c.clock k in
+      let nets = numbered_cell c.clock k in
       let spelled = spell nch nets.inner tree nets.dynamic nets.foot 0 in
       let spells = spell_longer nch nets.inner tree nets.dynamic nets.foot 0 in
       let count = inner_count-map_tree (named.named_gate d.pins leaf_count) c.tree in
@@ -106,7 +107,7 @@ module _ (circuit : CircuitData) (d : IsNamedDeck circuit) (ok : IsCircuit circu
 
   read-pin : (p : ℕ) → p < length d.pins → read d.pins d.outs (name_of circuit d (Pin p)) ≡ Pin p
   read-pin p lt =
-      let b = begins 105 95 (slice_index_or d.pins p []) (all_at IsPin d.pins p (slice_index_or d.pins p []) d.roles.pins_are (pin_get p lt)) in
+      let b = begins 105 95 (slice_index_or d.pins p []) (All-at IsPin d.pins p (slice_index_or d.pins p []) d.roles.pins_are (pin_get p lt)) in
       let apart = distinct-left d.pins (d.outs ++ (grew circuit d).more_nets) ports_apart in
       ap (read d.pins d.outs) b.1
       ∙ ap (λ l. Pin (net_number d.pins l)) (sym b.1)
@@ -117,7 +118,7 @@ module _ (circuit : CircuitData) (d : IsNamedDeck circuit) (ok : IsCircuit circu
 
   read-out : (i : ℕ) → i < length d.outs → read d.pins d.outs (name_of circuit d (At (Sink i) Top)) ≡ At (Sink i) Top
   read-out i lt =
-      let b = begins 111 95 (slice_index_or d.outs i []) (all_at IsOutput d.outs i (slice_index_or d.outs i []) d.roles.outs_are (out_get i lt)) in
+      let b = begins 111 95 (slice_index_or d.outs i []) (All-at IsOutput d.outs i (slice_index_or d.outs i []) d.roles.outs_are (out_get i lt)) in
       let apart = distinct-left d.outs (grew circuit d).more_nets (distinct-right d.pins (d.outs ++ (grew circuit d).more_nets) ports_apart) in
       ap (read d.pins d.outs) b.1
       ∙ ap (λ l. At (Sink (net_number d.outs l)) Top) (sym b.1)
@@ -226,9 +227,9 @@ module _ (circuit : CircuitData) (d : IsNamedDeck circuit) (ok : IsCircuit circu
   complement_at : (l : DeckSignal) → HasComplement (the_shape circuit d) l
       → (k : ℕ) × (leaf : ℕ) × (slice_get d.complements k ≡ Some leaf) × (leaf < length d.pins + length d.starts) × (leaf_signal (length d.pins) leaf ≡ l)
   complement_at l h =
-      let c = contained_at (map (leaf_signal (length d.pins)) d.complements) l h in
+      let c = slice_get-contained (map (leaf_signal (length d.pins)) d.complements) l h in
       let m = get_of_map (leaf_signal (length d.pins)) d.complements c.0 l c.1 in
-      (c.0, m.0, m.1, all_at (λ leaf. leaf < length d.pins + length d.starts) d.complements c.0 m.0 d.of_leaves m.1, m.2)
+      (c.0, m.0, m.1, All-at (λ leaf. leaf < length d.pins + length d.starts) d.complements c.0 m.0 d.of_leaves m.1, m.2)
 
   named_complement : (l : DeckSignal) → HasComplement (the_shape circuit d) l → IsNamed (At (Complement l) Top)
   named_complement l h =

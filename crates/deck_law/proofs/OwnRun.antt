@@ -3,7 +3,7 @@ use Rattle.std.specs.Prelude.{◌==◌, slice_index_or}
 use Rattle.std.specs.List.{range_with_len, zip}
 use Rattle.std.proofs.Common.{Bool, List, [], ap, ap₂, arith, cond, false, true, length, map, not, refl, subst, suc, sym, take, drop, zero, ℕ, ◌*◌, ◌/◌, ◌%◌, ◌++◌, ◌+◌, ◌-◌, ◌<◌, ◌≤◌, ◌∙◌, ◌∷◌, ◌≡◌, Some, slice_get, nat_lt, ltb-true, ltb-false, eq-eqb, length-append, length-take, length-drop}
 use Rattle.std.proofs.lemmas.Option.{get_or_from_slice_get, slice_get_within}
-use Rattle.dom_base.proofs.Lists.{slice_get-append}
+use Rattle.dom_base.proofs.Lists.{slice_get-append, slice_get-behind, All-at}
 use Rattle.deck.specs.CircuitData.{CircuitData}
 use Rattle.sp_network.specs.Tree.{EachLeaf, Leaf, Parallel, Series, Tree, joins, map_tree}
 use Rattle.net_flatten.specs.declared.network.NetLatch.{NetLatch}
@@ -32,12 +32,11 @@ use Rattle.synth_flow.specs.ChosenDecks.{IsPlannedDeck, end_at_cell}
 use Rattle.synth_flow.specs.DeckNets.{CellPlan, SinkEnd}
 use Rattle.synth_flow.specs.DominoDecks.{cells_of, outs_of, pins_of, starts_of}
 use Rattle.synth_flow.proofs.CellOrder.{root_of_cell, tree_reads}
-use Rattle.synth_flow.proofs.DeckForms.{cell_within, counted, leaves_are, root_end, zipped_get, all_at, length_map, zip_length, forest_in_place}
+use Rattle.synth_flow.proofs.DeckForms.{cell_within, counted, leaves_are, root_end, zipped_get, length_map, zip_length, forest_in_place}
 use Rattle.deck_law.specs.NetNames.{cell_shape, deck_shape, end_gate, gate_of, latch_shape, rail_of, leaf_signal}
 use Rattle.deck_law.proofs.ForestBits.{gate_value, gate_values, nodes_there, pairs_there, root_back, root_of}
 use Rattle.deck_law.proofs.BitsInTurn.{filled, filled-at}
 use Rattle.deck_law.proofs.SpelledDecks.{taken_get}
-use Rattle.gate_decompose.proofs.JoinedItems.{get-behind}
 use Rattle.net_flatten.proofs.Lists.{get_of_map, get_map}
 use Rattle.gate_decompose.specs.GatesOrder.{AreInPlace, AreOrderedGates}
 use Rattle.gate_decompose.proofs.GatesOrder.{gates_are_ordered, network_gates_are_in_place}
@@ -282,7 +281,7 @@ module _ (network : NetworkData) (w h phases : ℕ) (circuit : CircuitData) (is 
 
   -- what a sink's inverter makes is the value of its end
   output_bit : (k place : ℕ) → slice_get is.forest.ends k ≡ Some (end_output place) → bit_at bits (cell_of is.kept place) ≡ pair.0 place
-  output_bit k place e = reach (all_at (IsEndOfForest is.forest) is.forest.ends k (end_output place) forest_is.has_ends e) (counted (is_end_from place) is.forest.ends k (end_output place) e (eq-eqb place place refl))
+  output_bit k place e = reach (All-at (IsEndOfForest is.forest) is.forest.ends k (end_output place) forest_is.has_ends e) (counted (is_end_from place) is.forest.ends k (end_output place) e (eq-eqb place place refl))
     where
       reach : place < length is.forest.pairs → 1 ≤ end_uses is.forest place → bit_at bits (cell_of is.kept place) ≡ pair.0 place
       reach low some =
@@ -290,7 +289,7 @@ module _ (network : NetworkData) (w h phases : ℕ) (circuit : CircuitData) (is 
           ∙ ap pair.0 (root_back is.kept place (omega (arith, low, one_each)) (root_end network w h phases circuit is forest_is.in_order forest_is.has_leaves forest_is.has_ends place some))
 
   dynamic_bit : (k place : ℕ) → slice_get is.forest.ends k ≡ Some (end_dynamic place) → bit_at bits (cell_of is.kept place) ≡ pair.0 place
-  dynamic_bit k place e = reach (all_at (IsEndOfForest is.forest) is.forest.ends k (end_dynamic place) forest_is.has_ends e) (counted (is_end_from place) is.forest.ends k (end_dynamic place) e (eq-eqb place place refl))
+  dynamic_bit k place e = reach (All-at (IsEndOfForest is.forest) is.forest.ends k (end_dynamic place) forest_is.has_ends e) (counted (is_end_from place) is.forest.ends k (end_dynamic place) e (eq-eqb place place refl))
     where
       reach : place < length is.forest.pairs → 1 ≤ end_uses is.forest place → bit_at bits (cell_of is.kept place) ≡ pair.0 place
       reach low some =
@@ -303,7 +302,7 @@ module _ (network : NetworkData) (w h phases : ℕ) (circuit : CircuitData) (is 
   end_value k (Literal rail) at = by rail.plus
     where
       low : rail.leaf < forest.leaves
-      low = all_at (IsEndOfForest is.forest) is.forest.ends k (Literal rail) forest_is.has_ends at
+      low = All-at (IsEndOfForest is.forest) is.forest.ends k (Literal rail) forest_is.has_ends at
 
       by : (b : Bool) → not (gate_bit signal bits (cond b (Minus (leaf_signal P rail.leaf)) (Plus (leaf_signal P rail.leaf)))) ≡ signed b (value rail.leaf)
       by true = twice (signal (leaf_signal P rail.leaf)) ∙ signal_value rail.leaf low
@@ -360,7 +359,7 @@ module _ (network : NetworkData) (w h phases : ℕ) (circuit : CircuitData) (is 
       ap (λ (b : Latch). sink_bit s (bit_at pins) (bit_at state) b.next) (sym m.2)
       ∙ ap (λ g. sink_bit s (bit_at pins) (bit_at state) (end_gate P g)) (sym o.2)
       ∙ sink_value (length (outs_of network) + k) o.0 y.input o.1
-      (ap (λ n. slice_get (sink_signals network) (n + k)) out_count ∙ get-behind network.outputs (map (λ (l : NetLatch). l.input) network.latches) k ∙ get_map (λ (l : NetLatch). l.input) network.latches k y f))
+      (ap (λ n. slice_get (sink_signals network) (n + k)) out_count ∙ slice_get-behind network.outputs (map (λ (l : NetLatch). l.input) network.latches) k ∙ get_map (λ (l : NetLatch). l.input) network.latches k y f))
       ∙ sym is_cycle.next_is
     where
       fit : length (starts_of network) ≡ length (drop (length (outs_of network)) at_cells)

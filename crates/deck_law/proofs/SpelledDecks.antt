@@ -4,7 +4,7 @@ use Rattle.std.specs.List.{list_any}
 use Rattle.std.proofs.Common.{◌≡◌, ℕ, zero, suc, ◌+◌, ◌-◌, ◌*◌, ◌/◌, ◌%◌, ◌<◌, ◌≤◌, Bool, true, false, List, [], ◌∷◌, ◌++◌, length, map, take, drop, refl, sym, ap, ◌∙◌, subst, inl, inr, arith, zip, Some, slice_get, length-append, length-drop, nat_lt, eq-eqb, ltb-true, ltb-false, length-take}
 use Rattle.std.proofs.lemmas.Option.{slice_get_within}
 use Rattle.std.proofs.lemmas.Bool.{cases_lt, eqb-false}
-use Rattle.dom_base.proofs.Lists.{Contains-slice_get}
+use Rattle.dom_base.proofs.Lists.{Contains-slice_get, slice_get-contained, All-at}
 use Rattle.deck.specs.CircuitData.{CircuitData}
 use Rattle.deck.specs.Nets.{IsCircuit}
 use Rattle.deck.specs.Ports.{leading_ports}
@@ -19,12 +19,11 @@ use Rattle.domino_law.specs.Spelled.{IsSpelledDeck}
 use Rattle.synth_flow.specs.DeckNets.{SinkEnd, Fixed, OfDynamic, OfLeaf, OfOutput, CellPlan}
 use Rattle.synth_flow.specs.NamedDecks.{IsEndIn, IsNamedDeck, is_plus_literal, names_complement, reads}
 use Rattle.deck_law.specs.NetNames.{cell_shape, end_gate, gate_of, latch_shape, rail_of, leaf_signal}
-use Rattle.deck_law.proofs.DeviceLists.{contained_at}
 use Rattle.deck_law.proofs.NamedNets.{apart, named_net}
 use Rattle.deck_law.proofs.Numbers.{grew, lead_count, name_of, nets_are, parts_are, source_at, the_net, the_roles, the_shape, out_at}
 use Rattle.deck_law.proofs.PortNumbers.{number_is}
 use Rattle.net_flatten.proofs.Lists.{get_of_map, get_map}
-use Rattle.synth_flow.proofs.DeckForms.{zipped_get, all_at, length_map}
+use Rattle.synth_flow.proofs.DeckForms.{zipped_get, length_map}
 use Rattle.domino_law.specs.DominoDeck.{IsLooseDominoDeck}
 use Rattle.deck.specs.PortLayout.{first_output}
 use Rattle.deck_law.specs.Laws.{LooseDecksAreSpelled}
@@ -58,7 +57,7 @@ any_at test (y ∷ xs) zero x e t = let same : y ≡ x = cc in or_left (test y) 
 any_at test (y ∷ xs) (suc k) x e t = or_right (test y) (list_any test xs) (any_at test xs k x e t)
 
 mapped_contains : (f : ℕ → DeckSignal) (xs : List ℕ) (x : ℕ) → Contains xs x → Contains (map f xs) (f x)
-mapped_contains f xs x h = let c = contained_at xs x h in Contains-slice_get (map f xs) c.0 (f x) (get_map f xs c.0 x c.1)
+mapped_contains f xs x h = let c = slice_get-contained xs x h in Contains-slice_get (map f xs) c.0 (f x) (get_map f xs c.0 x c.1)
 
 pub cell_exists : {X Y : Type 0} (f : X → Y) (xs : List X) (k : ℕ) → k < length xs → (y : Y) × (slice_get (map f xs) k ≡ Some y)
 cell_exists f [] k lt = absurd (omega arith)
@@ -123,7 +122,7 @@ module _ (circuit : CircuitData) (d : IsNamedDeck circuit) where
           rw e (omega arith, has_cell (gate - 2 * (length d.pins + length d.starts)) (omega arith))
 
   end_is : (k : ℕ) (e : SinkEnd) → slice_get d.ends k ≡ Some e → IsGate (the_shape circuit d) (end_gate (length d.pins) e)
-  end_is k e at = by e at (all_at (IsEndIn (length d.pins + length d.starts) (length d.cells)) d.ends k e d.ends_are at)
+  end_is k e at = by e at (All-at (IsEndIn (length d.pins + length d.starts) (length d.cells)) d.ends k e d.ends_are at)
     where
       by : (x : SinkEnd) → slice_get d.ends k ≡ Some x → IsEndIn (length d.pins + length d.starts) (length d.cells) x → IsGate (the_shape circuit d) (end_gate (length d.pins) x)
       by (Fixed false) f i = tt
@@ -142,7 +141,7 @@ module _ (circuit : CircuitData) (d : IsNamedDeck circuit) where
   shape_is = record {
     clocks_are = λ k c e.
         let m = get_of_map (cell_shape (length d.pins) (length d.pins + length d.starts)) d.cells k c e in
-        let low = all_at (λ (x : CellPlan). (1 ≤ x.clock) × (x.clock ≤ d.clocks)) d.cells k m.0 d.clocks_are m.1 in
+        let low = All-at (λ (x : CellPlan). (1 ≤ x.clock) × (x.clock ≤ d.clocks)) d.cells k m.0 d.clocks_are m.1 in
         subst (λ (x : DominoCell). x.clock < d.clocks) m.2 (omega (arith, low.0, low.1));
     leaves = λ k c e.
         let m = get_of_map (cell_shape (length d.pins) (length d.pins + length d.starts)) d.cells k c e in
@@ -150,9 +149,9 @@ module _ (circuit : CircuitData) (d : IsNamedDeck circuit) where
         (each_read (λ gate. gate < 2 * (length d.pins + length d.starts) + k) (IsLeafOf (the_shape circuit d) k) (gate_of (length d.pins) (length d.pins + length d.starts)) (m.0).tree
         (λ gate is low. leaf_is k m.0 m.1 gate is low) (d.reads_below k m.0 m.1));
     complements_are = λ l h.
-        let c = contained_at (map (leaf_signal (length d.pins)) d.complements) l h in
+        let c = slice_get-contained (map (leaf_signal (length d.pins)) d.complements) l h in
         let m = get_of_map (leaf_signal (length d.pins)) d.complements c.0 l c.1 in
-        subst (IsSignal (the_shape circuit d)) m.2 (signal_is m.0 (all_at (λ leaf. leaf < length d.pins + length d.starts) d.complements c.0 m.0 d.of_leaves m.1));
+        subst (IsSignal (the_shape circuit d)) m.2 (signal_is m.0 (All-at (λ leaf. leaf < length d.pins + length d.starts) d.complements c.0 m.0 d.of_leaves m.1));
     nexts = λ j b e.
         let m = get_of_map (latch_shape (length d.pins)) (zip d.starts (drop (length d.outs) d.ends)) j b e in
         let z = zipped_get d.starts (drop (length d.outs) d.ends) j m.0 m.1 in

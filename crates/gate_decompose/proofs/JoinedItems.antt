@@ -2,7 +2,7 @@
 use Rattle.std.proofs.Common.{◌≡◌, sym, ap, ap₂, subst, ◌∙◌, ℕ, suc, ◌+◌, ◌-◌, ◌≤◌, ◌<◌, Bool, true, false, ◌||◌, List, [], ◌∷◌, ◌++◌, length, map, take, drop, get_or, slice_get, arith, append_assoc, length-append, zero-add}
 use Rattle.std.specs.Int.{div_ceil}
 use Rattle.std.proofs.lemmas.List.{map-append, length-map, take-map, drop-map, take_rest}
-use Rattle.dom_base.proofs.Lists.{slice_get-append}
+use Rattle.dom_base.proofs.Lists.{slice_get-append, slice_get-behind}
 use Rattle.gate_decompose.specs.declared.expression.Item.{Item}
 use Rattle.gate_decompose.specs.declared.gates.Node.{Node}
 use Rattle.gate_decompose.specs.declared.gates.Ref.{Ref}
@@ -29,16 +29,8 @@ all_joined-halves operator table items way many =
 pub numbered_front : (names : List NodeName) (n : ℕ) (xs ys : List NamedNode) → AreNumbered names n (xs ++ ys) → AreNumbered names n xs
 numbered_front names n xs ys h = λ i x e. h i x (slice_get-append xs ys i x e)
 
--- what stands behind a list
-pub get-behind : {X : Type 0} (xs ys : List X) (i : ℕ) → slice_get (xs ++ ys) (length xs + i) ≡ slice_get ys i
-get-behind [] ys i = ap (slice_get ys) (zero-add i)
-get-behind (x ∷ xs) ys i = ap (slice_get (x ∷ (xs ++ ys))) (shift (length xs) i) ∙ get-behind xs ys i
-  where
-    shift : (a b : ℕ) → suc a + b ≡ suc (a + b)
-    shift a b = omega arith
-
 pub numbered_back : (names : List NodeName) (n : ℕ) (xs ys : List NamedNode) → AreNumbered names n (xs ++ ys) → AreNumbered names (n + length xs) ys
-numbered_back names n xs ys h = λ i x e. h (length xs + i) x (get-behind xs ys i ∙ e) ∙ omega arith
+numbered_back names n xs ys h = λ i x e. h (length xs + i) x (slice_get-behind xs ys i ∙ e) ∙ omega arith
 
 -- how many nodes there are then
 made_length : (names : List NodeName) (old new : List Node) (r : Ref) (part : TermNodes) → IsMade names old new r part → length new ≡ length old + length part.nodes

@@ -36,6 +36,7 @@ use Rattle.gate_decompose.proofs.Among.{among-contains, contains-among}
 use Rattle.synth_flow.proofs.CellOrder.{cell_before, root_of_cell, roots_count, tree_reads}
 use Rattle.gate_decompose.proofs.Rising.{rises_at}
 use Rattle.std.proofs.lemmas.Option.{same_Some}
+use Rattle.dom_base.proofs.Lists.{All-at}
 
 pub length_map : {X Y : Type 0} (f : X → Y) (xs : List X) → length (map f xs) ≡ length xs
 length_map f [] = refl
@@ -58,11 +59,6 @@ all_zip_from R [] [] same h = tt
 all_zip_from R [] (y ∷ ys) same h = absurd (omega arith)
 all_zip_from R (x ∷ xs) [] same h = absurd (omega arith)
 all_zip_from R (x ∷ xs) (y ∷ ys) same h = (h 0 x y refl refl, all_zip_from R xs ys (omega arith) (λ k a b e f. h (suc k) a b e f))
-
-pub all_at : {X : Type 0} (P : X → Type 0) (xs : List X) (k : ℕ) (x : X) → All P xs → slice_get xs k ≡ Some x → P x
-all_at P xs k x h e =
-    let lt = slice_get_within xs k x e in
-    subst P (same_Some (get_or xs k x) x (sym (slice_get-get_or xs k x lt) ∙ e)) (h k x lt)
 
 pub counted : {X : Type 0} (test : X → Bool) (xs : List X) (k : ℕ) (x : X) → slice_get xs k ≡ Some x → test x ≡ true → 1 ≤ count_by test xs
 counted test [] k x e t = absurd (cc)
@@ -98,7 +94,7 @@ module _ (network : NetworkData) (w h phases : ℕ) (circuit : CircuitData) (is 
       omega arith
 
   pub end_in : (k : ℕ) (e : End) → slice_get is.forest.ends k ≡ Some e → IsEndIn (leaf_count network) (length is.trees) (end_at_cell is.kept e)
-  end_in k e at = by e at (all_at (IsEndOfForest is.forest) is.forest.ends k e ends at)
+  end_in k e at = by e at (All-at (IsEndOfForest is.forest) is.forest.ends k e ends at)
     where
       by : (x : End) → slice_get is.forest.ends k ≡ Some x → IsEndOfForest is.forest x → IsEndIn (leaf_count network) (length is.trees) (end_at_cell is.kept x)
       by (Const b) f low = tt

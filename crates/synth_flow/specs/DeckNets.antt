@@ -4,8 +4,9 @@ use Rattle.std.specs.Fmt.{decimal}
 use Rattle.std.specs.List.{enumerate_from, zip}
 use Rattle.dom_base.specs.declared.kind.Kind.TheVariants.{N as nch, P as pch}
 use Rattle.deck.specs.NamedDevices.{NamedDevice}
-use Rattle.domino_cell.specs.Cell.{CellNets, cell, inverter}
+use Rattle.domino_cell.specs.Cell.{cell, inverter}
 use Rattle.sp_network.specs.Tree.{Tree, map_tree}
+use Rattle.domino_cell.specs.PushedNames.{numbered_cell}
 
 abbrev pub vdd : List ℕ
 vdd = codes "vdd"
@@ -22,18 +23,6 @@ dynamic_net k = codes "d" ++ decimal k
 
 abbrev pub output_net : ℕ → List ℕ
 output_net k = codes "z" ++ decimal k
-
--- the nets of cell k on a clock
-abbrev pub nets_of_cell : ℕ → ℕ → CellNets (List ℕ)
-nets_of_cell clock k = record {
-  vdd = vdd;
-  vss = vss;
-  clock = clock_net clock;
-  dynamic = dynamic_net k;
-  output = output_net k;
-  foot = codes "f" ++ decimal k;
-  inner = λ j. codes "t" ++ decimal k ++ codes "_" ++ decimal j;
-}
 
 -- the own net of a leaf: the pins stand first, then the outputs of the latches
 abbrev pub own_net : List (List ℕ) → ℕ → List ℕ
@@ -57,7 +46,7 @@ pub record CellPlan : Type 0 where
   pub clock : ℕ
 
 abbrev pub named_cell : List (List ℕ) → ℕ → ℕ × CellPlan → List (NamedDevice (List ℕ))
-named_cell pins leaf_count p = cell (nets_of_cell p.1.clock p.0) (map_tree (named_gate pins leaf_count) p.1.tree)
+named_cell pins leaf_count p = cell (numbered_cell p.1.clock p.0) (map_tree (named_gate pins leaf_count) p.1.tree)
 
 abbrev pub named_complement : List (List ℕ) → ℕ → List (NamedDevice (List ℕ))
 named_complement pins leaf = inverter vdd vss (own_net pins leaf) (complement_net leaf)
