@@ -1,0 +1,120 @@
+-- Each network has the deck and the text that synthesis gives of it.
+use Rattle.std.proofs.Common.{◌≡◌, ◌⊎◌, inl, inr, ℕ, ◌+◌, ◌*◌, ◌<◌, Bool, List, [], ◌∷◌, map, take, refl, subst, ◌∙◌, arith}
+use Rattle.deck.specs.CircuitData.{CircuitData}
+use Rattle.deck.specs.Ports.{HasRoles, HasSomeRoles, leading_ports}
+use Rattle.deck.proofs.PortDecisions.{has_roles}
+use Rattle.deck.proofs.PortLayout.{HasRoles-same}
+use Rattle.spice_text.specs.Text.{IsWritten, text_with}
+use Rattle.sp_network.specs.Tree.{Tree, EachLeaf}
+use Rattle.net_flatten.specs.NetworkData.{NetworkData}
+use Rattle.gate_decompose.specs.GateNodes.{AreGatesOf, network_nodes, node_names, node_of, ref_of}
+use Rattle.gate_decompose.specs.GatesData.{GatesData}
+use Rattle.gate_decompose.specs.Sinks.{leaf_count, sink_signals}
+use Rattle.gate_decompose.proofs.GatesOrder.{gates_are_ordered, network_gates_are_in_place}
+use Rattle.gate_decompose.proofs.NetworkOrder.{networks_are_ordered}
+use Rattle.gate_decompose.proofs.Operands.{are_operands, operands_of}
+use Rattle.dual_rail.specs.ForestData.{ForestData}
+use Rattle.dual_rail.specs.ForestOrder.{IsForestInPlace}
+use Rattle.dual_rail.specs.Forests.{IsForestOf}
+use Rattle.dual_rail.proofs.ForestOrders.{forests_are_in_place}
+use Rattle.dual_rail.proofs.Zips.{all_zip_back}
+use Rattle.phase_assign.specs.Signs.{AreChosen}
+use Rattle.phase_assign.proofs.ChosenSigns.{chosen_settled, chosen_there}
+use Rattle.tree_map.specs.LeastPlans.{IsChosenPlan}
+use Rattle.tree_map.specs.Plans.{IsPlan, IsTreeOf, roots}
+use Rattle.tree_map.proofs.PlanThere.{chosen_plan_there}
+use Rattle.clock_phase.specs.Levels.{AreLevels}
+use Rattle.synth_flow.specs.ChosenDecks.{IsChosenDeck, end_at_cell}
+use Rattle.synth_flow.specs.DominoDecks.{deck_circuit}
+use Rattle.synth_flow.proofs.CellOrder.{root_of_cell, tree_reads}
+use Rattle.plan_law.specs.Laws.{ChosenDecksAreThere, GatesAreThere, SynthTextsAreThere, TextsAreThere, TreesReadBelow}
+use Rattle.plan_law.proofs.CellLevels.{levels_there}
+use Rattle.plan_law.proofs.ForestThere.{forests_there}
+
+pub gates_there : GatesAreThere
+gates_there = λ network order.
+    let of = operands_of network in (
+      record {
+        leaves = leaf_count network;
+        nodes = map (λ n. node_of (node_names of network) n.joint) (network_nodes of network);
+        sinks = map (λ signal. ref_of (node_names of network) (of signal)) (sink_signals network);
+      },
+      record { of = of; are_operands = are_operands network order; leaves_are = refl; nodes_are = refl; sinks_are = refl },
+    )
+
+-- the trees of a plan read rails and cells before their own
+plan_reads : (forest : ForestData) (w h : ℕ) (kept : List Bool) (trees : List (Tree ℕ)) → IsForestInPlace forest → IsPlan forest w h kept trees
+    → TreesReadBelow forest.leaves trees
+plan_reads forest w h kept trees is plan = λ k tree at.
+    let found = all_zip_back (IsTreeOf forest kept) (roots kept) trees k tree plan.trees_are at in
+    let root = root_of_cell kept k found.0 found.1 in
+    subst (λ cell. EachLeaf (λ gate. gate < 2 * forest.leaves + cell) tree) root.0
+    (tree_reads forest kept is.in_order is.has_leaves found.0 (omega (arith, root.2)) tree found.2)
+
+-- the deck of these parts
+deck_of : (network : NetworkData) (w h phases : ℕ) (gates : GatesData) (signs : List Bool) (forest : ForestData) (kept : List Bool)
+    (trees : List (Tree ℕ)) (levels : List ℕ) → AreGatesOf network gates → AreChosen gates signs → IsForestOf gates signs forest
+    → IsChosenPlan forest w h kept trees → AreLevels (leaf_count network) trees levels
+    → (circuit : CircuitData) × IsChosenDeck network w h phases circuit
+deck_of network w h phases gates signs forest kept trees levels are_gates are_chosen is_forest is_plan levels_are = (
+  deck_circuit network phases trees levels signs (map (end_at_cell kept) forest.ends),
+  record {
+    gates = gates;
+    signs = signs;
+    forest = forest;
+    kept = kept;
+    trees = trees;
+    levels = levels;
+    are_gates = are_gates;
+    are_chosen = are_chosen;
+    is_forest = is_forest;
+    is_chosen_plan = is_plan;
+    levels_are = levels_are;
+    circuit_is = refl;
+  },
+)
+
+pub decks_there : ChosenDecksAreThere
+decks_there = λ network w h phases is wide tall.
+    let order = networks_are_ordered network is in
+    let gates = gates_there network order in
+    let in_place = network_gates_are_in_place network gates.0 order gates.1 in
+    let ordered = gates_are_ordered gates.0 in_place in
+    let signs = chosen_there gates.0 ordered in
+    let forest = forests_there gates.0 signs.0 in_place (chosen_settled gates.0 ordered signs.0 signs.1).one_each in
+    let stands = forests_are_in_place gates.0 signs.0 forest.0 in_place forest.1 in
+    let plan = chosen_plan_there forest.0 w h wide tall stands.in_order in
+    let leaves : (forest.0).leaves ≡ leaf_count network = (forest.1).leaves_are ∙ (gates.1).leaves_are in
+    let levels = levels_there (leaf_count network) plan.1
+    (subst (λ n. TreesReadBelow n plan.1) leaves (plan_reads forest.0 w h plan.0 plan.1 stands (plan.2).plan)) in
+    deck_of network w h phases gates.0 signs.0 forest.0 plan.0 plan.1 levels.0 gates.1 signs.1 forest.1 plan.2 levels.1
+
+pub written_there : TextsAreThere
+written_there = λ circuit. by circuit (has_roles (take circuit.ports circuit.nets))
+  where
+    by : (circuit : CircuitData)
+        → HasSomeRoles (take circuit.ports circuit.nets)
+        ⊎ ((clocks : ℕ) (pins outs : List (List ℕ)) → HasRoles (take circuit.ports circuit.nets) clocks pins outs → ⊥)
+        → (text : List ℕ) × IsWritten circuit text
+    by c (inl h) = (
+      text_with c (leading_ports h.clocks) (h.pins ∷ h.outs ∷ []),
+      record {
+        with_roles = λ clocks pins outs has.
+            let same = HasRoles-same (take c.ports c.nets) h.clocks clocks h.pins pins h.outs outs h.roles has in
+            λ i. text_with c (leading_ports (same.same_clocks i)) (same.same_pins i ∷ same.same_outs i ∷ []);
+        without_roles = λ none. absurd (none h.clocks h.pins h.outs h.roles);
+      },
+    )
+    by c (inr fails) = (
+      text_with c [] (take c.ports c.nets ∷ []),
+      record {
+        with_roles = λ clocks pins outs has. absurd (fails clocks pins outs has);
+        without_roles = λ none. refl;
+      },
+    )
+
+pub texts_there : SynthTextsAreThere
+texts_there = λ network bounds phases is wide tall.
+    let deck = decks_there network bounds.w bounds.h phases is wide tall in
+    let text = written_there deck.0 in
+    (text.0, record { circuit = deck.0; is_chosen = deck.1; written = text.1 })

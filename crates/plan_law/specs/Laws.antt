@@ -1,0 +1,71 @@
+-- What each network has: gates, a forest under any signs, levels of the cells of any plan, the deck of the chosen signs and the chosen
+-- plan, and its text; so that a file is refused or has a text (Rabaey, Digital Integrated Circuits: domino logic; Puri, Bjorksten, Rosser 1996; Zhao, Sapatnekar 1998).
+use Rattle.std.specs.Prelude.{ℕ, ◌+◌, ◌*◌, ◌≤◌, ◌<◌, ◌≡◌, ◌⊎◌, Bool, List, length, Some, slice_get}
+use Rattle.blif_ast.specs.BlifFileData.{BlifFileData}
+use Rattle.blif_ast.specs.Good.{IsGoodFile}
+use Rattle.deck.specs.CircuitData.{CircuitData}
+use Rattle.spice_text.specs.Text.{IsWritten}
+use Rattle.sp_network.specs.Tree.{Tree, EachLeaf}
+use Rattle.net_flatten.specs.Flattening.{IsNetworkOf}
+use Rattle.net_flatten.specs.NetworkData.{NetworkData}
+use Rattle.net_flatten.specs.Networks.{IsNetwork}
+use Rattle.net_flatten.specs.Refusal.{Refusal}
+use Rattle.net_flatten.specs.Refusals.{IsRefusal}
+use Rattle.gate_decompose.specs.GateNodes.{AreGatesOf}
+use Rattle.gate_decompose.specs.GatesData.{GatesData}
+use Rattle.gate_decompose.specs.GatesOrder.{AreInPlace}
+use Rattle.gate_decompose.specs.NetworkOrder.{IsOrderedNetwork}
+use Rattle.dual_rail.specs.ForestData.{ForestData}
+use Rattle.dual_rail.specs.Forests.{IsForestOf}
+use Rattle.clock_phase.specs.Levels.{AreLevels}
+use Rattle.synth_flow.specs.ChosenDecks.{IsChosenDeck}
+use Rattle.synth_flow.specs.DeckTexts.{BoundsData, IsSynthText}
+
+-- a network whose tables read only signals before their own has gates
+abbrev pub GatesAreThere : Type 0
+GatesAreThere = (network : NetworkData) → IsOrderedNetwork network → (gates : GatesData) × AreGatesOf network gates
+
+-- gates that read what is there have a forest under any signs, one for each sink
+abbrev pub ForestsAreThere : Type 0
+ForestsAreThere =
+    (gates : GatesData) (signs : List Bool) → AreInPlace gates → length signs ≡ length gates.sinks
+    → (forest : ForestData) × IsForestOf gates signs forest
+
+-- each tree reads only rails, of so many leaves, and cells before its own
+abbrev pub TreesReadBelow : ℕ → List (Tree ℕ) → Type 0
+TreesReadBelow leaf_count trees =
+    (k : ℕ) (tree : Tree ℕ) → slice_get trees k ≡ Some tree → EachLeaf (λ gate. gate < 2 * leaf_count + k) tree
+
+-- the cells of such trees have levels
+abbrev pub LevelsAreThere : Type 0
+LevelsAreThere =
+    (leaf_count : ℕ) (trees : List (Tree ℕ)) → TreesReadBelow leaf_count trees → (levels : List ℕ) × AreLevels leaf_count trees levels
+
+-- a network has a deck of the chosen signs and the chosen plan, within any bounds of at least 2
+abbrev pub ChosenDecksAreThere : Type 0
+ChosenDecksAreThere =
+    (network : NetworkData) (w h phases : ℕ) → IsNetwork network → 2 ≤ w → 2 ≤ h
+    → (circuit : CircuitData) × IsChosenDeck network w h phases circuit
+
+-- each circuit has a text
+abbrev pub TextsAreThere : Type 0
+TextsAreThere = (circuit : CircuitData) → (text : List ℕ) × IsWritten circuit text
+
+-- so each network has the text that synthesis gives of it
+abbrev pub SynthTextsAreThere : Type 0
+SynthTextsAreThere =
+    (network : NetworkData) (bounds : BoundsData) (phases : ℕ) → IsNetwork network → 2 ≤ bounds.w → 2 ≤ bounds.h
+    → (text : List ℕ) × IsSynthText text network bounds phases
+
+-- the file's network and the text that synthesis gives of it
+pub record HasSynthText (f : BlifFileData) (bounds : BoundsData) (phases : ℕ) : Type 0 where
+  pub network : NetworkData
+  pub is_network : IsNetworkOf f network
+  pub text : List ℕ
+  pub is_text : IsSynthText text network bounds phases
+
+-- a good file is refused for something, or has such a text
+abbrev pub FilesHaveTexts : Type 0
+FilesHaveTexts =
+    (f : BlifFileData) (bounds : BoundsData) (phases : ℕ) → IsGoodFile f → 2 ≤ bounds.w → 2 ≤ bounds.h
+    → ((r : Refusal) × IsRefusal f r) ⊎ HasSynthText f bounds phases

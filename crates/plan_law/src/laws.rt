@@ -1,0 +1,32 @@
+//! Laws of the decks that networks have.
+ghost use Rattle.plan_law.specs.Laws.{
+  ChosenDecksAreThere,
+  FilesHaveTexts,
+  ForestsAreThere,
+  GatesAreThere,
+  LevelsAreThere,
+  SynthTextsAreThere,
+  TextsAreThere,
+};
+
+/// A network has gates, gates have a forest under any signs, and the cells of trees that read only
+/// cells before them have levels.
+pub fn parts_are_there()
+    ensures gates { GatesAreThere }
+    ensures forests { ForestsAreThere }
+    ensures levels { LevelsAreThere }
+{}
+
+/// Each network has the deck of the chosen signs and the chosen plan, for a width and a height of at
+/// least 2, and the text that synthesis gives of it.
+pub fn decks_are_there()
+    ensures decks { ChosenDecksAreThere }
+    ensures written { TextsAreThere }
+    ensures texts { SynthTextsAreThere }
+{}
+
+/// Each good file is refused for something, or has a network with the text that synthesis gives of
+/// it, for a width and a height of at least 2. Nothing but the file's own refusals stands in the way.
+pub fn files_have_texts()
+    ensures { FilesHaveTexts }
+{}
