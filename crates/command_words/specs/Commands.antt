@@ -4,19 +4,26 @@ use Rattle.std.specs.List.{starts_with}
 use Rattle.trace_tool.specs.TraceData.{TraceOptionsData}
 use Rattle.command_words.specs.OptionWords.{AreOptions}
 
--- what the program is asked for: the deck of a file, or the trace of a deck over a stimulus
+-- what the program is asked for: the deck of a file, its network, the run of its network over a stimulus, or the trace of a
+-- deck over a stimulus
 pub data Command : Type 0 where
   Synth : (file : List ℕ) → Command
+  Flat : (file : List ℕ) → Command
+  Run : (file stim : List ℕ) → Command
   Sim : (deck stim : List ℕ) → (options : TraceOptionsData) → Command
 
 -- the files of a command, in order
 abbrev pub files_of : Command → List (List ℕ)
 files_of (Synth file) = file ∷ []
+files_of (Flat file) = file ∷ []
+files_of (Run file stim) = file ∷ stim ∷ []
 files_of (Sim deck stim options) = deck ∷ stim ∷ []
 
 -- a command that prints the changes of no net alone
 abbrev pub HasNoProbe : Command → Type 0
 HasNoProbe (Synth file) = Unit {0}
+HasNoProbe (Flat file) = Unit {0}
+HasNoProbe (Run file stim) = Unit {0}
 HasNoProbe (Sim deck stim options) = options.probes ≡ []
 
 -- a word that names a file: not empty, and not begun with `-`
@@ -28,6 +35,15 @@ pub record AsksSynth (words : List (List ℕ)) (file : List ℕ) : Type 0 where
   pub words_are : words ≡ codes "synth" ∷ file ∷ []
   pub is_file : IsFileWord file
 
+pub record AsksFlat (words : List (List ℕ)) (file : List ℕ) : Type 0 where
+  pub words_are : words ≡ codes "flat" ∷ file ∷ []
+  pub is_file : IsFileWord file
+
+pub record AsksRun (words : List (List ℕ)) (file stim : List ℕ) : Type 0 where
+  pub words_are : words ≡ codes "run" ∷ file ∷ stim ∷ []
+  pub is_file : IsFileWord file
+  pub is_stim : IsFileWord stim
+
 pub record AsksSim (words : List (List ℕ)) (deck stim : List ℕ) (options : TraceOptionsData) : Type 0 where
   pub more : List (List ℕ)
   pub words_are : words ≡ codes "sim" ∷ deck ∷ stim ∷ more
@@ -38,4 +54,6 @@ pub record AsksSim (words : List (List ℕ)) (deck stim : List ℕ) (options : T
 -- the words ask for the command
 abbrev pub Asks : List (List ℕ) → Command → Type 0
 Asks words (Synth file) = AsksSynth words file
+Asks words (Flat file) = AsksFlat words file
+Asks words (Run file stim) = AsksRun words file stim
 Asks words (Sim deck stim options) = AsksSim words deck stim options

@@ -7,6 +7,13 @@ pub enum Command<'a> {
     Synth {
         file: &'a str,
     },
+    Flat {
+        file: &'a str,
+    },
+    Run {
+        file: &'a str,
+        stim: &'a str,
+    },
     Sim {
         deck: &'a str,
         stim: &'a str,

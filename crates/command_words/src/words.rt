@@ -18,6 +18,8 @@ pub fn command_of<'a>(alloc: Global, words: &'a [String]) -> Option<Command<'a>>
     };
     match name.as_str() {
         "synth" => synth_of(rest),
+        "flat" => flat_of(rest),
+        "run" => run_of(rest),
         "sim" => sim_of(alloc, rest),
         _ => None,
     }
@@ -34,6 +36,33 @@ fn synth_of<'a>(words: &'a [String]) -> Option<Command<'a>>
         return None;
     }
     Some(Command::Synth { file })
+}
+
+/// The command `flat FILE` by the words behind its name.
+fn flat_of<'a>(words: &'a [String]) -> Option<Command<'a>>
+    ensures { MatchOption result ((command : Plain) → Asks (codes "flat" ∷ map string_bytes words.now) command → ⊥)
+        (λ command. Asks (codes "flat" ∷ map string_bytes words.now) (asked command)) }
+{
+    let [file] = words else { return None };
+    let file = file.as_str();
+    if !is_file(file) {
+        return None;
+    }
+    Some(Command::Flat { file })
+}
+
+/// The command `run FILE STIM` by the words behind its name.
+fn run_of<'a>(words: &'a [String]) -> Option<Command<'a>>
+    ensures { MatchOption result ((command : Plain) → Asks (codes "run" ∷ map string_bytes words.now) command → ⊥)
+        (λ command. Asks (codes "run" ∷ map string_bytes words.now) (asked command)) }
+{
+    let [file, stim] = words else { return None };
+    let file = file.as_str();
+    let stim = stim.as_str();
+    if !is_file(file) || !is_file(stim) {
+        return None;
+    }
+    Some(Command::Run { file, stim })
 }
 
 /// The command `sim DECK STIM` with its options by the words behind its name.

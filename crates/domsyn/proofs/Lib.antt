@@ -8,6 +8,8 @@ pub mod DeckNames
 pub mod FileNames
 pub mod FilesOfTables
 pub mod Literals
+pub mod NetworkCauses
+pub mod NetworkRuns
 pub mod OneDeck
 pub mod OneItem
 pub mod OneOutcome

@@ -1,5 +1,5 @@
 -- Over files that are known, a command has an outcome.
-use Rattle.std.proofs.Common.{◌<◌, ◌≤◌, ◌⊎◌, inl, inr, ℕ, List, [], ◌∷◌, length, take, refl, arith}
+use Rattle.std.proofs.Common.{◌≡◌, ◌<◌, ◌≤◌, ◌⊎◌, inl, inr, ℕ, List, [], ◌∷◌, length, take, refl, arith}
 use Rattle.std.specs.Prelude.{All, Some, if◌then◌else◌}
 use Rattle.std.proofs.lemmas.List.Elements.{All-head, All-tail}
 use Rattle.dom_base.specs.Answers.{HasOneAnswer}
@@ -24,10 +24,23 @@ use Rattle.trace_tool.specs.TraceData.{TraceOptionsData}
 use Rattle.trace_tool.specs.declared.fault.TraceFault.{TraceFault}
 use Rattle.trace_tool.specs.declared.fault.TraceFault.TheVariants.{Deck as deck_fault, Ports as port_fault, Stim as stim_fault}
 use Rattle.trace_tool.proofs.TraceThere.{trace_is_there}
-use Rattle.command_words.specs.Commands.{Command, Synth, Sim, files_of}
-use Rattle.domsyn.specs.declared.refusal.Refusal.TheVariants.{TooLong, Blif, NotBuilt, Deck, Ports, Stim}
+use Rattle.command_words.specs.Commands.{Command, Synth, Flat as flat, Run as run, Sim, files_of}
+use Rattle.blif_ast.specs.Printed.{printed}
+use Rattle.net_flatten.specs.NetworkData.{NetworkData}
+use Rattle.net_flatten.specs.OneModel.{file_of}
+use Rattle.net_flatten.specs.Refusal.{Refusal as Hierarchy}
+use Rattle.net_flatten.specs.Refusal as hierarchy
+use Rattle.net_flatten.specs.Refusals.{IsRefusal}
+use Rattle.net_run.proofs.OneRun.{one_run}
+use Rattle.network_law.specs.Laws.{HasAnswer}
+use Rattle.network_law.proofs.Answered.{has_answer}
+use Rattle.domsyn.specs.declared.refusal.Refusal.{Refusal}
+use Rattle.domsyn.specs.declared.refusal.Refusal.TheVariants.{TooLong, Blif, Flat, TooMany, NotBuilt, Deck, Ports, Stim}
 use Rattle.domsyn.specs.Deck.{circuit_of}
 use Rattle.domsyn.specs.Laws.{IsKnownFile}
+use Rattle.domsyn.specs.Networks.{HasNetwork, IsNotRunFor, about, run_lines}
+use Rattle.domsyn.specs.Refusals.{HasNoNetworkFor}
+use Rattle.domsyn.proofs.NetworkCauses.{network_kept}
 use Rattle.domsyn.specs.OneTable.{IsFileOfTable, IsOneTable}
 use Rattle.domsyn.specs.OneTableData.{OneTableData}
 use Rattle.domsyn.specs.Outcomes.{IsNoTrace, IsOutcome, Outcome, Printed, Refused}
@@ -145,7 +158,109 @@ sim_there known deck stim options d s = by (fits_or_not d.bytes file_limit) (fit
         (Refused stim TooLong, inr (d.bytes, refl, record { holds = d.holds; within = short }, record { bytes = s.bytes; holds = s.holds; long = long }))
     by (inr long) any = (Refused deck TooLong, inl (refl, record { bytes = d.bytes; holds = d.holds; long = long }))
 
-pub outcome_there : (known : Pairs) (command : Command) → All (IsKnownFile known) (files_of command) → (outcome : Outcome) × IsOutcome (Some known) command outcome
+-- a cause for which bytes that aren't too many have no network
+abbrev IsNetworkCause : Refusal → Type 0
+IsNetworkCause TooLong = ⊥
+IsNetworkCause (Blif line kind) = Unit {0}
+IsNetworkCause (Flat line kind name) = Unit {0}
+IsNetworkCause (TooMany limit count) = Unit {0}
+IsNetworkCause NotBuilt = ⊥
+IsNetworkCause (Deck line kind) = ⊥
+IsNetworkCause (Ports place) = ⊥
+IsNetworkCause (Stim line kind) = ⊥
+
+-- bytes have a network, or none for a cause
+abbrev HasNetworkOrCause : List ℕ → Type 0
+HasNetworkOrCause bytes = ((n : NetworkData) × HasNetwork bytes n) ⊎ ((why : Refusal) × HasNoNetworkFor bytes why × IsNetworkCause why)
+
+network_there : (bytes : List ℕ) → length bytes ≤ file_limit → HasNetworkOrCause bytes
+network_there bytes fits = read (blif_answer bytes)
+  where
+    refused : (f : BlifFileData) → IsFileOf bytes f → (r : Hierarchy) → IsRefusal f r → (why : Refusal) × HasNoNetworkFor bytes why × IsNetworkCause why
+    refused f accepted (hierarchy.At kind line name) is = (Flat line kind name, record { within = fits; file = f; accepted = accepted; refused = is }, tt)
+    refused f accepted (hierarchy.TooMany limit count) is = (TooMany limit count, record { within = fits; file = f; accepted = accepted; refused = is }, tt)
+
+    by : (f : BlifFileData) → IsFileOf bytes f → HasAnswer f → HasNetworkOrCause bytes
+    by f accepted (inl r) = inr (refused f accepted r.0 r.1)
+    by f accepted (inr n) = inl (n.0, record { within = fits; file = f; accepted = accepted; network_is = n.1 })
+
+    read : HasOneAnswer (IsFileOf bytes) (IsBlifFault bytes) (IsBlifFaultAt bytes) → HasNetworkOrCause bytes
+    read (inl f) = by f.0 f.1.is_answer (has_answer f.0)
+    read (inr r) = inr (Blif r.0 r.1, record { within = fits; fault = r.2.is_refused }, tt)
+
+-- the network of a file, or the cause for which it's refused
+flat_there : (known : Pairs) (file : List ℕ) → IsKnownFile known file → HasOne known (flat file)
+flat_there known file is = by (fits_or_not is.bytes file_limit)
+  where
+    made : length is.bytes ≤ file_limit → HasNetworkOrCause is.bytes → HasOne known (flat file)
+    made fits (inl n) =
+        (Printed 0 (printed (file_of n.0)), record { bytes = is.bytes; is_file = record { holds = is.holds; within = fits }; network = n.0; has = n.1; text_is = refl; done = refl })
+    made fits (inr r) = (Refused file r.0, record { bytes = is.bytes; holds = is.holds; refused = r.1; name_is = refl })
+
+    by : (length is.bytes ≤ file_limit) ⊎ (file_limit < length is.bytes) → HasOne known (flat file)
+    by (inl fits) = made fits (network_there is.bytes fits)
+    by (inr long) = (Refused file TooLong, record { bytes = is.bytes; holds = is.holds; refused = long; name_is = refl })
+
+-- the run of the network of a file over a stimulus, or the cause for which one of them is refused
+run_there : (known : Pairs) (file stim : List ℕ) → IsKnownFile known file → IsKnownFile known stim → HasOne known (run file stim)
+run_there known file stim f s = by (fits_or_not f.bytes file_limit) (fits_or_not s.bytes file_limit)
+  where
+    none : (short : length f.bytes ≤ file_limit) (few : length s.bytes ≤ file_limit) (name : List ℕ) (why : Refusal) → IsNotRunFor f.bytes s.bytes why → name ≡ about file stim why → HasOne known (run file stim)
+    none short few name why refused name_is = (
+      Refused name why,
+      inr (record {
+        bytes = f.bytes;
+        stim_bytes = s.bytes;
+        is_file = record { holds = f.holds; within = short };
+        is_stim = record { holds = s.holds; within = few };
+        refused = refused;
+        name_is = name_is;
+      }),
+    )
+
+    refused : (short : length f.bytes ≤ file_limit) (few : length s.bytes ≤ file_limit) (why : Refusal) → HasNoNetworkFor f.bytes why → IsNetworkCause why → HasOne known (run file stim)
+    refused short few TooLong is network = absurd network
+    refused short few (Blif line kind) is network = none short few file (Blif line kind) is refl
+    refused short few (Flat line kind name) is network = none short few file (Flat line kind name) is refl
+    refused short few (TooMany limit count) is network = none short few file (TooMany limit count) is refl
+    refused short few NotBuilt is network = absurd network
+    refused short few (Deck line kind) is network = absurd network
+    refused short few (Ports place) is network = absurd network
+    refused short few (Stim line kind) is network = absurd network
+
+    over : (short : length f.bytes ≤ file_limit) (few : length s.bytes ≤ file_limit) (n : NetworkData) → HasNetwork f.bytes n
+        → HasOneAnswer (IsStimulusOf n.inputs s.bytes) (IsStimFaultAt n.inputs s.bytes) (IsStimFaultAt n.inputs s.bytes) → HasOne known (run file stim)
+    over short few n has (inl a) =
+        let run = one_run n a.0 (network_kept f.bytes n has) a.1.is_answer.widths_are in (
+          Printed 0 (run_lines 0 a.0 run.0),
+          record {
+            bytes = f.bytes;
+            stim_bytes = s.bytes;
+            is_file = record { holds = f.holds; within = short };
+            is_stim = record { holds = s.holds; within = few };
+            run_is = record { network = n; has = has; stream = a.0; stimulus = a.1.is_answer; text_is = record { cycles = run.0; run = run.1.is_run; text_is = refl } };
+            done = refl;
+          },
+        )
+    over short few n has (inr r) = none short few stim (Stim r.0 r.1) (record { network = n; has = has; fault = r.2.is_refused }) refl
+
+    made : (short : length f.bytes ≤ file_limit) (few : length s.bytes ≤ file_limit)
+        → HasNetworkOrCause f.bytes → HasOne known (run file stim)
+    made short few (inl n) = over short few n.0 n.1 (stim_answer n.0.inputs s.bytes)
+    made short few (inr r) = refused short few r.0 r.1 r.2
+
+    by : (length f.bytes ≤ file_limit) ⊎ (file_limit < length f.bytes) → (length s.bytes ≤ file_limit) ⊎ (file_limit < length s.bytes) → HasOne known (run file stim)
+    by (inl short) (inl few) = made short few (network_there f.bytes short)
+    by (inl short) (inr long) =
+        (Refused stim TooLong, inl (refl, inr (f.bytes, refl, record { holds = f.holds; within = short }, record { bytes = s.bytes; holds = s.holds; long = long })))
+    by (inr long) any = (Refused file TooLong, inl (refl, inl (refl, record { bytes = f.bytes; holds = f.holds; long = long })))
+
+pub outcome_there : (known : Pairs) (command : Command) → All (IsKnownFile known) (files_of command) → HasOne known command
 outcome_there known (Synth file) all = synth_there known file (All-head (IsKnownFile known) file [] all)
+outcome_there known (flat file) all = flat_there known file (All-head (IsKnownFile known) file [] all)
+outcome_there known (run file stim) all =
+    run_there known file stim (All-head (IsKnownFile known) file (stim ∷ []) all)
+    (All-head (IsKnownFile known) stim [] (All-tail (IsKnownFile known) file (stim ∷ []) all))
 outcome_there known (Sim deck stim options) all =
-    sim_there known deck stim options (All-head (IsKnownFile known) deck (stim ∷ []) all) (All-head (IsKnownFile known) stim [] (All-tail (IsKnownFile known) deck (stim ∷ []) all))
+    sim_there known deck stim options (All-head (IsKnownFile known) deck (stim ∷ []) all)
+    (All-head (IsKnownFile known) stim [] (All-tail (IsKnownFile known) deck (stim ∷ []) all))

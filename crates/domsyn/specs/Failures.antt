@@ -4,9 +4,10 @@ use Rattle.command_words.specs.Commands.{Command}
 use Rattle.domsyn.specs.declared.failure.Failure.{Failure}
 use Rattle.domsyn.specs.declared.failure.Failure.TheVariants as failure
 use Rattle.domsyn.specs.declared.refusal.Refusal.{Refusal}
-use Rattle.domsyn.specs.declared.refusal.Refusal.TheVariants.{TooLong, Blif, NotBuilt, Deck, Ports, Stim}
+use Rattle.domsyn.specs.declared.refusal.Refusal.TheVariants.{TooLong, Blif, Flat, TooMany, NotBuilt, Deck, Ports, Stim}
 use Rattle.domsyn.specs.Outcomes.{Files, IsOutcome, IsTooLong, IsUnread, Refused}
-use Rattle.domsyn.specs.Refusals.{IsRefusedFor, refusal_line}
+use Rattle.domsyn.specs.Networks.{IsNotRunFor, about}
+use Rattle.domsyn.specs.Refusals.{HasNoNetworkFor, IsRefusedFor, refusal_line}
 use Rattle.domsyn.specs.Top.{line_of, unread_line}
 use Rattle.trace_tool.specs.Refusals.{IsRefused}
 use Rattle.trace_tool.specs.declared.fault.TraceFault.TheVariants.{Deck as deck_fault, Ports as port_fault, Stim as stim_fault}
@@ -30,6 +31,12 @@ IsUnbuilt name bytes (failure.Refused file why) = (file.now ≡ name) × IsRefus
 IsUnbuilt name bytes (failure.Unread file) = ⊥
 IsUnbuilt name bytes failure.Memory = Unit {0}
 
+-- why bytes of a file of this name have no network
+abbrev pub HasNoNetwork : List ℕ → List ℕ → Failure → Type 0
+HasNoNetwork name bytes (failure.Refused file why) = (file.now ≡ name) × HasNoNetworkFor bytes why
+HasNoNetwork name bytes (failure.Unread file) = ⊥
+HasNoNetwork name bytes failure.Memory = Unit {0}
+
 -- a file that was read
 pub record ReadFile : Type 0 where
   pub name : List ℕ
@@ -42,6 +49,8 @@ IsUnsimulated deck stim name (Ports place) = (name ≡ deck.name) × IsRefused d
 IsUnsimulated deck stim name (Stim line kind) = (name ≡ stim.name) × IsRefused deck.bytes stim.bytes (stim_fault line kind)
 IsUnsimulated deck stim name TooLong = ⊥
 IsUnsimulated deck stim name (Blif line kind) = ⊥
+IsUnsimulated deck stim name (Flat line kind any) = ⊥
+IsUnsimulated deck stim name (TooMany limit count) = ⊥
 IsUnsimulated deck stim name NotBuilt = ⊥
 
 -- why a deck and a stimulus that were read have no trace
@@ -49,6 +58,12 @@ abbrev pub IsUntraced : (deck stim : ReadFile) → Failure → Type 0
 IsUntraced deck stim (failure.Refused file why) = IsUnsimulated deck stim file.now why
 IsUntraced deck stim (failure.Unread file) = ⊥
 IsUntraced deck stim failure.Memory = Unit {0}
+
+-- why a file and a stimulus that were read have no run
+abbrev pub IsUnrun : (file stim : ReadFile) → Failure → Type 0
+IsUnrun file stim (failure.Refused name why) = (name.now ≡ about file.name stim.name why) × IsNotRunFor file.bytes stim.bytes why
+IsUnrun file stim (failure.Unread name) = ⊥
+IsUnrun file stim failure.Memory = Unit {0}
 
 -- room for the line that reports a failure
 abbrev pub HasRoomForFailure : Failure → (ℕ → Type 0) → Type 0

@@ -5,6 +5,8 @@ pub mod Decks
 pub mod Failures
 pub mod Headline
 pub mod Laws
+pub mod NetworkRuns
+pub mod Networks
 pub mod OneTable
 pub mod OneTableData
 pub mod Outcomes

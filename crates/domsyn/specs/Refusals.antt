@@ -7,8 +7,14 @@ use Rattle.blif_ast.specs.declared.kind.BlifKind.{BlifKind}
 use Rattle.blif_ast.specs.Faults.{blif_kind_number, blif_kind_word}
 use Rattle.blif_ast.specs.Reading.{IsBlifFaultAt, IsFileOf}
 use Rattle.deck.specs.DeckKinds.{deck_kind_number, deck_kind_word}
+use Rattle.net_flatten.specs.declared.fault.FlatKind.{FlatKind}
+use Rattle.net_flatten.specs.declared.fault.Limit.{Limit}
+use Rattle.net_flatten.specs.Kinds.{flat_kind_number, flat_kind_word, limit_word, too_many_number}
+use Rattle.net_flatten.specs.Refusal.{Refusal as Hierarchy}
+use Rattle.net_flatten.specs.Refusal as hierarchy
+use Rattle.net_flatten.specs.Refusals.{IsRefusal}
 use Rattle.domsyn.specs.declared.refusal.Refusal.{Refusal}
-use Rattle.domsyn.specs.declared.refusal.Refusal.TheVariants.{TooLong, Blif, NotBuilt, Deck, Ports, Stim}
+use Rattle.domsyn.specs.declared.refusal.Refusal.TheVariants.{TooLong, Blif, Flat, TooMany, NotBuilt, Deck, Ports, Stim}
 use Rattle.stim_text.specs.Stimuli.{stim_kind_word}
 use Rattle.domsyn.specs.OneTable.{IsOneTable, IsFileOfTable}
 use Rattle.domsyn.specs.OneTableData.{OneTableData}
@@ -25,20 +31,52 @@ pub record IsNotBuilt (bytes : List ℕ) : Type 0 where
   pub accepted : IsFileOf bytes file
   pub other : (t : OneTableData) → IsOneTable t → IsFileOfTable file t → ⊥
 
+-- no more bytes than a file may have, which are accepted, but whose file is refused for this
+pub record IsHierarchyRefused (bytes : List ℕ) (why : Hierarchy) : Type 0 where
+  pub within : length bytes ≤ file_limit
+  pub file : BlifFileData
+  pub accepted : IsFileOf bytes file
+  pub refused : IsRefusal file why
+
 -- no deck is built of a file of these bytes, for this cause
 abbrev pub IsRefusedFor : List ℕ → Refusal → Type 0
 IsRefusedFor bytes TooLong = file_limit < length bytes
 IsRefusedFor bytes (Blif line kind) = IsFaultyAt bytes line kind
 IsRefusedFor bytes NotBuilt = IsNotBuilt bytes
+IsRefusedFor bytes (Flat line kind name) = ⊥
+IsRefusedFor bytes (TooMany limit count) = ⊥
 IsRefusedFor bytes (Deck line kind) = ⊥
 IsRefusedFor bytes (Ports place) = ⊥
 IsRefusedFor bytes (Stim line kind) = ⊥
+
+-- a file of these bytes has no network, for this cause
+abbrev pub HasNoNetworkFor : List ℕ → Refusal → Type 0
+HasNoNetworkFor bytes TooLong = file_limit < length bytes
+HasNoNetworkFor bytes (Blif line kind) = IsFaultyAt bytes line kind
+HasNoNetworkFor bytes (Flat line kind name) = IsHierarchyRefused bytes (hierarchy.At kind line name)
+HasNoNetworkFor bytes (TooMany limit count) = IsHierarchyRefused bytes (hierarchy.TooMany limit count)
+HasNoNetworkFor bytes NotBuilt = ⊥
+HasNoNetworkFor bytes (Deck line kind) = ⊥
+HasNoNetworkFor bytes (Ports place) = ⊥
+HasNoNetworkFor bytes (Stim line kind) = ⊥
+
+-- the text of a kind of a hierarchy with its line and name, and of too many of something
+abbrev pub named_text : ℕ → FlatKind → List ℕ → List ℕ
+named_text line kind name =
+    codes ":" ++ decimal line ++ codes ": blif " ++ decimal (flat_kind_number kind) ++ codes " " ++ flat_kind_word kind
+    ++ codes " " ++ name ++ codes "\n"
+
+abbrev pub count_text : Limit → ℕ → List ℕ
+count_text limit count =
+    codes ": blif " ++ decimal too_many_number ++ codes " TooMany " ++ limit_word limit ++ codes " " ++ decimal count ++ codes "\n"
 
 -- what the line for a cause says behind the file's name
 abbrev pub refusal_text : Refusal → List ℕ
 refusal_text TooLong = codes ": too long\n"
 refusal_text (Blif line kind) =
     codes ":" ++ decimal line ++ codes ": blif " ++ decimal (blif_kind_number kind) ++ codes " " ++ blif_kind_word kind ++ codes "\n"
+refusal_text (Flat line kind name) = named_text line kind name
+refusal_text (TooMany limit count) = count_text limit count
 refusal_text NotBuilt = codes ": not built\n"
 refusal_text (Deck line kind) =
     codes ":" ++ decimal line ++ codes ": deck " ++ decimal (deck_kind_number kind) ++ codes " " ++ deck_kind_word kind ++ codes "\n"

@@ -9,6 +9,8 @@ ghost use Rattle.domsyn.specs.Outcomes.{IsOutcome, Printed};
 
 use crate::answer::Answer;
 use crate::failure::Failure;
+use crate::flat::flat;
+use crate::run::run;
 use crate::sim::sim;
 use crate::synth::synth;
 use command_words::Command;
@@ -33,6 +35,8 @@ pub fn outcome_of<'a, S: Shelf>(
 {
     match command {
         Command::Synth { file } => synth(alloc, shelf, file),
+        Command::Flat { file } => flat(alloc, shelf, file),
+        Command::Run { file, stim } => run(alloc, shelf, file, stim),
         Command::Sim {
             deck,
             stim,

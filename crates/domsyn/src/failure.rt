@@ -6,7 +6,7 @@ use crate::refusal::Refusal;
 use dom_base::OutOfMemory;
 
 /// Why there is no text: a file is refused, a file can't be read, or memory did not suffice.
-#[derive(Clone, Copy)]
+#[derive(Drop)]
 pub enum Failure<'a> {
     Refused { file: &'a str, why: Refusal },
     Unread { file: &'a str },

@@ -4,10 +4,12 @@ ghost use Rattle.std.specs.Io.KnownBytes.{Appends};
 ghost use Rattle.dom_io.specs.Faults.{Rose};
 ghost use Rattle.dom_io.specs.Pieces.{AppendsPrefix};
 ghost use Rattle.domsyn.specs.Failures.{HasRoomForFailure, IsReportedAt};
+ghost use Rattle.domsyn.specs.Refusals.{refusal_line};
 ghost use Rattle.domsyn.specs.Top.{Reports, line_of};
 
 use crate::answer::Answer;
 use crate::failure::Failure;
+use crate::refusal::Refusal;
 use crate::status::{CANNOT_READ, CANNOT_WRITE, DONE, OUT_OF_MEMORY, REFUSED, UNSETTLED};
 use dom_io::{Sink, SinkFault, put_all};
 use std::alloc::Global;
@@ -43,18 +45,40 @@ pub fn report_failure<E: Sink>(alloc: Global, failure: Failure, err: &mut E) -> 
     ensures later { E.faults err.old ≤ E.faults err.new }
 {
     match failure {
-        Failure::Refused { file, why } => {
-            if let Ok(text) = format!(in alloc; "{why}") {
-                report_about(err, file, text.as_bytes());
-                return REFUSED;
-            }
-        }
+        Failure::Refused { file, why } => report_refusal(alloc, file, &why, err),
         Failure::Unread { file } => {
             report_about(err, file, b": cannot read\n");
-            return CANNOT_READ;
+            CANNOT_READ
         }
-        Failure::Memory => (),
+        Failure::Memory => report_memory(err),
     }
+}
+
+/// Reports why a file is refused, or that memory did not suffice for it, and gives the status.
+fn report_refusal<E: Sink>(alloc: Global, file: &str, why: &Refusal, err: &mut E) -> u8
+    requires refusal_room { E.has_room err.old (length (refusal_line file.now why.now)) }
+    requires err_room { (status : ℕ) → E.has_room err.old (length (line_of status)) }
+    ensures reported { ((result ≡ 1)
+        × Reports (E.taken err.old) (E.taken err.new) (E.faults err.old) (E.faults err.new) (refusal_line file.now why.now))
+        ⊎ ((result ≡ 5) × Reports (E.taken err.old) (E.taken err.new) (E.faults err.old) (E.faults err.new) (line_of 5)) }
+    ensures later { E.faults err.old ≤ E.faults err.new }
+{
+    match why.text(alloc) {
+        Ok(text) => {
+            report_about(err, file, &text);
+            REFUSED
+        }
+        Err(_) => report_memory(err),
+    }
+}
+
+/// Reports that memory did not suffice, and gives the status.
+fn report_memory<E: Sink>(err: &mut E) -> u8
+    requires { (status : ℕ) → E.has_room err.old (length (line_of status)) }
+    ensures status { result ≡ 5 }
+    ensures reported { Reports (E.taken err.old) (E.taken err.new) (E.faults err.old) (E.faults err.new) (line_of 5) }
+    ensures later { E.faults err.old ≤ E.faults err.new }
+{
     report(err, b"domsyn: out of memory\n");
     OUT_OF_MEMORY
 }

@@ -20,6 +20,31 @@ const LISTS: &[(&str, &[&[&str]])] = &[
         ],
     ),
     (
+        "flat: files are missing or too many",
+        &[
+            &["flat"],
+            &["flat", "a", "b"],
+            &["flat", ""],
+            &["flat", "-"],
+            &["flat", "-a"],
+            &["flat", "a", "--width", "4"],
+        ],
+    ),
+    (
+        "run: files are missing or too many",
+        &[
+            &["run"],
+            &["run", "a"],
+            &["run", "a", "s", "s"],
+            &["run", "", "s"],
+            &["run", "a", ""],
+            &["run", "-", "s"],
+            &["run", "a", "--"],
+            &["run", "a", "s", "--order", "first"],
+            &["run", "a", "s", "--events"],
+        ],
+    ),
+    (
         "no command",
         &[
             &[],
@@ -30,9 +55,7 @@ const LISTS: &[(&str, &[&[&str]])] = &[
             &["Synth", "a"],
             &["synth ", "a"],
             &["", "a"],
-            &["flat", "a"],
             &["report", "a"],
-            &["run", "a", "a"],
             &["cosim", "a", "a", "a"],
             &["bench", "1", "0"],
         ],

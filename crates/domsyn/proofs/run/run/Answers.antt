@@ -1,0 +1,51 @@
+use Rattle.std.proofs.Common.{sym, subst, arith}
+use Rattle.std.proofs.lemmas.Result.{err_from_is_err_and, IfOk-weaker}
+use Rattle.dom_io.specs.Faults.{Rose}
+use Rattle.domsyn.specs.Failures.{IsUnfetched}
+use Rattle.domsyn.specs.Outcomes.{Files, IsFile}
+use Rattle.domsyn.proofs.CommandFailures.{run_printed, run_stim_unfetched, run_unfetched, run_unmade}
+use Rattle.domsyn.proofs.run.run.Goals as goal
+
+pub returns-in_err-bytes-clause-failed : goal.returns-in_err-bytes-clause-failed
+returns-in_err-bytes-clause-failed g c failure is =
+    let p = err_from_is_err_and c.from_residual.result c.from_residual.ensures.1 in
+    let a = p.1 in
+    let b = p.2 in
+    let Rises = Rose (g.S.Shelf.faults c.args.shelf.now) (g.S.Shelf.faults c.fetch.new.shelf) in
+    run_unfetched (g.S.Shelf.files c.args.shelf.now) c.args.file.now c.args.stim.now Rises failure (c.in_err-bytes.ensures.failed failure (cc))
+
+pub returns-in_err-stim_bytes-clause-failed : goal.returns-in_err-stim_bytes-clause-failed
+returns-in_err-stim_bytes-clause-failed g c failure is =
+    let p = err_from_is_err_and c.from_residual-in_err-stim_bytes.result c.from_residual-in_err-stim_bytes.ensures.1 in
+    let a = p.1 in
+    let b = p.2 in
+    let files = g.S.Shelf.files c.args.shelf.now in
+    let Rises = Rose (g.S.Shelf.faults c.args.shelf.now) (g.S.Shelf.faults c.fetch-2.new.shelf) in
+    let RisesHere = Rose (g.S.Shelf.faults c.fetch.new.shelf) (g.S.Shelf.faults c.fetch-2.new.shelf) in
+    let later = c.in_ok-bytes.ensures.later in
+    let unfetched : IsUnfetched files c.args.stim.now RisesHere failure =
+    subst (λ (files : Files). IsUnfetched files c.args.stim.now RisesHere failure) c.in_ok-bytes.ensures.same_files (c.in_err-stim_bytes.ensures.failed failure (cc)) in
+    run_stim_unfetched files c.args.file.now c.args.stim.now c.in_ok-bytes.bytes.items Rises RisesHere failure
+    (λ rose. omega (arith, later, rose)) c.in_ok-bytes.ensures.bytes unfetched
+
+pub returns-clause-text : goal.returns-clause-text
+returns-clause-text g c =
+    let files = g.S.Shelf.files c.args.shelf.now in
+    let is_file = subst (IsFile files c.args.file.now) (sym c.deref.ensures.value) c.in_ok-bytes.ensures.bytes in
+    let is_stim = subst (λ (files : Files). IsFile files c.args.stim.now c.in_ok-stim_bytes.stim_bytes.items) c.in_ok-bytes.ensures.same_files c.in_ok-stim_bytes.ensures.bytes in
+    let is_stim_here = subst (IsFile files c.args.stim.now) (sym c.deref-2.ensures.value) is_stim in
+    IfOk-weaker c.run_of.result _ _
+    (λ answer is.
+    run_printed files (record { name = c.args.file.now; bytes = c.deref.result.now }) (record { name = c.args.stim.now; bytes = c.deref-2.result.now })
+    answer.text.items answer.settled is_file is_stim_here is)
+    c.run_of.ensures.text
+
+pub returns-clause-failed : goal.returns-clause-failed
+returns-clause-failed g c failure is =
+    let files = g.S.Shelf.files c.args.shelf.now in
+    let Rises = Rose (g.S.Shelf.faults c.args.shelf.now) (g.S.Shelf.faults c.fetch-2.new.shelf) in
+    let is_file = subst (IsFile files c.args.file.now) (sym c.deref.ensures.value) c.in_ok-bytes.ensures.bytes in
+    let is_stim = subst (λ (files : Files). IsFile files c.args.stim.now c.in_ok-stim_bytes.stim_bytes.items) c.in_ok-bytes.ensures.same_files c.in_ok-stim_bytes.ensures.bytes in
+    let is_stim_here = subst (IsFile files c.args.stim.now) (sym c.deref-2.ensures.value) is_stim in
+    run_unmade files (record { name = c.args.file.now; bytes = c.deref.result.now }) (record { name = c.args.stim.now; bytes = c.deref-2.result.now })
+    Rises failure is_file is_stim_here (c.run_of.ensures.failed failure is)

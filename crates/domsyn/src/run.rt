@@ -1,0 +1,131 @@
+//! The command `run FILE STIM`: the run of the network of a file over a stimulus.
+ghost use Rattle.std.specs.Prelude.{◌≡◌, ◌≤◌, ◌++◌, ◌↔◌, ℕ, List, All, IfOk, IsErrOf, OnOk, if◌then◌else◌, length, map, true};
+ghost use Rattle.dom_io.specs.Faults.{Rose};
+ghost use Rattle.dom_io.specs.Held.{file_limit};
+ghost use Rattle.command_words.specs.Commands.{Run};
+ghost use Rattle.domsyn.specs.declared.failure.Failure.{Failure as Failed};
+ghost use Rattle.domsyn.specs.Bits.{tri_of};
+ghost use Rattle.domsyn.specs.Failures.{IsFailureOf, IsUnrun};
+ghost use Rattle.domsyn.specs.NetworkRuns.{PutsCycle};
+ghost use Rattle.domsyn.specs.Networks.{IsRunOf, IsRunText};
+ghost use Rattle.domsyn.specs.Outcomes.{IsOutcome, Printed};
+
+use crate::answer::Answer;
+use crate::failure::Failure;
+use crate::fetch::fetch;
+use crate::network::network_of;
+use crate::refusal::Refusal;
+use dom_base::{OutOfMemory, Tri};
+use dom_io::Shelf;
+use net_flatten::Network;
+use net_run::Runner;
+use std::alloc::Global;
+use stim_text::{CycleRow, Pins, StimFault, read_stim, write_cycle};
+
+/// The most bytes of the line of a cycle besides those of its values.
+const AROUND: usize = 40;
+
+/// The outcome of `run FILE STIM` over the files of a shelf.
+pub fn run<'a, S: Shelf>(
+    alloc: Global,
+    shelf: &mut S,
+    file: &'a str,
+    stim: &'a str,
+) -> Result<Answer, Failure<'a>>
+    requires file_name { S.may_ask shelf.old file.now }
+    requires stim_name { S.may_ask shelf.old stim.now }
+    ensures text { IfOk result (λ answer.
+        IsOutcome (S.files shelf.old) (Run file.now stim.now) (Printed (if answer.settled then 0 else 6) answer.text.items)) }
+    ensures failed { (failure : Failed) → IsErrOf result failure
+        → IsFailureOf (S.files shelf.old) (Run file.now stim.now) (Rose (S.faults shelf.old) (S.faults shelf.new)) failure }
+    ensures same_files { S.files shelf.new ≡ S.files shelf.old }
+    ensures same_names { (name : List ℕ) → S.may_ask shelf.new name ↔ S.may_ask shelf.old name }
+    ensures later { S.faults shelf.old ≤ S.faults shelf.new }
+{
+    let bytes = fetch(alloc, shelf, file)?;
+    let stim_bytes = fetch(alloc, shelf, stim)?;
+    run_of(alloc, file, stim, &bytes, &stim_bytes)
+}
+
+/// The run of the network of these bytes of a file over those of a stimulus.
+fn run_of<'a>(
+    alloc: Global,
+    file: &'a str,
+    stim: &'a str,
+    bytes: &[u8],
+    stim_bytes: &[u8],
+) -> Result<Answer, Failure<'a>>
+    requires within { length bytes.now ≤ file_limit }
+    ensures text { IfOk result (λ answer. IsRunOf bytes.now stim_bytes.now answer.text.items × (answer.settled ≡ true)) }
+    ensures failed { (failure : Failed) → IsErrOf result failure
+        → IsUnrun (record { name = file.now; bytes = bytes.now }) (record { name = stim.now; bytes = stim_bytes.now }) failure }
+{
+    let network = network_of(alloc, file, bytes)?;
+    let cycles = match read_stim(alloc, stim_bytes, network.inputs) {
+        Ok(cycles) => cycles,
+        Err(StimFault::At { line, kind }) => {
+            let why = Refusal::Stim { line, kind };
+            return Err(Failure::Refused { file: stim, why });
+        }
+        Err(StimFault::Memory) => return Err(Failure::Memory),
+    };
+    let text = run_text(alloc, &network, &cycles)?;
+    Ok(Answer {
+        text,
+        settled: true,
+    })
+}
+
+/// The lines of the run of a network over these cycles.
+fn run_text(alloc: Global, network: &Network, cycles: &[Pins]) -> Result<Vec<u8>, OutOfMemory>
+    requires { All (λ pins. length pins ≡ network.now.inputs) cycles.now }
+    ensures { IfOk result (λ text. IsRunText network.now cycles.now text.items) }
+{
+    let mut runner = Runner::new(alloc, network)?;
+    let line = AROUND + network.inputs as usize + network.outputs.len();
+    let mut text = Vec::new(alloc);
+    text.reserve(line.saturating_mul(cycles.len()))?;
+    for k in 0..cycles.len() {
+        put_cycle(
+            alloc,
+            &mut text,
+            &mut runner,
+            k as u64,
+            cycles[k].as_slice(),
+        )?;
+    }
+    Ok(text)
+}
+
+/// Runs a cycle and appends its line.
+fn put_cycle(
+    alloc: Global,
+    text: &mut Vec<u8>,
+    runner: &mut Runner,
+    number: u64,
+    pins: &[bool],
+) -> Result<(), OutOfMemory>
+    requires { length pins.now ≡ runner.old.inputs }
+    ensures { OnOk result (PutsCycle number pins.now runner.old runner.new text.old.items text.new.items) }
+{
+    let outs = values_of(alloc, runner.cycle(pins))?;
+    let row = CycleRow {
+        cycle: number,
+        pins: pins.to_vec(alloc)?,
+        outs,
+        events: None,
+    };
+    write_cycle(text, &row)
+}
+
+/// The values of bits.
+fn values_of(alloc: Global, bits: &[bool]) -> Result<Vec<Tri>, OutOfMemory>
+    ensures { IfOk result (λ values. values.items ≡ map tri_of bits.now) }
+{
+    let mut values = Vec::new(alloc);
+    values.reserve(bits.len())?;
+    for bit in bits {
+        values.push(if *bit { Tri::One } else { Tri::Zero })?;
+    }
+    Ok(values)
+}
