@@ -8,7 +8,9 @@ ghost use Rattle.blif_read.specs.Steps.{context_fault};
 
 use crate::line::{Line, last_letter};
 use crate::line_fault::{card_fault, row_fault};
-use crate::parts::{instance_of, latch_of, new_model, new_table, push_names, row_of};
+use crate::parts::{
+    instance_of, latch_of, new_model, new_table, push_names, reserve_first, row_of,
+};
 use crate::{BlifFault, BlifKind};
 use blif_ast::{BlifFile, BlifModel, Card, Instance, Latch, Row, Table};
 use dom_base::{OutOfMemory, have_control};
@@ -102,17 +104,14 @@ fn on_after(rows: &[Row], on: bool, letter: u8) -> bool
     if rows.is_empty() { letter == b'1' } else { on }
 }
 
-/// Appends a row to the open table. Most tables of a circuit have one row, so the first has no room
-/// beside it.
+/// Appends a row to the open table.
 fn push_row(alloc: Global, table: &mut Option<Table>, words: &[&[u8]]) -> Result<(), OutOfMemory>
     ensures { OnOk result (table.new ≡ table_with_row table.old (map (λ w. w.now) words.now)) }
 {
     match table {
         Some(table) => {
             table.on = on_after(&table.rows, table.on, last_letter(words));
-            if table.rows.is_empty() {
-                table.rows.reserve_exact(1)?;
-            }
+            reserve_first(&mut table.rows, 1)?;
             table.rows.push(row_of(alloc, words)?)?;
             Ok(())
         }
@@ -143,6 +142,7 @@ fn push_table(model: &mut BlifModel, table: Option<Table>) -> Result<(), OutOfMe
 {
     match table {
         Some(table) => {
+            reserve_first(&mut model.tables, 1)?;
             model.tables.push(table)?;
             Ok(())
         }
@@ -206,6 +206,7 @@ fn push_latch(
 {
     match latch_of(alloc, line.number, line.words)? {
         Some(latch) => {
+            reserve_first(latches, 1)?;
             latches.push(latch)?;
             Ok(())
         }
@@ -220,6 +221,7 @@ fn push_instance(
 ) -> Result<(), OutOfMemory>
     ensures { OnOk result (instances.new.items ≡ instances.old.items ++ instance_of line.now ∷ []) }
 {
+    reserve_first(instances, 1)?;
     instances.push(instance_of(alloc, line)?)?;
     Ok(())
 }

@@ -16,10 +16,22 @@ fn name_of(alloc: Global, word: &[u8]) -> Result<Name, AllocError>
     Ok(Name(word.to_vec(alloc)?))
 }
 
+/// Makes room for exactly so many items in a list that has none yet: most lists of a file stay as long as
+/// their first card or row makes them.
+pub fn reserve_first<T>(list: &mut Vec<T>, count: usize) -> Result<(), OutOfMemory>
+    ensures { list.new.items ≡ list.old.items }
+{
+    if list.is_empty() {
+        list.reserve_exact(count)?;
+    }
+    Ok(())
+}
+
 /// Appends these words as names.
 pub fn push_names(alloc: Global, names: &mut Vec<Name>, words: &[&[u8]]) -> Result<(), OutOfMemory>
     ensures { OnOk result (names.new.items ≡ names.old.items ++ map (λ w. w.now) words.now) }
 {
+    reserve_first(names, words.len())?;
     for word in words {
         names.push(name_of(alloc, word)?)?;
     }

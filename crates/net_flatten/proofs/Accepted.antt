@@ -5,7 +5,7 @@ use Rattle.blif_ast.specs.BlifFileData.{BlifFileData}
 use Rattle.net_flatten.proofs.KindOrders.{order_of_kind-injective}
 use Rattle.net_flatten.specs.declared.fault.FlatKind.{FlatKind}
 use Rattle.net_flatten.specs.declared.fault.FlatKind.TheVariants.{DuplicateModel, DuplicatePort, UnknownModel, BadFormal, Recursion, DrivenTwice, Undriven, Cycle, TwoControls, ControlUsed}
-use Rattle.net_flatten.specs.ModelPlans.{NothingRefuses}
+use Rattle.net_flatten.specs.ModelCalls.{NothingRefuses}
 use Rattle.net_flatten.specs.Refusal.{At, Refusal, TooMany, flat_kind_order, refusal_order}
 use Rattle.net_flatten.specs.Refusals.{HasRefusal, IsRefusal, IsReported}
 use Rattle.net_flatten.specs.Reports.{NoneHolds}

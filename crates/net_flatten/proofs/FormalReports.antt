@@ -1,10 +1,12 @@
 -- What the loops over instances keep, that look for the first formal that is wrong.
-use Rattle.std.proofs.Common.{◌≡◌, ℕ, zero, suc, ◌<◌, ◌+◌, ◌⊎◌, inl, inr, List, [], ◌∷◌, ◌++◌, length, map, take, Option, Some, None, refl, ap, sym, ◌∙◌, subst, arith, append-nil, cond}
-use Rattle.std.specs.Prelude.{Contains, slice_get}
-use Rattle.std.specs.List.{find, flat_map}
+use Rattle.std.proofs.Common.{◌≡◌, ℕ, zero, suc, ◌<◌, ◌+◌, ◌⊎◌, inl, inr, Bool, true, false, ◌||◌, List, [], ◌∷◌, ◌++◌, length, map, take, Option, Some, None, refl, ap, sym, ◌∙◌, subst, arith, append-nil, cond}
+use Rattle.std.specs.Prelude.{Contains, nat_eq, slice_get}
+use Rattle.std.specs.HashMap.{HashMap, get}
+use Rattle.std.specs.List.{find, flat_map, list_any}
+use Rattle.std.specs.Map.{lookup}
 use Rattle.std.specs.Option.{option_to_list}
 use Rattle.std.specs.Cmp.Lexicographic.{bytes_decides}
-use Rattle.std.proofs.lemmas.Bool.{false_from_ne_true}
+use Rattle.std.proofs.lemmas.Bool.{eqb-true, false_from_ne_true}
 use Rattle.std.proofs.lemmas.List.{length-append, length-map, take_all}
 use Rattle.std.proofs.lemmas.List.Concat.{flat_map-append}
 use Rattle.std.proofs.lemmas.List.Folds.{flat_map-map}
@@ -35,33 +37,32 @@ firsts_have all names firsts x c = let k = slice_get-contained all x c in let h 
 pub firsts_only : (all names : List (List ℕ)) → AreFirsts all names → (x : List ℕ) → Contains names x → Contains all x
 firsts_only all names firsts x c = let k = slice_get-contained names x c in let h = firsts.first k.0 x k.1 in Contains-slice_get all h.0 x h.1
 
-module _ (i : InstanceData) (unit : BlifModelData) (ports : List (List ℕ)) (s : ScanData) (ports_are : AreFirsts (names_of_ports unit) ports) (scan : IsScan (Contains ports) (formals_of i) (formals_of i) s)
-  where
-    wrong_holds : (x : List ℕ) → IsWrong (Contains ports) (formals_of i) x → IsWrongFormal (BoundFormal i unit x)
-    wrong_holds x (inl bad) = inl (λ c. bad (firsts_have (names_of_ports unit) ports ports_are x c))
-    wrong_holds x (inr twice) = inr twice
+module _ (i : InstanceData) (unit : BlifModelData) (s : ScanData) (scan : IsScan (Contains (names_of_ports unit)) (formals_of i) (formals_of i) s) where
+  wrong_holds : (x : List ℕ) → IsWrong (Contains (names_of_ports unit)) (formals_of i) x → IsWrongFormal (BoundFormal i unit x)
+  wrong_holds x (inl bad) = inl bad
+  wrong_holds x (inr twice) = inr twice
 
-    holds_wrong : (x : List ℕ) → IsWrongFormal (BoundFormal i unit x) → IsWrong (Contains ports) (formals_of i) x
-    holds_wrong x (inl bad) = inl (λ c. bad (firsts_only (names_of_ports unit) ports ports_are x c))
-    holds_wrong x (inr twice) = inr twice
+  holds_wrong : (x : List ℕ) → IsWrongFormal (BoundFormal i unit x) → IsWrong (Contains (names_of_ports unit)) (formals_of i) x
+  holds_wrong x (inl bad) = inl bad
+  holds_wrong x (inr twice) = inr twice
 
-    pub bound_report : (found : Option Report) → IsWrongReport s i.line found → IsReport IsBadFormal (map (BoundFormal i unit) (formals_of i)) line_of_formal name_of_formal found
-    bound_report = scan_reports IsWrongFormal line_of_formal name_of_formal (BoundFormal i unit) (Contains ports) (formals_of i) wrong_holds holds_wrong i.line (λ x. refl) (λ x. refl)
-        s (length (formals_of i)) (omega arith) (subst (λ seen. IsScan (Contains ports) (formals_of i) seen s) (sym (take_all (length (formals_of i)) (formals_of i) (omega arith))) scan)
+  pub bound_report : (found : Option Report) → IsWrongReport s i.line found → IsReport IsBadFormal (map (BoundFormal i unit) (formals_of i)) line_of_formal name_of_formal found
+  bound_report = scan_reports IsWrongFormal line_of_formal name_of_formal (BoundFormal i unit) (Contains (names_of_ports unit)) (formals_of i) wrong_holds holds_wrong i.line (λ x. refl) (λ x. refl)
+      s (length (formals_of i)) (omega arith) (subst (λ seen. IsScan (Contains (names_of_ports unit)) (formals_of i) seen s) (sym (take_all (length (formals_of i)) (formals_of i) (omega arith))) scan)
 
-    inputs_report : (found : Option Report) → IsReport (IsUnbound s.names) unit.inputs (λ x. i.line) (λ x. x) found
-        → IsReport IsBadFormal (map (InputFormal i) unit.inputs) line_of_formal name_of_formal found
-    inputs_report None none = none_of_each IsWrongFormal line_of_formal name_of_formal (InputFormal i) unit.inputs
-        (λ k x there bad. none k x there (λ c. bad (firsts_only (formals_of i) s.names scan.firsts x c)))
-    inputs_report (Some r) h = reported_of_each IsWrongFormal line_of_formal name_of_formal (InputFormal i) unit.inputs h.first.index h.element h.first.there
-        (λ c. h.first.holds (firsts_have (formals_of i) s.names scan.firsts h.element c))
-        (λ j y l there bad. h.first.none_before j y l there (λ c. bad (firsts_only (formals_of i) s.names scan.firsts y c)))
-        r.line r.name h.line_is h.name_is
+  inputs_report : (found : Option Report) → IsReport (IsUnbound s.names) unit.inputs (λ x. i.line) (λ x. x) found
+      → IsReport IsBadFormal (map (InputFormal i) unit.inputs) line_of_formal name_of_formal found
+  inputs_report None none = none_of_each IsWrongFormal line_of_formal name_of_formal (InputFormal i) unit.inputs
+      (λ k x there bad. none k x there (λ c. bad (firsts_only (formals_of i) s.names scan.firsts x c)))
+  inputs_report (Some r) h = reported_of_each IsWrongFormal line_of_formal name_of_formal (InputFormal i) unit.inputs h.first.index h.element h.first.there
+      (λ c. h.first.holds (firsts_have (formals_of i) s.names scan.firsts h.element c))
+      (λ j y l there bad. h.first.none_before j y l there (λ c. bad (firsts_only (formals_of i) s.names scan.firsts y c)))
+      r.line r.name h.line_is h.name_is
 
-    -- the bound formals, and then the inputs
-    pub instance_report : IsReport IsBadFormal (map (BoundFormal i unit) (formals_of i)) line_of_formal name_of_formal None
-        → (found : Option Report) → IsReport (IsUnbound s.names) unit.inputs (λ x. i.line) (λ x. x) found → IsReport IsBadFormal (formals_with i unit) line_of_formal name_of_formal found
-    instance_report none found h = behind_none IsWrongFormal line_of_formal name_of_formal (map (BoundFormal i unit) (formals_of i)) (map (InputFormal i) unit.inputs) none found (inputs_report found h)
+  -- the bound formals, and then the inputs
+  pub instance_report : IsReport IsBadFormal (map (BoundFormal i unit) (formals_of i)) line_of_formal name_of_formal None
+      → (found : Option Report) → IsReport (IsUnbound s.names) unit.inputs (λ x. i.line) (λ x. x) found → IsReport IsBadFormal (formals_with i unit) line_of_formal name_of_formal found
+  instance_report none found h = behind_none IsWrongFormal line_of_formal name_of_formal (map (BoundFormal i unit) (formals_of i)) (map (InputFormal i) unit.inputs) none found (inputs_report found h)
 
 -- inputs that are bound
 pub bound_next : (bound inputs : List (List ℕ)) (k : ℕ) (x : List ℕ) → slice_get inputs k ≡ Some x → NoneHolds (IsUnbound bound) (take k inputs) → Contains bound x
@@ -71,24 +72,44 @@ bound_next bound inputs k x there none c j e at bad = elim (get_push (take k inp
   | inr f ↦ bad (subst (Contains bound) f.1 c)
 ]
 
--- the ports of one model more
-pub have_ports_next : (models : List BlifModelData) (k : ℕ) (m : BlifModelData) (all after : List (List (List ℕ))) (names : List (List ℕ)) → slice_get models k ≡ Some m
-    → HavePorts (take k models) all → AreFirsts (names_of_ports m) names → after ≡ all ++ names ∷ [] → HavePorts (take (k + 1) models) after
-have_ports_next models k m all after names there have firsts pushed =
-    subst (HavePorts (take (k + 1) models)) (sym pushed) (subst (λ l. HavePorts l (all ++ names ∷ [])) (sym (take_next models k m there)) (record {
-      count = ends;
-      ports = λ j n ns at there. by j n ns (get_push (take k models) m j n at) (get_push all names j ns there);
-    }))
+-- a name is listed where it stands in a list
+pub listed_at : (names : List (List ℕ)) (k : ℕ) (name : List ℕ) → slice_get names k ≡ Some name → list_any (λ port. same port name) names ≡ true
+listed_at [] k name e = absurd cc
+listed_at (y ∷ ys) zero name e = let is : y ≡ name = cc in ap (λ b. b || list_any (λ port. same port name) ys) ((bytes_decides y name).1 is)
+listed_at (y ∷ ys) (suc k) name e = by (same y name) (listed_at ys k name e)
   where
-    ends : length (all ++ names ∷ []) ≡ length (take k models ++ m ∷ [])
-    ends = length-append all (names ∷ []) ∙ ap (λ l. l + 1) have.count ∙ sym (length-append (take k models) (m ∷ []))
+    by : (b : Bool) → list_any (λ port. same port name) ys ≡ true → (b || list_any (λ port. same port name) ys) ≡ true
+    by true h = refl
+    by false h = h
 
-    by : (j : ℕ) (n : BlifModelData) (ns : List (List ℕ)) → (slice_get (take k models) j ≡ Some n) ⊎ ((j ≡ length (take k models)) × (m ≡ n))
-        → (slice_get all j ≡ Some ns) ⊎ ((j ≡ length all) × (names ≡ ns)) → AreFirsts (names_of_ports n) ns
-    by j n ns (inl e) (inl f) = have.ports j n ns e f
-    by j n ns (inl e) (inr f) = absurd (omega (arith, slice_get_within (take k models) j n e, f.0, have.count))
-    by j n ns (inr e) (inl f) = absurd (omega (arith, slice_get_within all j ns f, e.0, have.count))
-    by j n ns (inr e) (inr f) = subst (AreFirsts (names_of_ports n)) f.1 (subst (λ b. AreFirsts (names_of_ports b) names) e.1 firsts)
+pub at_listed : (names : List (List ℕ)) (name : List ℕ) → list_any (λ port. same port name) names ≡ true → (k : ℕ) × (slice_get names k ≡ Some name)
+at_listed [] name e = absurd cc
+at_listed (y ∷ ys) name e = by (at_listed ys name) (same y name) refl e
+  where
+    by : (list_any (λ port. same port name) ys ≡ true → (k : ℕ) × (slice_get ys k ≡ Some name)) → (b : Bool) → same y name ≡ b
+        → (b || list_any (λ port. same port name) ys) ≡ true → (k : ℕ) × (slice_get (y ∷ ys) k ≡ Some name)
+    by rest true is e = (0, ap Some ((bytes_decides y name).0 is))
+    by rest false is e = let h = rest e in (suc h.0, h.1)
+
+-- no tables
+pub have_no_ports : {S : Type 0} (models : List BlifModelData) (tables : HashMap ℕ (List (List ℕ)) S) → tables.entries ≡ [] → HavePorts models tables
+have_no_ports models tables none = λ k m there names is.
+    let e : lookup (nat_eq k) tables.entries ≡ None = ap (λ (es : List (ℕ × List (List ℕ))). lookup (nat_eq k) es) none in
+    let f : ◌≡◌ {A = Option (List (List ℕ))} None (Some names) = sym e ∙ is in absurd cc
+
+-- a table of the ports of one model more
+pub have_ports_next : {S : Type 0} (models : List BlifModelData) (k : ℕ) (m : BlifModelData) (names : List (List ℕ)) (before after : HashMap ℕ (List (List ℕ)) S)
+    → slice_get models k ≡ Some m → AreFirsts (names_of_ports m) names → ((q : ℕ) → get nat_eq after q ≡ cond (nat_eq k q) (Some names) (get nat_eq before q))
+    → HavePorts models before → HavePorts models after
+have_ports_next models k m names before after there firsts updated have = λ q n at ns is. by q n at ns (nat_eq k q) refl (sym (updated q) ∙ is)
+  where
+    by : (q : ℕ) (n : BlifModelData) → slice_get models q ≡ Some n → (ns : List (List ℕ)) (b : Bool) → nat_eq k q ≡ b → cond b (Some names) (get nat_eq before q) ≡ Some ns
+        → AreFirsts (names_of_ports n) ns
+    by q n at ns true same_number is =
+        let numbers : k ≡ q = eqb-true k q same_number in
+        let model : m ≡ n = (let e : Some m ≡ Some n = sym there ∙ ap (slice_get models) numbers ∙ at in cc) in
+        let list : names ≡ ns = cc in subst (λ l. AreFirsts (names_of_ports n) l) list (subst (λ b. AreFirsts (names_of_ports b) names) model firsts)
+    by q n at ns false other is = have q n at ns is
 
 -- the model of a name where all names differ
 pub called_at : (models : List BlifModelData) → NoneHolds IsDuplicateModel models → (u : ℕ) (n : BlifModelData) (name : List ℕ) → slice_get models u ≡ Some n → n.name ≡ name
@@ -144,12 +165,6 @@ calls_at names models nodes are k m node there at =
 
 pub calls_count : (names : List (List ℕ)) (models : List BlifModelData) (nodes : List (List ℕ)) → AreCalls names models nodes → length nodes ≡ length models
 calls_count names models nodes are = sym (length-map nodes (map (slice_get names))) ∙ ap length are ∙ length-map models (λ (b : BlifModelData). map (λ (i : InstanceData). Some i.unit) b.instances)
-
-pub have_no_ports : (models : List BlifModelData) (all : List (List (List ℕ))) → all ≡ [] → HavePorts (take 0 models) all
-have_no_ports models all none = subst (HavePorts (take 0 models)) (sym none) (record {
-  count = ap length (sym (take_none models));
-  ports = λ k m names there at. absurd cc;
-})
 
 pub first_unbound : (bound inputs : List (List ℕ)) (k : ℕ) (x : List ℕ) (line line' : ℕ) (name : List ℕ) → slice_get inputs k ≡ Some x → NoneHolds (IsUnbound bound) (take k inputs)
     → (Contains bound x → ⊥) → line' ≡ line → name ≡ x → IsReported (IsUnbound bound) inputs (λ input. line) (λ input. input) line' name

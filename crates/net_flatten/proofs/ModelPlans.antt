@@ -10,7 +10,7 @@ use Rattle.net_flatten.proofs.Scans.{take_none}
 use Rattle.net_flatten.specs.declared.plan.CardAt.{CardAt}
 use Rattle.net_flatten.specs.Expanded.{ordered_cards}
 use Rattle.net_flatten.specs.LinedCards.{AreNumberedCards}
-use Rattle.net_flatten.specs.ModelPlans.{HavePlans}
+use Rattle.net_flatten.specs.ModelCalls.{HavePlans}
 
 pub node_at : (nodes : List (List ℕ)) (k : ℕ) (node : List ℕ) → slice_get nodes k ≡ Some node → successors nodes k ≡ node
 node_at nodes k node at = get_or_from_slice_get nodes k node [] at

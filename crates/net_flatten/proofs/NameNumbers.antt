@@ -1,6 +1,6 @@
 -- Names by numbers: what a set of names says of a name that is looked up or added.
-use Rattle.std.proofs.Common.{◌≡◌, ℕ, Bool, true, false, List, [], ◌∷◌, ◌++◌, length, map, Option, Some, None, refl, ap, sym, ◌∙◌, subst, arith}
-use Rattle.std.specs.Prelude.{Contains, MatchOption, is_some, not, position, slice_get, if◌then◌else◌}
+use Rattle.std.proofs.Common.{◌≡◌, ℕ, ◌+◌, Bool, true, false, cond, List, [], ◌∷◌, ◌++◌, length, map, Option, Some, None, refl, ap, sym, ◌∙◌, subst, arith}
+use Rattle.std.specs.Prelude.{Contains, MatchOption, is_some, nat_lt, not, position, slice_get, if◌then◌else◌}
 use Rattle.std.specs.Cmp.Lexicographic.{bytes_decides}
 use Rattle.std.specs.List.{list_any, position_or_len}
 use Rattle.std.proofs.lemmas.List.{length-map}
@@ -11,6 +11,7 @@ use Rattle.std.proofs.lemmas.Option.{slice_get-get_or}
 use Rattle.dom_base.proofs.Lists.{AllByRecursion-contains, Contains-slice_get, list_any-map, map-push, none-list_any}
 use Rattle.dom_base.proofs.Names.{names_equal}
 use Rattle.blif_ast.specs.Cards.{same}
+use Rattle.indexmap.specs.IndexSet.{insert_key}
 use Rattle.net_flatten.proofs.Lists.{get_map}
 use Rattle.net_flatten.specs.NameNumbers.{IsNameAdded}
 
@@ -55,3 +56,21 @@ module _ {Key : Type 0} (now : Key → List ℕ) (name : List ℕ) where
         number ∙ length_where_none before value is ∙ sym (length-map before now),
         not_there before is,
       )
+
+  -- a name that goes into a set of names
+  pub inserted : (keys : List Key) (value : Key) → now value ≡ name
+      → map now (if list_any test keys then keys else keys ++ value ∷ []) ≡ insert_key same (map now keys) name
+  inserted keys value value_is = by (list_any test keys) ∙ ap (λ b. if b then map now keys else map now keys ++ name ∷ []) (sym (list_any-map (same name) now keys))
+    where
+      by : (b : Bool) → map now (if b then keys else keys ++ value ∷ []) ≡ (if b then map now keys else map now keys ++ name ∷ [])
+      by true = refl
+      by false = map-push now keys value ∙ ap (λ w. map now keys ++ w ∷ []) value_is
+
+  -- where a name stands first
+  pub position_now : (keys : List Key) → position test keys ≡ position (same name) (map now keys)
+  position_now keys = ap (λ n. cond (nat_lt n (length keys)) (Some n) None) (first keys)
+      ∙ ap (λ n. cond (nat_lt (position_or_len (same name) (map now keys)) n) (Some (position_or_len (same name) (map now keys))) None) (sym (length-map keys now))
+    where
+      first : (ks : List Key) → position_or_len test ks ≡ position_or_len (same name) (map now ks)
+      first [] = refl
+      first (k ∷ ks) = ap (λ n. cond (not (same name (now k))) (1 + n) 0) (first ks)

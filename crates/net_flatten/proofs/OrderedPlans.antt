@@ -24,11 +24,16 @@ use Rattle.net_flatten.specs.declared.plan.CardAt.TheVariants.{Table, Latch as L
 use Rattle.net_flatten.specs.Expanded.{BodyCard, InstanceCard, LatchCard, TableCard, ordered_cards}
 use Rattle.net_flatten.specs.LinedCards.{AreNumberedCards, IsNumberedCard}
 use Rattle.net_flatten.specs.ModelFaults.{IsDuplicateModel, IsRecursion, Use, uses_in}
-use Rattle.net_flatten.specs.ModelPlans.{HasCircle, HavePlans}
+use Rattle.net_flatten.specs.ModelCalls.{HasCircle, HavePlans}
 use Rattle.net_flatten.specs.Occurrences.{first_model, main_model}
 use Rattle.net_flatten.specs.Plans.{AreCards, IsCardAt, IsPlanned, HasMainPlan, plan_at}
 use Rattle.net_flatten.specs.Recursions.{IsBack}
 use Rattle.net_flatten.specs.Reports.{NoneHolds}
+
+-- the main model of a file that has models
+pub first_there_of : (all : List BlifModelData) → all ≢ [] → slice_get all 0 ≡ Some (first_model all)
+first_there_of [] none = absurd (none refl)
+first_there_of (m ∷ ms) none = refl
 
 -- the first index of a number
 abbrev first_index : List ℕ → ℕ → ℕ
@@ -223,11 +228,7 @@ module _ (models : List BlifModelData) (nodes : List (List ℕ)) (apart : NoneHo
               )
 
       main_there : slice_get models 0 ≡ Some (main_model file)
-      main_there = by models some
-        where
-          by : (all : List BlifModelData) → all ≢ [] → slice_get all 0 ≡ Some (first_model all)
-          by [] none = absurd (none refl)
-          by (m ∷ ms) none = refl
+      main_there = first_there_of models some
 
       pub are_planned : IsPlanned file plans
       are_planned = record {

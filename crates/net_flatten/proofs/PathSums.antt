@@ -23,8 +23,8 @@ use Rattle.net_flatten.specs.declared.fault.FlatKind.TheVariants.{DuplicateModel
 use Rattle.net_flatten.specs.declared.fault.Limit.{Limit}
 use Rattle.net_flatten.specs.CallNumbers.{AreCallees, AreCalls, names_of_models}
 use Rattle.net_flatten.specs.ModelFaults.{IsDuplicateModel}
-use Rattle.net_flatten.specs.ModelPlans.{AreModelPlans}
-use Rattle.net_flatten.specs.ModelPlansData.{ModelPlansData}
+use Rattle.net_flatten.specs.ModelCalls.{AreModelCalls}
+use Rattle.net_flatten.specs.ModelCallsData.{ModelCallsData}
 use Rattle.net_flatten.specs.NetworkSizes.{model_weight, model_weights, path_weights}
 use Rattle.net_flatten.specs.NumberedFiles.{model_at}
 use Rattle.net_flatten.specs.Occurrences.{Occurrence, first_model, main_model, models_called, occurrences_from}
@@ -87,9 +87,9 @@ module _ (f : BlifFileData) (nodes : List (List ℕ)) (apart : NoneHolds IsDupli
           ∙ ap (sum_by at_path) (append-nil (occurrences_from f.models depth (i ∷ path) n.0))
           ∙ deeper n.0 n.1
 
--- the counts of a file by its plans
-module _ {f : BlifFileData} {p : ModelPlansData} (good : IsGoodFile f) (planned : AreModelPlans f p) where
-  apart : NoneHolds IsDuplicateModel f.models
+-- the counts of a file by its calls
+module _ {f : BlifFileData} {p : ModelCallsData} (good : IsGoodFile f) (planned : AreModelCalls f p) where
+  pub apart : NoneHolds IsDuplicateModel f.models
   apart = none_holds IsDuplicateModel f.models
       (λ m first. planned.accepted DuplicateModel m.line m.name (omega arith) (record { element = m; first = first; line_is = refl; name_is = refl }))
 
@@ -128,7 +128,7 @@ module _ {f : BlifFileData} {p : ModelPlansData} (good : IsGoodFile f) (planned 
   path_weights_are limit s are there =
       are.sum 0 s (length f.models + length p.order) there (omega arith)
       ∙ ap (λ n. min n largest_u64) (
-      sym (path_sum f p.nodes apart planned.calls (model_weight limit) (length f.models + length p.order) [] 0 (main_model f) planned.planned.main)
+      sym (path_sum f p.nodes apart planned.calls (model_weight limit) (length f.models + length p.order) [] 0 (main_model f) planned.main)
       ∙ ap (sum_by (λ (p : Occurrence). model_weight limit p.model))
       (deep_enough f (λ line name. planned.accepted Recursion line name (omega arith)) good.some (length p.order)).1
       )

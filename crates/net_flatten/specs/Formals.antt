@@ -1,6 +1,7 @@
 -- What is needed to look for the first formal that is wrong in a file of BLIF, the Berkeley Logic Interchange Format: the ports of
--- each model.
-use Rattle.std.specs.Prelude.{ℕ, ◌≡◌, List, ◌++◌, length, map, Contains, Some, slice_get}
+-- models.
+use Rattle.std.specs.Prelude.{ℕ, ◌≡◌, List, ◌++◌, map, nat_eq, Contains, Option, Some, slice_get}
+use Rattle.std.specs.HashMap.{HashMap, get}
 use Rattle.std.specs.List.{flat_map}
 use Rattle.blif_ast.specs.declared.instance.Binding.{Binding}
 use Rattle.blif_ast.specs.BlifModelData.{BlifModelData}
@@ -12,11 +13,13 @@ use Rattle.net_flatten.specs.Scans.{AreFirsts}
 abbrev pub names_of_ports : BlifModelData → List (List ℕ)
 names_of_ports m = m.inputs ++ m.outputs
 
--- the ports of each model, each once
-pub record HavePorts (models : List BlifModelData) (all : List (List (List ℕ))) : Type 0 where
-  pub count : length all ≡ length models
-  pub ports : (k : ℕ) (m : BlifModelData) (names : List (List ℕ)) → slice_get models k ≡ Some m
-      → slice_get all k ≡ Some names → AreFirsts (names_of_ports m) names
+-- a table of a model's ports, if there is one, has each of them once
+abbrev pub IsPortTable : BlifModelData → Option (List (List ℕ)) → Type 0
+IsPortTable m table = (names : List (List ℕ)) → table ≡ Some names → AreFirsts (names_of_ports m) names
+
+-- tables of the ports of some models, by their numbers
+abbrev pub HavePorts : {S : Type 0} → List BlifModelData → HashMap ℕ (List (List ℕ)) S → Type 0
+HavePorts models tables = (k : ℕ) (m : BlifModelData) → slice_get models k ≡ Some m → IsPortTable m (get nat_eq tables k)
 
 -- an input isn't among the formals that are bound
 abbrev pub IsUnbound : List (List ℕ) → List (List ℕ) → List ℕ → Type 0

@@ -12,8 +12,8 @@ pub mod Limits
 pub mod LineOccurrences
 pub mod LinedCards
 pub mod ModelFaults
-pub mod ModelPlans
-pub mod ModelPlansData
+pub mod ModelCalls
+pub mod ModelCallsData
 pub mod NameNumbers
 pub mod NetworkData
 pub mod Networks

@@ -4,12 +4,12 @@ ghost use Rattle.blif_ast.specs.Good.{IsGoodFile};
 ghost use Rattle.net_flatten.specs.Counts.{signal_count};
 ghost use Rattle.net_flatten.specs.declared.fault.FlatFault.TheVariants.{TooMany};
 ghost use Rattle.net_flatten.specs.Limits.{most_signals};
-ghost use Rattle.net_flatten.specs.ModelPlans.{AreModelPlans};
+ghost use Rattle.net_flatten.specs.ModelCalls.{AreModelCalls};
 ghost use Rattle.net_flatten.specs.NetworkSizes.{IsSizeCheck};
 
 use crate::counting::count_network;
 use crate::fault::{FlatFault, Limit};
-use crate::models::ModelPlans;
+use crate::models::ModelCalls;
 use blif_ast::BlifFile;
 use std::alloc::Global;
 
@@ -23,13 +23,13 @@ const MOST_SINKS: u64 = 8_192;
 
 /// Looks for the first count of a file's network that is above its limit: signals, instances, letters
 /// and sinks, in this order.
-pub fn check_sizes(alloc: Global, file: &BlifFile, plans: &ModelPlans) -> Result<(), FlatFault>
+pub fn check_sizes(alloc: Global, file: &BlifFile, calls: &ModelCalls) -> Result<(), FlatFault>
     requires good { IsGoodFile file.now }
-    requires planned { AreModelPlans file.now plans.now }
+    requires planned { AreModelCalls file.now calls.now }
     ensures check { IsSizeCheck file.now result }
     ensures few { OnOk result (signal_count file.now ≤ most_signals) }
 {
-    let sizes = count_network(alloc, file, plans)?;
+    let sizes = count_network(alloc, file, calls)?;
     if MOST_SIGNALS < sizes.signals {
         return Err(too_many(Limit::Signals, sizes.signals));
     }

@@ -3,12 +3,12 @@ ghost use Rattle.std.specs.Prelude.{◌≡◌, ◌<◌, IfOk, length, min};
 ghost use Rattle.std.specs.List.{sum_by};
 ghost use Rattle.blif_ast.specs.Good.{IsGoodFile};
 ghost use Rattle.graph_order.specs.WalkSums.{largest_u64};
-ghost use Rattle.net_flatten.specs.ModelPlans.{AreModelPlans};
+ghost use Rattle.net_flatten.specs.ModelCalls.{AreModelCalls};
 ghost use Rattle.net_flatten.specs.NetworkSizes.{AreSizes, letters_of_table, model_weight, model_weights, path_weights};
 ghost use Rattle.net_flatten.specs.Occurrences.{main_model};
 
 use crate::fault::Limit;
-use crate::models::ModelPlans;
+use crate::models::ModelCalls;
 use crate::name_table::NameTable;
 use blif_ast::{BlifFile, BlifModel, Table};
 use dom_base::OutOfMemory;
@@ -26,22 +26,22 @@ pub struct Sizes {
     pub sinks: u64,
 }
 
-/// How large the network of a file of these plans is. It takes a time that is linear in the file, and
+/// How large the network of a file of these calls is. It takes a time that is linear in the file, and
 /// fails only for want of memory.
 pub fn count_network(
     alloc: Global,
     file: &BlifFile,
-    plans: &ModelPlans,
+    calls: &ModelCalls,
 ) -> Result<Sizes, OutOfMemory>
     requires good { IsGoodFile file.now }
-    requires planned { AreModelPlans file.now plans.now }
+    requires planned { AreModelCalls file.now calls.now }
     ensures { IfOk result (AreSizes file.now) }
 {
-    let latches = count_over_paths(alloc, file, plans, Limit::Sinks)?;
+    let latches = count_over_paths(alloc, file, calls, Limit::Sinks)?;
     Ok(Sizes {
-        signals: count_over_paths(alloc, file, plans, Limit::Signals)?,
-        instances: count_over_paths(alloc, file, plans, Limit::Instances)?,
-        letters: count_over_paths(alloc, file, plans, Limit::Letters)?,
+        signals: count_over_paths(alloc, file, calls, Limit::Signals)?,
+        instances: count_over_paths(alloc, file, calls, Limit::Instances)?,
+        letters: count_over_paths(alloc, file, calls, Limit::Letters)?,
         sinks: latches.saturating_add(main_outputs(file)),
     })
 }
@@ -58,15 +58,15 @@ fn main_outputs(file: &BlifFile) -> u64
 fn count_over_paths(
     alloc: Global,
     file: &BlifFile,
-    plans: &ModelPlans,
+    calls: &ModelCalls,
     limit: Limit,
 ) -> Result<u64, OutOfMemory>
     requires good { IsGoodFile file.now }
-    requires planned { AreModelPlans file.now plans.now }
+    requires planned { AreModelCalls file.now calls.now }
     ensures { IfOk result (λ count. count ≡ min (path_weights limit file.now) largest_u64) }
 {
     let weights = weigh_models(alloc, &file.models, limit)?;
-    let sums = walk_sums(alloc, &plans.nodes, &plans.order, &weights)?;
+    let sums = walk_sums(alloc, &calls.nodes, &calls.order, &weights)?;
     Ok(sums[0])
 }
 
@@ -86,7 +86,7 @@ fn weigh(alloc: Global, model: &BlifModel, limit: Limit) -> Result<u64, OutOfMem
     ensures { IfOk result (λ weight. weight ≡ min (model_weight limit model.now) largest_u64) }
 {
     match limit {
-        Limit::Signals => Ok(NameTable::of_model(alloc, model)?.len() as u64),
+        Limit::Signals => Ok(NameTable::count(alloc, model)? as u64),
         Limit::Instances => Ok(1),
         Limit::Letters => Ok(count_letters(&model.tables)),
         Limit::Sinks => Ok(model.latches.len() as u64),

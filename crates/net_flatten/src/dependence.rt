@@ -25,7 +25,7 @@ fn lone_nodes(alloc: Global, bound: u32) -> Result<Vec<Node>, OutOfMemory>
 fn copied(alloc: Global, numbers: &[u32]) -> Result<Vec<u32>, OutOfMemory>
     ensures { IfOk result (λ copy. copy.items ≡ numbers.now) }
 {
-    let mut copy = Vec::new(alloc);
+    let mut copy = Vec::with_capacity(alloc, numbers.len())?;
     copy.extend_from_slice(numbers)?;
     Ok(copy)
 }

@@ -4,7 +4,7 @@ ghost use Rattle.std.specs.List.{AllByRecursion};
 ghost use Rattle.blif_ast.specs.Good.{IsGoodFile};
 ghost use Rattle.net_flatten.specs.Counts.{signal_count};
 ghost use Rattle.net_flatten.specs.Limits.{most_signals};
-ghost use Rattle.net_flatten.specs.ModelPlans.{AreModelPlans};
+ghost use Rattle.net_flatten.specs.ModelCalls.{AreModelCalls};
 ghost use Rattle.net_flatten.specs.NumberedFiles.{HasNumbers, model_at};
 ghost use Rattle.net_flatten.specs.Occurrences.{main_model};
 ghost use Rattle.net_flatten.specs.PartNumbers.{IsNumberedPart, control_name, latch_by_numbers, part_by_numbers, table_by_numbers};
@@ -14,7 +14,7 @@ ghost use Rattle.net_flatten.specs.Refusals.{HasRefusal};
 ghost use Rattle.net_flatten.specs.SignalNumbers.{HasSignalNumber, signal_number};
 ghost use Rattle.net_flatten.specs.declared.fault.FlatKind.TheVariants.{Recursion};
 
-use crate::models::ModelPlans;
+use crate::models::{ModelCalls, plan_all};
 use crate::numbered::{NumberedFile, NumberedPart, PartCard};
 use crate::plan::Plan;
 use crate::signals::{SignalNumbers, number_signals};
@@ -26,7 +26,7 @@ use std::alloc::Global;
 /// The numbers of the signals of these names in a scope.
 fn number_names(
     alloc: Global,
-    numbers: &SignalNumbers,
+    numbers: &SignalNumbers<'_>,
     scope: usize,
     model: u32,
     names: &[Name],
@@ -34,7 +34,7 @@ fn number_names(
     requires there { AllByRecursion (HasSignalNumber numbers.now scope model) names.now }
     ensures { IfOk result (λ all. all.items ≡ map (signal_number numbers.now scope model) names.now) }
 {
-    let mut all = Vec::new(alloc);
+    let mut all = Vec::with_capacity(alloc, names.len())?;
     for name in names {
         all.push(numbers.number(scope, model, name))?;
     }
@@ -43,7 +43,7 @@ fn number_names(
 
 fn number_table(
     alloc: Global,
-    numbers: &SignalNumbers,
+    numbers: &SignalNumbers<'_>,
     part: ScopedPart,
     table: &Table,
 ) -> Result<NumberedPart, OutOfMemory>
@@ -61,7 +61,7 @@ fn number_table(
 }
 
 /// The number of the signal that controls a latch, if there is one.
-fn number_control(numbers: &SignalNumbers, part: ScopedPart, latch: &Latch) -> Option<u32>
+fn number_control(numbers: &SignalNumbers<'_>, part: ScopedPart, latch: &Latch) -> Option<u32>
     requires { IfSome (control_name latch.now) (HasSignalNumber numbers.now part.scope part.model) }
     ensures { result ≡ option_map (signal_number numbers.now part.scope part.model) (control_name latch.now) }
 {
@@ -72,7 +72,7 @@ fn number_control(numbers: &SignalNumbers, part: ScopedPart, latch: &Latch) -> O
 
 fn number_latch(
     alloc: Global,
-    numbers: &SignalNumbers,
+    numbers: &SignalNumbers<'_>,
     part: ScopedPart,
     latch: &Latch,
 ) -> Result<NumberedPart, OutOfMemory>
@@ -81,7 +81,7 @@ fn number_latch(
     requires control { IfSome (control_name latch.now) (HasSignalNumber numbers.now part.scope part.model) }
     ensures { IfOk result (λ numbered. numbered ≡ latch_by_numbers numbers.now part latch.now) }
 {
-    let mut reads = Vec::new(alloc);
+    let mut reads = Vec::with_capacity(alloc, 1)?;
     reads.push(numbers.number(part.scope, part.model, &latch.input))?;
     Ok(NumberedPart {
         model: part.model,
@@ -113,7 +113,7 @@ fn latch_at(file: &BlifFile, model: u32, index: u32) -> &Latch
 fn number_part(
     alloc: Global,
     file: &BlifFile,
-    numbers: &SignalNumbers,
+    numbers: &SignalNumbers<'_>,
     part: ScopedPart,
 ) -> Result<NumberedPart, OutOfMemory>
     requires numbered { IsNumberedPart file.now numbers.now part }
@@ -134,13 +134,13 @@ fn number_part(
 fn number_parts(
     alloc: Global,
     file: &BlifFile,
-    numbers: &SignalNumbers,
+    numbers: &SignalNumbers<'_>,
     parts: &[ScopedPart],
 ) -> Result<Vec<NumberedPart>, OutOfMemory>
     requires numbered { AllByRecursion (IsNumberedPart file.now numbers.now) parts.now }
     ensures { IfOk result (λ all. all.items ≡ map (part_by_numbers file.now numbers.now) parts.now) }
 {
-    let mut all = Vec::new(alloc);
+    let mut all = Vec::with_capacity(alloc, parts.len())?;
     for part in parts {
         all.push(number_part(alloc, file, numbers, *part)?)?;
     }
@@ -182,17 +182,18 @@ pub fn number_file(
     })
 }
 
-/// A good file by numbers, by the plans of its models. It fails only for want of memory.
+/// A good file by numbers, by the calls of its models. It fails only for want of memory.
 pub fn number_planned_file(
     alloc: Global,
     file: &BlifFile,
-    plans: &ModelPlans,
+    calls: &ModelCalls,
 ) -> Result<NumberedFile, OutOfMemory>
     requires good { IsGoodFile file.now }
-    requires plans { AreModelPlans file.now plans.now }
+    requires calls { AreModelCalls file.now calls.now }
     requires few { signal_count file.now ≤ most_signals }
     ensures { IfOk result (HasNumbers file.now) }
 {
-    let depth = plans.order.len() + file.models.len();
-    number_file(alloc, file, &plans.plans, depth)
+    let plans = plan_all(alloc, &file.models, &calls.nodes)?;
+    let depth = calls.order.len() + file.models.len();
+    number_file(alloc, file, &plans, depth)
 }

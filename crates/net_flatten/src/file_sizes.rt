@@ -1,7 +1,7 @@
 //! How large the network of a file is.
 ghost use Rattle.std.specs.Prelude.{IfOk};
 ghost use Rattle.blif_ast.specs.Good.{IsGoodFile};
-ghost use Rattle.net_flatten.specs.ModelPlans.{NothingRefuses};
+ghost use Rattle.net_flatten.specs.ModelCalls.{NothingRefuses};
 ghost use Rattle.net_flatten.specs.NetworkSizes.{AreSizes};
 
 use crate::counting::{Sizes, count_network};
@@ -18,7 +18,7 @@ pub fn sizes(alloc: Global, file: &BlifFile) -> Result<Sizes, OutOfMemory>
     ensures { IfOk result (AreSizes file.now) }
 {
     match find_plans(alloc, &file.models)? {
-        Planning::Planned(plans) => count_network(alloc, file, &plans),
+        Planning::Planned(calls) => count_network(alloc, file, &calls),
         Planning::Refused(_, _) => unreachable!(),
     }
 }

@@ -29,9 +29,10 @@ pub fn flatten(alloc: Global, file: &BlifFile) -> Result<Network, FlatFault>
     ensures too_many { (limit : Limit) (count : ℕ) → IsErrOf result (FlatFault.TooMany limit count)
         → IsRefusal file.now (TooMany limit count) }
 {
-    let plans = plan_models(alloc, file)?;
-    check_sizes(alloc, file, &plans)?;
-    let numbered = number_planned_file(alloc, file, &plans)?;
+    let calls = plan_models(alloc, file)?;
+    check_sizes(alloc, file, &calls)?;
+    let numbered = number_planned_file(alloc, file, &calls)?;
+    drop(calls);
     let levels = check_signals(alloc, file, &numbered)?;
     Ok(network_of(alloc, file, &numbered, &levels)?)
 }

@@ -1,10 +1,10 @@
-//! The plans of the models of a file, or what is wrong with its models.
+//! The calls of the models of a file, or what is wrong with its models.
 ghost use Rattle.std.specs.Prelude.{◌≡◌, ◌≤◌, ◌<◌, ◌^◌, ℕ, List, IfOk, IsErrOf, IsTrue, length};
 ghost use Rattle.blif_ast.specs.Good.{IsGoodFile};
 ghost use Rattle.graph_order.specs.Orders.{IsGraph};
 ghost use Rattle.net_flatten.specs.CallNumbers.{AreCalls, names_of_models};
 ghost use Rattle.net_flatten.specs.ModelFaults.{IsDuplicateModel};
-ghost use Rattle.net_flatten.specs.ModelPlans.{AreModelPlans, HasCircle, HavePlans, IsPlanning, NothingRefuses};
+ghost use Rattle.net_flatten.specs.ModelCalls.{AreModelCalls, HasCircle, HavePlans, IsPlanning, NothingRefuses};
 ghost use Rattle.net_flatten.specs.declared.fault.FlatKind.{FlatKind};
 ghost use Rattle.net_flatten.specs.declared.fault.Limit.{Limit};
 ghost use Rattle.net_flatten.specs.Refusal.{At};
@@ -29,35 +29,34 @@ use std::marker::Model;
 /// More than the cards of a kind in a model, and than the models of a file, that are numbered.
 const MOST: usize = 1 << 32;
 
-/// Of each model of a file its cards in order of their lines, the numbers of the models that its
-/// instances name, and an order of all models, each behind those.
+/// Of each model of a file the numbers of the models that its instances name, and an order of all
+/// models, each behind those.
 #[derive(Drop)]
-pub struct ModelPlans {
-    pub plans: Vec<Plan>,
+pub struct ModelCalls {
     pub nodes: Vec<Node>,
     pub order: Vec<u32>,
 }
 
-impl Model for ModelPlans {
-    ghost use Rattle.net_flatten.specs.ModelPlansData.{ModelPlansData};
+impl Model for ModelCalls {
+    ghost use Rattle.net_flatten.specs.ModelCallsData.{ModelCallsData};
 
-    ghost Value = { ModelPlansData };
+    ghost Value = { ModelCallsData };
 
-    ghost view = { λ p. record { plans = p.plans.items; nodes = p.nodes.items; order = p.order.items } };
+    ghost view = { λ p. record { nodes = p.nodes.items; order = p.order.items } };
 }
 
-/// The plans of a file, or what is wrong with its models.
+/// The calls of a file, or what is wrong with its models.
 #[derive(Drop)]
 pub enum Planning {
-    Planned(ModelPlans),
+    Planned(ModelCalls),
     Refused(FlatKind, Report),
 }
 
-/// The plans of the models of a file, which it is refused for nothing in its models; or its refusal
+/// The calls of the models of a file, which it is refused for nothing in its models; or its refusal
 /// for what is wrong with them.
-pub fn plan_models(alloc: Global, file: &BlifFile) -> Result<ModelPlans, FlatFault>
+pub fn plan_models(alloc: Global, file: &BlifFile) -> Result<ModelCalls, FlatFault>
     requires good { IsGoodFile file.now }
-    ensures planned { IfOk result (AreModelPlans file.now) }
+    ensures planned { IfOk result (AreModelCalls file.now) }
     ensures refused { (line : ℕ) (kind : FlatKind) (name : List ℕ) → IsErrOf result (FlatFault.At line kind name)
         → IsRefusal file.now (At kind line name) }
     ensures no_count { (limit : Limit) (count : ℕ) → IsErrOf result (FlatFault.TooMany limit count) → ⊥ }
@@ -67,7 +66,7 @@ pub fn plan_models(alloc: Global, file: &BlifFile) -> Result<ModelPlans, FlatFau
         Err(OutOfMemory) => return Err(FlatFault::Memory),
     };
     match planning {
-        Planning::Planned(plans) => Ok(plans),
+        Planning::Planned(calls) => Ok(calls),
         Planning::Refused(kind, report) => Err(FlatFault::At {
             line: report.line,
             kind,
@@ -76,7 +75,7 @@ pub fn plan_models(alloc: Global, file: &BlifFile) -> Result<ModelPlans, FlatFau
     }
 }
 
-/// The plans of the models of a file, or the first thing that is wrong with its models: a name or a
+/// The calls of the models of a file, or the first thing that is wrong with its models: a name or a
 /// port that is there twice, an instance of no model, a formal that is wrong, or a model that reaches
 /// itself. It fails only for want of memory.
 pub fn find_plans(alloc: Global, models: &[BlifModel]) -> Result<Planning, OutOfMemory>
@@ -86,7 +85,7 @@ pub fn find_plans(alloc: Global, models: &[BlifModel]) -> Result<Planning, OutOf
     if MOST <= models.len() {
         return Err(OutOfMemory);
     }
-    let mut names = Names::new(alloc);
+    let mut names = Names::with_room(alloc, models.len())?;
     if let Some(report) = name_models(&mut names, models)? {
         return Ok(Planning::Refused(FlatKind::DuplicateModel, report));
     }
@@ -95,7 +94,10 @@ pub fn find_plans(alloc: Global, models: &[BlifModel]) -> Result<Planning, OutOf
     }
     match call_graph(alloc, &names, models)? {
         CallGraph::Unknown(report) => Ok(Planning::Refused(FlatKind::UnknownModel, report)),
-        CallGraph::Known(nodes) => plan_calls(alloc, models, nodes),
+        CallGraph::Known(nodes) => {
+            drop(names);
+            plan_calls(alloc, models, nodes)
+        }
     }
 }
 
@@ -122,12 +124,7 @@ fn plan_calls(
     if MOST <= order.len() {
         return Err(OutOfMemory);
     }
-    let plans = plan_all(alloc, models, &nodes)?;
-    Ok(Planning::Planned(ModelPlans {
-        plans,
-        nodes,
-        order,
-    }))
+    Ok(Planning::Planned(ModelCalls { nodes, order }))
 }
 
 /// The refusal of a file in which some model reaches itself.
@@ -150,7 +147,12 @@ fn find_recursion(
     }
 }
 
-fn plan_all(alloc: Global, models: &[BlifModel], nodes: &[Node]) -> Result<Vec<Plan>, OutOfMemory>
+/// The plans of the models of a file by their calls. It fails only for want of memory.
+pub fn plan_all(
+    alloc: Global,
+    models: &[BlifModel],
+    nodes: &[Node],
+) -> Result<Vec<Plan>, OutOfMemory>
     requires calls { AreCalls (names_of_models models.now) models.now nodes.now }
     ensures { IfOk result (λ plans. HavePlans models.now nodes.now plans.items) }
 {

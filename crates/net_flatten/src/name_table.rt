@@ -1,5 +1,5 @@
 //! The names of a model by numbers.
-ghost use Rattle.std.specs.Prelude.{◌≡◌, ◌<◌, ◌-◌, ◌++◌, ◌∷◌, IfOk, [], OnOk, Some, length, map, position, slice_get};
+ghost use Rattle.std.specs.Prelude.{◌≡◌, ◌<◌, ◌-◌, ◌++◌, ◌∷◌, IfOk, [], OnOk, Some, length, map, position, reverse, slice_get};
 ghost use Rattle.std.specs.List.{flat_map};
 ghost use Rattle.std.specs.Set.{unique_keys};
 ghost use Rattle.blif_ast.specs.Cards.{same};
@@ -14,39 +14,62 @@ use std::marker::Model;
 
 /// The names that occur in a model, each once: the index of a name is its number there.
 #[derive(Drop)]
-pub struct NameTable {
-    pub names: IndexSet<Name>,
+pub struct NameTable<'a> {
+    pub names: IndexSet<&'a Name>,
 }
 
-impl Model for NameTable {
-    ghost use Rattle.std.specs.Prelude.{List, ℕ};
+impl<'a> Model for NameTable<'a> {
+    ghost use Rattle.std.specs.Prelude.{List, ℕ, map};
 
     ghost Value = { List (List ℕ) };
 
-    ghost view = { λ t. t.names.keys };
+    ghost view = { λ t. map (λ k. k.now) t.names.keys };
 }
 
-impl NameTable {
+impl<'a> NameTable<'a> {
     /// The names of a model.
-    pub fn of_model(alloc: Global, model: &BlifModel) -> Result<NameTable, OutOfMemory>
+    pub fn of_model(alloc: Global, model: &'a BlifModel) -> Result<NameTable<'a>, OutOfMemory>
         ensures { IfOk result (λ table. table ≡ unique_keys same (names_of model.now)) }
     {
+        let mut table = NameTable::gathered(alloc, model)?;
+        table.reverse();
+        Ok(table)
+    }
+
+    /// How many names a model has.
+    pub fn count(alloc: Global, model: &'a BlifModel) -> Result<usize, OutOfMemory>
+        ensures { IfOk result (λ count. count ≡ length (unique_keys same (names_of model.now))) }
+    {
+        let table = NameTable::gathered(alloc, model)?;
+        Ok(table.len())
+    }
+
+    /// The names of a model, the last one first.
+    fn gathered(alloc: Global, model: &'a BlifModel) -> Result<NameTable<'a>, OutOfMemory>
+        ensures { IfOk result (λ table. table ≡ reverse (unique_keys same (names_of model.now))) }
+    {
         let all = all_names(alloc, model)?;
+        let ports = model.inputs.len() / 2 + model.outputs.len() / 2;
         let mut table = NameTable {
-            names: IndexSet::new(alloc),
+            names: IndexSet::with_capacity(alloc, all.len() / 2 + ports)?,
         };
         for index in 0..all.len() {
             table.insert(from_last(&all, index))?;
         }
-        table.names.reverse();
         Ok(table)
     }
 
+    fn reverse(&mut self)
+        ensures { self.new ≡ reverse self.old }
+    {
+        self.names.reverse();
+    }
+
     /// Adds a name, unless it is there.
-    fn insert(&mut self, name: &Name) -> Result<(), OutOfMemory>
+    fn insert(&mut self, name: &'a Name) -> Result<(), OutOfMemory>
         ensures { OnOk result (self.new ≡ insert_key same self.old name.now) }
     {
-        self.names.insert(name.clone()?)?;
+        self.names.insert(name)?;
         Ok(())
     }
 
@@ -61,25 +84,25 @@ impl NameTable {
     pub fn names(&self, alloc: Global) -> Result<Vec<Name>, OutOfMemory>
         ensures { IfOk result (λ names. names.items ≡ self.now) }
     {
-        let mut names = Vec::new(alloc);
+        let mut names = Vec::with_capacity(alloc, self.len())?;
         for index in 0..self.len() {
             put_clone(&mut names, self.name(index))?;
         }
         Ok(names)
     }
 
-    fn name(&self, index: usize) -> &Name
+    fn name(&self, index: usize) -> &'a Name
         requires { index < length self.now }
         ensures { slice_get self.now index ≡ Some result.now }
     {
-        self.names.get_index(index).unwrap()
+        self.names.get_index(index).copied().unwrap()
     }
 
     /// The number of a name of the model.
     pub fn number(&self, name: &Name) -> Option<usize>
         ensures { result ≡ position (same name.now) self.now }
     {
-        self.names.get_index_of(name)
+        self.names.get_index_of(&name)
     }
 }
 

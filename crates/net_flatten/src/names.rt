@@ -31,6 +31,15 @@ impl<'a> Names<'a> {
         }
     }
 
+    /// No names, with room for so many. It fails only for want of memory.
+    pub fn with_room(alloc: Global, count: usize) -> Result<Names<'a>, OutOfMemory>
+        ensures { IfOk result (λ names. names ≡ []) }
+    {
+        Ok(Names {
+            set: IndexSet::with_capacity(alloc, count)?,
+        })
+    }
+
     /// The number of a name, which is added where it is new, and whether it is. It fails only for
     /// want of memory.
     pub fn add(&mut self, name: &'a Name) -> Result<(usize, bool), OutOfMemory>

@@ -45,7 +45,7 @@ fn names_of(alloc: Global, network: &Network, signals: &[u32]) -> Result<Vec<Nam
     requires { All (λ signal. signal < length network.now.names) signals.now }
     ensures { IfOk result (λ names. names.items ≡ map (name_at network.now) signals.now) }
 {
-    let mut names = Vec::new(alloc);
+    let mut names = Vec::with_capacity(alloc, signals.len())?;
     for signal in signals {
         names.push(name_of(network, *signal as usize)?)?;
     }
@@ -64,7 +64,7 @@ fn tables_of(alloc: Global, network: &Network) -> Result<Vec<Table>, OutOfMemory
     ensures { IfOk result (λ tables.
         tables.items ≡ map (λ (p : ℕ × NetTableData). table_at network.now p.0 p.1) (enumerate_from 0 network.now.tables)) }
 {
-    let mut tables = Vec::new(alloc);
+    let mut tables = Vec::with_capacity(alloc, network.tables.len())?;
     for k in 0..network.tables.len() {
         tables.push(table_of(alloc, network, k)?)?;
     }
@@ -98,7 +98,7 @@ fn latches_of(alloc: Global, network: &Network) -> Result<Vec<Latch>, OutOfMemor
     ensures { IfOk result (λ latches.
         latches.items ≡ map (λ (p : ℕ × NetLatch). latch_at network.now p.0 p.1) (enumerate_from 0 network.now.latches)) }
 {
-    let mut latches = Vec::new(alloc);
+    let mut latches = Vec::with_capacity(alloc, network.latches.len())?;
     for k in 0..network.latches.len() {
         latches.push(latch_of(network, k)?)?;
     }

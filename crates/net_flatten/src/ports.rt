@@ -38,7 +38,10 @@ fn duplicate_in_list(
 ) -> Result<Option<Report>, OutOfMemory>
     ensures { IfOk result (IsReport IsDuplicatePort (ports_in line names.now) (λ p. p.line) (λ p. p.name)) }
 {
-    let mut scan = Scan::new(alloc);
+    if names.len() < 2 {
+        return Ok(None);
+    }
+    let mut scan = Scan::with_room(alloc, names.len())?;
     for name in names {
         scan.look(name, true)?;
     }

@@ -25,15 +25,15 @@ impl<'a> Model for Scan<'a> {
 }
 
 impl<'a> Scan<'a> {
-    /// No name was looked at.
-    pub fn new(alloc: Global) -> Scan<'a>
-        ensures names { result.names ≡ [] }
-        ensures least { result.least ≡ None }
+    /// No name was looked at, and there is room for so many that differ. It fails only for want of memory.
+    pub fn with_room(alloc: Global, count: usize) -> Result<Scan<'a>, OutOfMemory>
+        ensures names { IfOk result (λ scan. scan.names ≡ []) }
+        ensures least { IfOk result (λ scan. scan.least ≡ None) }
     {
-        Scan {
-            names: Names::new(alloc),
+        Ok(Scan {
+            names: Names::with_room(alloc, count)?,
             least: None,
-        }
+        })
     }
 
     /// Looks at the next name of the list, and is told whether it is good as such. It fails only for

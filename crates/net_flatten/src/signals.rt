@@ -19,13 +19,13 @@ use std::marker::Model;
 /// for each scope the number of its first name, and `roots` for each number the number of the signal
 /// that its name is: its own, or for a formal that an instance binds that of the actual.
 #[derive(Drop)]
-pub struct SignalNumbers {
-    pub names: Vec<NameTable>,
+pub struct SignalNumbers<'a> {
+    pub names: Vec<NameTable<'a>>,
     pub starts: Vec<usize>,
     pub roots: Vec<u32>,
 }
 
-impl Model for SignalNumbers {
+impl<'a> Model for SignalNumbers<'a> {
     ghost use Rattle.net_flatten.specs.NumberedFiles.{model_at};
     ghost use Rattle.net_flatten.specs.SignalNumbers.{SignalNumbersData};
 
@@ -34,7 +34,7 @@ impl Model for SignalNumbers {
     ghost view = { λ n. record { names = n.names.items; starts = n.starts.items; roots = n.roots.items } };
 }
 
-impl SignalNumbers {
+impl<'a> SignalNumbers<'a> {
     /// The number of the signal that a name is in a scope of this model.
     pub fn number(&self, scope: usize, model: u32, name: &Name) -> u32
         requires there { HasSignalNumber self.now scope model name.now }
@@ -54,7 +54,7 @@ impl SignalNumbers {
     }
 
     /// The names of a model.
-    pub fn model_names(&self, model: u32) -> &NameTable
+    pub fn model_names(&self, model: u32) -> &NameTable<'a>
         requires { model < length self.now.names }
         ensures { result.now ≡ names_at self.now model }
     {
@@ -66,7 +66,7 @@ impl SignalNumbers {
     fn bind(
         &self,
         roots: &mut [u32],
-        names: &NameTable,
+        names: &NameTable<'_>,
         above: usize,
         model: u32,
         binding: &Binding,
@@ -85,7 +85,7 @@ impl SignalNumbers {
     fn bind_all(
         &self,
         roots: &mut [u32],
-        names: &NameTable,
+        names: &NameTable<'_>,
         above: usize,
         model: u32,
         bindings: &[Binding],
@@ -166,11 +166,11 @@ fn from_last(bindings: &[Binding], index: usize) -> &Binding
 }
 
 /// The numbers of these names where the first has the number `start`.
-fn own_numbers(alloc: Global, start: usize, names: &NameTable) -> Result<Vec<u32>, OutOfMemory>
+fn own_numbers(alloc: Global, start: usize, names: &NameTable<'_>) -> Result<Vec<u32>, OutOfMemory>
     requires few { start + length names.now ≤ most_signals }
     ensures { IfOk result (λ numbers. numbers.items ≡ scope_roots (λ actual. 0) [] start names.now) }
 {
-    let mut numbers = Vec::new(alloc);
+    let mut numbers = Vec::with_capacity(alloc, names.len())?;
     for index in 0..names.len() {
         numbers.push((start + index) as u32)?;
     }
@@ -178,10 +178,10 @@ fn own_numbers(alloc: Global, start: usize, names: &NameTable) -> Result<Vec<u32
 }
 
 /// The names of all models of a file.
-fn name_tables(alloc: Global, file: &BlifFile) -> Result<Vec<NameTable>, OutOfMemory>
+fn name_tables<'a>(alloc: Global, file: &'a BlifFile) -> Result<Vec<NameTable<'a>>, OutOfMemory>
     ensures { IfOk result (λ tables. tables.items ≡ map model_names file.now.models) }
 {
-    let mut tables = Vec::new(alloc);
+    let mut tables = Vec::with_capacity(alloc, file.models.len())?;
     for model in &file.models {
         tables.push(NameTable::of_model(alloc, model)?)?;
     }
@@ -189,11 +189,11 @@ fn name_tables(alloc: Global, file: &BlifFile) -> Result<Vec<NameTable>, OutOfMe
 }
 
 /// The numbers of the names in all scopes of a walk over a file.
-pub fn number_signals(
+pub fn number_signals<'a>(
     alloc: Global,
-    file: &BlifFile,
+    file: &'a BlifFile,
     scopes: &[Scope],
-) -> Result<SignalNumbers, OutOfMemory>
+) -> Result<SignalNumbers<'a>, OutOfMemory>
     requires few { HasFewPairs file.now scopes.now }
     ensures { IfOk result (HasSignalNumbers file.now scopes.now) }
 {

@@ -2,10 +2,10 @@ use Rattle.std.proofs.Common.{◌≡◌, Err, rules, ap}
 use Rattle.net_flatten.specs.declared.fault.FlatFault.TheVariants.{At}
 use Rattle.net_flatten.proofs.flattening.flatten.Goals as goal
 
-pub returns-in_err-plans-clause-refused : goal.returns-in_err-plans-clause-refused
-returns-in_err-plans-clause-refused c = λ line kind name is.
-    let same : c.in_err-plans.field-0.0 ≡ At line kind name = search rules in
-    c.in_err-plans.ensures.refused line kind name (ap Err same)
+pub returns-in_err-calls-clause-refused : goal.returns-in_err-calls-clause-refused
+returns-in_err-calls-clause-refused c = λ line kind name is.
+    let same : c.in_err-calls.field-0.0 ≡ At line kind name = search rules in
+    c.in_err-calls.ensures.refused line kind name (ap Err same)
 
 pub returns-in_err-levels-clause-refused : goal.returns-in_err-levels-clause-refused
 returns-in_err-levels-clause-refused c = λ line kind name is.

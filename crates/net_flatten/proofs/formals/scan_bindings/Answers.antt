@@ -5,21 +5,21 @@ use Rattle.blif_ast.specs.declared.instance.Binding.{Binding}
 use Rattle.net_flatten.proofs.Lists.{get_map}
 use Rattle.net_flatten.proofs.Reports.{item_at}
 use Rattle.net_flatten.proofs.Scans.{next_scan, no_scan}
-use Rattle.net_flatten.specs.Formals.{bound_formals}
+use Rattle.net_flatten.specs.Formals.{bound_formals, names_of_ports}
 use Rattle.net_flatten.specs.Scans.{IsScan}
 use Rattle.net_flatten.proofs.formals.scan_bindings.Goals as goal
 
 pub loop-binding-init : goal.loop-binding-init
-loop-binding-init c = no_scan (Contains c.args.ports.now) (bound_formals c.args.bindings.now) c.args.scan.now c.requires.names c.requires.least
+loop-binding-init c = no_scan (Contains (names_of_ports c.args.unit.now)) (bound_formals c.args.bindings.now) c.args.scan.now c.requires.names c.requires.least
 
 pub loop-binding-preserved : goal.loop-binding-preserved
 loop-binding-preserved c =
     let there = item_at c.args.bindings.now (length c.args.bindings.now) c.loop-binding.binding-index c.binding-item.result refl (omega (arith, c.loop-binding-test.true, c.loop-binding.auto.binding-index-end)) c.binding-item.is in
-    next_scan (Contains c.args.ports.now) (bound_formals c.args.bindings.now) c.loop-binding.binding-index c.loop-binding.scan c.look.new.self c.binding-item.result.formal c.loop-binding.invariant
-    (get_map (λ (b : Binding). b.formal) c.args.bindings.now c.loop-binding.binding-index c.binding-item.result there) c.has.result c.has.ensures c.in_ok-look.ensures
+    next_scan (Contains (names_of_ports c.args.unit.now)) (bound_formals c.args.bindings.now) c.loop-binding.binding-index c.loop-binding.scan c.look.new.self c.binding-item.result.formal c.loop-binding.invariant
+    (get_map (λ (b : Binding). b.formal) c.args.bindings.now c.loop-binding.binding-index c.binding-item.result there) c.is_port.result c.is_port.ensures c.in_ok-look.ensures
 
 pub returns : goal.returns
 returns c =
     let whole : length (bound_formals c.args.bindings.now) ≤ c.loop-binding.binding-index =
     omega (arith, c.loop-binding-test.false, c.loop-binding.auto.binding-index-end, length-map c.args.bindings.now (λ (b : Binding). b.formal)) in
-    subst (λ l. IsScan (Contains c.args.ports.now) (bound_formals c.args.bindings.now) l c.loop-binding.scan) (take_all c.loop-binding.binding-index (bound_formals c.args.bindings.now) whole) c.loop-binding.invariant
+    subst (λ l. IsScan (Contains (names_of_ports c.args.unit.now)) (bound_formals c.args.bindings.now) l c.loop-binding.scan) (take_all c.loop-binding.binding-index (bound_formals c.args.bindings.now) whole) c.loop-binding.invariant

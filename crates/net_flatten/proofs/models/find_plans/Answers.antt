@@ -67,5 +67,5 @@ plan_calls-requires c =
           (all_known c.args.models.now c.in-Known.nodes.items named.1 calls));
     }
 
-pub returns : goal.returns
-returns c = c.plan_calls.ensures
+pub returns-in-Known : goal.returns-in-Known
+returns-in-Known c = c.plan_calls.ensures

@@ -4,7 +4,7 @@ use Rattle.net_flatten.proofs.FormalReports.{callees_count, calls_at, calls_coun
 use Rattle.net_flatten.proofs.ModelPlans.{have_no_plans, have_plans_next}
 use Rattle.net_flatten.proofs.Reports.{item_at}
 use Rattle.net_flatten.specs.CallNumbers.{names_of_models}
-use Rattle.net_flatten.specs.ModelPlans.{HavePlans}
+use Rattle.net_flatten.specs.ModelCalls.{HavePlans}
 use Rattle.net_flatten.proofs.models.plan_all.Goals as goal
 
 pub loop-index-init : goal.loop-index-init

@@ -1,5 +1,5 @@
 use Rattle.std.proofs.Common.{take}
-use Rattle.net_flatten.specs.ModelPlans.{HavePlans}
+use Rattle.net_flatten.specs.ModelCalls.{HavePlans}
 use Rattle.net_flatten.proofs.models.plan_all.Given as goal
 
 abbrev pub invariant-loop-index : goal.invariant-loop-index

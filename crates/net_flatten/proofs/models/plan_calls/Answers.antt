@@ -3,12 +3,12 @@ use Rattle.std.specs.List.{flat_map}
 use Rattle.graph_order.specs.Orders.{IsAnswer, IsGraph, IsOrder}
 use Rattle.net_flatten.proofs.Accepted.{first_refusal, none_reported, nothing_with}
 use Rattle.net_flatten.proofs.FormalReports.{calls_count, formals_by_model}
-use Rattle.net_flatten.proofs.OrderedPlans.{are_planned, are_ready, is_graph, none_recurs}
+use Rattle.net_flatten.proofs.OrderedPlans.{first_there_of, is_graph, none_recurs}
 use Rattle.net_flatten.proofs.Reports.{reported_none, reported_some}
 use Rattle.net_flatten.specs.declared.fault.FlatKind.TheVariants.{BadFormal, Recursion}
 use Rattle.net_flatten.specs.CallNumbers.{AreCalls, names_of_models}
 use Rattle.net_flatten.specs.ModelFaults.{IsBadFormal, IsRecursion, formals, line_of_formal, name_of_formal, uses_in}
-use Rattle.net_flatten.specs.ModelPlans.{HasCircle, HavePlans, NothingRefuses}
+use Rattle.net_flatten.specs.ModelCalls.{HasCircle, NothingRefuses}
 use Rattle.net_flatten.specs.Reports.{IsReport}
 use Rattle.net_flatten.proofs.models.plan_calls.Goals as goal
 
@@ -47,9 +47,6 @@ find_recursion-requires c =
 pub returns-in-Circular : goal.returns-in-Circular
 returns-in-Circular c = c.find_recursion.ensures
 
-pub plan_all-requires : goal.plan_all-requires
-plan_all-requires c = record { calls = subst (AreCalls (names_of_models c.args.models.now) c.args.models.now) (sym c.deref-3.ensures.value) c.requires.calls }
-
 pub returns : goal.returns
 returns c =
     let report = subst (λ l. IsReport IsBadFormal l line_of_formal name_of_formal c.in_ok-report.field-0) (sym (formals_by_model (record { models = c.args.models.now }))) c.in_ok-report.ensures in
@@ -57,11 +54,9 @@ returns c =
     let four : NothingRefuses (record { models = c.args.models.now }) 4 = nothing_with (record { models = c.args.models.now }) 3 BadFormal refl c.requires.accepted
     (none_reported (record { models = c.args.models.now }) IsBadFormal (formals (record { models = c.args.models.now })) line_of_formal name_of_formal none) in
     let ordered : IsOrder c.args.nodes.items c.in-Of.order.items = subst (λ n. IsOrder n c.in-Of.order.items) c.deref-2.ensures.value (subst (IsAnswer c.deref-2.result.now) c.in-Of.is c.in_ok-order.ensures) in
-    let have : HavePlans c.args.models.now c.args.nodes.items c.in_ok-plans.plans.items = subst (λ n. HavePlans c.args.models.now n c.in_ok-plans.plans.items) c.deref-3.ensures.value c.in_ok-plans.ensures in
     let recurs = none_recurs c.args.models.now c.args.nodes.items c.requires.apart c.requires.calls c.in-Of.order.items ordered in
     record {
-      planned = are_planned c.args.models.now c.args.nodes.items c.requires.apart c.requires.calls c.in-Of.order.items ordered c.in_ok-plans.plans.items have c.requires.good.some;
-      ready = are_ready c.args.models.now c.args.nodes.items c.requires.apart c.requires.calls c.in-Of.order.items ordered c.in_ok-plans.plans.items have c.requires.good.some;
+      main = first_there_of c.args.models.now c.requires.good.some;
       few = search rules;
       calls = c.requires.calls;
       ordered = ordered;

@@ -1,6 +1,6 @@
 use Rattle.std.proofs.Common.{◌≡◌, IfOk, ap, sym, ◌∙◌, subst}
 use Rattle.blif_ast.specs.Good.{IsGoodFile}
-use Rattle.net_flatten.specs.ModelPlans.{AreModelPlans, IsPlanning}
+use Rattle.net_flatten.specs.ModelCalls.{AreModelCalls, IsPlanning}
 use Rattle.net_flatten.specs.Refusal.{At}
 use Rattle.net_flatten.specs.Refusals.{IsRefusal}
 use Rattle.net_flatten.proofs.models.plan_models.Goals as goal
@@ -13,7 +13,7 @@ find_plans-requires c =
 pub returns-in-Planned-clause-planned : goal.returns-in-Planned-clause-planned
 returns-in-Planned-clause-planned c =
     let file : record { models = c.deref.result.now } ≡ c.args.file.now = ap (λ l. record { models = l }) c.deref.ensures.value ∙ c.file.view_is in
-    subst (λ f. AreModelPlans f c.in-Planned.plans) file (subst (IsPlanning (record { models = c.deref.result.now })) c.in-Planned.is (subst (λ r. IfOk r (IsPlanning (record { models = c.deref.result.now }))) c.in-Ok.is c.find_plans.ensures))
+    subst (λ f. AreModelCalls f c.in-Planned.calls) file (subst (IsPlanning (record { models = c.deref.result.now })) c.in-Planned.is (subst (λ r. IfOk r (IsPlanning (record { models = c.deref.result.now }))) c.in-Ok.is c.find_plans.ensures))
 
 pub returns-in-Refused-clause-refused : goal.returns-in-Refused-clause-refused
 returns-in-Refused-clause-refused c =

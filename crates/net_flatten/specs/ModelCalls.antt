@@ -1,4 +1,4 @@
--- The plans of the models of a file of BLIF, the Berkeley Logic Interchange Format, with the graph of their calls and an order of
+-- The graph of the calls of the models of a file of BLIF, the Berkeley Logic Interchange Format, with an order of it and plans by
 -- it, where nothing that is wrong with the models themselves refuses the file.
 use Rattle.std.specs.Prelude.{ℕ, ◌≡◌, ◌≤◌, ◌<◌, ◌^◌, List, length, Some, slice_get}
 use Rattle.blif_ast.specs.BlifFileData.{BlifFileData}
@@ -11,8 +11,8 @@ use Rattle.net_flatten.specs.declared.plan.CardAt.{CardAt}
 use Rattle.net_flatten.specs.CallNumbers.{AreCalls, names_of_models}
 use Rattle.net_flatten.specs.Expanded.{ordered_cards}
 use Rattle.net_flatten.specs.LinedCards.{AreNumberedCards}
-use Rattle.net_flatten.specs.ModelPlansData.{ModelPlansData}
-use Rattle.net_flatten.specs.Plans.{IsPlanned, HasMainPlan}
+use Rattle.net_flatten.specs.ModelCallsData.{ModelCallsData}
+use Rattle.net_flatten.specs.Occurrences.{main_model}
 use Rattle.net_flatten.specs.Refusal.{At, flat_kind_order}
 use Rattle.net_flatten.specs.Refusals.{HasRefusal, IsRefusal}
 
@@ -26,18 +26,17 @@ pub record HavePlans (models : List BlifModelData) (nodes : List (List ℕ)) (pl
 abbrev pub NothingRefuses : BlifFileData → ℕ → Type 0
 NothingRefuses f most = (kind : FlatKind) (line : ℕ) (name : List ℕ) → flat_kind_order kind ≤ most → HasRefusal f (At kind line name) → ⊥
 
--- the plans of a file whose models have nothing wrong with them
-pub record AreModelPlans (f : BlifFileData) (p : ModelPlansData) : Type 0 where
-  pub planned : IsPlanned f p.plans
-  pub ready : HasMainPlan p.plans (length p.order)
+-- the calls of a file whose models have nothing wrong with them
+pub record AreModelCalls (f : BlifFileData) (p : ModelCallsData) : Type 0 where
+  pub main : slice_get f.models 0 ≡ Some (main_model f)
   pub few : length p.order < 2 ^ 32
   pub calls : AreCalls (names_of_models f.models) f.models p.nodes
   pub ordered : IsOrder p.nodes p.order
   pub accepted : NothingRefuses f 5
 
--- the plans of a file, or what is wrong with its models, which is of the first five orders
+-- the calls of a file, or what is wrong with its models, which is of the first five orders
 abbrev pub IsPlanning : BlifFileData → Planning → Type 0
-IsPlanning f (Planned plans) = AreModelPlans f plans
+IsPlanning f (Planned calls) = AreModelCalls f calls
 IsPlanning f (Refused kind report) = IsRefusal f (At kind report.line report.name) × (flat_kind_order kind ≤ 5)
 
 -- some node leads back to itself
