@@ -24,7 +24,7 @@ abbrev pub operands_of : NetworkData → ℕ → Operand
 operands_of network = operand_in (with_tables (map Input (range_with_len 0 (leaf_count network))) 0 network.tables)
 
 -- a term comes to the same where its signals do
-folded_same : (of of' : ℕ → Operand) (m table : ℕ) (way : List Turn) (t : Term) → SignalsBelow m t → ((s : ℕ) → s < m → of s ≡ of' s) → folded of table way t ≡ folded of' table way t
+pub folded_same : (of of' : ℕ → Operand) (m table : ℕ) (way : List Turn) (t : Term) → SignalsBelow m t → ((s : ℕ) → s < m → of s ≡ of' s) → folded of table way t ≡ folded of' table way t
 folded_same of of' m table way (Constant b) below same = refl
 folded_same of of' m table way (Signal s) below same = same s below
 folded_same of of' m table way (Not t) below same = ap (folded_not (record { table = table; way = way })) (folded_same of of' m table (Left ∷ way) t below same)
