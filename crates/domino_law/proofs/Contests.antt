@@ -31,7 +31,7 @@ use Rattle.domino_law.specs.Nets.{At, Clock, Complement, Dynamic, Ls, Lsb, Maste
 use Rattle.domino_law.specs.Shape.{DominoCell, IsCellAt, Shape, Style, WithKeeper, WithPrecharge}
 use Rattle.domino_law.proofs.DynamicDevices.{dynamic_devices, untap_as}
 use Rattle.domino_law.proofs.Ways.{other_ways}
-use Rattle.domino_law.proofs.DeckParts.{clock-known, dynamic_is, known_tree, output-known, part-free, zero_or_one}
+use Rattle.domino_law.proofs.DeckParts.{clock-known, dynamic_is, gate-known, known_tree, output-known, part-free, zero_or_one}
 use Rattle.domino_law.proofs.Parts.{pulled_clock, pulled_conducts, pulls}
 use Rattle.domino_law.proofs.Rests.{rest_dynamic, rest_output}
 
@@ -141,8 +141,8 @@ module _ (devices : List Device) (is_source : ℕ → Bool) (net : Net → ℕ) 
   pulled_where_open k c e o p r m n =
       record {
         low_gate = elim (output-known devices is_source net s deck place up old new pins kept values h k c e) [ inl z ↦ z | inr z ↦ absurd (o (rw z refl)) ];
-        pulled = pulls devices is_source net values (h.sources Vdd tt) (h.sources Vss tt) s.style (λ a. net (At (Dynamic k) a)) k c (dynamic_is devices is_source net s deck k c e)
-            (known_one _ (clock-known devices is_source net s deck place up old new pins kept values h k c e) opened.1)
+        pulled = pulls devices is_source net values (h.frame.sources Vdd tt) (h.frame.sources Vss tt) s.style (λ a. net (At (Dynamic k) a)) k c (dynamic_is devices is_source net s deck k c e)
+            (known_one _ (clock-known devices is_source net s deck place up old new pins kept values h.frame k c e) opened.1)
             (known_one _ (known_tree devices is_source net s deck place up old new pins kept values h k c e) (λ z. opened.0 (tree_conduction-map_tree nch (value_of values) (λ g. net (gate_net g)) c.tree ∙ z)));
       }
     where
@@ -221,10 +221,10 @@ module _ (devices : List Device) (is_source : ℕ → Bool) (net : Net → ℕ) 
     where
       by : (k : ℕ) (c : DominoCell) → IsCellAt s k c → IsPulled k → ⊥
       by k c e u =
-          let conducts = pulled_conducts devices is_source net values (h.sources Vdd tt) (h.sources Vss tt) s.style (λ a. net (At (Dynamic k) a)) k c (dynamic_is devices is_source net s deck k c e) (deck.sources Vss tt) u.pulled in
-          let on = pulled_clock devices is_source net values (h.sources Vdd tt) (h.sources Vss tt) s.style (λ a. net (At (Dynamic k) a)) k c (dynamic_is devices is_source net s deck k c e) (deck.sources Vss tt) u.pulled in
+          let conducts = pulled_conducts devices is_source net values (h.frame.sources Vdd tt) (h.frame.sources Vss tt) s.style (λ a. net (At (Dynamic k) a)) k c (dynamic_is devices is_source net s deck k c e) (deck.sources Vss tt) u.pulled in
+          let on = pulled_clock devices is_source net values (h.frame.sources Vdd tt) (h.frame.sources Vss tt) s.style (λ a. net (At (Dynamic k) a)) k c (dynamic_is devices is_source net s deck k c e) (deck.sources Vss tt) u.pulled in
           let low : value_of values (net (At (Dynamic k) Top)) ≡ Zero = rest_dynamic devices is_source net s deck place up old new pins kept values h rest range k c e on ∙ rw conducts refl in
-          let high : value_of values (net (At (Output k) Top)) ≡ One = rest_output devices is_source net s deck place up old new pins kept values h rest range k c e ∙ rw low refl in
+          let high : value_of values (net (At (Output k) Top)) ≡ One = rest_output devices is_source net s deck place up old new pins kept values h.frame rest range (gate-known devices is_source net s deck place up old new pins kept values h) k c e ∙ rw low refl in
           zero_or_one (sym u.low_gate ∙ high)
 
 -- in the style with precharge there is no keeper, and so no contest

@@ -17,13 +17,17 @@ use Rattle.stage_law.specs.Tapped.{IsTapped, Tap}
 use Rattle.stage_law.proofs.Untapped.{untapped}
 use Rattle.port_runs.specs.Environment.{Place, bit}
 use Rattle.domino_law.specs.Branches.{HasBranches, dynamic, dynamic_taps, inverter_branches, master, numbered, slave}
-use Rattle.domino_law.specs.Honest.{IsDynamicSpot, IsHonest, cell_conduction}
+use Rattle.domino_law.specs.Honest.{IsDynamicSpot, IsHonest, IsHonestFrame, cell_conduction}
 use Rattle.domino_law.specs.LooseDeck.{HoldsDeck, IsPart, IsSpotOf}
 use Rattle.domino_law.specs.Nets.{At, Clock, Complement, Dynamic, FromDynamic, FromLatch, FromOutput, FromPin, Gate, High, Low, Master, Minus, Net, Next, Output, Part, Pin, Plus, DeckSignal, Sink, Slave, Vdd, Vss, gate_net, own}
 use Rattle.domino_law.specs.Shape.{DominoCell, HasComplement, IsCellAt, IsGate, IsLatchAt, IsLeafOf, IsOutputAt, IsSignal, Latch, Shape, Style, WithKeeper, WithPrecharge}
 use Rattle.domino_law.proofs.Leaves.{EachLeaf-weaker}
 use Rattle.domino_law.proofs.Places.{bit-known, clock_known, slave_known}
 use Rattle.domino_law.specs.Places.{IsClockAt}
+
+-- each gate that the deck names is Zero or One
+abbrev pub AreKnownGates : (Net → ℕ) → Shape → List Tri → Type 0
+AreKnownGates net s values = (g : Gate) → IsGate s g → IsKnown (value_of values (net (gate_net g)))
 
 pub zero_or_one : Zero ≡ One → ⊥
 zero_or_one e = cc
@@ -109,38 +113,44 @@ module _ (devices : List Device) (is_source : ℕ → Bool) (net : Net → ℕ) 
 
 module _ (devices : List Device) (is_source : ℕ → Bool) (net : Net → ℕ) (s : Shape) (deck : HoldsDeck devices is_source net s)
     (place : Place) (up : ℕ → Bool) (old new pins : ℕ → Bool) (keeps_at : ℕ → Tri) (before : List Tri)
-    (h : IsHonest devices is_source net s place up old new pins keeps_at before) where
+    (frame : IsHonestFrame net s place up old new pins keeps_at before) where
   pub clocks_at : (i : ℕ) → i < s.clocks → IsClockAt place (value_of before (net (Clock i)))
-  clocks_at i l = rw (h.sources (Clock i) l) (h.clocks i)
+  clocks_at i l = rw (frame.sources (Clock i) l) (frame.clocks i)
 
   pub own-known : (l : DeckSignal) → IsSignal s l → IsKnown (value_of before (net (own l)))
-  own-known (FromPin p) a = rw (h.sources (Pin p) a) (bit-known (pins p))
-  own-known (FromLatch j) a = slave_known place (bit (old j)) (bit (new j)) _ (bit-known (old j)) (bit-known (new j)) (h.slaves j a.0 a.1)
+  own-known (FromPin p) a = rw (frame.sources (Pin p) a) (bit-known (pins p))
+  own-known (FromLatch j) a = slave_known place (bit (old j)) (bit (new j)) _ (bit-known (old j)) (bit-known (new j)) (frame.slaves j a.0 a.1)
 
   pub clock-known : (k : ℕ) (c : DominoCell) → IsCellAt s k c → IsKnown (value_of before (net (Clock c.clock)))
   clock-known k c e = clock_known place _ (clocks_at c.clock ((deck.shape).clocks_are k c e))
 
+module _ (devices : List Device) (is_source : ℕ → Bool) (net : Net → ℕ) (s : Shape) (deck : HoldsDeck devices is_source net s)
+    (place : Place) (up : ℕ → Bool) (old new pins : ℕ → Bool) (keeps_at : ℕ → Tri) (before : List Tri)
+    (h : IsHonest devices is_source net s place up old new pins keeps_at before) where
+  known_clock : (k : ℕ) (c : DominoCell) → IsCellAt s k c → IsKnown (value_of before (net (Clock c.clock)))
+  known_clock = clock-known devices is_source net s deck place up old new pins keeps_at before h.frame
+
   pub output-known : (k : ℕ) (c : DominoCell) → IsCellAt s k c → IsKnown (value_of before (net (At (Output k) Top)))
   output-known k c e =
-      elim (clock-known k c e) [
+      elim (known_clock k c e) [
         | inl z ↦ elim ((h.cells k c e).idle z) [ inl p ↦ inl p.1 | inr p ↦ elim p.1 [ inl q ↦ inr q.1 | inr q ↦ inr q.1 ] ]
         | inr z ↦ elim ((h.cells k c e).evaluated z) [ inl p ↦ inl p.1 | inr p ↦ elim p [ inl q ↦ inl q.1 | inr q ↦ inr q.1 ] ]
       ]
 
   pub dynamic-known : (k : ℕ) (c : DominoCell) → IsCellAt s k c → IsKnown (value_of before (net (At (Dynamic k) Top)))
   dynamic-known k c e =
-      elim (clock-known k c e) [
+      elim (known_clock k c e) [
         | inl z ↦ elim ((h.cells k c e).idle z) [ inl p ↦ inr p.0 | inr p ↦ elim p.1 [ inl q ↦ inl q.0 | inr q ↦ inr q.0 ] ]
         | inr z ↦ elim ((h.cells k c e).evaluated z) [ inl p ↦ inr p.0 | inr p ↦ elim p [ inl q ↦ inl q.0 | inr q ↦ inl q.0 ] ]
       ]
 
-  pub gate-known : (g : Gate) → IsGate s g → IsKnown (value_of before (net (gate_net g)))
-  gate-known (Plus l) a = own-known l a
-  gate-known (Minus l) a = h.complements l a
+  pub gate-known : AreKnownGates net s before
+  gate-known (Plus l) a = own-known devices is_source net s deck place up old new pins keeps_at before h.frame l a
+  gate-known (Minus l) a = h.frame.complements l a
   gate-known (FromOutput j) a = output-known j a.0 a.1
   gate-known (FromDynamic j) a = dynamic-known j a.0 a.1
-  gate-known High a = inr (h.sources Vdd tt)
-  gate-known Low a = inl (h.sources Vss tt)
+  gate-known High a = inr (h.frame.sources Vdd tt)
+  gate-known Low a = inl (h.frame.sources Vss tt)
 
   pub known_leaves : (k : ℕ) (c : DominoCell) → IsCellAt s k c → EachLeaf (λ g. IsKnown (value_of before (net (gate_net g)))) c.tree
   known_leaves k c e = EachLeaf-weaker _ (λ g. IsKnown (value_of before (net (gate_net g)))) (λ g l. gate-known g (leaf_is_gate s k g l)) c.tree ((deck.shape).leaves k c e)

@@ -7,12 +7,13 @@ use Rattle.deck.specs.declared.device.Device.{Device}
 use Rattle.domino_cell.specs.Stage.{Spot, Top}
 use Rattle.switch_model.specs.Targets.{IsAtRest}
 use Rattle.port_runs.specs.Environment.{Place}
-use Rattle.domino_law.specs.Honest.{IsHonest}
+use Rattle.domino_law.specs.Honest.{IsHonestFrame}
 use Rattle.domino_law.specs.LooseDeck.{HoldsDeck, IsPart, IsSpotOf}
 use Rattle.domino_law.specs.Nets.{At, Complement, Dynamic, FromDynamic, FromLatch, FromOutput, FromPin, Gate, High, Low, Minus, Net, Next, Output, Part, Pin, Plus, Sink, Slave, Vdd, Vss, gate_net, own}
 use Rattle.domino_law.specs.Runs.{ChangesSources}
 use Rattle.domino_law.specs.Shape.{IsGate, Shape}
 use Rattle.domino_law.proofs.Carried.{gate-same, same}
+use Rattle.domino_law.proofs.DeckParts.{AreKnownGates}
 use Rattle.domino_law.proofs.Lags.{IsInStep, IsLag, gate_goal}
 use Rattle.domino_law.proofs.Rests.{rest_complement, rest_next, rest_sink}
 use Rattle.domino_law.specs.Places.{AreSourcesBy}
@@ -22,11 +23,11 @@ lag_same : (before after : List Tri) (goal : Tri) (gate top : ℕ) → value_of 
 lag_same before after goal gate top g t e = inr (t ∙ (e ∙ sym (rw g refl)))
 
 module _ (devices : List Device) (is_source : ℕ → Bool) (net : Net → ℕ) (s : Shape) (deck : HoldsDeck devices is_source net s)
-    (place : Place) (up : ℕ → Bool) (old new pins : ℕ → Bool) (kept : ℕ → Tri) (before : List Tri) (h : IsHonest devices is_source net s place up old new pins kept before)
+    (place : Place) (up : ℕ → Bool) (old new pins : ℕ → Bool) (kept : ℕ → Tri) (before : List Tri) (frame : IsHonestFrame net s place up old new pins kept before)
     (place' : Place) (up' : ℕ → Bool) (pins' : ℕ → Bool) (after : List Tri) (sources : AreSourcesBy net s place' up' pins' after) (only : ChangesSources is_source before after)
-    (rest : IsAtRest devices is_source before) (range : (part : Part) (a : Spot) → IsSpotOf s part a → net (At part a) < length before) (old' new' : ℕ → Bool) where
+    (rest : IsAtRest devices is_source before) (range : (part : Part) (a : Spot) → IsSpotOf s part a → net (At part a) < length before) (gates : AreKnownGates net s before) (old' new' : ℕ → Bool) where
   same_part : (part : Part) → IsPart s part → value_of after (net (At part Top)) ≡ value_of before (net (At part Top))
-  same_part = same devices is_source net s deck place up old new pins kept before h place' up' pins' after sources only
+  same_part = same devices is_source net s deck before after only
 
   -- a pin has its value at once, and any other gate stays
   lag_gate : (g : Gate) → IsGate s g → (top : ℕ) → value_of after top ≡ value_of before top → value_of before top ≡ opposite (value_of before (net (gate_net g)))
@@ -43,26 +44,26 @@ module _ (devices : List Device) (is_source : ℕ → Bool) (net : Net → ℕ) 
   in_step_opens =
       record {
         complements = λ l a. lag_gate (Plus l) ((deck.shape).complements_are l a) (net (At (Complement l) Top)) (same_part (Complement l) a)
-            (rest_complement devices is_source net s deck place up old new pins kept before h rest range l a);
+            (rest_complement devices is_source net s deck place up old new pins kept before frame rest range l a);
         nexts = λ j b e. lag_gate b.next ((deck.shape).nexts j b e) (net (At (Next j) Top)) (same_part (Next j) (b, e))
-            (rest_next devices is_source net s deck place up old new pins kept before h rest range j b e);
+            (rest_next devices is_source net s deck place up old new pins kept before frame rest range gates j b e);
         outputs = λ i g e. lag_gate g ((deck.shape).outputs_are i g e) (net (At (Sink i) Top)) (same_part (Sink i) (g, e))
-            (rest_sink devices is_source net s deck place up old new pins kept before h rest range i g e);
+            (rest_sink devices is_source net s deck place up old new pins kept before frame rest range gates i g e);
       }
 
 -- a later clock's rise changes none of them
 module _ (devices : List Device) (is_source : ℕ → Bool) (net : Net → ℕ) (s : Shape) (deck : HoldsDeck devices is_source net s)
-    (place : Place) (up : ℕ → Bool) (old new pins : ℕ → Bool) (kept : ℕ → Tri) (before : List Tri) (h : IsHonest devices is_source net s place up old new pins kept before)
+    (place : Place) (up : ℕ → Bool) (old new pins : ℕ → Bool) (kept : ℕ → Tri) (before : List Tri) (frame : IsHonestFrame net s place up old new pins kept before)
     (up' : ℕ → Bool) (after : List Tri) (sources : AreSourcesBy net s place up' pins after) (only : ChangesSources is_source before after) (lag : IsInStep net s place old new pins before) where
   keep_lag : (goal : Tri) (gate top : ℕ) → value_of after gate ≡ value_of before gate → value_of after top ≡ value_of before top → IsLag before goal gate top → IsLag after goal gate top
   keep_lag goal gate top g t (inl e) = inl (g ∙ e)
   keep_lag goal gate top g t (inr e) = inr (t ∙ (e ∙ sym (rw g refl)))
 
   kept_part : (part : Part) → IsPart s part → value_of after (net (At part Top)) ≡ value_of before (net (At part Top))
-  kept_part = same devices is_source net s deck place up old new pins kept before h place up' pins after sources only
+  kept_part = same devices is_source net s deck before after only
 
   kept_gate : (g : Gate) → IsGate s g → value_of after (net (gate_net g)) ≡ value_of before (net (gate_net g))
-  kept_gate = gate-same devices is_source net s deck place up old new pins kept before h place up' pins after sources only (λ p a. refl)
+  kept_gate = gate-same devices is_source net s deck place up old new pins kept before frame place up' pins after sources only (λ p a. refl)
 
   pub in_step_rises : IsInStep net s place old new pins after
   in_step_rises =

@@ -8,8 +8,10 @@ pub mod DeckParts
 pub mod DominoDecks
 pub mod DominoNets
 pub mod DynamicDevices
+pub mod DynamicNets
 pub mod Events
 pub mod EventsHonest
+pub mod FrameEvents
 pub mod GateNets
 pub mod Goals
 pub mod HonestLaws
@@ -20,6 +22,7 @@ pub mod Leaves
 pub mod LooseDecks
 pub mod Moves
 pub mod NamedDecks
+pub mod NetEvents
 pub mod OrderLaws
 pub mod OwnRunLaws
 pub mod OwnRuns

@@ -17,7 +17,7 @@ use Rattle.domino_law.specs.LooseDeck.{HoldsDeck, IsSpotOf}
 use Rattle.domino_law.specs.Nets.{At, Clock, Complement, Dynamic, FromDynamic, FromLatch, FromOutput, FromPin, Gate, High, Low, Minus, Net, Next, Output, Part, Pin, Plus, DeckSignal, Sink, Vdd, Vss, gate_net, own}
 use Rattle.domino_law.specs.OwnRun.{bit_at, cell_bits, gate_bit, signal_bit, sink_bit}
 use Rattle.domino_law.specs.Shape.{DominoCell, HasComplement, IsCellAt, IsGate, IsLatchAt, IsLeafOf, IsOutputAt, IsSignal, Latch, Shape}
-use Rattle.domino_law.proofs.DeckParts.{dynamic-known, opposite_twice}
+use Rattle.domino_law.proofs.DeckParts.{AreKnownGates, gate-known, opposite_twice}
 use Rattle.domino_law.proofs.Leaves.{EachLeaf-weaker, tree_bit}
 use Rattle.domino_law.proofs.Moves.{below_one}
 use Rattle.domino_law.proofs.Rests.{rest_complement, rest_dynamic, rest_next, rest_output, rest_sink}
@@ -49,13 +49,16 @@ bit_at-map f (y ∷ ys) (suc k) x e = bit_at-map f ys k x e
 module _ (devices : List Device) (is_source : ℕ → Bool) (net : Net → ℕ) (s : Shape) (deck : HoldsDeck devices is_source net s)
     (old new pins : ℕ → Bool) (kept : ℕ → Tri) (before : List Tri) (h : IsHonest devices is_source net s Evaluation (up_at Evaluation s.clocks) old new pins kept before)
     (rest : IsAtRest devices is_source before) (range : (part : Part) (a : Spot) → IsSpotOf s part a → net (At part a) < length before) where
+  gates : AreKnownGates net s before
+  gates = gate-known devices is_source net s deck Evaluation (up_at Evaluation s.clocks) old new pins kept before h
+
   signal_is : (l : DeckSignal) → IsSignal s l → value_of before (net (own l)) ≡ bit (signal_bit pins old l)
-  signal_is (FromPin p) a = h.sources (Pin p) a
-  signal_is (FromLatch j) a = h.slaves j a.0 a.1
+  signal_is (FromPin p) a = h.frame.sources (Pin p) a
+  signal_is (FromLatch j) a = h.frame.slaves j a.0 a.1
 
   minus_is : (l : DeckSignal) → HasComplement s l → value_of before (net (At (Complement l) Top)) ≡ bit (not (signal_bit pins old l))
   minus_is l a =
-      rest_complement devices is_source net s deck Evaluation (up_at Evaluation s.clocks) old new pins kept before h rest range l a
+      rest_complement devices is_source net s deck Evaluation (up_at Evaluation s.clocks) old new pins kept before h.frame rest range l a
       ∙ (rw (signal_is l ((deck.shape).complements_are l a)) (opposite_bit (signal_bit pins old l)))
 
   -- the outputs of the first cells have these bits
@@ -73,12 +76,12 @@ module _ (devices : List Device) (is_source : ℕ → Bool) (net : Net → ℕ) 
   leaf_is bits known Low a = absurd a
 
   clock_up : (k : ℕ) (c : DominoCell) → IsCellAt s k c → value_of before (net (Clock c.clock)) ≡ One
-  clock_up k c e = let l = (deck.shape).clocks_are k c e in h.sources (Clock c.clock) l ∙ below_one s.clocks c.clock l
+  clock_up k c e = let l = (deck.shape).clocks_are k c e in h.frame.sources (Clock c.clock) l ∙ below_one s.clocks c.clock l
 
   -- a cell has the value of its tree
   output_is_tree : (k : ℕ) (c : DominoCell) → IsCellAt s k c → (b : Bool) → cell_conduction net before c ≡ bit b → value_of before (net (At (Output k) Top)) ≡ bit b
   output_is_tree k c e b t =
-      rest_output devices is_source net s deck Evaluation (up_at Evaluation s.clocks) old new pins kept before h rest range k c e
+      rest_output devices is_source net s deck Evaluation (up_at Evaluation s.clocks) old new pins kept before h.frame rest range gates k c e
       ∙ rw (rest_dynamic devices is_source net s deck Evaluation (up_at Evaluation s.clocks) old new pins kept before h rest range k c e (clock_up k c e), t) (opposite_twice b)
 
   known_more : (bits : List Bool) → Known bits → (c : DominoCell) → IsCellAt s (length bits) c
@@ -137,24 +140,24 @@ module _ (devices : List Device) (is_source : ℕ → Bool) (net : Net → ℕ) 
   gate_is_own (Minus l) a = minus_is l a
   gate_is_own (FromOutput k) a = output_is_own k a.0 a.1
   gate_is_own (FromDynamic k) a =
-      turned (value_of before (net (At (Dynamic k) Top))) (value_of before (net (At (Output k) Top))) _ (dynamic-known devices is_source net s deck Evaluation (up_at Evaluation s.clocks) old new pins kept before h k a.0 a.1)
-      (rest_output devices is_source net s deck Evaluation (up_at Evaluation s.clocks) old new pins kept before h rest range k a.0 a.1) (output_is_own k a.0 a.1)
+      turned (value_of before (net (At (Dynamic k) Top))) (value_of before (net (At (Output k) Top))) _ (gates (FromDynamic k) a)
+      (rest_output devices is_source net s deck Evaluation (up_at Evaluation s.clocks) old new pins kept before h.frame rest range gates k a.0 a.1) (output_is_own k a.0 a.1)
     where
       turned : (d z : Tri) (b : Bool) → IsKnown d → z ≡ opposite d → z ≡ bit b → d ≡ bit (not b)
       turned d z true (inl e) f g = e
       turned d z false (inl e) f g = let y : One ≡ Zero = sym (f ∙ rw e refl) ∙ g in absurd (cc)
       turned d z true (inr e) f g = let y : Zero ≡ One = sym (f ∙ rw e refl) ∙ g in absurd (cc)
       turned d z false (inr e) f g = e
-  gate_is_own High a = h.sources Vdd tt
-  gate_is_own Low a = h.sources Vss tt
+  gate_is_own High a = h.frame.sources Vdd tt
+  gate_is_own Low a = h.frame.sources Vss tt
 
   -- so have the outputs and the latch inputs
   pub sink_is_own : (i : ℕ) (g : Gate) → IsOutputAt s i g → value_of before (net (At (Sink i) Top)) ≡ bit (sink_bit s pins old g)
   sink_is_own i g e =
-      rest_sink devices is_source net s deck Evaluation (up_at Evaluation s.clocks) old new pins kept before h rest range i g e
+      rest_sink devices is_source net s deck Evaluation (up_at Evaluation s.clocks) old new pins kept before h.frame rest range gates i g e
       ∙ (rw (gate_is_own g ((deck.shape).outputs_are i g e)) (opposite_bit (gate_bit (signal_bit pins old) (cell_bits (signal_bit pins old) s.cells []) g)))
 
   pub next_is_own : (j : ℕ) (b : Latch) → IsLatchAt s j b → value_of before (net (At (Next j) Top)) ≡ bit (sink_bit s pins old b.next)
   next_is_own j b e =
-      rest_next devices is_source net s deck Evaluation (up_at Evaluation s.clocks) old new pins kept before h rest range j b e
+      rest_next devices is_source net s deck Evaluation (up_at Evaluation s.clocks) old new pins kept before h.frame rest range gates j b e
       ∙ (rw (gate_is_own b.next ((deck.shape).nexts j b e)) (opposite_bit (gate_bit (signal_bit pins old) (cell_bits (signal_bit pins old) s.cells []) b.next)))

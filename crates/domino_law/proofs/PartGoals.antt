@@ -33,14 +33,14 @@ module _ (devices : List Device) (is_source : ℕ → Bool) (net : Net → ℕ) 
       (n : ℕ) (v : Tri) (lt : n < length before) (pending : IsPending devices is_source before n v) (part : Part) (a : IsPart s part) → net (At part Top) ≡ n → v ≡ part_goal part a
   part_event before h lag n v lt p (Dynamic k) a m = dynamic_event devices is_source net s deck place up old new pins kept before h n v lt p lag k a.0 a.1 m
   part_event before h lag n v lt p (Output k) a m = output_event devices is_source net s deck place up old new pins kept before h n v lt p lag k a.0 a.1 m
-  part_event before h lag n v lt p (Complement l) a m = complement_event devices is_source net s deck place up old new pins kept before h n v lt p lag l a m
-  part_event before h lag n v lt p (Master j) a m = master_event devices is_source net s deck place up old new pins kept before h n v lt p lag j a.0 a.1 m
-  part_event before h lag n v lt p (Slave j) a m = slave_event devices is_source net s deck place up old new pins kept before h n v lt p lag j a.0 a.1 m
+  part_event before h lag n v lt p (Complement l) a m = complement_event devices is_source net s deck place up old new pins kept before h.frame n v lt p lag l a m
+  part_event before h lag n v lt p (Master j) a m = master_event devices is_source net s deck place up old new pins kept before h.frame n v lt p lag j a.0 a.1 m
+  part_event before h lag n v lt p (Slave j) a m = slave_event devices is_source net s deck place up old new pins kept before h.frame n v lt p lag j a.0 a.1 m
   part_event before h lag n v lt p (Next j) a m =
-      lag_event devices is_source net s deck place up old new pins kept before h n v lt p lag (λ b. net (At (Next j) b)) (gate_net (a.0).next) (gate_goal place old new pins (a.0).next)
+      lag_event devices is_source net s deck place up old new pins kept before h.frame n v lt p lag (λ b. net (At (Next j) b)) (gate_net (a.0).next) (gate_goal place old new pins (a.0).next)
       (next_is devices is_source net s deck j a.0 a.1) (gate-known devices is_source net s deck place up old new pins kept before h (a.0).next ((deck.shape).nexts j a.0 a.1)) (lag.nexts j a.0 a.1) m
   part_event before h lag n v lt p (Sink i) a m =
-      lag_event devices is_source net s deck place up old new pins kept before h n v lt p lag (λ b. net (At (Sink i) b)) (gate_net a.0) (gate_goal place old new pins a.0)
+      lag_event devices is_source net s deck place up old new pins kept before h.frame n v lt p lag (λ b. net (At (Sink i) b)) (gate_net a.0) (gate_goal place old new pins a.0)
       (sink_is devices is_source net s deck i a.0 a.1) (gate-known devices is_source net s deck place up old new pins kept before h a.0 ((deck.shape).outputs_are i a.0 a.1)) (lag.outputs i a.0 a.1) m
 
   -- an event keeps an honest state in step

@@ -24,8 +24,9 @@ use Rattle.domino_law.proofs.DeckParts.{clock-known, gate-known, next_is, output
 use Rattle.domino_law.proofs.DominoNets.{IsDomino, falls, rises_next, rises_output, rises_sink}
 use Rattle.domino_law.proofs.Events.{spot_charged, spot_event}
 use Rattle.domino_law.proofs.EventsHonest.{next_stays, output_stays, sink_stays}
-use Rattle.domino_law.proofs.Goals.{lag_event, no_event, output_event}
+use Rattle.domino_law.proofs.Goals.{lag_event, output_event}
 use Rattle.domino_law.proofs.Lags.{IsInStep, dynamic_goal, gate_goal}
+use Rattle.domino_law.proofs.NetEvents.{no_event}
 use Rattle.domino_law.proofs.Places.{IsCap}
 use Rattle.domino_law.proofs.Tracked.{InStepWorld, IsTracked, power_tracked, run_tracked, step_tracked}
 use Rattle.domino_law.specs.Places.{up_at}
@@ -66,7 +67,7 @@ module _ (devices : List Device) (is_source : ℕ → Bool) (net : Net → ℕ) 
   in_evaluation x m f =
       elim (period_place place period) [
         | inl e ↦ e
-        | inr cap ↦ absurd (no_event devices is_source net s deck place up old new pins kept before h n v lt pending lag x m (f cap))
+        | inr cap ↦ absurd (no_event devices is_source before n v pending lt x m (f cap))
       ]
 
   goal_there : (pl : Place) → pl ≡ Evaluation → dynamic_goal pl ≡ Zero
@@ -76,7 +77,7 @@ module _ (devices : List Device) (is_source : ℕ → Bool) (net : Net → ℕ) 
   -- an event gives a dynamic net Zero, and a domino output One
   pub domino_event : (part : Part) (spot : Spot) (goal : Tri) → IsDomino s part spot goal → net (At part spot) ≡ n → v ≡ goal
   domino_event part spot goal (falls {k = k} {c = c} {a = a} e x) m =
-      elim (clock-known devices is_source net s deck place up old new pins kept before h k c e) [
+      elim (clock-known devices is_source net s deck place up old new pins kept before h.frame k c e) [
         | inl off ↦ absurd (elim ((h.cells k c e).spots_idle off a x) [
           | inl one ↦ pending.2 ((rw m at one) ∙ sym (spot_charged devices is_source net s deck place up old new pins kept before h n v lt pending k c e off a x m))
           | inr pre ↦ no_precharge place pre period
@@ -92,12 +93,12 @@ module _ (devices : List Device) (is_source : ℕ → Bool) (net : Net → ℕ) 
       ∙ ap opposite (goal_there place (in_evaluation (net (At (Output k) Top)) m (λ cap. output_stays devices is_source net s deck place up old new pins kept before h n v lt pending cap k c e)))
   domino_event part spot goal (rises_next {j = j} {k = k} {b = b} e f) m =
       let ev : place ≡ Evaluation = in_evaluation (net (At (Next j) Top)) m (λ cap. next_stays devices is_source net s deck place up old new pins kept before h n v lt pending cap j b e) in
-      lag_event devices is_source net s deck place up old new pins kept before h n v lt pending lag (λ a. net (At (Next j) a)) (gate_net b.next) (gate_goal place old new pins b.next)
+      lag_event devices is_source net s deck place up old new pins kept before h.frame n v lt pending lag (λ a. net (At (Next j) a)) (gate_net b.next) (gate_goal place old new pins b.next)
       (next_is devices is_source net s deck j b e) (gate-known devices is_source net s deck place up old new pins kept before h b.next ((deck.shape).nexts j b e)) (lag.nexts j b e) m
       ∙ (ap (λ g. opposite (gate_goal place old new pins g)) f ∙ ap opposite (goal_there place ev))
   domino_event part spot goal (rises_sink {i = i} {k = k} {g = g} e f) m =
       let ev : place ≡ Evaluation = in_evaluation (net (At (Sink i) Top)) m (λ cap. sink_stays devices is_source net s deck place up old new pins kept before h n v lt pending cap i g e) in
-      lag_event devices is_source net s deck place up old new pins kept before h n v lt pending lag (λ a. net (At (Sink i) a)) (gate_net g) (gate_goal place old new pins g)
+      lag_event devices is_source net s deck place up old new pins kept before h.frame n v lt pending lag (λ a. net (At (Sink i) a)) (gate_net g) (gate_goal place old new pins g)
       (sink_is devices is_source net s deck i g e) (gate-known devices is_source net s deck place up old new pins kept before h g ((deck.shape).outputs_are i g e)) (lag.outputs i g e) m
       ∙ (ap (λ x. opposite (gate_goal place old new pins x)) f ∙ ap opposite (goal_there place ev))
 
@@ -105,8 +106,8 @@ module _ (devices : List Device) (is_source : ℕ → Bool) (net : Net → ℕ) 
   domino-known : (part : Part) (spot : Spot) (goal : Tri) → IsDomino s part spot goal → IsKnown (value_of before (net (At part spot))) × IsKnown goal
   domino-known part spot goal (falls {k = k} {c = c} {a = a} e x) = ((h.cells k c e).spots_known a x, inl refl)
   domino-known part spot goal (rises_output {k = k} {c = c} e) = (output-known devices is_source net s deck place up old new pins kept before h k c e, inr refl)
-  domino-known part spot goal (rises_next {j = j} {b = b} e f) = (h.nexts j b e, inr refl)
-  domino-known part spot goal (rises_sink {i = i} {g = g} e f) = (h.outputs i g e, inr refl)
+  domino-known part spot goal (rises_next {j = j} {b = b} e f) = (h.frame.nexts j b e, inr refl)
+  domino-known part spot goal (rises_sink {i = i} {g = g} e f) = (h.frame.outputs i g e, inr refl)
 
   pub domino_before : (part : Part) (spot : Spot) (goal : Tri) → IsDomino s part spot goal → net (At part spot) ≡ n → value_of before n ≡ opposite goal
   domino_before part spot goal d m =

@@ -1,4 +1,4 @@
--- An honest state has no short.
+-- A state whose frame is honest and whose gates are known has no short.
 use Rattle.std.specs.List.{AllByRecursion}
 use Rattle.std.specs.Prelude.{Contains, ◌≢◌, ◌⊎◌}
 use Rattle.std.proofs.Common.{Bool, List, [], false, inl, inr, map, refl, sym, true, ℕ, ◌∙◌, ◌∷◌, ◌≡◌}
@@ -25,12 +25,12 @@ use Rattle.stage_law.proofs.Untapped.{untapped}
 use Rattle.stage_law.proofs.StageTargets.{strong_through}
 use Rattle.port_runs.specs.Environment.{Captured, Launch, Launched, Place, Precharge, bit}
 use Rattle.domino_law.specs.Branches.{HasBranches, clocked, dynamic, dynamic_taps, inverter_branches, numbered, reset_branch, slave}
-use Rattle.domino_law.specs.Honest.{IsHonest, IsMasterAt}
+use Rattle.domino_law.specs.Honest.{IsHonestFrame, IsMasterAt}
 use Rattle.domino_law.specs.LooseDeck.{HoldsDeck}
-use Rattle.domino_law.specs.Nets.{At, Clock, Complement, Dynamic, Lm, Lmb, Ls, Lsb, Master, Net, Next, Output, Part, Rs, Rsb, Sink, Slave, Vdd, Vss, gate_net, own}
+use Rattle.domino_law.specs.Nets.{At, Clock, Complement, Dynamic, FromDynamic, Lm, Lmb, Ls, Lsb, Master, Net, Next, Output, Part, Plus, Rs, Rsb, Sink, Slave, Vdd, Vss, gate_net, own}
 use Rattle.domino_law.specs.Places.{ls_at, rs_at}
 use Rattle.domino_law.specs.Shape.{DominoCell, IsCellAt, IsLatchAt, Latch, Shape, Style, WithKeeper, WithPrecharge}
-use Rattle.domino_law.proofs.DeckParts.{clock-known, complement_is, dynamic-known, dynamic_is, gate-known, master_is, next_is, opposite-known, output_is, own-known, sink_is, slave_is}
+use Rattle.domino_law.proofs.DeckParts.{AreKnownGates, clock-known, complement_is, dynamic_is, master_is, next_is, opposite-known, output_is, sink_is, slave_is}
 use Rattle.domino_law.proofs.DynamicDevices.{untap}
 use Rattle.domino_law.proofs.Parts.{both-right_zero}
 use Rattle.domino_law.proofs.Places.{bit-known}
@@ -40,26 +40,27 @@ abbrev Agreeing : List Tri → Tri → List Branch → Type 0
 Agreeing values w bs = AllByRecursion (λ b. (b.kind ≡ Keep) ⊎ ((tree_conduction b.kind (value_of values) b.tree ≡ Zero) ⊎ (value_of values b.supply ≡ w))) bs
 
 module _ (devices : List Device) (is_source : ℕ → Bool) (net : Net → ℕ) (s : Shape) (deck : HoldsDeck devices is_source net s)
-    (place : Place) (up : ℕ → Bool) (old new pins : ℕ → Bool) (kept : ℕ → Tri) (values : List Tri) (h : IsHonest devices is_source net s place up old new pins kept values) where
+    (place : Place) (up : ℕ → Bool) (old new pins : ℕ → Bool) (kept : ℕ → Tri) (values : List Tri) (frame : IsHonestFrame net s place up old new pins kept values)
+    (gates : AreKnownGates net s values) where
   agree_inverter : (gate : Net) → IsKnown (value_of values (net gate)) → (w : Tri) × Agreeing values w (inverter_branches net gate)
-  agree_inverter gate (inl z) = (One, (inr (inr (h.sources Vdd tt)), (inr (inl z), tt)))
-  agree_inverter gate (inr z) = (Zero, (inr (inl (rw z refl)), (inr (inr (h.sources Vss tt)), tt)))
+  agree_inverter gate (inl z) = (One, (inr (inr (frame.sources Vdd tt)), (inr (inl z), tt)))
+  agree_inverter gate (inr z) = (Zero, (inr (inl (rw z refl)), (inr (inr (frame.sources Vss tt)), tt)))
 
   -- a clocked inverter_branches that is shut, or whose gate is known
   agree_shut : (up down gate : Net) (more : List Branch) (w : Tri) → value_of values (net up) ≡ One → value_of values (net down) ≡ Zero → Agreeing values w more → Agreeing values w (clocked net up down gate more)
   agree_shut up down gate more w u d m = (inr (inl (rw u refl)), (inr (inl (rw d refl)), m))
 
   agree_open : (up down gate : Net) (more : List Branch) → IsKnown (value_of values (net gate)) → ((w : Tri) → Agreeing values w more) → (w : Tri) × Agreeing values w (clocked net up down gate more)
-  agree_open up down gate more (inl z) m = (One, (inr (inr (h.sources Vdd tt)), (inr (inl (rw z (both-right_zero (value_of values (net down))))), m One)))
-  agree_open up down gate more (inr z) m = (Zero, (inr (inl (rw z (both-right_zero (opposite (value_of values (net up)))))), (inr (inr (h.sources Vss tt)), m Zero)))
+  agree_open up down gate more (inl z) m = (One, (inr (inr (frame.sources Vdd tt)), (inr (inl (rw z (both-right_zero (value_of values (net down))))), m One)))
+  agree_open up down gate more (inr z) m = (Zero, (inr (inl (rw z (both-right_zero (opposite (value_of values (net up)))))), (inr (inr (frame.sources Vss tt)), m Zero)))
 
   reset_off : (b : Bool) (w : Tri) → rs_at place ≡ Zero → Agreeing values w (reset_branch net b ∷ [])
-  reset_off false w r = (inr (inl (h.sources Rs tt ∙ r)), tt)
-  reset_off true w r = let q : value_of values (net Rsb) ≡ One = h.sources Rsb tt ∙ rw r refl in (inr (inl (rw q refl)), tt)
+  reset_off false w r = (inr (inl (frame.sources Rs tt ∙ r)), tt)
+  reset_off true w r = let q : value_of values (net Rsb) ≡ One = frame.sources Rsb tt ∙ rw r refl in (inr (inl (rw q refl)), tt)
 
   reset_one : (b : Bool) → (w : Tri) × Agreeing values w (reset_branch net b ∷ [])
-  reset_one false = (Zero, (inr (inr (h.sources Vss tt)), tt))
-  reset_one true = (One, (inr (inr (h.sources Vdd tt)), tt))
+  reset_one false = (Zero, (inr (inr (frame.sources Vss tt)), tt))
+  reset_one true = (One, (inr (inr (frame.sources Vdd tt)), tt))
 
   agree_master : (gate : Net) → IsKnown (value_of values (net gate)) → (w : Tri) × Agreeing values w (clocked net Lmb Lm gate [])
   agree_master gate k = agree_open Lmb Lm gate [] k (λ w. tt)
@@ -68,7 +69,7 @@ module _ (devices : List Device) (is_source : ℕ → Bool) (net : Net → ℕ) 
   agree_slave j b e = go place refl
     where
       shut : ls_at place ≡ Zero → (w : Tri) × Agreeing values w (slave net j b)
-      shut z = let t = reset_one b.init in (t.0, agree_shut Lsb Ls (At (Master j) Top) (reset_branch net b.init ∷ []) t.0 (h.sources Lsb tt ∙ rw z refl) (h.sources Ls tt ∙ z) t.1)
+      shut z = let t = reset_one b.init in (t.0, agree_shut Lsb Ls (At (Master j) Top) (reset_branch net b.init ∷ []) t.0 (frame.sources Lsb tt ∙ rw z refl) (frame.sources Ls tt ∙ z) t.1)
 
       go : (pl : Place) → place ≡ pl → (w : Tri) × Agreeing values w (slave net j b)
       go Launch z =
@@ -82,14 +83,14 @@ module _ (devices : List Device) (is_source : ℕ → Bool) (net : Net → ℕ) 
           at_launch _ w z f = absurd (cc)
 
           known : place ≡ Launch → IsKnown (value_of values (net (At (Master j) Top)))
-          known z = rw (at_launch place _ z (h.masters j b e)) (opposite-known _ (bit-known (new j)))
+          known z = rw (at_launch place _ z (frame.masters j b e)) (opposite-known _ (bit-known (new j)))
       go _ z = shut (rw z refl)
 
   agree_dynamic : (k : ℕ) (c : DominoCell) → IsCellAt s k c → (w : Tri) × Agreeing values w (dynamic WithKeeper net k c)
   agree_dynamic k c e =
-      elim (clock-known devices is_source net s deck place up old new pins kept values h k c e) [
-        | inl z ↦ (One, (inr (inl (rw z (both-right_zero (tree_conduction nch (value_of values) (numbered net c.tree))))), (inr (inr (h.sources Vdd tt)), (inl refl, tt))))
-        | inr z ↦ (Zero, (inr (inr (h.sources Vss tt)), (inr (inl (rw z refl)), (inl refl, tt))))
+      elim (clock-known devices is_source net s deck place up old new pins kept values frame k c e) [
+        | inl z ↦ (One, (inr (inl (rw z (both-right_zero (tree_conduction nch (value_of values) (numbered net c.tree))))), (inr (inr (frame.sources Vdd tt)), (inl refl, tt))))
+        | inr z ↦ (Zero, (inr (inr (frame.sources Vss tt)), (inr (inl (rw z refl)), (inl refl, tt))))
       ]
 
   part_stage : (part : Part) (bs : List Branch) (taps : List Tap) → HasBranches s net part bs taps → (style : Style) → s.style ≡ style → (style ≡ WithPrecharge → (k : ℕ) → part ≢ Dynamic k)
@@ -98,12 +99,12 @@ module _ (devices : List Device) (is_source : ℕ → Bool) (net : Net → ℕ) 
   part_stage (Dynamic k) bs taps (c, e, z, y) WithKeeper u f =
       let is : IsTapped devices is_source (λ a. net (At (Dynamic k) a)) (dynamic WithKeeper net k c) [] = rw u at (dynamic_is devices is_source net s deck k c e) in
       (y ∙ rw u refl, rw (z, u) (untapped devices is_source (λ a. net (At (Dynamic k) a)) (dynamic WithKeeper net k c) is, agree_dynamic k c e))
-  part_stage (Output k) bs taps (c, e, z, y) style u f = (y, rw z (output_is devices is_source net s deck k c e, agree_inverter (At (Dynamic k) Top) (dynamic-known devices is_source net s deck place up old new pins kept values h k c e)))
-  part_stage (Complement l) bs taps (e, z, y) style u f = (y, rw z (complement_is devices is_source net s deck l e, agree_inverter (own l) (own-known devices is_source net s deck place up old new pins kept values h l ((deck.shape).complements_are l e))))
-  part_stage (Master j) bs taps (b, e, z, y) style u f = (y, rw z (master_is devices is_source net s deck j b e, agree_master (At (Next j) Top) (h.nexts j b e)))
+  part_stage (Output k) bs taps (c, e, z, y) style u f = (y, rw z (output_is devices is_source net s deck k c e, agree_inverter (At (Dynamic k) Top) (gates (FromDynamic k) (c, e))))
+  part_stage (Complement l) bs taps (e, z, y) style u f = (y, rw z (complement_is devices is_source net s deck l e, agree_inverter (own l) (gates (Plus l) ((deck.shape).complements_are l e))))
+  part_stage (Master j) bs taps (b, e, z, y) style u f = (y, rw z (master_is devices is_source net s deck j b e, agree_master (At (Next j) Top) (frame.nexts j b e)))
   part_stage (Slave j) bs taps (b, e, z, y) style u f = (y, rw z (slave_is devices is_source net s deck j b e, agree_slave j b e))
-  part_stage (Next j) bs taps (b, e, z, y) style u f = (y, rw z (next_is devices is_source net s deck j b e, agree_inverter (gate_net b.next) (gate-known devices is_source net s deck place up old new pins kept values h b.next ((deck.shape).nexts j b e))))
-  part_stage (Sink i) bs taps (g, e, z, y) style u f = (y, rw z (sink_is devices is_source net s deck i g e, agree_inverter (gate_net g) (gate-known devices is_source net s deck place up old new pins kept values h g ((deck.shape).outputs_are i g e))))
+  part_stage (Next j) bs taps (b, e, z, y) style u f = (y, rw z (next_is devices is_source net s deck j b e, agree_inverter (gate_net b.next) (gates b.next ((deck.shape).nexts j b e))))
+  part_stage (Sink i) bs taps (g, e, z, y) style u f = (y, rw z (sink_is devices is_source net s deck i g e, agree_inverter (gate_net g) (gates g ((deck.shape).outputs_are i g e))))
 
   -- a net is the end of a path, or the path goes on from it
   abbrev IsRest : ℕ → ℕ → Type 0
@@ -141,7 +142,7 @@ module _ (devices : List Device) (is_source : ℕ → Bool) (net : Net → ℕ) 
       by_cell d m k c g u q n e r =
           let is : IsTapped devices is_source (λ a. net (At (Dynamic k) a)) (dynamic WithPrecharge net k c) (dynamic_taps WithPrecharge net c) = rw u at (dynamic_is devices is_source net s deck k c g) in
           let z : a ≡ b = one_source devices is_source (λ a. net (At (Dynamic k) a)) (net Vdd) (net Vss) (net (Clock c.clock)) (numbered net c.tree) is values
-          (clock-known devices is_source net s deck place up old new pins kept values h k c g) d m sa sb (step_of d q) (rw u at n) e
+          (clock-known devices is_source net s deck place up old new pins kept values frame k c g) d m sa sb (step_of d q) (rw u at n) e
           (elim r [ inl z ↦ inl z | inr z ↦ inr (z.0, Reach-weaker step_of z.1) ]) in
           rw z refl
 

@@ -18,9 +18,9 @@ use Rattle.domino_law.specs.Places.{AreSources, up_at}
 use Rattle.domino_law.specs.Shape.{DominoCell, HasComplement, IsCellAt, IsGate, IsLatchAt, IsSignal, Latch, Shape}
 use Rattle.domino_law.proofs.DeckParts.{complement_is, dynamic_is, next_is, opposite-known, output_is, sink_is, slave_is, zero_or_one}
 use Rattle.domino_law.proofs.OwnRuns.{bit_at-map}
-use Rattle.domino_law.proofs.Parts.{inverter_target, precharges, slave_reset}
+use Rattle.domino_law.proofs.Parts.{precharges, slave_reset}
 use Rattle.domino_law.proofs.Places.{bit-known}
-use Rattle.domino_law.proofs.Rests.{rest_at, rest_spots}
+use Rattle.domino_law.proofs.Rests.{rest_at, rest_inverter, rest_spots}
 
 module _ (devices : List Device) (is_source : ℕ → Bool) (net : Net → ℕ) (s : Shape) (deck : HoldsDeck devices is_source net s)
     (risen : ℕ) (pins : ℕ → Bool) (kept : ℕ → Tri) (values : List Tri) (sources : AreSources net s Reset risen pins values)
@@ -36,8 +36,7 @@ module _ (devices : List Device) (is_source : ℕ → Bool) (net : Net → ℕ) 
 
   inverter_at : (part : Part) → IsPart s part → (gate : Net) → IsStage devices is_source (λ a. net (At part a)) (inverter_branches net gate) → IsKnown (value_of values (net gate))
       → value_of values (net (At part Top)) ≡ opposite (value_of values (net gate))
-  inverter_at part a gate is k =
-      rest_at devices is_source net s deck values rest range part a _ (inverter_target devices is_source net values (sources Vdd tt) (sources Vss tt) (λ b. net (At part b)) gate is k)
+  inverter_at = rest_inverter devices is_source net s deck values rest range (sources Vdd tt) (sources Vss tt)
 
   output_zero : (k : ℕ) (c : DominoCell) (e : IsCellAt s k c) → value_of values (net (At (Output k) Top)) ≡ Zero
   output_zero k c e =
@@ -74,26 +73,26 @@ module _ (devices : List Device) (is_source : ℕ → Bool) (net : Net → ℕ) 
   pub reset_rests : (new : ℕ → Bool) → IsHonest devices is_source net s Reset (up_at Reset risen) (bit_at (start_state s)) new pins kept values
   reset_rests new =
       record {
-        sources = sources;
-        clocks = λ i. refl;
-        complements = complement-known;
-        opposed = complement-known;
+        frame = record {
+          sources = sources;
+          clocks = λ i. refl;
+          complements = complement-known;
+          opposed = complement-known;
+          slaves = λ j b e. slave_start j b e ∙ sym (ap bit (start_bit j b e));
+          masters = masters;
+          started = λ z j b e. start_bit j b e;
+          nexts = λ j b e. let g = start_gate b.next ((deck.shape).nexts j b e) in
+              rw (inverter_at (Next j) (b, e) (gate_net b.next) (next_is devices is_source net s deck j b e) g) (opposite-known _ g);
+          next_is = λ j b e. tt;
+          outputs = λ i g e. let k = start_gate g ((deck.shape).outputs_are i g e) in
+              rw (inverter_at (Sink i) (g, e) (gate_net g) (sink_is devices is_source net s deck i g e) k) (opposite-known _ k);
+        };
         cells = λ k c e. record {
           evaluated = λ o. inl (dynamic_one k c e, output_zero k c e);
           pulled = λ o a i z. absurd (zero_or_one (sym z ∙ spot_one k c e a i));
           spots_known = λ a i. inr (spot_one k c e a i);
           spots_idle = λ off a i. inl (spot_one k c e a i);
           idle = λ off. inl (dynamic_one k c e, output_zero k c e);
-          settled = tt;
         };
-        slaves = λ j b e. slave_start j b e ∙ sym (ap bit (start_bit j b e));
-        masters = masters;
-        started = λ z j b e. start_bit j b e;
-        nexts = λ j b e. let g = start_gate b.next ((deck.shape).nexts j b e) in
-            rw (inverter_at (Next j) (b, e) (gate_net b.next) (next_is devices is_source net s deck j b e) g) (opposite-known _ g);
-        next_is = λ j b e. tt;
-        next_settled = λ j b e. tt;
-        outputs = λ i g e. let k = start_gate g ((deck.shape).outputs_are i g e) in
-            rw (inverter_at (Sink i) (g, e) (gate_net g) (sink_is devices is_source net s deck i g e) k) (opposite-known _ k);
-        output_settled = λ i g e. tt;
+        settled = tt;
       }

@@ -1,7 +1,6 @@
 -- From power to the rest of reset each part takes one known value, once.
 use Rattle.std.specs.Prelude.{None, Option, Some, slice_get, slice_set, ◌≢◌, ◌⊎◌}
 use Rattle.std.proofs.Common.{Bool, List, inl, inr, length, refl, sym, ℕ, ◌<◌, ◌∙◌, ◌≡◌}
-use Rattle.std.proofs.lemmas.List.{get_or-set_other, get_or-set_same}
 use Rattle.dom_base.specs.Tri.{opposite}
 use Rattle.dom_base.specs.declared.tri.Tri.{Tri}
 use Rattle.dom_base.specs.declared.tri.Tri.TheVariants.{One, Unknown, Zero}
@@ -9,17 +8,17 @@ use Rattle.deck.specs.Switches.{value_of}
 use Rattle.deck.specs.declared.device.Device.{Device}
 use Rattle.sp_network.specs.Known.{IsKnown}
 use Rattle.domino_cell.specs.Stage.{IsStage, Top}
-use Rattle.switch_model.specs.Targets.{IsPending, IsTarget}
+use Rattle.switch_model.specs.Targets.{IsPending}
 use Rattle.dom_base.proofs.Decided.{dec_nat}
 use Rattle.switch_model.proofs.Searches.{clash}
-use Rattle.switch_model.proofs.Targets.{target_unique}
 use Rattle.port_runs.specs.Environment.{Reset, bit}
 use Rattle.domino_law.specs.Branches.{inverter_branches}
-use Rattle.domino_law.specs.LooseDeck.{HoldsDeck, IsPart, IsSourceNet}
+use Rattle.domino_law.specs.LooseDeck.{HoldsDeck, IsPart}
 use Rattle.domino_law.specs.Nets.{At, Clock, Complement, Dynamic, FromDynamic, FromLatch, FromOutput, FromPin, Gate, High, Lm, Lmb, Low, Ls, Lsb, Master, Minus, Net, Next, Output, Part, Pin, Plus, Rs, Rsb, DeckSignal, Sink, Slave, Vdd, Vss, gate_net}
 use Rattle.domino_law.specs.Places.{AreSources}
 use Rattle.domino_law.specs.Shape.{DominoCell, HasComplement, IsCellAt, IsGate, IsLatchAt, IsOutputAt, IsSignal, Latch, Shape}
 use Rattle.domino_law.proofs.DeckParts.{complement_is, dynamic_is, master_is, next_is, opposite-known, output_is, sink_is, slave_is}
+use Rattle.domino_law.proofs.NetEvents.{kept_at, moved_to, no_event, now_at, source_kept, stays_at_target}
 use Rattle.domino_law.proofs.Parts.{inverter_target, inverter_unknown, master_held, precharges, slave_reset}
 use Rattle.domino_law.proofs.Places.{bit-known}
 
@@ -94,22 +93,19 @@ module _ (devices : List Device) (is_source : ℕ → Bool) (net : Net → ℕ) 
     gate_wakes Low a = inr (h.sources Vss tt)
 
     module _ (n : ℕ) (v : Tri) (lt : n < length before) (pending : IsPending devices is_source before n v) where
-      here : (m : ℕ) (w : Tri) → m ≡ n → IsTarget devices is_source before m w → v ≡ w
-      here m w e t = target_unique devices is_source before n v w pending.1 (rw e at t)
-
       -- an event of an inverter_branches gives it its value, and its gate has its own
       inverter_wakes : (part : Part) (g : Gate) (goal : Tri) → IsGate s g → IsStage devices is_source (λ a. net (At part a)) (inverter_branches net (gate_net g)) → goal ≡ opposite (wake_gate g)
           → Awakes before part g goal → net (At part Top) ≡ n → (v ≡ goal) × (value_of before (net (gate_net g)) ≡ wake_gate g)
       inverter_wakes part g goal a is z k m =
           elim (gate_wakes g a) [
             | inr e ↦ (
-              here (net (At part Top)) (opposite (value_of before (net (gate_net g)))) m
+              moved_to devices is_source before n v pending (net (At part Top)) (opposite (value_of before (net (gate_net g)))) m
                   (inverter_target devices is_source net before (h.sources Vdd tt) (h.sources Vss tt) (λ b. net (At part b)) (gate_net g) is (rw e (wake_gate-known g a)))
                   ∙ (rw e (sym z)),
               e,
             )
             | inl e ↦ absurd (elim k [
-              | inl u ↦ pending.2 ((rw m at u) ∙ sym (here (net (At part Top)) Unknown m (inverter_unknown devices is_source net before (h.sources Vdd tt) (h.sources Vss tt) (λ b. net (At part b)) (gate_net g) is e)))
+              | inl u ↦ pending.2 ((rw m at u) ∙ sym (moved_to devices is_source before n v pending (net (At part Top)) Unknown m (inverter_unknown devices is_source net before (h.sources Vdd tt) (h.sources Vss tt) (λ b. net (At part b)) (gate_net g) is e)))
               | inr u ↦ unknown (wake_gate g) (wake_gate-known g a) (sym u.1 ∙ e)
             ])
           ]
@@ -120,22 +116,20 @@ module _ (devices : List Device) (is_source : ℕ → Bool) (net : Net → ℕ) 
 
       dynamic_wakes : (k : ℕ) (c : DominoCell) → IsCellAt s k c → net (At (Dynamic k) Top) ≡ n → v ≡ One
       dynamic_wakes k c e m =
-          here (net (At (Dynamic k) Top)) One m
+          moved_to devices is_source before n v pending (net (At (Dynamic k) Top)) One m
           (precharges devices is_source net before (h.sources Vdd tt) (h.sources Vss tt) s.style (λ a. net (At (Dynamic k) a)) k c (dynamic_is devices is_source net s deck k c e) (h.sources (Clock c.clock) ((deck.shape).clocks_are k c e)))
 
       slave_wakes : (j : ℕ) (b : Latch) → IsLatchAt s j b → net (At (Slave j) Top) ≡ n → v ≡ wake_own (FromLatch j)
       slave_wakes j b e m =
-          rw e (here (net (At (Slave j) Top)) (bit b.init) m
+          rw e (moved_to devices is_source before n v pending (net (At (Slave j) Top)) (bit b.init) m
           (slave_reset devices is_source net before (h.sources Vdd tt) (h.sources Vss tt) (λ a. net (At (Slave j) a)) (At (Master j) Top) b.init (slave_is devices is_source net s deck j b e)
           (h.sources Lsb tt) (h.sources Ls tt) (h.sources Rs tt) (h.sources Rsb tt)))
 
       master_sleeps : (j : ℕ) (b : Latch) → IsLatchAt s j b → net (At (Master j) Top) ≢ n
       master_sleeps j b e m =
-          pending.2 (reached (value_of before (net (At (Master j) Top))) refl
+          no_event devices is_source before n v pending lt (net (At (Master j) Top)) m
+          (stays_at_target devices is_source before n v pending (net (At (Master j) Top)) (value_of before (net (At (Master j) Top))) refl
           (master_held devices is_source net before (h.sources Vdd tt) (h.sources Vss tt) (λ a. net (At (Master j) a)) (At (Next j) Top) (master_is devices is_source net s deck j b e) (h.sources Lmb tt) (h.sources Lm tt)))
-        where
-          reached : (w : Tri) → value_of before (net (At (Master j) Top)) ≡ w → IsTarget devices is_source before (net (At (Master j) Top)) w → value_of before n ≡ v
-          reached w o t = (rw m at o) ∙ sym (here (net (At (Master j) Top)) w m t)
 
       -- an event gives a part its value
       pub wakes : (part : Part) (a : IsPart s part) → net (At part Top) ≡ n → v ≡ wake_goal part a
@@ -147,29 +141,20 @@ module _ (devices : List Device) (is_source : ℕ → Bool) (net : Net → ℕ) 
       wakes (Next j) a m = (inverter_wakes (Next j) (a.0).next _ ((deck.shape).nexts j a.0 a.1) (next_is devices is_source net s deck j a.0 a.1) refl (h.nexts j a.0 a.1) m).0
       wakes (Sink i) a m = (inverter_wakes (Sink i) a.0 _ ((deck.shape).outputs_are i a.0 a.1) (sink_is devices is_source net s deck i a.0 a.1) refl (h.outputs i a.0 a.1) m).0
 
-      now : (m : ℕ) → m ≡ n → value_of (slice_set before n v) m ≡ v
-      now m e = rw e (get_or-set_same before n v Unknown lt)
-
-      other : (m : ℕ) → m ≢ n → value_of (slice_set before n v) m ≡ value_of before m
-      other m e = get_or-set_other before n m v Unknown e
-
-      source_same : (a : Net) → IsSourceNet s a → value_of (slice_set before n v) (net a) ≡ value_of before (net a)
-      source_same a i = other (net a) (λ z. clash (is_source (net a)) (deck.sources a i) (rw z pending.0))
-
       simple_after : (part : Part) (goal : Tri) → (net (At part Top) ≡ n → v ≡ goal) → (value_of before (net (At part Top)) ≡ Unknown) ⊎ (value_of before (net (At part Top)) ≡ goal)
           → (value_of (slice_set before n v) (net (At part Top)) ≡ Unknown) ⊎ (value_of (slice_set before n v) (net (At part Top)) ≡ goal)
       simple_after part goal f k =
           elim (dec_nat (net (At part Top)) n) [
-            | inl m ↦ inr (now (net (At part Top)) m ∙ f m)
-            | inr m ↦ elim k [ inl e ↦ inl (other (net (At part Top)) m ∙ e) | inr e ↦ inr (other (net (At part Top)) m ∙ e) ]
+            | inl m ↦ inr (now_at before n v lt (net (At part Top)) m ∙ f m)
+            | inr m ↦ elim k [ inl e ↦ inl (kept_at before n v (net (At part Top)) m ∙ e) | inr e ↦ inr (kept_at before n v (net (At part Top)) m ∙ e) ]
           ]
 
       -- a gate that has its value keeps it
       gate_keeps : (g : Gate) → IsGate s g → value_of before (net (gate_net g)) ≡ wake_gate g → value_of (slice_set before n v) (net (gate_net g)) ≡ wake_gate g
       gate_keeps g a e =
           elim (dec_nat (net (gate_net g)) n) [
-            | inl m ↦ now (net (gate_net g)) m ∙ at g a m
-            | inr m ↦ other (net (gate_net g)) m ∙ e
+            | inl m ↦ now_at before n v lt (net (gate_net g)) m ∙ at g a m
+            | inr m ↦ kept_at before n v (net (gate_net g)) m ∙ e
           ]
         where
           at : (g : Gate) → IsGate s g → net (gate_net g) ≡ n → v ≡ wake_gate g
@@ -185,18 +170,18 @@ module _ (devices : List Device) (is_source : ℕ → Bool) (net : Net → ℕ) 
           → Awakes before part g goal → Awakes (slice_set before n v) part g goal
       inverter_after part g goal a is z k =
           elim (dec_nat (net (At part Top)) n) [
-            | inl m ↦ let w = inverter_wakes part g goal a is z k m in inr (now (net (At part Top)) m ∙ w.0, gate_keeps g a w.1)
+            | inl m ↦ let w = inverter_wakes part g goal a is z k m in inr (now_at before n v lt (net (At part Top)) m ∙ w.0, gate_keeps g a w.1)
             | inr m ↦ elim k [
-              | inl e ↦ inl (other (net (At part Top)) m ∙ e)
-              | inr e ↦ inr (other (net (At part Top)) m ∙ e.0, gate_keeps g a e.1)
+              | inl e ↦ inl (kept_at before n v (net (At part Top)) m ∙ e)
+              | inr e ↦ inr (kept_at before n v (net (At part Top)) m ∙ e.0, gate_keeps g a e.1)
             ]
           ]
 
       pub awaking_after : IsAwaking (slice_set before n v)
       awaking_after =
           record {
-            sources = λ a i. source_same a i ∙ h.sources a i;
-            masters = λ j b e. other (net (At (Master j) Top)) (master_sleeps j b e) ∙ h.masters j b e;
+            sources = λ a i. source_kept devices is_source before n v pending (net a) (deck.sources a i) ∙ h.sources a i;
+            masters = λ j b e. kept_at before n v (net (At (Master j) Top)) (master_sleeps j b e) ∙ h.masters j b e;
             dynamics = λ k c e. simple_after (Dynamic k) One (dynamic_wakes k c e) (h.dynamics k c e);
             slaves = λ j b e. simple_after (Slave j) (wake_own (FromLatch j)) (slave_wakes j b e) (h.slaves j b e);
             cell_outputs = λ k c e. inverter_after (Output k) (FromDynamic k) Zero (c, e) (output_is devices is_source net s deck k c e) refl (h.cell_outputs k c e);

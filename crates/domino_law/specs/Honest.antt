@@ -60,8 +60,8 @@ IsDynamicSpot WithKeeper c (Inside i j) = ⊥
 IsDynamicSpot WithPrecharge c (Inside i j) = (i ≡ 0) × (0 < j) × (j < 1 + inner_count c.tree)
 
 -- a cell; it may be late, not yet precharged though its clock is at 0, where `late` holds
-pub record IsHonestCell (devices : List Device) (is_source : ℕ → Bool) (net : Net → ℕ) (style : Style) (place : Place)
-    (late : Type 0) (values : List Tri) (k : ℕ) (c : DominoCell) : Type 0 where
+pub record IsHonestCell (devices : List Device) (is_source : ℕ → Bool) (net : Net → ℕ) (style : Style) (late : Type 0) (values : List Tri)
+    (k : ℕ) (c : DominoCell) : Type 0 where
   -- with its clock at 1 a cell has (1,0), (0,0) or (0,1), and where one of its dynamic nets is 0 there is a definite strong path to ground
   pub evaluated : value_of values (net (Clock c.clock)) ≡ One
       → Pair net values k One Zero ⊎ (Pair net values k Zero Zero ⊎ Pair net values k Zero One)
@@ -74,31 +74,46 @@ pub record IsHonestCell (devices : List Device) (is_source : ℕ → Bool) (net 
   -- with its clock at 0 it has (1,0), and where it is late also (0,1) or (1,1)
   pub idle : value_of values (net (Clock c.clock)) ≡ Zero
       → Pair net values k One Zero ⊎ (late × (Pair net values k Zero One ⊎ Pair net values k One One))
-  -- in capture and captured both nets are at their targets
-  pub settled : AtCapture place
-      ((value_of values (net (At (Dynamic k) Top)) ≡ opposite (cell_conduction net values c))
-      × (value_of values (net (At (Output k) Top)) ≡ opposite (value_of values (net (At (Dynamic k) Top)))))
 
--- up tells which clocks are up, old and new are the states before the cycle and after it, pins the bits of the pins, kept what the
--- masters held before capture
-pub record IsHonest (devices : List Device) (is_source : ℕ → Bool) (net : Net → ℕ) (s : Shape) (place : Place) (up : ℕ → Bool)
-    (old new pins : ℕ → Bool) (kept : ℕ → Tri) (values : List Tri) : Type 0 where
+-- Below, up tells which clocks are up, old and new are the states before the cycle and after it, pins the bits of the pins, and kept
+-- what the masters held before capture.
+
+-- all but the cells: the sources, the complements, the latches, their inputs and the outputs
+pub record IsHonestFrame (net : Net → ℕ) (s : Shape) (place : Place) (up : ℕ → Bool) (old new pins : ℕ → Bool) (kept : ℕ → Tri)
+    (values : List Tri) : Type 0 where
   pub sources : AreSourcesBy net s place up pins values
   pub clocks : (i : ℕ) → IsClockAt place (bit (up i))
   pub complements : (l : DeckSignal) → HasComplement s l → IsKnown (value_of values (net (At (Complement l) Top)))
   pub opposed : (l : DeckSignal) → HasComplement s l
       → IsOpposed place (value_of values (net (own l))) (value_of values (net (At (Complement l) Top)))
-  pub cells : (k : ℕ) (c : DominoCell) → IsCellAt s k c → IsHonestCell devices is_source net s.style place (place ≡ Precharge) values k c
   pub slaves : (j : ℕ) (b : Latch) → IsLatchAt s j b
       → IsSlaveAt place (bit (old j)) (bit (new j)) (value_of values (net (At (Slave j) Top)))
   pub masters : (j : ℕ) (b : Latch) → IsLatchAt s j b → IsMasterAt place (kept j) (bit (new j)) (value_of values (net (At (Master j) Top)))
   -- in reset each latch has its start value
   pub started : place ≡ Reset → (j : ℕ) (b : Latch) → IsLatchAt s j b → old j ≡ b.init
-  -- the latch inputs and the outputs are known, in capture and captured at their targets, and the latch inputs are the next state
+  -- the latch inputs and the outputs are known, and in capture and captured the latch inputs are the next state
   pub nexts : (j : ℕ) (b : Latch) → IsLatchAt s j b → IsKnown (value_of values (net (At (Next j) Top)))
   pub next_is : (j : ℕ) (b : Latch) → IsLatchAt s j b → AtCapture place (value_of values (net (At (Next j) Top)) ≡ bit (new j))
-  pub next_settled : (j : ℕ) (b : Latch) → IsLatchAt s j b
-      → AtCapture place (value_of values (net (At (Next j) Top)) ≡ opposite (value_of values (net (gate_net b.next))))
   pub outputs : (i : ℕ) (g : Gate) → IsOutputAt s i g → IsKnown (value_of values (net (At (Sink i) Top)))
-  pub output_settled : (i : ℕ) (g : Gate) → IsOutputAt s i g
-      → AtCapture place (value_of values (net (At (Sink i) Top)) ≡ opposite (value_of values (net (gate_net g))))
+
+-- the cells, which may be late where `late` holds
+abbrev pub AreHonestCells : List Device → (ℕ → Bool) → (Net → ℕ) → Shape → Type 0 → List Tri → Type 0
+AreHonestCells devices is_source net s late values =
+    (k : ℕ) (c : DominoCell) → IsCellAt s k c → IsHonestCell devices is_source net s.style late values k c
+
+-- both nets of each cell, the latch inputs and the outputs are at their targets
+pub record HoldsTargets (net : Net → ℕ) (s : Shape) (values : List Tri) : Type 0 where
+  pub cells : (k : ℕ) (c : DominoCell) → IsCellAt s k c
+      → (value_of values (net (At (Dynamic k) Top)) ≡ opposite (cell_conduction net values c))
+      × (value_of values (net (At (Output k) Top)) ≡ opposite (value_of values (net (At (Dynamic k) Top))))
+  pub nexts : (j : ℕ) (b : Latch) → IsLatchAt s j b
+      → value_of values (net (At (Next j) Top)) ≡ opposite (value_of values (net (gate_net b.next)))
+  pub outputs : (i : ℕ) (g : Gate) → IsOutputAt s i g
+      → value_of values (net (At (Sink i) Top)) ≡ opposite (value_of values (net (gate_net g)))
+
+-- an honest state; its cells may be late in precharge, and in capture and captured it is settled
+pub record IsHonest (devices : List Device) (is_source : ℕ → Bool) (net : Net → ℕ) (s : Shape) (place : Place) (up : ℕ → Bool)
+    (old new pins : ℕ → Bool) (kept : ℕ → Tri) (values : List Tri) : Type 0 where
+  pub frame : IsHonestFrame net s place up old new pins kept values
+  pub cells : AreHonestCells devices is_source net s (place ≡ Precharge) values
+  pub settled : AtCapture place (HoldsTargets net s values)

@@ -1,5 +1,6 @@
 pub mod Branches
 pub mod DominoDeck
+pub mod DynamicNets
 pub mod Honest
 pub mod Joins
 pub mod Laws

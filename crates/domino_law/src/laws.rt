@@ -17,6 +17,12 @@ ghost use Rattle.domino_law.specs.DominoDeck.{
   PortsReadOwnRun,
   PortsRestAlike,
 };
+ghost use Rattle.domino_law.specs.DynamicNets.{
+  CellsAreDynamic,
+  CellsAreDynamicByPorts,
+  InvertersAreDomino,
+  OutputsAreDominoByPorts,
+};
 ghost use Rattle.domino_law.specs.RunLaws.{
   PortRunsAreRuns,
   RestIsReached,
@@ -86,6 +92,16 @@ pub fn rests_alike()
 pub fn at_most_once()
     ensures dynamic { DynamicFallsOnce }
     ensures output { OutputRisesOnce }
+{}
+
+/// In a loose domino deck the top of each cell, and in the style with precharge each inner net of its
+/// tree, is a dynamic net, and its output and each inverter that its top gates is a domino output, by
+/// the devices alone. So the laws of dynamic nets and of domino outputs speak of all of them.
+pub fn cells_are_dynamic()
+    ensures dynamic { CellsAreDynamic }
+    ensures inverters { InvertersAreDomino }
+    ensures dynamic_ports { CellsAreDynamicByPorts }
+    ensures output_ports { OutputsAreDominoByPorts }
 {}
 
 /// From the rest of reset on no possible strong path joins sources of different values.
