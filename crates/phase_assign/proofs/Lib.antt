@@ -1,1 +1,11 @@
 pub mod ChosenSigns
+pub mod Exchanges
+pub mod NeededUses
+pub mod Refusals
+pub mod Searches
+pub mod Targets
+pub mod Totals
+pub mod TrialLists
+pub mod TrialSteps
+pub mod Turns
+pub mod UseSteps

@@ -1,1 +1,6 @@
+pub mod Refusals
+pub mod Search
 pub mod Signs
+pub mod Trials
+pub mod Uses
+pub mod Wiring

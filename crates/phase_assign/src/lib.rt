@@ -2,5 +2,11 @@
 #![tactic(auto)]
 
 mod laws;
+mod needed;
+mod pairs;
+mod search;
+mod trials;
+mod wiring;
 
 pub use laws::chosen_signs_are_settled;
+pub use search::assign;

@@ -1,0 +1,55 @@
+-- A use less, and those of the arms of a pair that isn't used then.
+use Rattle.std.proofs.Common.{◌≡◌, ◌<◌, ◌∙◌, ◌+◌, ◌++◌, [], vec_len, length, length-append, drop, ap, sym, subst, arith, rules}
+use Rattle.phase_assign.specs.Uses.{AreBelow, AreUses, asked_by_pair, living, used}
+use Rattle.phase_assign.proofs.Totals.{below_append, below_item, below_more, queue_next, queue_pushed, times_next, times_pushed}
+use Rattle.phase_assign.proofs.UseSteps.{drop_kept, drop_last}
+use Rattle.phase_assign.proofs.needed.Needed.withdraw.Goals as goal
+
+pub uses-preserved : goal.uses-preserved
+uses-preserved c =
+    let len : vec_len c.uses.work ≡ length c.uses.work.items = search rules in
+    let lt : c.uses.done < length c.uses.work.items = omega (arith, c.uses-test.true, c.len.ensures) in
+    record {
+      within = omega arith;
+      count = c.take.ensures.count ∙ c.uses.invariant.count;
+      size = c.take.ensures.size ∙ ap (λ n. living (used c.take.new.self.uses.items) n) c.uses.invariant.count;
+      below = c.uses.invariant.below;
+      uses = λ roots u.
+          drop_kept c.index-pair.result.now (used c.take.new.self.uses.items) (used c.uses.self.uses.items) c.take.ensures.uses c.args.arms.now roots (drop (c.uses.done + 1) c.uses.work.items)
+          (c.take.ensures.earlier c.if-take.false).0
+          (subst (AreUses c.args.arms.now (used c.uses.self.uses.items) roots []) (queue_next c.uses.work.items c.uses.done c.index-pair.result.now lt c.index-pair.ensures) (c.uses.invariant.uses roots u));
+      gone = λ n s.
+          let t = times_next n s c.uses.work.items c.uses.done c.index-pair.result.now lt c.index-pair.ensures in
+          let g = c.uses.invariant.gone n s in
+          let k = c.take.ensures.uses n s in
+          omega arith;
+    }
+
+pub uses-preserved-in-Continue-1 : goal.uses-preserved-in-Continue-1
+uses-preserved-in-Continue-1 c =
+    let len : vec_len c.uses.work ≡ length c.uses.work.items = search rules in
+    let lt : c.uses.done < length c.uses.work.items = omega (arith, c.uses-test.true, c.len.ensures) in
+    let there : c.index-pair.result.now.node < length c.args.arms.now = below_item (length c.args.arms.now) c.uses.work.items c.uses.done c.index-pair.result.now c.uses.invariant.below lt c.index-pair.ensures in
+    let pushed : c.push.new.work.items ≡ c.uses.work.items ++ asked_by_pair c.args.arms.now c.index-pair.result.now.node c.index-pair.result.now.plus = c.in_ok-push.ensures in
+    let longer = ap length pushed ∙ length-append c.uses.work.items (asked_by_pair c.args.arms.now c.index-pair.result.now.node c.index-pair.result.now.plus) in
+    record {
+      within = omega arith;
+      count = c.take.ensures.count ∙ c.uses.invariant.count;
+      size = c.take.ensures.size ∙ ap (λ n. living (used c.take.new.self.uses.items) n) c.uses.invariant.count;
+      below = subst (AreBelow (length c.args.arms.now)) (sym pushed)
+          (below_append (length c.args.arms.now) c.uses.work.items (asked_by_pair c.args.arms.now c.index-pair.result.now.node c.index-pair.result.now.plus) c.uses.invariant.below
+          (below_more c.index-pair.result.now.node (length c.args.arms.now) (asked_by_pair c.args.arms.now c.index-pair.result.now.node c.index-pair.result.now.plus) (omega arith)
+          (c.requires.arms c.index-pair.result.now.node c.index-pair.result.now.plus there)));
+      uses = λ roots u.
+          subst (AreUses c.args.arms.now (used c.take.new.self.uses.items) roots [])
+          (sym (queue_pushed c.uses.work.items c.push.new.work.items (asked_by_pair c.args.arms.now c.index-pair.result.now.node c.index-pair.result.now.plus) c.uses.done lt pushed))
+          (drop_last c.index-pair.result.now (used c.take.new.self.uses.items) (used c.uses.self.uses.items) c.take.ensures.uses c.args.arms.now roots (drop (c.uses.done + 1) c.uses.work.items)
+          (c.take.ensures.last c.if-take.true).0 there
+          (subst (AreUses c.args.arms.now (used c.uses.self.uses.items) roots []) (queue_next c.uses.work.items c.uses.done c.index-pair.result.now lt c.index-pair.ensures) (c.uses.invariant.uses roots u)));
+      gone = λ n s.
+          let t = times_pushed n s c.uses.work.items c.push.new.work.items (asked_by_pair c.args.arms.now c.index-pair.result.now.node c.index-pair.result.now.plus) c.uses.done c.index-pair.result.now lt
+          c.index-pair.ensures pushed in
+          let g = c.uses.invariant.gone n s in
+          let k = c.take.ensures.uses n s in
+          omega arith;
+    }

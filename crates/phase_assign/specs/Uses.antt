@@ -1,0 +1,108 @@
+-- Uses of pairs: a pair is used by each needed pair with an arm that asks for it, and by each sink that asks for it; a
+-- needed pair is one that is used.
+use Rattle.std.specs.Prelude.{ℕ, zero, suc, ◌+◌, ◌*◌, ◌<◌, ◌≤◌, ◌^◌, ◌≡◌, ◌==◌, ◌&&◌, Bool, true, false, not, cond, List, [], ◌∷◌, ◌++◌, length, Option, Some, None, get_or}
+use Rattle.std.specs.List.{AllByRecursion}
+use Rattle.gate_decompose.specs.Needed.{signed}
+use Rattle.phase_assign.specs.declared.pairs.Pair.{Pair}
+use Rattle.phase_assign.specs.declared.pairs.Arms.{Arms}
+use Rattle.phase_assign.specs.declared.needed.Uses.{Uses}
+
+-- what is asked for with a sign, where this is asked for with the sign plus
+abbrev pub with_sign : Pair → Bool → Pair
+with_sign p true = p
+with_sign p false = record { node = p.node; plus = not p.plus }
+
+abbrev pub asked : Option Pair → Bool → List Pair
+asked None s = []
+asked (Some p) s = with_sign p s ∷ []
+
+abbrev pub asked_by_arms : Arms → Bool → List Pair
+asked_by_arms arms s = asked arms.left s ++ asked arms.right s
+
+-- what a pair's arms ask for
+abbrev pub asked_by_pair : List Arms → ℕ → Bool → List Pair
+asked_by_pair arms n s = asked_by_arms (get_or arms n (record { left = None; right = None })) s
+
+-- what sinks ask for
+abbrev pub asked_by_sinks : List (Option Pair) → List Bool → List Pair
+asked_by_sinks [] signs = []
+asked_by_sinks (e ∷ ends) [] = []
+asked_by_sinks (e ∷ ends) (s ∷ signs) = asked e s ++ asked_by_sinks ends signs
+
+-- pairs of nodes below this one
+abbrev pub AreBelow : ℕ → List Pair → Type 0
+AreBelow n ps = AllByRecursion (λ (p : Pair). p.node < n) ps
+
+-- the arms of each node ask for pairs of nodes before it
+abbrev pub AreArms : List Arms → Type 0
+AreArms arms = (n : ℕ) (s : Bool) → n < length arms → AreBelow n (asked_by_pair arms n s)
+
+abbrev pub same_sign : Bool → Bool → Bool
+same_sign a b = signed a b
+
+abbrev pub one_if : Bool → ℕ
+one_if b = cond b 1 0
+
+-- how often a pair stands in a list
+abbrev pub is_pair : ℕ → Bool → Pair → Bool
+is_pair n s p = (p.node == n) && same_sign p.plus s
+
+abbrev pub times : ℕ → Bool → List Pair → ℕ
+times n s [] = 0
+times n s (p ∷ ps) = one_if (is_pair n s p) + times n s ps
+
+-- the counts of a list
+abbrev pub sign_uses : Uses → Bool → ℕ
+sign_uses uses true = uses.plus
+sign_uses uses false = uses.minus
+
+abbrev pub used : List Uses → ℕ → Bool → ℕ
+used uses n s = sign_uses (get_or uses n (record { plus = 0; minus = 0 })) s
+
+-- a pair is live where it is used
+abbrev pub is_some_use : ℕ → Bool
+is_some_use zero = false
+is_some_use (suc n) = true
+
+abbrev pub is_live : (ℕ → Bool → ℕ) → ℕ → Bool → Bool
+is_live count n s = is_some_use (count n s)
+
+-- a sum over the pairs of so many nodes from one on
+abbrev pub total : (ℕ → Bool → ℕ) → ℕ → ℕ → ℕ
+total f first zero = 0
+total f first (suc n) = f first true + f first false + total f (first + 1) n
+
+-- how many pairs are live
+abbrev pub living : (ℕ → Bool → ℕ) → ℕ → ℕ
+living count nodes = total (λ m t. one_if (is_live count m t)) 0 nodes
+
+-- the uses of a pair by live pairs
+abbrev pub uses_by_pairs : List Arms → (ℕ → Bool → ℕ) → ℕ → Bool → ℕ
+uses_by_pairs arms count n s = total (λ m t. cond (is_live count m t) (times n s (asked_by_pair arms m t)) 0) 0 (length arms)
+
+-- the counts are those of the uses by live pairs and by these roots, but for uses that aren't counted yet and uses that
+-- are still counted
+pub record AreUses (arms : List Arms) (count : ℕ → Bool → ℕ) (roots uncounted dropped : List Pair) : Type 0 where
+  pub each : (n : ℕ) (s : Bool)
+      → count n s + times n s uncounted ≡ uses_by_pairs arms count n s + times n s roots + times n s dropped
+
+-- uses were added, and all of them where fewer pairs than a limit are live
+pub record IsSupplied (arms : List Arms) (count : ℕ → Bool → ℕ) (roots : List Pair) (size limit : ℕ) : Type 0 where
+  pub uncounted : List Pair
+  pub uses : AreUses arms count roots uncounted []
+  pub whole : size < limit → uncounted ≡ []
+
+-- counts fit
+abbrev pub HasFewRoots : List Arms → List Pair → Type 0
+HasFewRoots arms roots = 4 * length arms + length roots < 2 ^ 32
+
+-- these roots are the others with those that are added
+abbrev pub HasRoots : List Pair → List Pair → List Pair → Type 0
+HasRoots others added roots = (n : ℕ) (s : Bool) → times n s others + times n s added ≡ times n s roots
+
+-- some uses by these roots, by which no fewer pairs are used
+pub record AreTried (arms : List Arms) (roots : List Pair) (size : ℕ) : Type 0 where
+  pub count : ℕ → Bool → ℕ
+  pub uncounted : List Pair
+  pub uses : AreUses arms count roots uncounted []
+  pub no_fewer : size ≤ living count (length arms)
