@@ -1,1 +1,4 @@
+pub mod Greatest
 pub mod Levels
+pub mod LevelsUpTo
+pub mod PlanTrees
