@@ -11,10 +11,10 @@ use Rattle.dual_rail.specs.ForestData.{ForestData}
 use Rattle.dual_rail.specs.ForestOrder.{AreInOrder}
 use Rattle.tree_map.specs.LeastPlans.{IsPartOf, literal as end_literal, shared, free, operator_of, IsTaken, IsChosenPlan}
 use Rattle.tree_map.specs.Bounds.{IsWithin}
-use Rattle.tree_map.specs.Plans.{IsFree, IsPlan, IsLeastPlan, IsTreeOf, is_kept}
+use Rattle.tree_map.specs.Plans.{IsFree, IsPlan, IsLeastPlan, IsTreeOf, is_kept, is_free}
 use Rattle.tree_map.proofs.Chosen.{chosen_is}
 use Rattle.tree_map.proofs.PlanCosts.{all_among, root_among, kept_edges, plan_cost}
-use Rattle.tree_map.proofs.PlanCovers.{cover_cost, cover_of, is_free, is_free-true, is_free-of, is_free-not, kept_in, pairs_in, tree_shape}
+use Rattle.tree_map.proofs.PlanCovers.{cover_cost, cover_of, is_free-true, is_free-of, is_free-not, kept_in, pairs_in, tree_shape}
 use Rattle.tree_map.proofs.Tallies.{arm_value, arms_value, tally, tally-is, tally_total}
 use Rattle.tree_map.proofs.Totals.{total, total_le}
 

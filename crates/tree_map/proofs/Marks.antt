@@ -6,11 +6,11 @@ use Rattle.dual_rail.specs.declared.forest.Arm.TheVariants.{Literal, Pair as pai
 use Rattle.tree_map.specs.Covers.{Choice, CutOff, Keep, Nothing, TreeShape}
 
 -- what a choice for an arm changes: a kept pair is marked, and has the shape of the choice
-pub mark : Arm → Choice → (ℕ → Bool) → ℕ → Bool
+unfoldable pub mark : Arm → Choice → (ℕ → Bool) → ℕ → Bool
 mark (pair_arm a) (Keep s) K q = cond (q == a) true (K q)
 mark _ _ K q = K q
 
-pub put : Arm → Choice → (ℕ → TreeShape) → ℕ → TreeShape
+unfoldable pub put : Arm → Choice → (ℕ → TreeShape) → ℕ → TreeShape
 put (pair_arm a) (Keep s) S q = cond (q == a) s (S q)
 put _ _ S q = S q
 

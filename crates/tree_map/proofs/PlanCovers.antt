@@ -1,6 +1,6 @@
 -- The covers that a plan gives the parts of its forest.
 use Rattle.std.proofs.lemmas.Option.{same_Some}
-use Rattle.std.proofs.Common.{◌≡◌, refl, sym, ap, ap₂, subst, ◌∙◌, ℕ, ◌+◌, ◌*◌, max, Bool, true, false, cond, ◌==◌, ◌&&◌, List, slice_get, arith, eqb-true, eq-eqb}
+use Rattle.std.proofs.Common.{◌≡◌, refl, sym, ap, ap₂, subst, ◌∙◌, ℕ, ◌+◌, ◌*◌, max, Bool, true, false, cond, ◌==◌, List, slice_get, arith, eqb-true, eq-eqb}
 use Rattle.sp_network.specs.Tree.{Tree, width, height}
 use Rattle.dual_rail.specs.declared.forest.Arm.{Arm}
 use Rattle.dual_rail.specs.declared.forest.Pair.TheVariants.{And, Or}
@@ -8,7 +8,7 @@ use Rattle.tree_map.specs.Covers.{CoverPart, End, Join, Cover, Single, Kept, Cut
 use Rattle.dual_rail.specs.ForestData.{ForestData}
 use Rattle.dual_rail.specs.Forests.{arm_uses, end_uses, left_arm, right_arm}
 use Rattle.tree_map.specs.LeastPlans.{IsPartOf, literal as end_literal, shared, free}
-use Rattle.tree_map.specs.Plans.{IsArmTree, literal, cut, series, parallel, IsFree, is_kept}
+use Rattle.tree_map.specs.Plans.{IsArmTree, literal, cut, series, parallel, IsFree, is_kept, is_free}
 use Rattle.dom_base.proofs.Bools.{and_both}
 
 -- the cost of a cover: seven for each pair of the part, less six for each that is kept
@@ -29,10 +29,6 @@ cover_cost w h End (Cut a b) is = absurd is
 cover_cost w h (Join op l r) Single is = absurd is
 cover_cost w h (Join op l r) (Kept a b) is = let x = cover_cost w h l a is.0 in let y = cover_cost w h r b is.1 in omega arith
 cover_cost w h (Join op l r) (Cut a b) is = let x = cover_cost w h l a is.0 in let y = cover_cost w h r b is.1 in omega arith
-
--- whether the edge to a pair is free
-pub is_free : ForestData → ℕ → Bool
-is_free forest place = (arm_uses forest place == 1) && (end_uses forest place == 0)
 
 pub is_free-true : (forest : ForestData) (place : ℕ) → is_free forest place ≡ true → IsFree forest place
 unfolding is_free

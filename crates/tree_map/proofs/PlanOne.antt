@@ -15,10 +15,10 @@ use Rattle.dual_rail.specs.ForestData.{ForestData}
 use Rattle.dual_rail.specs.ForestOrder.{AreInOrder, ReadsBefore}
 use Rattle.dual_rail.specs.Forests.{arms_of, is_pair_arm, left_arm, right_arm}
 use Rattle.tree_map.specs.LeastPlans.{IsChosenPlan, IsTaken, operator_of}
-use Rattle.tree_map.specs.Plans.{IsArmTree, literal, cut, series, parallel, IsFree, IsTreeOf, cell_gate, cell_of, is_kept, rail_gate, roots}
+use Rattle.tree_map.specs.Plans.{IsArmTree, literal, cut, series, parallel, IsFree, IsTreeOf, cell_gate, cell_of, is_kept, rail_gate, roots, is_free}
 use Rattle.tree_map.proofs.Chosen.{first_one, root_shape_one}
 use Rattle.tree_map.proofs.LeastPlan.{part_one}
-use Rattle.tree_map.proofs.PlanCovers.{is_free, is_free-true, is_free-of}
+use Rattle.tree_map.proofs.PlanCovers.{is_free-true, is_free-of}
 use Rattle.tree_map.proofs.Tallies.{uses}
 
 arm-is : (p : ℕ) (arm : Arm) → is_pair_arm p arm ≡ true → arm ≡ pair_arm p
@@ -202,7 +202,7 @@ tree_one forest kept p (Parallel l r) (Parallel l' r') (a, b, e, x, y) (a', b', 
     let two : b ≡ b' = cc in
     ap₂ Parallel (arm_tree_one forest kept x x' one) (arm_tree_one forest kept y y' two)
 
-zip_one : {X Y : Type 0} (R : X → Y → Type 0) → ((x : X) (y z : Y) → R x y → R x z → y ≡ z) → (xs : List X) (ys zs : List Y) → AllZip R xs ys → AllZip R xs zs → ys ≡ zs
+pub zip_one : {X Y : Type 0} (R : X → Y → Type 0) → ((x : X) (y z : Y) → R x y → R x z → y ≡ z) → (xs : List X) (ys zs : List Y) → AllZip R xs ys → AllZip R xs zs → ys ≡ zs
 zip_one R one [] [] [] a b = refl
 zip_one R one [] [] (z ∷ zs) a b = absurd b
 zip_one R one [] (y ∷ ys) zs a b = absurd a

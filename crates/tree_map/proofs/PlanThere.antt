@@ -22,31 +22,31 @@ use Rattle.tree_map.proofs.OneUser.{Names, one_arm, one_user}
 use Rattle.tree_map.proofs.RootShapes.{arm_part, root_there}
 
 -- what is done with an arm, where each pair has a mark and a shape
-abbrev TakenBy : ForestData → (ℕ → Bool) → (ℕ → TreeShape) → Arm → Choice → Type 0
+abbrev pub TakenBy : ForestData → (ℕ → Bool) → (ℕ → TreeShape) → Arm → Choice → Type 0
 TakenBy forest K S (Literal rail) choice = choice ≡ Nothing
 TakenBy forest K S (pair_arm q) (Keep s) = (K q ≡ true) × (S q ≡ s)
 TakenBy forest K S (pair_arm q) CutOff = (K q ≡ false) × IsFree forest q
 TakenBy forest K S (pair_arm q) Nothing = IsFree forest q → ⊥
 
-record DecidedBy (forest : ForestData) (w h : ℕ) (K : ℕ → Bool) (S : ℕ → TreeShape) (p : ℕ) (x : Pair) : Type 0 where
-  l : CoverPart
-  r : CoverPart
-  left_part : IsPartOf forest (left_arm x) l
-  right_part : IsPartOf forest (right_arm x) r
-  root : K p ≡ false → IsRootShape w h (Join (operator_of x) l r) (S p)
-  left : Choice
-  right : Choice
-  takes_left : TakenBy forest K S (left_arm x) left
-  takes_right : TakenBy forest K S (right_arm x) right
-  first : AreFirst w h (operator_of x) l r (S p) left right
+pub record DecidedBy (forest : ForestData) (w h : ℕ) (K : ℕ → Bool) (S : ℕ → TreeShape) (p : ℕ) (x : Pair) : Type 0 where
+  pub l : CoverPart
+  pub r : CoverPart
+  pub left_part : IsPartOf forest (left_arm x) l
+  pub right_part : IsPartOf forest (right_arm x) r
+  pub root : K p ≡ false → IsRootShape w h (Join (operator_of x) l r) (S p)
+  pub left : Choice
+  pub right : Choice
+  pub takes_left : TakenBy forest K S (left_arm x) left
+  pub takes_right : TakenBy forest K S (right_arm x) right
+  pub first : AreFirst w h (operator_of x) l r (S p) left right
 
 -- marks and shapes where the pairs from b on have taken their choices
-record State (forest : ForestData) (w h b : ℕ) (K : ℕ → Bool) (S : ℕ → TreeShape) : Type 0 where
-  kept_free : (q : ℕ) → K q ≡ true → IsFree forest q
-  users : (q u : ℕ) (x : Pair) → K q ≡ true → slice_get forest.pairs u ≡ Some x → Names q x → b ≤ u
-  least : (q : ℕ) (x : Pair) (l r : CoverPart) → K q ≡ true → slice_get forest.pairs q ≡ Some x → IsPartOf forest (left_arm x) l → IsPartOf forest (right_arm x) r
+pub record State (forest : ForestData) (w h b : ℕ) (K : ℕ → Bool) (S : ℕ → TreeShape) : Type 0 where
+  pub kept_free : (q : ℕ) → K q ≡ true → IsFree forest q
+  pub users : (q u : ℕ) (x : Pair) → K q ≡ true → slice_get forest.pairs u ≡ Some x → Names q x → b ≤ u
+  pub least : (q : ℕ) (x : Pair) (l r : CoverPart) → K q ≡ true → slice_get forest.pairs q ≡ Some x → IsPartOf forest (left_arm x) l → IsPartOf forest (right_arm x) r
       → (m : ℕ) × IsLeast w h (Join (operator_of x) l r) (S q) m
-  decided : (p : ℕ) (x : Pair) → b ≤ p → slice_get forest.pairs p ≡ Some x → DecidedBy forest w h K S p x
+  pub decided : (p : ℕ) (x : Pair) → b ≤ p → slice_get forest.pairs p ≡ Some x → DecidedBy forest w h K S p x
 
 -- a choice to keep is there for a free edge alone
 keep_free : (forest : ForestData) (w h : ℕ) (arm : Arm) (t : CoverPart) (a : ℕ) (s s' : TreeShape) (m : ℕ) → IsPartOf forest arm t → arm ≡ pair_arm a → IsChoice w h t (Keep s) s' m → IsFree forest a
@@ -251,6 +251,11 @@ module _ (forest : ForestData) (w h : ℕ) (wide : 2 ≤ w) (tall : 2 ≤ h) (or
       ];
     }
 
+    -- the same with the marks and the shapes spelled out
+    pub turn : State forest w h b (mark (right_arm x) right (mark (left_arm x) left K)) (put (right_arm x) right (put (left_arm x) left (λ q. cond (q == b) s0 (S q))))
+    unfolding K2 S2 S1
+    turn = next
+
   -- one more pair takes its choices
   step : (b : ℕ) → b < length forest.pairs → (K : ℕ → Bool) (S : ℕ → TreeShape) → State forest w h (suc b) K S → (K' : ℕ → Bool) × (S' : ℕ → TreeShape) × State forest w h b K' S'
   step b lt K S state =
@@ -278,7 +283,7 @@ module _ (forest : ForestData) (w h : ℕ) (wide : 2 ≤ w) (tall : 2 ≤ h) (or
               let root = root_there w h wide tall (operator_of x) l r in
               with_shape l r dl dr root.0 root.1.sum root.1.least (λ f. absurd (cc)) (λ f. root.1)
 
-  start : State forest w h (length forest.pairs) (λ q. false) (λ q. leaf_shape)
+  pub start : State forest w h (length forest.pairs) (λ q. false) (λ q. leaf_shape)
   start = record {
     kept_free = λ q e. absurd (cc);
     users = λ q u x e f n. absurd (cc);

@@ -10,9 +10,10 @@ use Rattle.dual_rail.specs.ForestData.{ForestData}
 use Rattle.dual_rail.specs.ForestOrder.{AreInOrder, ReadsBefore}
 use Rattle.dual_rail.specs.Forests.{left_arm, right_arm}
 use Rattle.tree_map.specs.LeastPlans.{IsPartOf, free, literal, operator_of, shared}
+use Rattle.tree_map.specs.Plans.{is_free}
 use Rattle.tree_map.proofs.Choices.{lowest_least}
 use Rattle.tree_map.proofs.Firsts.{root_shape_there}
-use Rattle.tree_map.proofs.PlanCovers.{is_free, is_free-of, is_free-true}
+use Rattle.tree_map.proofs.PlanCovers.{is_free-of, is_free-true}
 use Rattle.tree_map.proofs.Recurrence.{arm_bounded, table_bounds}
 use Rattle.tree_map.proofs.Tables.{lowest_below}
 

@@ -1,7 +1,13 @@
+pub mod ArmEntries
 pub mod Bounds
+pub mod CoverRows
+pub mod CoverSums
 pub mod CoverTables
 pub mod Covers
 pub mod LeastPlans
+pub mod MappedCover
+pub mod Offers
 pub mod PlanShapes
 pub mod PlanValues
 pub mod Plans
+pub mod Ties

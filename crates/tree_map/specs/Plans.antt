@@ -1,5 +1,5 @@
 -- Plans of a forest: sets of kept free edges whose trees are within bounds, and what they cost (Zhao, Sapatnekar 1998).
-use Rattle.std.specs.Prelude.{ℕ, ◌+◌, ◌*◌, ◌≤◌, ◌≡◌, Bool, true, false, not, cond, List, length, filter, take, Some, slice_get, slice_index_or, sum_by, count_by, All}
+use Rattle.std.specs.Prelude.{ℕ, ◌+◌, ◌*◌, ◌≤◌, ◌≡◌, ◌==◌, ◌&&◌, Bool, true, false, not, cond, List, length, filter, take, Some, slice_get, slice_index_or, sum_by, count_by, All}
 use Rattle.std.specs.List.{AllZip, range_with_len}
 use Rattle.sp_network.specs.Tree.{Tree, Leaf, Series, Parallel, leaves}
 use Rattle.dual_rail.specs.declared.forest.Arm.{Arm}
@@ -13,6 +13,10 @@ use Rattle.dual_rail.specs.Forests.{arm_uses, end_uses}
 -- the edge to a pair is free: the pair's one use is by a pair. A free edge is called by the pair that it leads to
 abbrev pub IsFree : ForestData → ℕ → Type 0
 IsFree forest place = (arm_uses forest place ≡ 1) × (end_uses forest place ≡ 0)
+
+-- whether it is
+unfoldable pub is_free : ForestData → ℕ → Bool
+is_free forest place = (arm_uses forest place == 1) && (end_uses forest place == 0)
 
 -- whether the edge to a pair is kept; a pair whose edge isn't kept is the root of a tree
 abbrev pub is_kept : List Bool → ℕ → Bool

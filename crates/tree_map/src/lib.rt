@@ -1,9 +1,22 @@
 //! Covers of a forest by trees within a width and a height, of least cost (Zhao, Sapatnekar 1998).
 #![tactic(auto)]
 
+mod bounds;
+mod decisions;
+mod free;
 mod laws;
+mod mapped;
+mod offers;
+mod shape;
+mod shape_sum;
+mod sums;
+mod ties;
+mod trees;
 
+pub use bounds::Bounds;
 pub use laws::{
     chosen_cover_is_one, chosen_plan_is_least, shapes_make_plans, tables_are_least,
     tree_values_are_kept,
 };
+pub use mapped::{cover, map};
+pub use trees::Cover;

@@ -1,0 +1,194 @@
+-- The first two offers that give a pair its shape at its least sum are its first choices.
+use Rattle.std.proofs.Common.{◌≡◌, inl, inr, refl, sym, ap, ap₂, subst, ◌∙◌, ℕ, ◌+◌, ◌≤◌, ◌<◌, Bool, List, length, map, Option, Some, None, slice_get, get_or, arith}
+use Rattle.std.specs.Prelude.{IfSome}
+use Rattle.std.specs.List.{range_with_len}
+use Rattle.std.proofs.lemmas.Bool.{cases_lt}
+use Rattle.std.proofs.lemmas.List.FromFn.{length-map-range_with_len}
+use Rattle.std.proofs.lemmas.Option.{same_Some, slice_get_read, slice_get_within}
+use Rattle.dual_rail.specs.declared.forest.Arm.{Arm}
+use Rattle.dual_rail.specs.declared.forest.Arm.TheVariants.{Literal, Pair as pair_arm}
+use Rattle.dual_rail.specs.declared.forest.Pair.{Pair}
+use Rattle.dual_rail.specs.ForestData.{ForestData}
+use Rattle.dual_rail.specs.ForestOrder.{AreInOrder, ReadsBefore}
+use Rattle.dual_rail.specs.Forests.{left_arm, right_arm}
+use Rattle.tree_map.specs.declared.offers.Offer.{Offer}
+use Rattle.tree_map.specs.declared.ties.Wanted.{Wanted}
+use Rattle.tree_map.specs.Covers.{AreFirst, Choice, Comes, CoverPart, CutOff, Earlier, End, Fits, GivesLeast, IsChoice, IsLeast, IsRootShape, Join, Keep, Nothing, TreeShape, joined_shape}
+use Rattle.tree_map.specs.CoverSums.{AreSumsOf, SumsData, sum_at}
+use Rattle.tree_map.specs.LeastPlans.{IsPartOf, operator_of}
+use Rattle.tree_map.specs.Offers.{AreOffers, HasSums, IsArmWithin, IsFirstShape, IsOffered, choice_of}
+use Rattle.tree_map.specs.Ties.{AreFirstOffers, AreSmall, Give, IsDecision, SomeGive}
+use Rattle.tree_map.specs.Plans.{is_free}
+use Rattle.tree_map.proofs.Choices.{choices_there}
+use Rattle.tree_map.proofs.Chosen.{least_one}
+use Rattle.tree_map.proofs.OfferedChoices.{root_is}
+use Rattle.tree_map.proofs.RootShapes.{arm_part, root_there}
+
+-- a choice gives a shape within the bounds
+choice_fits : (w h : ℕ) → 1 ≤ w → 1 ≤ h → (t : CoverPart) (x : Choice) (s : TreeShape) (n : ℕ) → IsChoice w h t x s n → Fits w h s
+choice_fits w h wide tall End Nothing s n is = subst (Fits w h) (sym is.0) (wide, tall)
+choice_fits w h wide tall End (Keep k) s n is = absurd is
+choice_fits w h wide tall End CutOff s n is = absurd is
+choice_fits w h wide tall (Join op l r) Nothing s n is = absurd is
+choice_fits w h wide tall (Join op l r) (Keep k) s n is = subst (Fits w h) (sym is.0) is.1.reached.fits
+choice_fits w h wide tall (Join op l r) CutOff s n (leaf, more) = subst (Fits w h) (sym leaf) (wide, tall)
+
+pub offers_small : (w h : ℕ) → (1 ≤ w) × (w ≤ 8) → (1 ≤ h) × (h ≤ 6) → (t : CoverPart) (xs : List Offer) → AreOffers w h t xs → AreSmall xs
+offers_small w h wide tall t xs are = λ k o at.
+    let fits = choice_fits w h wide.0 tall.0 t (choice_of o.choice) o.shape o.sum (are.sound k o at) in
+    (omega (arith, fits.1, tall.1), omega (arith, fits.0, wide.1))
+
+module _ (w h : ℕ) (wanted : Wanted) (l r : CoverPart) (lefts rights : List Offer) (are_left : AreOffers w h l lefts) (are_right : AreOffers w h r rights)
+    (least : IsLeast w h (Join (operator_of wanted.pair) l r) wanted.shape wanted.sum) where
+  -- two choices that give the shape at its least sum are offered
+  offers_give : (other more : Choice) (g : GivesLeast w h (operator_of wanted.pair) l r wanted.shape other more)
+      → (x : IsOffered lefts other g.left_shape g.left_sum) (y : IsOffered rights more g.right_shape g.right_sum) → Give wanted x.offer y.offer
+  offers_give other more g x y = (
+    ap₂ (joined_shape (operator_of wanted.pair)) x.shape_is y.shape_is ∙ g.shape_is,
+    ap₂ (λ m n. m + n) x.sum_is y.sum_is ∙ least_one w h (Join (operator_of wanted.pair) l r) wanted.shape (g.left_sum + g.right_sum) wanted.sum g.least least,
+  )
+
+  pub some_give : 1 ≤ w → 1 ≤ h → SomeGive wanted lefts rights
+  some_give wide tall =
+      let c = choices_there w h wide tall (operator_of wanted.pair) l r wanted.shape wanted.sum least in
+      let g = c.2 in
+      let x = are_left.complete c.0 g.left_shape g.left_sum g.is_left in
+      let y = are_right.complete c.1 g.right_shape g.right_sum g.is_right in
+      record { place = x.place; left = x.offer; at_left = x.at; other = y.place; right = y.offer; at_right = y.at; give = offers_give c.0 c.1 g x y }
+
+  pub first_are : (left right : Offer) → AreFirstOffers wanted lefts rights left right
+      → AreFirst w h (operator_of wanted.pair) l r wanted.shape (choice_of left.choice) (choice_of right.choice)
+  first_are left right is = record {
+    give = record {
+      left_shape = left.shape;
+      right_shape = right.shape;
+      left_sum = left.sum;
+      right_sum = right.sum;
+      is_left = are_left.sound is.place left is.at;
+      is_right = are_right.sound is.first_right.place right is.first_right.at;
+      shape_is = is.first_right.give.0;
+      least = subst (IsLeast w h (Join (operator_of wanted.pair) l r) wanted.shape) (sym is.first_right.give.1) least;
+    };
+    first = λ other more g. comes other more g (are_left.complete other g.left_shape g.left_sum g.is_left) (are_right.complete more g.right_shape g.right_sum g.is_right);
+  }
+    where
+      comes : (other more : Choice) (g : GivesLeast w h (operator_of wanted.pair) l r wanted.shape other more)
+          → IsOffered lefts other g.left_shape g.left_sum → IsOffered rights more g.right_shape g.right_sum
+          → Comes (choice_of left.choice) (choice_of right.choice) other more
+      comes other more g x y =
+          elim (cases_lt x.place is.place) [
+            | inl lt ↦ absurd (is.first x.place x.offer lt x.at y.place y.offer (slice_get_within rights y.place y.offer y.at) y.at (offers_give other more g x y))
+            | inr ge ↦ elim (cases_lt is.place x.place) [
+              | inl lt ↦ inl (subst (Earlier (choice_of left.choice)) x.choice_is (are_left.in_turn is.place x.place left x.offer lt is.at x.at))
+              | inr le ↦ (let here : is.place ≡ x.place = omega arith in same (same_Some left x.offer (sym is.at ∙ ap (slice_get lefts) here ∙ x.at)))
+            ]
+          ]
+        where
+          same : left ≡ x.offer → Comes (choice_of left.choice) (choice_of right.choice) other more
+          same e =
+              let choice : choice_of left.choice ≡ other = ap (λ (o : Offer). choice_of o.choice) e ∙ x.choice_is in
+              elim (cases_lt y.place is.first_right.place) [
+                | inl lt ↦ absurd (is.first_right.first y.place y.offer lt y.at (subst (λ o. Give wanted o y.offer) (sym e) (offers_give other more g x y)))
+                | inr ge ↦ elim (cases_lt is.first_right.place y.place) [
+                  | inl lt ↦ inr (choice, inl (subst (Earlier (choice_of right.choice)) y.choice_is (are_right.in_turn is.first_right.place y.place right y.offer lt is.first_right.at y.at)))
+                  | inr le ↦ (let here : is.first_right.place ≡ y.place = omega arith in
+                      let also = same_Some right y.offer (sym is.first_right.at ∙ ap (slice_get rights) here ∙ y.at) in
+                      inr (choice, inr (ap (λ (o : Offer). choice_of o.choice) also ∙ y.choice_is)))
+                ]
+              ]
+
+-- a pair before which its arms stand is there, with the parts below them
+pub record HasParts (forest : ForestData) (pair : Pair) : Type 0 where
+  pub l : CoverPart
+  pub r : CoverPart
+  pub left_part : IsPartOf forest (left_arm pair) l
+  pub right_part : IsPartOf forest (right_arm pair) r
+
+pub parts_of : (forest : ForestData) → AreInOrder forest.pairs → (place : ℕ) (pair : Pair) → slice_get forest.pairs place ≡ Some pair → HasParts forest pair
+parts_of forest order place pair at =
+    let lt = slice_get_within forest.pairs place pair at in
+    let o = order place pair at in
+    let l = arm_part forest order place (left_arm pair) o.0 (omega arith) in
+    let r = arm_part forest order place (right_arm pair) o.1 (omega arith) in
+    record { l = l.0; r = r.0; left_part = l.1; right_part = r.1 }
+
+-- an arm names a pair that is there
+pub arm_within : (place count : ℕ) (arm : Arm) → ReadsBefore place arm → place ≤ count → IsArmWithin count arm
+arm_within place count (Literal rail) before le = tt
+arm_within place count (pair_arm q) before le = omega arith
+
+-- each pair can have a shape
+pub has_sums : (forest : ForestData) (t : SumsData) → 2 ≤ t.w → 2 ≤ t.h → AreInOrder forest.pairs → AreSumsOf forest t → (place : ℕ) (pair : Pair) → slice_get forest.pairs place ≡ Some pair
+    → HasSums (sum_at t place)
+has_sums forest t wide tall order sums place pair at =
+    let p = parts_of forest order place pair at in
+    let root = root_there t.w t.h wide tall (operator_of pair) p.l p.r in
+    (root.0, root.1.sum, (sums place pair p.l p.r at p.left_part p.right_part root.0 root.1.sum).1 root.1.least)
+
+-- the shape of a pair has a sum
+pub shape_sum : (f : TreeShape → Option ℕ) (kept : Option TreeShape) (s : TreeShape) → IfSome kept (λ before. s ≡ before) → (kept ≡ None → IsFirstShape f s)
+    → ((shape : TreeShape) → kept ≡ Some shape → (sum : ℕ) × (f shape ≡ Some sum)) → (sum : ℕ) × (f s ≡ Some sum)
+shape_sum f None s stays root kept = let r = root refl in (r.sum, r.sum_is)
+shape_sum f (Some before) s stays root kept = let k = kept before refl in (k.0, ap f stays ∙ k.1)
+
+-- the pair of a forest that was read
+pub pair_read : (forest : ForestData) (pairs : List Pair) → pairs ≡ forest.pairs → (place : ℕ) (pair : Pair) → place < length forest.pairs → pair ≡ get_or pairs place pair → slice_get forest.pairs place ≡ Some pair
+pair_read forest pairs same place pair lt is = slice_get_read forest.pairs (length forest.pairs) place pair refl lt (subst (λ xs. pair ≡ get_or xs place pair) same is)
+
+-- offers for an arm, whatever forest these are the sums of
+abbrev pub MakeOffers : SumsData → List Bool → Arm → List Offer → Type 0
+MakeOffers t frees arm xs =
+    (forest : ForestData) (part : CoverPart) → AreSumsOf forest t → frees ≡ map (is_free forest) (range_with_len 0 (length forest.pairs)) → IsPartOf forest arm part → AreOffers t.w t.h part xs
+
+module _ (forest : ForestData) (t : SumsData) (frees : List Bool) (wide : (2 ≤ t.w) × (t.w ≤ 8)) (tall : (2 ≤ t.h) × (t.h ≤ 6)) (order : AreInOrder forest.pairs) (sums : AreSumsOf forest t)
+    (are : frees ≡ map (is_free forest) (range_with_len 0 (length forest.pairs))) (place : ℕ) (pair : Pair) (at : slice_get forest.pairs place ≡ Some pair) where
+  parts : HasParts forest pair
+  parts = parts_of forest order place pair at
+
+  left_offers : (arm : Arm) (xs : List Offer) → arm ≡ left_arm pair → MakeOffers t frees arm xs → AreOffers t.w t.h parts.l xs
+  left_offers arm xs e make = make forest parts.l sums are (subst (λ a. IsPartOf forest a parts.l) (sym e) parts.left_part)
+
+  right_offers : (arm : Arm) (xs : List Offer) → arm ≡ right_arm pair → MakeOffers t frees arm xs → AreOffers t.w t.h parts.r xs
+  right_offers arm xs e make = make forest parts.r sums are (subst (λ a. IsPartOf forest a parts.r) (sym e) parts.right_part)
+
+  is_least : (shape : TreeShape) (sum : ℕ) → sum_at t place shape ≡ Some sum → IsLeast t.w t.h (Join (operator_of pair) parts.l parts.r) shape sum
+  is_least shape sum = (sums place pair parts.l parts.r at parts.left_part parts.right_part shape sum).0
+
+  pub left_within : (arm : Arm) → arm ≡ left_arm pair → IsArmWithin (length frees) arm
+  left_within arm e = subst (IsArmWithin (length frees)) (sym e)
+      (arm_within place (length frees) (left_arm pair) (order place pair at).0 (omega (arith, slice_get_within forest.pairs place pair at, ap length are, length-map-range_with_len (is_free forest) 0 (length forest.pairs))))
+
+  pub right_within : (arm : Arm) → arm ≡ right_arm pair → IsArmWithin (length frees) arm
+  right_within arm e = subst (IsArmWithin (length frees)) (sym e)
+      (arm_within place (length frees) (right_arm pair) (order place pair at).1 (omega (arith, slice_get_within forest.pairs place pair at, ap length are, length-map-range_with_len (is_free forest) 0 (length forest.pairs))))
+
+  pub small_left : (arm : Arm) (xs : List Offer) → arm ≡ left_arm pair → MakeOffers t frees arm xs → AreSmall xs
+  small_left arm xs e make = offers_small t.w t.h (omega (arith, wide.0), wide.1) (omega (arith, tall.0), tall.1) parts.l xs (left_offers arm xs e make)
+
+  pub small_right : (arm : Arm) (xs : List Offer) → arm ≡ right_arm pair → MakeOffers t frees arm xs → AreSmall xs
+  small_right arm xs e make = offers_small t.w t.h (omega (arith, wide.0), wide.1) (omega (arith, tall.0), tall.1) parts.r xs (right_offers arm xs e make)
+
+  module _ (a b : Arm) (xs ys : List Offer) (a_is : a ≡ left_arm pair) (b_is : b ≡ right_arm pair) (lefts : MakeOffers t frees a xs) (rights : MakeOffers t frees b ys)
+      (shape : TreeShape) (sum : ℕ) (sum_is : sum_at t place shape ≡ Some sum) where
+    pub given : SomeGive (record { pair = pair; shape = shape; sum = sum }) xs ys
+    given = some_give t.w t.h (record { pair = pair; shape = shape; sum = sum }) parts.l parts.r xs ys (left_offers a xs a_is lefts) (right_offers b ys b_is rights) (is_least shape sum sum_is)
+        (omega (arith, wide.0)) (omega (arith, tall.0))
+
+    pub decided : (left right : Offer) (kept : Option TreeShape) → AreFirstOffers (record { pair = pair; shape = shape; sum = sum }) xs ys left right → IfSome kept (λ before. shape ≡ before)
+        → (kept ≡ None → IsFirstShape (sum_at t place) shape) → IsDecision forest t.w t.h pair kept shape left.choice right.choice
+    decided left right kept first stays root = record {
+      l = parts.l;
+      r = parts.r;
+      left_part = parts.left_part;
+      right_part = parts.right_part;
+      stays = λ before e. before_is kept before e stays;
+      root = λ e. root_is_first (root e);
+      first = first_are t.w t.h (record { pair = pair; shape = shape; sum = sum }) parts.l parts.r xs ys (left_offers a xs a_is lefts) (right_offers b ys b_is rights) (is_least shape sum sum_is) left right first;
+    }
+      where
+        before_is : (kept : Option TreeShape) (before : TreeShape) → kept ≡ Some before → IfSome kept (λ s. shape ≡ s) → shape ≡ before
+        before_is None before e stays = absurd (cc)
+        before_is (Some s) before e stays = stays ∙ same_Some s before e
+
+        root_is_first : IsFirstShape (sum_at t place) shape → IsRootShape t.w t.h (Join (operator_of pair) parts.l parts.r) shape
+        root_is_first is = root_is t place (operator_of pair) parts.l parts.r (omega (arith, wide.0)) (omega (arith, tall.0)) (sums place pair parts.l parts.r at parts.left_part parts.right_part) shape is

@@ -1,0 +1,196 @@
+-- The offers for an arm are its choices.
+use Rattle.std.proofs.Common.{◌≡◌, ◌⊎◌, ◌↔◌, inl, inr, refl, sym, ap, subst, ◌∙◌, ℕ, zero, suc, ◌+◌, ◌≤◌, ◌<◌, Bool, false, List, [], ◌∷◌, ◌++◌, length, map, Some, slice_get, arith}
+use Rattle.std.specs.List.{range_with_len}
+use Rattle.std.specs.Prelude.{slice_index_or}
+use Rattle.std.proofs.lemmas.Bool.{cases_lt}
+use Rattle.std.proofs.lemmas.List.FromFn.{get_or-map-range_with_len, length-map-range_with_len}
+use Rattle.std.proofs.lemmas.Option.{same_Some, slice_get_within}
+use Rattle.dom_base.proofs.Lists.{slice_get-append}
+use Rattle.dual_rail.specs.declared.forest.Arm.{Arm}
+use Rattle.dual_rail.specs.declared.forest.Pair.{Pair}
+use Rattle.dual_rail.specs.ForestData.{ForestData}
+use Rattle.dual_rail.specs.Forests.{left_arm, right_arm}
+use Rattle.tree_map.specs.declared.offers.Offer.{Offer}
+use Rattle.tree_map.specs.Covers.{Choice, CoverPart, CutOff, Earlier, End, Fits, IsChoice, IsLeast, IsLeastOfAll, IsRootShape, IsSum, Join, Keep, Lower, Nothing, Operator, TreeShape, leaf_shape}
+use Rattle.tree_map.specs.CoverSums.{SumsData, sum_at}
+use Rattle.tree_map.specs.LeastPlans.{IsPartOf, free, literal, operator_of, shared}
+use Rattle.tree_map.specs.Offers.{AreInTurn, AreKeptBefore, AreOffers, HasNoFreePair, IsArmWithin, IsBefore, IsFirstLeast, IsFirstShape, IsFreePair, IsOffered, choice_of}
+use Rattle.tree_map.specs.Plans.{is_free}
+use Rattle.tree_map.proofs.Chosen.{least_of_all_one}
+use Rattle.tree_map.proofs.KeptOffers.{get_push, get_pushed, sum_within}
+use Rattle.tree_map.proofs.PlanCovers.{is_free-of, is_free-true}
+use Rattle.tree_map.proofs.Recurrence.{arm_bounded, table_bounds, table_least}
+
+before_lower : (a b : TreeShape) → IsBefore a b → Lower a b
+before_lower a b (inl lt) = inl lt
+before_lower a b (inr (same, lt)) = inr (same, omega arith)
+
+-- what is offered stays offered
+offered_more : (xs ys : List Offer) (x : Choice) (s : TreeShape) (n : ℕ) → IsOffered xs x s n → IsOffered (xs ++ ys) x s n
+offered_more xs ys x s n is = record {
+  place = is.place;
+  offer = is.offer;
+  at = slice_get-append xs ys is.place is.offer is.at;
+  choice_is = is.choice_is;
+  shape_is = is.shape_is;
+  sum_is = is.sum_is;
+}
+
+module _ (t : SumsData) (place : ℕ) (op : Operator) (l r : CoverPart) (wide : 1 ≤ t.w) (tall : 1 ≤ t.h) (sums : (s : TreeShape) (n : ℕ) → (sum_at t place s ≡ Some n) ↔ IsLeast t.w t.h (Join op l r) s n) where
+  -- a plan of a shape has a least sum of this shape
+  least_below : (s : TreeShape) (n : ℕ) → IsSum t.w t.h (Join op l r) s n → (m : ℕ) × IsLeast t.w t.h (Join op l r) s m × (m ≤ n)
+  least_below s n is =
+      let b = table_bounds t.w t.h wide tall op l r (arm_bounded t.w t.h wide tall l) (arm_bounded t.w t.h wide tall r) is.left is.right is.cover.0 is.cover.1 (subst (Fits t.w t.h) (sym is.shape_is) is.fits) in (
+        (b.0).sum,
+        subst (λ k. IsLeast t.w t.h (Join op l r) k (b.0).sum) (b.2 ∙ is.shape_is) ((table_least t.w t.h wide tall op l r b.0).0 b.1),
+        subst (λ k. (b.0).sum ≤ k) is.sum_is b.3,
+      )
+
+  first_is_least : (s : TreeShape) (is : IsFirstShape (sum_at t place) s) → IsLeastOfAll t.w t.h (Join op l r) is.sum
+  first_is_least s is = record {
+    shape = s;
+    reached = ((sums s is.sum).0 is.sum_is).reached;
+    least = λ any other x. (let b = least_below any other x in let le = is.least any b.0 ((sums any b.0).1 b.1) in omega (arith, b.2));
+  }
+
+  -- the least of all sums is that of a shape
+  least_offered : (n : ℕ) → IsLeastOfAll t.w t.h (Join op l r) n → (s : TreeShape) × (sum_at t place s ≡ Some n)
+  least_offered n is = (is.shape, (sums is.shape n).1 (record { reached = is.reached; least = λ other x. is.least is.shape other x }))
+
+  pub root_is : (s : TreeShape) → IsFirstShape (sum_at t place) s → IsRootShape t.w t.h (Join op l r) s
+  root_is s is = record {
+    sum = is.sum;
+    least = (sums s is.sum).0 is.sum_is;
+    least_of_all = first_is_least s is;
+    first = λ other x. is.first other ((sums other is.sum).1 x);
+  }
+
+module _ (t : SumsData) (place : ℕ) (xs : List Offer) (are : AreKeptBefore (sum_at t place) (record { height = t.h + 1; width = 1 }) xs) where
+  -- each shape that a pair can have is offered
+  pub all_kept : (s : TreeShape) (n : ℕ) → sum_at t place s ≡ Some n → IsOffered xs (Keep s) s n
+  all_kept s n e = let g = sum_within t place s n e in are.complete s n e (inl (omega (arith, g.low)))
+
+  -- the first offer of least sum has the shape of a root
+  pub first_shape : (o : Offer) → IsFirstLeast xs (length xs) o → IsFirstShape (sum_at t place) o.shape
+  first_shape o is = record {
+    sum = o.sum;
+    sum_is = are.sums is.place o is.at;
+    least = λ s n e. (let x = all_kept s n e in
+        let lt = slice_get_within xs x.place x.offer x.at in subst (λ m. o.sum ≤ m) x.sum_is (is.least_of_all x.place x.offer lt x.at));
+    first = λ s e. first s (all_kept s o.sum e);
+  }
+    where
+      first : (s : TreeShape) → IsOffered xs (Keep s) s o.sum → Lower o.shape s
+      first s x =
+          let lt = slice_get_within xs x.place x.offer x.at in
+          let le = is.first x.place x.offer lt x.at x.sum_is in
+          elim (cases_lt is.place x.place) [
+            | inl less ↦ subst (Lower o.shape) x.shape_is (before_lower o.shape (x.offer).shape (rw (are.keeps is.place o is.at, are.keeps x.place x.offer x.at) at (are.in_turn is.place x.place o x.offer less is.at x.at)))
+            | inr ge ↦ (let here : is.place ≡ x.place = omega arith in
+                let same : o ≡ x.offer = same_Some o x.offer (sym is.at ∙ ap (slice_get xs) here ∙ x.at) in
+                subst (Lower o.shape) (ap (λ (y : Offer). y.shape) same ∙ x.shape_is) (inr (refl, omega arith)))
+          ]
+
+  pub none_kept : length xs ≡ 0 → (s : TreeShape) (n : ℕ) → sum_at t place s ≡ Some n → ⊥
+  none_kept none s n e = let x = all_kept s n e in let lt = slice_get_within xs x.place x.offer x.at in omega arith
+
+  module _ (op : Operator) (l r : CoverPart) (wide : 1 ≤ t.w) (tall : 1 ≤ t.h) (sums : (s : TreeShape) (n : ℕ) → (sum_at t place s ≡ Some n) ↔ IsLeast t.w t.h (Join op l r) s n) where
+    pub no_offers : length xs ≡ 0 → AreOffers t.w t.h (Join op l r) xs
+    no_offers none = record {
+      sound = λ k o at. absurd (let lt = slice_get_within xs k o at in omega arith);
+      complete = λ x s n is. absurd (never x s n is);
+      in_turn = are.in_turn;
+    }
+      where
+        never : (x : Choice) (s : TreeShape) (n : ℕ) → IsChoice t.w t.h (Join op l r) x s n → ⊥
+        never Nothing s n is = is
+        never (Keep k) s n is = none_kept none k n ((sums k n).1 is.1)
+        never CutOff s n (leaf, (below, least, sum)) = let x = least_offered t place op l r wide tall sums below least in none_kept none x.0 below x.1
+
+    pub with_cut : (o cut : Offer) → IsFirstLeast xs (length xs) o → choice_of cut.choice ≡ CutOff → cut.shape ≡ leaf_shape → cut.sum ≡ 1 + (o.sum + 5) → AreOffers t.w t.h (Join op l r) (xs ++ cut ∷ [])
+    unfolding first_shape
+    with_cut o cut first choice_is shape_is sum_is = record { sound = sound; complete = complete; in_turn = turn }
+      where
+        least : IsLeastOfAll t.w t.h (Join op l r) o.sum
+        least = first_is_least t place op l r wide tall sums o.shape (first_shape o first)
+
+        sound : (k : ℕ) (x : Offer) → slice_get (xs ++ cut ∷ []) k ≡ Some x → IsChoice t.w t.h (Join op l r) (choice_of x.choice) x.shape x.sum
+        sound k x at =
+            elim (get_push xs cut k x at) [
+              | inl old ↦ rw (are.keeps k x old) (refl, (sums x.shape x.sum).0 (are.sums k x old))
+              | inr new ↦ subst (λ (y : Offer). IsChoice t.w t.h (Join op l r) (choice_of y.choice) y.shape y.sum) new.1 (rw choice_is (shape_is, (o.sum, least, sum_is)))
+            ]
+
+        complete : (x : Choice) (s : TreeShape) (n : ℕ) → IsChoice t.w t.h (Join op l r) x s n → IsOffered (xs ++ cut ∷ []) x s n
+        complete Nothing s n is = absurd is
+        complete (Keep k) s n is = offered_more xs (cut ∷ []) (Keep k) s n (subst (λ z. IsOffered xs (Keep k) z n) (sym is.0) (all_kept k n ((sums k n).1 is.1)))
+        complete CutOff s n (leaf, (below, is, sum)) = record {
+          place = length xs;
+          offer = cut;
+          at = get_pushed xs cut;
+          choice_is = choice_is;
+          shape_is = shape_is ∙ sym leaf;
+          sum_is = sum_is ∙ ap (λ m. 1 + (m + 5)) (least_of_all_one t.w t.h (Join op l r) o.sum below least is) ∙ sym sum;
+        }
+
+        turn : AreInTurn (xs ++ cut ∷ [])
+        turn i k a b lt at too = by (get_push xs cut i a at) (get_push xs cut k b too)
+          where
+            by : (slice_get xs i ≡ Some a) ⊎ ((i ≡ length xs) × (cut ≡ a)) → (slice_get xs k ≡ Some b) ⊎ ((k ≡ length xs) × (cut ≡ b)) → Earlier (choice_of a.choice) (choice_of b.choice)
+            by (inl x) (inl y) = are.in_turn i k a b lt x y
+            by (inl x) (inr y) = rw (are.keeps i a x, sym (ap (λ (z : Offer). choice_of z.choice) y.1) ∙ choice_is) tt
+            by (inr x) (inl y) = let within = slice_get_within xs k b y in absurd (omega (arith, x.0))
+            by (inr x) (inr y) = absurd (omega (arith, x.0, y.0))
+
+-- the one offer for an arm without a free edge
+pub one_offer : (w h : ℕ) (o : Offer) → choice_of o.choice ≡ Nothing → o.shape ≡ leaf_shape → o.sum ≡ 1 → AreOffers w h End (o ∷ [])
+one_offer w h o choice_is shape_is sum_is = record {
+  sound = sound;
+  complete = complete;
+  in_turn = turn;
+}
+  where
+    sound : (k : ℕ) (x : Offer) → slice_get (o ∷ []) k ≡ Some x → IsChoice w h End (choice_of x.choice) x.shape x.sum
+    sound zero x at = subst (λ (y : Offer). IsChoice w h End (choice_of y.choice) y.shape y.sum) (same_Some o x at) (rw choice_is (shape_is, sum_is))
+    sound (suc k) x at = absurd (cc)
+
+    complete : (x : Choice) (s : TreeShape) (n : ℕ) → IsChoice w h End x s n → IsOffered (o ∷ []) x s n
+    complete (Keep k) s n is = absurd is
+    complete CutOff s n is = absurd is
+    complete Nothing s n is = record {
+      place = 0;
+      offer = o;
+      at = refl;
+      choice_is = choice_is;
+      shape_is = shape_is ∙ sym is.0;
+      sum_is = sum_is ∙ sym is.1;
+    }
+
+    turn : AreInTurn (o ∷ [])
+    turn zero zero a b lt at too = absurd (omega arith)
+    turn zero (suc k) a b lt at too = absurd (cc)
+    turn (suc i) k a b lt at too = absurd (cc)
+
+module _ (forest : ForestData) (frees : List Bool) (are : frees ≡ map (is_free forest) (range_with_len 0 (length forest.pairs))) where
+  free_at : (place : ℕ) → place < length forest.pairs → slice_index_or frees place false ≡ is_free forest place
+  free_at place lt = ap (λ xs. slice_index_or xs place false) are ∙ get_or-map-range_with_len (is_free forest) 0 (length forest.pairs) place place false lt (omega arith)
+
+  -- an arm without a free edge is an end
+  pub no_free_part : (arm : Arm) (part : CoverPart) → HasNoFreePair frees arm → IsPartOf forest arm part → part ≡ End
+  no_free_part _ _ none literal = refl
+  no_free_part _ _ none (shared never) = refl
+  no_free_part _ _ none (free {place = place} {pair = pair} is at l r) =
+      absurd (let f = free_at place (slice_get_within forest.pairs place pair at) in let g = none place refl in let e = is_free-of forest place is in cc)
+
+  -- and a free edge leads to the part below its pair
+  pub free_part : (P : CoverPart → Type 0) (arm : Arm) (place : ℕ) (part : CoverPart) → IsArmWithin (length frees) arm → IsFreePair frees arm place
+      → ((pair : Pair) (l r : CoverPart) → slice_get forest.pairs place ≡ Some pair → IsPartOf forest (left_arm pair) l → IsPartOf forest (right_arm pair) r → P (Join (operator_of pair) l r))
+      → IsPartOf forest arm part → P part
+  free_part P _ place _ within is_free_pair make literal = absurd (let e = is_free_pair.0 in cc)
+  free_part P _ place _ within is_free_pair make (shared {place = q} never) =
+      let here : q ≡ place = let e = is_free_pair.0 in cc in
+      let lt : q < length forest.pairs = omega (arith, within, ap length are, length-map-range_with_len (is_free forest) 0 (length forest.pairs)) in
+      absurd (never (is_free-true forest q (sym (free_at q lt) ∙ ap (λ n. slice_index_or frees n false) here ∙ is_free_pair.1)))
+  free_part P _ place _ within is_free_pair make (free {place = q} {pair = pair} {l = l} {r = r} is at dl dr) =
+      let here : q ≡ place = let e = is_free_pair.0 in cc in
+      make pair l r (subst (λ n. slice_get forest.pairs n ≡ Some pair) here at) dl dr

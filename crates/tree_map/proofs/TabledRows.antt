@@ -1,0 +1,245 @@
+-- The sums of a forest, as the row of one more pair is appended.
+use Rattle.std.proofs.lemmas.Option.{same_Some, slice_get-get_or, slice_get_cases, slice_get_within}
+use Rattle.std.proofs.lemmas.Bool.{cases_lt}
+use Rattle.std.proofs.Math.Nat.{mul-le-mul_right}
+use Rattle.std.proofs.Common.{◌≡◌, inl, inr, refl, sym, ap, subst, ◌∙◌, ℕ, zero, suc, ◌+◌, ◌*◌, ◌≤◌, ◌<◌, Bool, true, false, cond, List, ◌++◌, length, get_or, Option, Some, None, slice_get, arith}
+use Rattle.std.specs.List.{range_with_len}
+use Rattle.std.proofs.lemmas.List.{length-map}
+use Rattle.std.proofs.lemmas.List.FromFn.{length-range_with_len}
+use Rattle.tree_map.specs.Plans.{is_free}
+use Rattle.dom_base.proofs.Lists.{slice_get-append, slice_get-behind}
+use Rattle.dual_rail.specs.declared.forest.Arm.{Arm}
+use Rattle.dual_rail.specs.declared.forest.Arm.TheVariants.{Literal, Pair as pair_arm}
+use Rattle.dual_rail.specs.declared.forest.Pair.{Pair}
+use Rattle.dual_rail.specs.ForestData.{ForestData}
+use Rattle.dual_rail.specs.ForestOrder.{AreInOrder, IsForest, ReadsBefore}
+use Rattle.dual_rail.specs.Forests.{left_arm, right_arm}
+use Rattle.gate_decompose.specs.Items.{Among}
+use Rattle.tree_map.specs.ArmEntries.{AreEntriesOf, AreFew, AreFewOf, AreFreeOf, AreSumsIn, AreTabled}
+use Rattle.tree_map.specs.Covers.{CoverPart, Operator, TreeShape}
+use Rattle.tree_map.specs.CoverRows.{AreSmall, IsRow, IsShapeIn, row_index, sum_or_zero}
+use Rattle.tree_map.specs.CoverSums.{AreSumsOf, SumsData, above_zero, has_shape, sum_at, sum_index}
+use Rattle.tree_map.specs.CoverTables.{Entry, arm_entries, best, combined, table}
+use Rattle.tree_map.specs.LeastPlans.{IsPartOf, operator_of}
+use Rattle.tree_map.proofs.ArmEntries.{best_same, combined_same, shape_in}
+use Rattle.tree_map.proofs.ReadEntries.{shape_had_in, sum_in}
+use Rattle.tree_map.proofs.Recurrence.{arm_reached, shape_some, table_least}
+use Rattle.tree_map.proofs.RootShapes.{arm_part}
+use Rattle.tree_map.proofs.Rows.{index_in}
+use Rattle.tree_map.proofs.SumBounds.{few_in_arm, few_sums, some_sum}
+use Rattle.tree_map.proofs.SumReads.{shape_had}
+use Rattle.tree_map.proofs.Tables.{among_shapes, among_table, best_reached, table_best}
+
+index_before : (other m k i : ℕ) → other < m → i < k → other * k + i < m * k
+index_before other m k i lt low = let more = mul-le-mul_right {m = other + 1} {n = m} k (omega arith) in omega arith
+
+left_of : (xs ys : List ℕ) (i : ℕ) → i < length xs → slice_get (xs ++ ys) i ≡ slice_get xs i
+left_of xs ys i lt = slice_get-append xs ys i (get_or xs i 0) (slice_get-get_or xs i 0 lt) ∙ sym (slice_get-get_or xs i 0 lt)
+
+-- sums with one more row
+abbrev pub with_row : SumsData → List ℕ → SumsData
+with_row t row = record { w = t.w; h = t.h; sums = t.sums ++ row }
+
+module _ (t : SumsData) (row : List ℕ) (m : ℕ) (count : length t.sums ≡ m * (t.w * t.h)) where
+  sum_before : (other : ℕ) → other < m → (shape : TreeShape) → sum_at (with_row t row) other shape ≡ sum_at t other shape
+  sum_before other lt shape = by (has_shape t shape) refl
+    where
+      by : (b : Bool) → has_shape t shape ≡ b
+          → cond b (above_zero (slice_get (t.sums ++ row) (sum_index t other shape))) None ≡ cond b (above_zero (slice_get t.sums (sum_index t other shape))) None
+      by false had = refl
+      by true had = ap above_zero (left_of t.sums row (sum_index t other shape) (rw count (index_before other m (t.w * t.h) (row_index t.w shape) lt (index_in t.w t.h shape (shape_had_in t shape had)))))
+
+  there_or_not : (o : Option ℕ) → ((n : ℕ) → o ≡ Some n → 1 ≤ n) → above_zero (Some (sum_or_zero o)) ≡ o
+  there_or_not None some = refl
+  there_or_not (Some zero) some = absurd (let one = some zero refl in omega arith)
+  there_or_not (Some (suc n)) some = refl
+
+  sum_new : (es : List Entry) → IsRow t.w t.h es row → (shape : TreeShape) → IsShapeIn t.w t.h shape → sum_at (with_row t row) m shape ≡ best es shape
+  sum_new es is shape in_ =
+      rw (shape_had t shape in_.tall in_.high in_.wide in_.broad)
+      (ap above_zero (ap (λ n. slice_get (t.sums ++ row) (n + row_index t.w shape)) (sym count) ∙ slice_get-behind t.sums row (row_index t.w shape) ∙ is.each shape in_)
+      ∙ there_or_not (best es shape) (λ n e. let r = best_reached es shape n e in subst (λ s. 1 ≤ s) r.3 (is.some r.0 r.1)))
+
+  new_row : (op : Operator) (l r : CoverPart) (es : List Entry) → IsRow t.w t.h es row
+      → ((shape : TreeShape) → best es shape ≡ best (combined op (arm_entries t.w t.h l) (arm_entries t.w t.h r)) shape) → AreSumsIn (with_row t row) m (table t.w t.h op l r)
+  new_row op l r es is same e = (there, back)
+    where
+      there : sum_at (with_row t row) m e.shape ≡ Some e.sum → Among e (table t.w t.h op l r)
+      there at =
+          let in_ = sum_in (with_row t row) m e.shape e.sum at in
+          among_table t.w t.h (combined op (arm_entries t.w t.h l) (arm_entries t.w t.h r)) e
+          (among_shapes t.w t.h e.shape in_.tall in_.wide (in_.broad, in_.high))
+          (sym (same e.shape) ∙ sym (sum_new es is e.shape in_) ∙ at)
+
+      back : Among e (table t.w t.h op l r) → sum_at (with_row t row) m e.shape ≡ Some e.sum
+      back at =
+          let b = table_best t.w t.h (combined op (arm_entries t.w t.h l) (arm_entries t.w t.h r)) e at in
+          sum_new es is e.shape (shape_in t.w t.h e.shape b.0) ∙ same e.shape ∙ b.1
+
+  pub tabled_more : (forest : ForestData) (pair : Pair) (ls rs : List Entry) → AreTabled forest m t → slice_get forest.pairs m ≡ Some pair
+      → AreEntriesOf forest t.w t.h (left_arm pair) ls → AreEntriesOf forest t.w t.h (right_arm pair) rs → IsRow t.w t.h (combined (operator_of pair) ls rs) row
+      → AreTabled forest (m + 1) (with_row t row)
+  tabled_more forest pair ls rs tabled here left right is other x l r lt at dl dr = elim (cases_lt other m) [
+    | inl before ↦ (λ e. let old = tabled other x l r before at dl dr e in (
+      λ s. old.0 (sym (sum_before other before e.shape) ∙ s),
+      λ in_. sum_before other before e.shape ∙ old.1 in_,
+    ))
+    | inr past ↦
+        (let last : other ≡ m = omega arith in
+        let pair_is : x ≡ pair = same_Some x pair (sym at ∙ ap (slice_get forest.pairs) last ∙ here) in
+        let ops = ap operator_of pair_is in
+        let same_left = left l (subst (λ p. IsPartOf forest (left_arm p) l) pair_is dl) in
+        let same_right = right r (subst (λ p. IsPartOf forest (right_arm p) r) pair_is dr) in
+        subst (λ p. AreSumsIn (with_row t row) p (table t.w t.h (operator_of x) l r)) (sym last)
+        (subst (λ op. AreSumsIn (with_row t row) m (table t.w t.h op l r)) (sym ops)
+        (new_row (operator_of pair) l r (combined (operator_of pair) ls rs) is
+        (best_same (combined (operator_of pair) ls rs) (combined (operator_of pair) (arm_entries t.w t.h l) (arm_entries t.w t.h r))
+        (combined_same (operator_of pair) ls rs (arm_entries t.w t.h l) (arm_entries t.w t.h r) same_left same_right)))))
+  ]
+
+module _ (forest : ForestData) (order : AreInOrder forest.pairs) where
+  part_there : (m : ℕ) (arm : Arm) → ReadsBefore m arm → m ≤ length forest.pairs → (part : CoverPart) × IsPartOf forest arm part
+  part_there m arm before le = arm_part forest order m arm before le
+
+  -- what is read is small
+  pub entries_small : (m w h : ℕ) (arm : Arm) (es : List Entry) → 1 ≤ w → 1 ≤ h → w ≤ 8 → h ≤ 6 → length forest.pairs ≤ 800000 → m ≤ length forest.pairs → ReadsBefore m arm
+      → AreEntriesOf forest w h arm es → AreSmall es
+  entries_small m w h arm es wide tall broad high few le before are e at =
+      let p = part_there m arm before le in
+      let r = arm_reached w h wide tall p.0 e ((are p.0 p.1 e).0 at) in
+      let some = shape_some p.0 r.0 in
+      let one = some_sum p.0 r.0 in
+      let most = few_in_arm forest order w h p.1 r.0 r.1 in
+      let rise = ap (λ (s : TreeShape). s.height) r.2 in
+      let run = ap (λ (s : TreeShape). s.width) r.2 in
+      record {
+        tall = omega (arith, some.0, rise);
+        high = omega (arith, (r.3).1, high);
+        wide = omega (arith, some.1, run);
+        broad = omega (arith, (r.3).0, broad);
+        some = omega (arith, one, r.4);
+        few = omega (arith, most, r.4, few);
+      }
+
+  sums_few : (m : ℕ) (t : SumsData) (place : ℕ) → 1 ≤ t.w → 1 ≤ t.h → length forest.pairs ≤ 800000 → m ≤ length forest.pairs → AreTabled forest m t → place < m → AreFew t place
+  sums_few m t place wide tall few le tabled lt shape sum at =
+      elim (slice_get_cases forest.pairs place).1 [
+        | inl found ↦
+            (let pair = found.0 in
+            let reads = order place pair found.2 in
+            let l = part_there place (left_arm pair) reads.0 (omega arith) in
+            let r = part_there place (right_arm pair) reads.1 (omega arith) in
+            let in_ = (tabled place pair l.0 r.0 lt found.2 l.1 r.1 (record { shape = shape; sum = sum })).0 at in
+            let least = (table_least t.w t.h wide tall (operator_of pair) l.0 r.0 (record { shape = shape; sum = sum })).0 in_ in
+            let s = least.reached in
+            let most = few_sums forest order place t.w t.h pair found.2 l.1 r.1 s.left s.right s.cover in
+            omega (arith, most, s.sum_is, few))
+        | inr past ↦ absurd (omega (arith, past.0))
+      ]
+
+  pub arm_few : (m : ℕ) (t : SumsData) (arm : Arm) → 1 ≤ t.w → 1 ≤ t.h → length forest.pairs ≤ 800000 → m ≤ length forest.pairs → AreTabled forest m t → ReadsBefore m arm → AreFewOf t arm
+  arm_few m t (Literal rail) wide tall few le tabled before = tt
+  arm_few m t (pair_arm place) wide tall few le tabled before = sums_few m t place wide tall few le tabled before
+
+  -- the sums of all pairs are the least
+  pub all_tabled : (t : SumsData) → 1 ≤ t.w → 1 ≤ t.h → AreTabled forest (length forest.pairs) t → AreSumsOf forest t
+  all_tabled t wide tall tabled place pair l r at dl dr shape sum =
+      let e : Entry = record { shape = shape; sum = sum } in
+      let in_ = tabled place pair l r (slice_get_within forest.pairs place pair at) at dl dr e in
+      let least = table_least t.w t.h wide tall (operator_of pair) l r e in
+      (λ s. least.0 (in_.0 s), λ is. in_.1 (least.1 is))
+
+pub none_tabled : (forest : ForestData) (t : SumsData) → AreTabled forest 0 t
+none_tabled forest t other pair l r lt = absurd (omega arith)
+
+-- a turn of the loop over the pairs: the pair at this place and its arms, over the sums of the pairs before it
+pub record IsTurn (forest : ForestData) (w h m : ℕ) (t : SumsData) (arms : Arm × Arm) (pair : Pair) : Type 0 where
+  pub is : IsForest forest
+  pub wide : 2 ≤ w
+  pub broad : w ≤ 8
+  pub tall : 2 ≤ h
+  pub high : h ≤ 6
+  pub width : t.w ≡ w
+  pub height : t.h ≡ h
+  pub here : slice_get forest.pairs m ≡ Some pair
+  pub left : arms.0 ≡ left_arm pair
+  pub right : arms.1 ≡ right_arm pair
+  pub tabled : AreTabled forest m t
+
+pub turn_of : (forest : ForestData) (items : List Pair) (d : Pair) (w h m : ℕ) (t : SumsData) (arms : Arm × Arm) → IsForest forest → items ≡ forest.pairs → m < length items
+    → (2 ≤ w) × (w ≤ 8) → (2 ≤ h) × (h ≤ 6) → t.w ≡ w → t.h ≡ h → AreTabled forest m t → arms.0 ≡ left_arm (get_or items m d) → arms.1 ≡ right_arm (get_or items m d)
+    → IsTurn forest w h m t arms (get_or items m d)
+turn_of forest items d w h m t arms is same lt width height t_w t_h tabled left right = record {
+  is = is;
+  wide = width.0;
+  broad = width.1;
+  tall = height.0;
+  high = height.1;
+  width = t_w;
+  height = t_h;
+  here = subst (λ xs. slice_get xs m ≡ Some (get_or items m d)) same (slice_get-get_or items m d lt);
+  left = left;
+  right = right;
+  tabled = tabled;
+}
+
+module _ (forest : ForestData) (w h m : ℕ) (t : SumsData) (arms : Arm × Arm) (pair : Pair) (turn : IsTurn forest w h m t arms pair) where
+  within : m < length forest.pairs
+  within = slice_get_within forest.pairs m pair turn.here
+
+  order : AreInOrder forest.pairs
+  order = turn.is.in_place.in_order
+
+  few : length forest.pairs ≤ 800000
+  few = turn.is.few_pairs
+
+  reads : ReadsBefore m (arms.0) × ReadsBefore m (arms.1)
+  reads =
+      let x = turn.is.in_place.in_order m pair turn.here in
+      (subst (ReadsBefore m) (sym turn.left) x.0, subst (ReadsBefore m) (sym turn.right) x.1)
+
+  later : (free : List Bool) → AreFreeOf forest free → (arm : Arm) → ReadsBefore m arm → ReadsBefore (length free) arm
+  later free are (Literal rail) before = tt
+  later free are (pair_arm place) before =
+      let n = length forest.pairs in
+      let count : length free ≡ n = ap length are ∙ length-map (range_with_len 0 n) (is_free forest) ∙ length-range_with_len 0 n in
+      let inside = within in
+      omega arith
+
+  pub turn_there : (free : List Bool) → AreFreeOf forest free → ReadsBefore (length free) (arms.0) × ReadsBefore (length free) (arms.1)
+  turn_there free are = (later free are (arms.0) reads.0, later free are (arms.1) reads.1)
+
+  wide_t : 1 ≤ t.w
+  wide_t = omega (arith, turn.wide, turn.width)
+
+  tall_t : 1 ≤ t.h
+  tall_t = omega (arith, turn.tall, turn.height)
+
+  pub turn_few : AreFewOf t (arms.0) × AreFewOf t (arms.1)
+  turn_few =
+      let inside = within in
+      let le : m ≤ length forest.pairs = omega arith in
+      (arm_few forest order m t (arms.0) wide_t tall_t few le turn.tabled reads.0, arm_few forest order m t (arms.1) wide_t tall_t few le turn.tabled reads.1)
+
+  -- the entries of its arms, as they are read for any forest
+  abbrev pub Read : List Bool → Arm → List Entry → Type 0
+  Read free arm es = (f : ForestData) (place : ℕ) → AreFreeOf f free → ReadsBefore place arm → AreTabled f place t → AreEntriesOf f t.w t.h arm es
+
+  module _ (free : List Bool) (are : AreFreeOf forest free) (ls rs : List Entry) (read_left : Read free (arms.0) ls) (read_right : Read free (arms.1) rs) where
+    pub turn_small : AreSmall ls × AreSmall rs
+    turn_small =
+        let inside = within in
+        let le : m ≤ length forest.pairs = omega arith in
+        let broad : t.w ≤ 8 = omega (arith, turn.broad, turn.width) in
+        let high : t.h ≤ 6 = omega (arith, turn.high, turn.height) in (
+          entries_small forest order m t.w t.h (arms.0) ls wide_t tall_t broad high few le reads.0 (read_left forest m are reads.0 turn.tabled),
+          entries_small forest order m t.w t.h (arms.1) rs wide_t tall_t broad high few le reads.1 (read_right forest m are reads.1 turn.tabled),
+        )
+
+    pub turn_tabled : (row : List ℕ) → length t.sums ≡ m * (w * h) → IsRow w h (combined (operator_of pair) ls rs) row → AreTabled forest (m + 1) (with_row t row)
+    turn_tabled row count is =
+        let sums : length t.sums ≡ m * (t.w * t.h) = rw (turn.width, turn.height) count in
+        let row_is : IsRow t.w t.h (combined (operator_of pair) ls rs) row = rw (turn.width, turn.height) is in
+        tabled_more t row m sums forest pair ls rs turn.tabled turn.here
+        (subst (λ a. AreEntriesOf forest t.w t.h a ls) turn.left (read_left forest m are reads.0 turn.tabled))
+        (subst (λ a. AreEntriesOf forest t.w t.h a rs) turn.right (read_right forest m are reads.1 turn.tabled)) row_is

@@ -1,0 +1,47 @@
+-- Rows of sums: for each shape within the bounds the least sum that some entries have in this shape.
+use Rattle.std.specs.Prelude.{ℕ, ◌+◌, ◌*◌, ◌-◌, ◌^◌, ◌≤◌, ◌≡◌, List, length, Option, None, Some, slice_get}
+use Rattle.gate_decompose.specs.Items.{Among}
+use Rattle.tree_map.specs.declared.shape_sum.ShapeSum.{ShapeSum}
+use Rattle.tree_map.specs.Covers.{Operator, TreeShape, joined_shape}
+use Rattle.tree_map.specs.CoverTables.{Entry, best}
+
+-- an entry as code has it
+abbrev pub entry_of : ShapeSum → Entry
+entry_of e = record { shape = record { height = e.height; width = e.width }; sum = e.sum }
+
+-- what two entries come to under an operator
+abbrev pub joined_entry : Operator → Entry → Entry → Entry
+joined_entry op a b = record { shape = joined_shape op a.shape b.shape; sum = a.sum + b.sum }
+
+-- a shape within the bounds
+pub record IsShapeIn (w h : ℕ) (shape : TreeShape) : Type 0 where
+  pub tall : 1 ≤ shape.height
+  pub high : shape.height ≤ h
+  pub wide : 1 ≤ shape.width
+  pub broad : shape.width ≤ w
+
+-- where the number of a shape stands in a row: by height and then by width
+abbrev pub row_index : ℕ → TreeShape → ℕ
+row_index w shape = (shape.height - 1) * w + (shape.width - 1)
+
+abbrev pub sum_or_zero : Option ℕ → ℕ
+sum_or_zero None = 0
+sum_or_zero (Some n) = n
+
+-- the least sum of each shape within the bounds, 0 where no entry has the shape
+pub record IsRow (w h : ℕ) (es : List Entry) (row : List ℕ) : Type 0 where
+  pub count : length row ≡ w * h
+  pub some : (e : Entry) → Among e es → 1 ≤ e.sum
+  pub each : (shape : TreeShape) → IsShapeIn w h shape → slice_get row (row_index w shape) ≡ Some (sum_or_zero (best es shape))
+
+-- an entry whose numbers leave room for sums
+pub record IsSmall (e : Entry) : Type 0 where
+  pub tall : 1 ≤ e.shape.height
+  pub high : e.shape.height ≤ 2 ^ 30
+  pub wide : 1 ≤ e.shape.width
+  pub broad : e.shape.width ≤ 2 ^ 30
+  pub some : 1 ≤ e.sum
+  pub few : e.sum ≤ 2 ^ 30
+
+abbrev pub AreSmall : List Entry → Type 0
+AreSmall es = (e : Entry) → Among e es → IsSmall e

@@ -1,0 +1,82 @@
+-- Offers for an arm: its choices in order, with the shape and the sum that each gives.
+use Rattle.std.specs.Prelude.{ℕ, ◌<◌, ◌≤◌, ◌^◌, ◌≡◌, ◌⊎◌, Bool, true, false, List, Option, Some, slice_get, slice_index_or}
+use Rattle.dual_rail.specs.declared.forest.Arm.{Arm}
+use Rattle.dual_rail.specs.declared.forest.Arm.TheVariants.{Literal, Pair as pair_arm}
+use Rattle.tree_map.specs.declared.offers.Choice.{Choice as offered_choice}
+use Rattle.tree_map.specs.declared.offers.Choice.TheVariants.{Keep as offered_keep, CutOff as offered_cut, Nothing as offered_nothing}
+use Rattle.tree_map.specs.declared.offers.Offer.{Offer}
+use Rattle.tree_map.specs.Covers.{Choice, CoverPart, CutOff, Earlier, IsChoice, Keep, Lower, Nothing, TreeShape}
+
+-- the choice of an offer
+abbrev pub choice_of : offered_choice → Choice
+choice_of (offered_keep shape) = Keep shape
+choice_of offered_cut = CutOff
+choice_of offered_nothing = Nothing
+
+-- a shape is lower, or of the same height and narrower
+abbrev pub IsBefore : TreeShape → TreeShape → Type 0
+IsBefore a b = (a.height < b.height) ⊎ ((a.height ≡ b.height) × (a.width < b.width))
+
+-- a choice is offered, with this shape and sum
+pub record IsOffered (offers : List Offer) (choice : Choice) (shape : TreeShape) (sum : ℕ) : Type 0 where
+  pub place : ℕ
+  pub offer : Offer
+  pub at : slice_get offers place ≡ Some offer
+  pub choice_is : choice_of offer.choice ≡ choice
+  pub shape_is : offer.shape ≡ shape
+  pub sum_is : offer.sum ≡ sum
+
+-- an earlier choice is offered at an earlier place
+abbrev pub AreInTurn : List Offer → Type 0
+AreInTurn offers =
+    (i k : ℕ) (a b : Offer) → i < k → slice_get offers i ≡ Some a → slice_get offers k ≡ Some b
+    → Earlier (choice_of a.choice) (choice_of b.choice)
+
+-- to keep a pair in one of the shapes before this one, where these are the sums of its shapes
+pub record AreKeptBefore (sum_of : TreeShape → Option ℕ) (limit : TreeShape) (offers : List Offer) : Type 0 where
+  pub keeps : (k : ℕ) (o : Offer) → slice_get offers k ≡ Some o → choice_of o.choice ≡ Keep o.shape
+  pub sums : (k : ℕ) (o : Offer) → slice_get offers k ≡ Some o → sum_of o.shape ≡ Some o.sum
+  pub before : (k : ℕ) (o : Offer) → slice_get offers k ≡ Some o → IsBefore o.shape limit
+  pub complete : (shape : TreeShape) (sum : ℕ) → sum_of shape ≡ Some sum → IsBefore shape limit
+      → IsOffered offers (Keep shape) shape sum
+  pub in_turn : AreInTurn offers
+  pub small : (k : ℕ) (o : Offer) → slice_get offers k ≡ Some o → o.sum < 2 ^ 32
+
+-- the first of the offers of least sum, among so many
+pub record IsFirstLeast (offers : List Offer) (count : ℕ) (least : Offer) : Type 0 where
+  pub place : ℕ
+  pub within : place ≤ count
+  pub at : slice_get offers place ≡ Some least
+  pub least_of_all : (k : ℕ) (o : Offer) → k < count → slice_get offers k ≡ Some o → least.sum ≤ o.sum
+  pub first : (k : ℕ) (o : Offer) → k < count → slice_get offers k ≡ Some o → o.sum ≡ least.sum → place ≤ k
+
+-- the shape of least sum, of these the lowest, and of these the narrowest
+pub record IsFirstShape (sum_of : TreeShape → Option ℕ) (shape : TreeShape) : Type 0 where
+  pub sum : ℕ
+  pub sum_is : sum_of shape ≡ Some sum
+  pub least : (other : TreeShape) (more : ℕ) → sum_of other ≡ Some more → sum ≤ more
+  pub first : (other : TreeShape) → sum_of other ≡ Some sum → Lower shape other
+
+-- the choices for an arm with what each gives, in order
+pub record AreOffers (w h : ℕ) (part : CoverPart) (offers : List Offer) : Type 0 where
+  pub sound : (k : ℕ) (o : Offer) → slice_get offers k ≡ Some o → IsChoice w h part (choice_of o.choice) o.shape o.sum
+  pub complete : (choice : Choice) (shape : TreeShape) (sum : ℕ) → IsChoice w h part choice shape sum
+      → IsOffered offers choice shape sum
+  pub in_turn : AreInTurn offers
+
+-- a pair has some shape
+abbrev pub HasSums : (TreeShape → Option ℕ) → Type 0
+HasSums sum_of = (shape : TreeShape) × (sum : ℕ) × (sum_of shape ≡ Some sum)
+
+-- an arm that names a pair names one of so many
+abbrev pub IsArmWithin : ℕ → Arm → Type 0
+IsArmWithin count (Literal rail) = Unit {0}
+IsArmWithin count (pair_arm place) = place < count
+
+-- a free edge leads from the arm to this pair
+abbrev pub IsFreePair : List Bool → Arm → ℕ → Type 0
+IsFreePair free arm place = (arm ≡ pair_arm place) × (slice_index_or free place false ≡ true)
+
+-- no free edge stands at the arm
+abbrev pub HasNoFreePair : List Bool → Arm → Type 0
+HasNoFreePair free arm = (place : ℕ) → arm ≡ pair_arm place → slice_index_or free place false ≡ false

@@ -1,0 +1,93 @@
+//! What is decided of the pairs of a forest.
+ghost use Rattle.std.specs.Prelude.{◌≡◌, ◌<◌, IfOk, MatchOption, Some, length, replicate, slice_set, slice_get, true, false};
+ghost use Rattle.dual_rail.specs.Forests.{left_arm, right_arm};
+ghost use Rattle.tree_map.specs.Covers.{leaf_shape};
+ghost use Rattle.tree_map.specs.Offers.{IsArmWithin};
+ghost use Rattle.tree_map.specs.Ties.{kept_with, shapes_with};
+
+use crate::offers::Choice;
+use crate::shape::{LEAF, Shape};
+use dom_base::OutOfMemory;
+use dual_rail::{Arm, Pair};
+use std::alloc::Global;
+
+/// What a cover does with each pair of a forest: whether the edge to it is kept, and the shape of its tree.
+#[derive(Drop)]
+pub(crate) struct Decisions {
+    pub kept: Vec<bool>,
+    pub shapes: Vec<Shape>,
+}
+
+/// The shape of a pair, and the choices for its arms.
+#[derive(Clone, Copy)]
+pub(crate) struct Decision {
+    pub shape: Shape,
+    pub left: Choice,
+    pub right: Choice,
+}
+
+impl Decisions {
+    /// So many pairs of which nothing is decided: none is kept.
+    pub(crate) fn none(alloc: Global, count: usize) -> Result<Decisions, OutOfMemory>
+        ensures kept { IfOk result (λ d. d.kept.items ≡ replicate count false) }
+        ensures shapes { IfOk result (λ d. d.shapes.items ≡ replicate count leaf_shape) }
+    {
+        Ok(Decisions {
+            kept: vec![in alloc; false; count]?,
+            shapes: vec![in alloc; LEAF; count]?,
+        })
+    }
+
+    /// The shape of a pair that is kept.
+    pub(crate) fn kept_shape(&self, place: usize) -> Option<Shape>
+        requires kept { place < length self.now.kept.items }
+        requires shapes { place < length self.now.shapes.items }
+        ensures { MatchOption result (slice_get self.now.kept.items place ≡ Some false)
+            (λ shape. (slice_get self.now.kept.items place ≡ Some true) × (slice_get self.now.shapes.items place ≡ Some shape)) }
+    {
+        if self.kept[place] {
+            Some(self.shapes[place])
+        } else {
+            None
+        }
+    }
+
+    /// Keeps the pair that an arm leads to, where this is the choice.
+    fn choose(&mut self, arm: Arm, choice: Choice)
+        requires kept { IsArmWithin (length self.old.kept.items) arm }
+        requires shapes { IsArmWithin (length self.old.shapes.items) arm }
+        ensures kept { self.new.kept.items ≡ kept_with arm choice self.old.kept.items }
+        ensures shapes { self.new.shapes.items ≡ shapes_with arm choice self.old.shapes.items }
+    {
+        if let (Arm::Pair(place), Choice::Keep(shape)) = (arm, choice) {
+            self.kept[place as usize] = true;
+            self.shapes[place as usize] = shape;
+        }
+    }
+
+    /// Sets the shape of a pair, and makes the choices for its arms.
+    pub(crate) fn decide(
+        &mut self,
+        place: usize,
+        pair: Pair,
+        shape: Shape,
+        left: Choice,
+        right: Choice,
+    )
+        requires place { place < length self.old.shapes.items }
+        requires left_kept { IsArmWithin (length self.old.kept.items) (left_arm pair) }
+        requires right_kept { IsArmWithin (length self.old.kept.items) (right_arm pair) }
+        requires left_shapes { IsArmWithin (length self.old.shapes.items) (left_arm pair) }
+        requires right_shapes { IsArmWithin (length self.old.shapes.items) (right_arm pair) }
+        ensures kept { self.new.kept.items
+            ≡ kept_with (right_arm pair) right (kept_with (left_arm pair) left self.old.kept.items) }
+        ensures shapes { self.new.shapes.items
+            ≡ shapes_with (right_arm pair) right
+            (shapes_with (left_arm pair) left (slice_set self.old.shapes.items place shape)) }
+    {
+        let (Pair::And(left_arm, right_arm) | Pair::Or(left_arm, right_arm)) = pair;
+        self.shapes[place] = shape;
+        self.choose(left_arm, left);
+        self.choose(right_arm, right);
+    }
+}

@@ -1,0 +1,52 @@
+//! Shapes of trees: a height and a width.
+ghost use Rattle.std.specs.Prelude.{◌≡◌, ◌+◌, ◌<◌, ◌^◌};
+ghost use Rattle.tree_map.specs.Covers.{InParallel, InSeries, joined_shape, leaf_shape};
+
+use std::marker::Model;
+
+/// The height of a tree, its most switches in series, and its width, its most branches in parallel.
+#[derive(Clone, Copy, Debug, PartialEq, Eq)]
+pub(crate) struct Shape {
+    pub height: u32,
+    pub width: u32,
+}
+
+impl Model for Shape {
+    ghost use Rattle.tree_map.specs.Covers.{TreeShape};
+
+    ghost Value = { TreeShape };
+
+    ghost view = { λ s. record { height = s.height; width = s.width } };
+
+    ghost inverse = { λ s. record { height = s.height; width = s.width } };
+}
+
+/// The shape of a leaf.
+pub(crate) const LEAF: Shape = Shape {
+    height: 1,
+    width: 1,
+};
+
+impl Shape {
+    /// The shape of two trees in series.
+    pub(crate) fn in_series(self, below: Shape) -> Shape
+        requires { self.height + below.height < 2 ^ 32 }
+        ensures { result ≡ joined_shape InSeries self below }
+    {
+        Shape {
+            height: self.height + below.height,
+            width: self.width.max(below.width),
+        }
+    }
+
+    /// The shape of two trees in parallel.
+    pub(crate) fn in_parallel(self, beside: Shape) -> Shape
+        requires { self.width + beside.width < 2 ^ 32 }
+        ensures { result ≡ joined_shape InParallel self beside }
+    {
+        Shape {
+            height: self.height.max(beside.height),
+            width: self.width + beside.width,
+        }
+    }
+}

@@ -1,0 +1,181 @@
+//! The ties of the cover: the choices of pairs, from the last pair to the first (Zhao, Sapatnekar 1998).
+ghost use Rattle.std.specs.Prelude.{◌≡◌, ◌≤◌, ◌<◌, ◌*◌, ℕ, IfOk, IfSome, MatchOption, None, Some, length, map, slice_get, true, false};
+ghost use Rattle.std.specs.List.{range_with_len};
+ghost use Rattle.dual_rail.specs.declared.forest.Pair.{Pair as PairData};
+ghost use Rattle.dual_rail.specs.Forests.{left_arm, right_arm};
+ghost use Rattle.tree_map.specs.Covers.{TreeShape, joined_shape};
+ghost use Rattle.tree_map.specs.CoverSums.{AreSumsOf, sum_at};
+ghost use Rattle.tree_map.specs.LeastPlans.{IsDecided, operator_of};
+ghost use Rattle.tree_map.specs.Offers.{HasSums, IsFirstShape};
+ghost use Rattle.tree_map.specs.Plans.{IsFree, is_free, is_kept};
+ghost use Rattle.tree_map.specs.Ties.{AreFirstOffers, AreSmall, Give, IsDecision, IsFirstRight, IsSmall, NoneGives, SomeGive};
+
+use crate::decisions::{Decision, Decisions};
+use crate::offers::{Offer, offers_of, root_shape};
+use crate::shape::Shape;
+use crate::sums::Sums;
+use dom_base::OutOfMemory;
+use dual_rail::{Arm, Forest, Pair};
+use std::alloc::Global;
+
+/// What the choices for the arms of a pair are to give: its shape at its least sum.
+#[derive(Clone, Copy)]
+struct Wanted {
+    pair: Pair,
+    shape: Shape,
+    sum: u64,
+}
+
+/// The arms of a pair, the left one first.
+fn arms_of(pair: Pair) -> (Arm, Arm)
+    ensures left { result.0 ≡ left_arm pair }
+    ensures right { result.1 ≡ right_arm pair }
+{
+    let (Pair::And(left, right) | Pair::Or(left, right)) = pair;
+    (left, right)
+}
+
+/// The shape of a pair whose arms have these shapes.
+fn joined(pair: Pair, left: Shape, right: Shape) -> Shape
+    requires left { IsSmall left }
+    requires right { IsSmall right }
+    ensures { result ≡ joined_shape (operator_of pair) left right }
+{
+    match pair {
+        Pair::And(_, _) => left.in_series(right),
+        Pair::Or(_, _) => left.in_parallel(right),
+    }
+}
+
+impl Wanted {
+    /// Whether two offers give it.
+    fn is_given(&self, left: &Offer, right: &Offer) -> bool
+        requires left { IsSmall left.now.shape }
+        requires right { IsSmall right.now.shape }
+        ensures given { result ≡ true → Give self.now left.now right.now }
+        ensures not_given { result ≡ false → Give self.now left.now right.now → ⊥ }
+    {
+        joined(self.pair, left.shape, right.shape) == self.shape
+            && left.sum <= self.sum
+            && right.sum == self.sum - left.sum
+    }
+
+    /// The first offer for the right arm that gives it with an offer for the left arm.
+    fn first_right(&self, left: &Offer, rights: &[Offer]) -> Option<Offer>
+        requires left { IsSmall left.now.shape }
+        requires rights { AreSmall rights.now }
+        ensures { MatchOption result (NoneGives self.now left.now rights.now (length rights.now))
+            (IsFirstRight self.now left.now rights.now) }
+    {
+        for right in rights {
+            if self.is_given(left, right) {
+                return Some(*right);
+            }
+        }
+        None
+    }
+
+    /// The first two offers that give it, where the left arm counts before the right arm.
+    fn first_offers(&self, lefts: &[Offer], rights: &[Offer]) -> (Offer, Offer)
+        requires lefts { AreSmall lefts.now }
+        requires rights { AreSmall rights.now }
+        requires some { SomeGive self.now lefts.now rights.now }
+        ensures { AreFirstOffers self.now lefts.now rights.now result.0 result.1 }
+    {
+        for left in lefts {
+            if let Some(right) = self.first_right(left, rights) {
+                return (*left, right);
+            }
+        }
+        unreachable!()
+    }
+}
+
+/// The shape of a pair: the one that it has where it is kept, else that of a root.
+fn shape_of(
+    alloc: Global,
+    sums: &Sums,
+    place: usize,
+    kept: Option<Shape>,
+) -> Result<Shape, OutOfMemory>
+    requires width { sums.now.w ≤ 8 }
+    requires height { sums.now.h ≤ 6 }
+    requires some { HasSums (sum_at sums.now place) }
+    ensures stays { IfOk result (λ s. IfSome kept (λ before. s ≡ before)) }
+    ensures root { IfOk result (λ s. kept ≡ None → IsFirstShape (sum_at sums.now place) s) }
+{
+    match kept {
+        Some(shape) => Ok(shape),
+        None => root_shape(alloc, sums, place),
+    }
+}
+
+/// The shape of a pair and the choices for its arms, where `kept` is its shape if it is kept.
+fn decision_of(
+    alloc: Global,
+    forest: &Forest,
+    free: &[bool],
+    sums: &Sums,
+    place: usize,
+    kept: Option<Shape>,
+) -> Result<Decision, OutOfMemory>
+    requires width { (2 ≤ sums.now.w) × (sums.now.w ≤ 8) }
+    requires height { (2 ≤ sums.now.h) × (sums.now.h ≤ 6) }
+    requires free { free.now ≡ map (is_free forest.now) (range_with_len 0 (length forest.now.pairs)) }
+    requires sums { AreSumsOf forest.now sums.now }
+    requires place { place < length forest.now.pairs }
+    requires kept { (shape : TreeShape) → kept ≡ Some shape → (sum : ℕ) × (sum_at sums.now place shape ≡ Some sum) }
+    ensures { IfOk result (λ d. (pair : PairData) → slice_get forest.now.pairs place ≡ Some pair
+        → IsDecision forest.now sums.now.w sums.now.h pair kept d.shape d.left d.right) }
+{
+    let pair = forest.pairs[place];
+    let (left_arm, right_arm) = arms_of(pair);
+    let shape = shape_of(alloc, sums, place, kept)?;
+    let Some(sum) = sums.sum(place, shape.height, shape.width) else {
+        unreachable!()
+    };
+    let lefts = offers_of(alloc, sums, free, left_arm)?;
+    let rights = offers_of(alloc, sums, free, right_arm)?;
+    let wanted = Wanted {
+        pair,
+        shape,
+        sum: u64::from(sum),
+    };
+    let (left, right) = wanted.first_offers(lefts.as_slice(), rights.as_slice());
+    Ok(Decision {
+        shape,
+        left: left.choice,
+        right: right.choice,
+    })
+}
+
+/// The choices of the cover, where `free` says of each pair whether the edge to it is free, and `sums`
+/// has the least sums of each pair: a root takes its lowest shape of least sum, and of these the
+/// narrowest. Each pair takes the first two choices that give its shape at least sum. The one error is
+/// want of memory.
+pub(crate) fn decisions(
+    alloc: Global,
+    forest: &Forest,
+    free: &[bool],
+    sums: &Sums,
+) -> Result<Decisions, OutOfMemory>
+    requires width { (2 ≤ sums.now.w) × (sums.now.w ≤ 8) }
+    requires height { (2 ≤ sums.now.h) × (sums.now.h ≤ 6) }
+    requires count { length sums.now.sums ≡ length forest.now.pairs * (sums.now.w * sums.now.h) }
+    requires free { free.now ≡ map (is_free forest.now) (range_with_len 0 (length forest.now.pairs)) }
+    requires sums { AreSumsOf forest.now sums.now }
+    ensures kept { IfOk result (λ d. length d.kept.items ≡ length forest.now.pairs) }
+    ensures shapes { IfOk result (λ d. length d.shapes.items ≡ length forest.now.pairs) }
+    ensures free { IfOk result (λ d. (place : ℕ) → is_kept d.kept.items place ≡ true → IsFree forest.now place) }
+    ensures decided { IfOk result (λ d. (place : ℕ) (pair : PairData) (shape : TreeShape)
+        → slice_get forest.now.pairs place ≡ Some pair → slice_get d.shapes.items place ≡ Some shape
+        → IsDecided forest.now sums.now.w sums.now.h d.kept.items d.shapes.items place pair shape) }
+{
+    let mut decisions = Decisions::none(alloc, forest.pairs.len())?;
+    for place in (0..forest.pairs.len()).rev() {
+        let kept = decisions.kept_shape(place);
+        let Decision { shape, left, right } = decision_of(alloc, forest, free, sums, place, kept)?;
+        decisions.decide(place, forest.pairs[place], shape, left, right);
+    }
+    Ok(decisions)
+}
