@@ -1,0 +1,51 @@
+-- Circuits to which the parts of a latch are appended.
+use Rattle.std.proofs.Common.{◌≡◌, ℕ, Bool, true, false, List, [], ◌∷◌, ◌++◌, sym, subst, ap, ◌∙◌}
+use Rattle.std.specs.Prelude.{codes}
+use Rattle.std.specs.Fmt.{decimal}
+use Rattle.dom_base.specs.declared.kind.Kind.TheVariants.{N as nch, P as pch}
+use Rattle.deck.specs.CircuitData.{CircuitData}
+use Rattle.deck.specs.CircuitGrowth.{Grew}
+use Rattle.deck.specs.NamedDevices.{NamedDevice, with_devices}
+use Rattle.deck.proofs.CircuitGrowth.{Grew-trans, with_devices-grew}
+use Rattle.domino_cell.proofs.CellCircuits.{with_devices-append}
+use Rattle.latch_bind.specs.HeldNames.{AreNamesOfStage, AreSupplies, held_inverter, held_reset}
+use Rattle.latch_bind.specs.Latches.{data_net, named_latch}
+use Rattle.latch_bind.specs.declared.names.StageNames.{StageNames}
+use Rattle.latch_bind.specs.declared.names.SupplyNames.{SupplyNames}
+
+-- devices appended in two parts
+pub two_parts : (old between new : CircuitData) (xs ys : List (NamedDevice (List ℕ)))
+    → between ≡ with_devices old xs → new ≡ with_devices between ys → new ≡ with_devices old (xs ++ ys)
+two_parts old between new xs ys one two = two ∙ ap (λ c. with_devices c ys) one ∙ sym (with_devices-append old xs ys)
+
+-- a circuit that grew and then got more devices
+pub Grew-with : (old between new : CircuitData) (ds : List (NamedDevice (List ℕ))) → Grew old between → new ≡ with_devices between ds → Grew old new
+Grew-with old between new ds grew more = Grew-trans old between new grew (subst (Grew between) (sym more) (with_devices-grew between ds))
+
+-- the devices by the names that are held are those of the latch
+pub held_latch : (supplies : SupplyNames) (master slave : StageNames) (input : List ℕ) (j : ℕ) (start : Bool)
+    → AreSupplies supplies → AreNamesOfStage (codes "m" ++ decimal j) (codes "lm") master → AreNamesOfStage (codes "q" ++ decimal j) (codes "ls") slave
+    → input ≡ data_net j
+    → held_inverter supplies master input ++ held_inverter supplies slave master.out ++ held_reset supplies slave.out start ∷ [] ≡ named_latch (j, start)
+held_latch supplies master slave input j false s m q x = λ i.
+    record { kind = pch; drain = m.out_is i; gate = m.opposite i; source = m.upper i }
+    ∷ record { kind = pch; drain = m.upper i; gate = x i; source = s.vdd i }
+    ∷ record { kind = nch; drain = m.out_is i; gate = m.clock_is i; source = m.lower i }
+    ∷ record { kind = nch; drain = m.lower i; gate = x i; source = s.vss i }
+    ∷ record { kind = pch; drain = q.out_is i; gate = q.opposite i; source = q.upper i }
+    ∷ record { kind = pch; drain = q.upper i; gate = m.out_is i; source = s.vdd i }
+    ∷ record { kind = nch; drain = q.out_is i; gate = q.clock_is i; source = q.lower i }
+    ∷ record { kind = nch; drain = q.lower i; gate = m.out_is i; source = s.vss i }
+    ∷ record { kind = nch; drain = q.out_is i; gate = codes "rs"; source = s.vss i }
+    ∷ []
+held_latch supplies master slave input j true s m q x = λ i.
+    record { kind = pch; drain = m.out_is i; gate = m.opposite i; source = m.upper i }
+    ∷ record { kind = pch; drain = m.upper i; gate = x i; source = s.vdd i }
+    ∷ record { kind = nch; drain = m.out_is i; gate = m.clock_is i; source = m.lower i }
+    ∷ record { kind = nch; drain = m.lower i; gate = x i; source = s.vss i }
+    ∷ record { kind = pch; drain = q.out_is i; gate = q.opposite i; source = q.upper i }
+    ∷ record { kind = pch; drain = q.upper i; gate = m.out_is i; source = s.vdd i }
+    ∷ record { kind = nch; drain = q.out_is i; gate = q.clock_is i; source = q.lower i }
+    ∷ record { kind = nch; drain = q.lower i; gate = m.out_is i; source = s.vss i }
+    ∷ record { kind = pch; drain = q.out_is i; gate = codes "rsb"; source = s.vdd i }
+    ∷ []

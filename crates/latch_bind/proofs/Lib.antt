@@ -1,0 +1,2 @@
+pub mod LatchParts
+pub mod SinkPaths

@@ -1,0 +1,10 @@
+//! Latches, and the inverters of sinks (Rabaey, Digital Integrated Circuits: clocked CMOS registers, static complementary CMOS).
+#![tactic(auto)]
+
+mod latch;
+mod names;
+mod sink;
+
+pub use latch::push_latch;
+pub use names::{joined_name, numbered_name};
+pub use sink::push_sink;
