@@ -6,12 +6,12 @@ use Rattle.dual_rail.proofs.ForestOrders.{forests_are_in_place}
 use Rattle.dual_rail.proofs.Zips.{all_from, all_zip_back}
 use Rattle.dual_rail.specs.ForestOrder.{IsEndOfForest, IsForestInPlace, AreInOrder, HasLeaves}
 use Rattle.clock_phase.proofs.Levels.{clock_within, level_at_most}
-use Rattle.std.proofs.Common.{◌≡◌, inl, inr, refl, sym, ap, ap₂, subst, ◌∙◌, ℕ, zero, suc, ◌+◌, ◌*◌, ◌≤◌, ◌<◌, Bool, true, false, cond, List, [], ◌∷◌, ◌++◌, length, map, filter, zip, Some, slice_get, get_or, count_by, All, codes, eq-eqb, length-append, arith}
+use Rattle.std.proofs.Common.{◌≡◌, inl, inr, refl, sym, ap, ap₂, subst, ◌∙◌, ℕ, zero, suc, ◌+◌, ◌*◌, ◌≤◌, ◌<◌, Bool, true, false, cond, List, [], ◌∷◌, ◌++◌, length, map, filter, zip, Some, slice_get, count_by, All, codes, eq-eqb, length-append, arith}
 use Rattle.std.specs.List.{AllZip, range_with_len}
 use Rattle.std.proofs.lemmas.Bool.{cases_eq}
 use Rattle.std.proofs.lemmas.List.FromFn.{length-map-range_with_len}
 use Rattle.std.proofs.lemmas.List.Sums.{sum_by-cons}
-use Rattle.std.proofs.lemmas.Option.{slice_get_within, slice_get-get_or, slice_get_cases, get_or_from_slice_get}
+use Rattle.std.proofs.lemmas.Option.{slice_get_within, slice_get_cases, get_or_from_slice_get}
 use Rattle.deck.specs.CircuitData.{CircuitData}
 use Rattle.deck.specs.Escapes.{escaped}
 use Rattle.deck.specs.Ports.{IsOutput, IsPin}

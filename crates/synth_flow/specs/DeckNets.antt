@@ -1,12 +1,12 @@
 -- The names of the nets of a deck, and the cards of its parts.
-use Rattle.std.specs.Prelude.{ℕ, ◌+◌, ◌-◌, ◌*◌, ◌/◌, ◌%◌, ◌==◌, Bool, true, false, cond, nat_lt, List, [], ◌∷◌, ◌++◌, length, map, flat_map, slice_index_or, codes}
+use Rattle.std.specs.Prelude.{ℕ, ◌+◌, ◌-◌, ◌*◌, ◌/◌, ◌%◌, ◌==◌, Bool, true, false, cond, nat_lt, List, [], ◌++◌, length, map, flat_map, slice_index_or, codes}
 use Rattle.std.specs.Fmt.{decimal}
 use Rattle.std.specs.List.{enumerate_from, zip}
-use Rattle.dom_base.specs.declared.kind.Kind.TheVariants.{N as nch, P as pch}
 use Rattle.deck.specs.NamedDevices.{NamedDevice}
 use Rattle.domino_cell.specs.Cell.{cell, inverter}
 use Rattle.sp_network.specs.Tree.{Tree, map_tree}
 use Rattle.domino_cell.specs.PushedNames.{numbered_cell}
+pub use Rattle.latch_bind.specs.Latches.{data_net, named_latch, named_reset}
 
 abbrev pub vdd : List ℕ
 vdd = codes "vdd"
@@ -50,28 +50,6 @@ named_cell pins leaf_count p = cell (numbered_cell p.1.clock p.0) (map_tree (nam
 
 abbrev pub named_complement : List (List ℕ) → ℕ → List (NamedDevice (List ℕ))
 named_complement pins leaf = inverter vdd vss (own_net pins leaf) (complement_net leaf)
-
-abbrev pub data_net : ℕ → List ℕ
-data_net j = codes "x" ++ decimal j
-
--- the device that resets the output of latch j to its start value
-abbrev pub named_reset : ℕ → Bool → NamedDevice (List ℕ)
-named_reset j false = record { kind = nch; drain = codes "q" ++ decimal j; gate = codes "rs"; source = vss }
-named_reset j true = record { kind = pch; drain = codes "q" ++ decimal j; gate = codes "rsb"; source = vdd }
-
--- latch j with its start value: the master takes the data while `lm` is 1, and the output the master while `ls` is 1
-abbrev pub named_latch : ℕ × Bool → List (NamedDevice (List ℕ))
-named_latch (j, start) =
-    record { kind = pch; drain = codes "m" ++ decimal j; gate = codes "lmb"; source = codes "m" ++ decimal j ++ codes "p" }
-    ∷ record { kind = pch; drain = codes "m" ++ decimal j ++ codes "p"; gate = data_net j; source = vdd }
-    ∷ record { kind = nch; drain = codes "m" ++ decimal j; gate = codes "lm"; source = codes "m" ++ decimal j ++ codes "n" }
-    ∷ record { kind = nch; drain = codes "m" ++ decimal j ++ codes "n"; gate = data_net j; source = vss }
-    ∷ record { kind = pch; drain = codes "q" ++ decimal j; gate = codes "lsb"; source = codes "q" ++ decimal j ++ codes "p" }
-    ∷ record { kind = pch; drain = codes "q" ++ decimal j ++ codes "p"; gate = codes "m" ++ decimal j; source = vdd }
-    ∷ record { kind = nch; drain = codes "q" ++ decimal j; gate = codes "ls"; source = codes "q" ++ decimal j ++ codes "n" }
-    ∷ record { kind = nch; drain = codes "q" ++ decimal j ++ codes "n"; gate = codes "m" ++ decimal j; source = vss }
-    ∷ named_reset j start
-    ∷ []
 
 -- what a sink is taken from: a constant, a leaf as it is (true) or its opposite, or the dynamic net or the output of a cell
 pub data SinkEnd : Type 0 where

@@ -2,6 +2,19 @@
 //! Circuits: domino logic).
 #![tactic(auto)]
 
+mod bare;
+mod cells;
+mod clocked;
+mod complements;
+mod groups;
+mod inverters;
+mod latches;
 mod laws;
+mod names;
+mod options;
+mod sinks;
+mod synthesis;
 
 pub use laws::decks_are_domino;
+pub use options::SynthOptions;
+pub use synthesis::synth;

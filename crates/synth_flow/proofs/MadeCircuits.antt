@@ -1,0 +1,87 @@
+-- The circuit that the code makes of a network is its deck.
+use Rattle.std.proofs.Common.{◌≡◌, ℕ, ◌+◌, ◌*◌, ◌<◌, Bool, List, [], ◌∷◌, ◌++◌, length, map, zip, filter, refl, sym, ap, ap₂, ◌∙◌, subst, arith, Some, slice_get, All}
+use Rattle.std.specs.Prelude.{codes, slice_index_or}
+use Rattle.std.specs.List.{AllByRecursion, range_with_len}
+use Rattle.std.proofs.lemmas.List.{length-map}
+use Rattle.std.proofs.lemmas.List.FromFn.{get_or-map-range_with_len, length-map-range_with_len}
+use Rattle.std.proofs.lemmas.List.Elements.{recursion_from_All}
+use Rattle.dom_base.proofs.Lists.{head_same, tail_same}
+use Rattle.deck.specs.Escapes.{escaped}
+use Rattle.deck.specs.NamedDevices.{with_devices}
+use Rattle.deck.specs.Pushes.{new_circuit}
+use Rattle.dual_rail.specs.declared.forest.End.{End}
+use Rattle.dual_rail.specs.declared.forest.End.TheVariants.{Const, Literal, FromDynamic, FromOutput}
+use Rattle.sp_network.specs.Tree.{Tree, EachLeaf}
+use Rattle.sp_network.specs.TypedTree.{tree_of}
+use Rattle.sp_network.specs.declared.plan.GatePlan.{GatePlan}
+use Rattle.clock_phase.specs.Levels.{clock_of, greatest}
+use Rattle.gate_decompose.specs.Sinks.{leaf_count}
+use Rattle.net_flatten.specs.NetworkData.{NetworkData}
+use Rattle.net_flatten.specs.declared.network.NetLatch.{NetLatch}
+use Rattle.tree_map.specs.MappedCover.{plan_trees}
+use Rattle.tree_map.specs.Plans.{cell_of}
+use Rattle.synth_flow.specs.BareDecks.{cell_plan, made_devices, named_leaves}
+use Rattle.synth_flow.specs.ChosenDecks.{end_at_cell}
+use Rattle.synth_flow.specs.DeckNets.{OfDynamic, OfOutput, data_net, named_devices, sink_nets}
+use Rattle.synth_flow.specs.DominoDecks.{cells_of, deck_circuit, outs_of, phases_of, pins_of, starts_of}
+use Rattle.synth_flow.specs.MadeCircuits.{made_deck, sinks_of}
+use Rattle.synth_flow.specs.MadeDecks.{port_net}
+use Rattle.synth_flow.specs.NamedDecks.{names_complement}
+use Rattle.synth_flow.specs.SinkParts.{HasCell, end_in, phase_of}
+use Rattle.synth_flow.proofs.MadeAsNamed.{data_rows, leaves_named, made_named}
+
+-- each plan with the clock of its level
+cells_same : (f : ℕ → ℕ) (plans : List GatePlan) (levels : List ℕ) → map (λ (p : GatePlan). p.clock) plans ≡ map f levels
+    → map cell_plan plans ≡ map (λ (p : Tree ℕ × ℕ). record { tree = p.0; clock = f p.1 }) (zip (plan_trees plans) levels)
+cells_same f [] [] e = refl
+cells_same f [] (l ∷ levels) e = absurd (cc)
+cells_same f (p ∷ plans) [] e = absurd (cc)
+cells_same f (p ∷ plans) (l ∷ levels) e =
+    let clock = head_same e in
+    let rest = cells_same f plans levels (tail_same e) in
+    λ i. record { tree = tree_of p.tree; clock = clock i } ∷ rest i
+
+-- each end by the number of its cell
+ends_same : (kept : List Bool) (ends : List End) → AllByRecursion (HasCell (length kept)) ends
+    → map (end_in (map (cell_of kept) (range_with_len 0 (length kept)))) ends ≡ map (end_at_cell kept) ends
+ends_same kept [] low = refl
+ends_same kept (e ∷ ends) low = ap₂ (λ a l. a ∷ l) (one e low.0) (ends_same kept ends low.1)
+  where
+    number : (place : ℕ) → place < length kept → slice_index_or (map (cell_of kept) (range_with_len 0 (length kept))) place 0 ≡ cell_of kept place
+    number place lt = get_or-map-range_with_len (cell_of kept) 0 (length kept) place place 0 lt (omega arith)
+
+    one : (x : End) → HasCell (length kept) x → end_in (map (cell_of kept) (range_with_len 0 (length kept))) x ≡ end_at_cell kept x
+    one (Const b) h = refl
+    one (Literal rail) h = refl
+    one (FromDynamic place) h = ap OfDynamic (number place h)
+    one (FromOutput place) h = ap OfOutput (number place h)
+
+-- the circuit is the deck of these trees, levels, signs and ends
+pub made_is_deck : (network : NetworkData) (phases : ℕ) (signs : List Bool) (plans : List GatePlan) (levels : List ℕ) (ends : List End) (kept : List Bool)
+    → map (λ (p : GatePlan). p.clock) plans ≡ map (clock_of phases (greatest levels)) levels → All (HasCell (length kept)) ends
+    → ((k : ℕ) (p : GatePlan) → slice_get plans k ≡ Some p → EachLeaf (λ gate. gate < 2 * leaf_count network + k) (tree_of p.tree))
+    → made_deck network phases signs plans ends (map (cell_of kept) (range_with_len 0 (length kept)))
+    ≡ deck_circuit network phases (plan_trees plans) levels signs (map (end_at_cell kept) ends)
+made_is_deck network phases signs plans levels ends kept clocks low earlier =
+    let pins = pins_of network in
+    let outs = outs_of network in
+    let starts = starts_of network in
+    let numbers = map (cell_of kept) (range_with_len 0 (length kept)) in
+    let count : length starts ≡ length network.latches = length-map network.latches (λ (l : NetLatch). l.init) in
+    let pins_count : length pins ≡ network.inputs = length-map-range_with_len (port_net (codes "i_") network.names) 0 network.inputs in
+    let lc : length pins + length starts ≡ leaf_count network = ap₂ (λ m n. m + n) pins_count count in
+    let sinks : sinks_of network ≡ outs ++ map data_net (range_with_len 0 (length starts)) = ap (λ n. outs ++ map data_net (range_with_len 0 n)) (sym count) in
+    let nets : sinks_of network ≡ sink_nets outs starts = sinks ∙ ap (λ l. outs ++ l) (data_rows 0 starts) in
+    let reads = subst (λ n. (k : ℕ) (p : GatePlan) → slice_get plans k ≡ Some p → EachLeaf (λ gate. gate < 2 * n + k) (tree_of p.tree)) (sym lc) earlier in
+    let named = made_named pins outs starts plans ends numbers reads in
+    let leaves : named_leaves plans ends (length pins + length starts) ≡ filter (names_complement (map cell_plan plans) (map (end_in numbers) ends)) (range_with_len 0 (leaf_count network))
+    = ap (named_leaves plans ends) lc ∙ leaves_named plans ends numbers (leaf_count network) in
+    let cells : map cell_plan plans ≡ cells_of phases levels (plan_trees plans) = cells_same (clock_of phases (greatest levels)) plans levels clocks in
+    let taken = ends_same kept ends (recursion_from_All (HasCell (length kept)) ends low) in
+    (λ i. with_devices (new_circuit (escaped network.name) (map phase_of (zip (nets i) signs)) phases pins outs) (made_devices pins (sinks i) starts plans ends numbers))
+    ∙ (λ i. with_devices (new_circuit (escaped network.name) (phases_of network signs) phases pins outs) (named i))
+    ∙ (λ i. with_devices (new_circuit (escaped network.name) (phases_of network signs) phases pins outs) (named_devices pins outs starts (map cell_plan plans) (leaves i) (map (end_in numbers) ends)))
+    ∙ (λ i. with_devices (new_circuit (escaped network.name) (phases_of network signs) phases pins outs)
+    (named_devices pins outs starts (cells i) (filter (names_complement (cells i) (taken i)) (range_with_len 0 (leaf_count network))) (taken i)))
+
+pub ruleset made_circuits = (made_is_deck)

@@ -1,0 +1,42 @@
+-- Lists of sinks and of cells, item by item.
+use Rattle.std.proofs.Common.{◌≡◌, ℕ, zero, suc, ◌+◌, ◌≤◌, ◌<◌, Bool, true, false, not, cond, List, [], ◌∷◌, ◌++◌, length, map, take, zip, get_or, count_by, Some, slice_get, refl, ap, ◌∙◌, arith, add-one}
+use Rattle.std.proofs.lemmas.List.Sums.{sum_by-cons}
+use Rattle.dom_base.proofs.Lists.{map-push}
+use Rattle.std.proofs.lemmas.Option.{slice_get-get_or}
+use Rattle.synth_flow.specs.SinkParts.{phase_of}
+use Rattle.synth_flow.proofs.LoopItems.{item_at}
+
+zip_more : {X Y : Type 0} (xs : List X) (ys : List Y) (k : ℕ) (x : X) (y : Y) → slice_get xs k ≡ Some x → slice_get ys k ≡ Some y
+    → take (suc k) (zip xs ys) ≡ take k (zip xs ys) ++ (x, y) ∷ []
+zip_more [] ys k x y a b = absurd (cc)
+zip_more (u ∷ xs) [] k x y a b = absurd (cc)
+zip_more (u ∷ xs) (v ∷ ys) zero x y a b = let one : u ≡ x = cc in let two : v ≡ y = cc in λ i. (one i, two i) ∷ []
+zip_more (u ∷ xs) (v ∷ ys) (suc k) x y a b = ap (λ l. (u, v) ∷ l) (zip_more xs ys k x y a b)
+
+-- one more phase
+pub phases_more : (nets : List (List ℕ)) (signs : List Bool) (k : ℕ) (net : List ℕ) (d : Bool) → k < length nets → k < length signs → net ≡ get_or nets k net
+    → map phase_of (take (k + 1) (zip nets signs)) ≡ map phase_of (take k (zip nets signs)) ++ record { net = net; plus = get_or signs k d } ∷ []
+phases_more nets signs k net d low few is =
+    ap (λ n. map phase_of (take n (zip nets signs))) (add-one k)
+    ∙ ap (map phase_of) (zip_more nets signs k net (get_or signs k d) (item_at nets k net low is) (slice_get-get_or signs k d few))
+    ∙ map-push phase_of (take k (zip nets signs)) (net, get_or signs k d)
+
+-- the phases of all
+pub all_zipped : {X Y : Type 0} (xs : List X) (ys : List Y) (k : ℕ) → length xs ≤ k → take k (zip xs ys) ≡ zip xs ys
+all_zipped [] ys zero low = refl
+all_zipped [] ys (suc k) low = refl
+all_zipped (x ∷ xs) [] zero low = refl
+all_zipped (x ∷ xs) [] (suc k) low = refl
+all_zipped (x ∷ xs) (y ∷ ys) zero low = absurd (omega arith)
+all_zipped (x ∷ xs) (y ∷ ys) (suc k) low = ap (λ l. (x, y) ∷ l) (all_zipped xs ys k (omega arith))
+
+-- how many roots stand before the next pair
+pub roots_more : (kept : List Bool) (k : ℕ) (d : Bool) → k < length kept → count_by not (take (k + 1) kept) ≡ count_by not (take k kept) + cond (get_or kept k d) 0 1
+roots_more kept k d low = ap (λ n. count_by not (take n kept)) (add-one k) ∙ by kept k low
+  where
+    by : (xs : List Bool) (i : ℕ) → i < length xs → count_by not (take (suc i) xs) ≡ count_by not (take i xs) + cond (get_or xs i d) 0 1
+    by [] i lt = absurd (omega arith)
+    by (true ∷ xs) zero lt = refl
+    by (false ∷ xs) zero lt = refl
+    by (x ∷ xs) (suc i) lt =
+        omega (arith, by xs i (omega arith), sum_by-cons (λ z. cond (not z) 1 0) x (take (suc i) xs), sum_by-cons (λ z. cond (not z) 1 0) x (take i xs))

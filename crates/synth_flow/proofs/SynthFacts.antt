@@ -1,0 +1,79 @@
+-- What the chosen plan of a forest says of the plans of a deck.
+use Rattle.std.proofs.Common.{◌≡◌, ℕ, ◌+◌, ◌*◌, ◌≤◌, ◌<◌, Bool, not, List, length, map, sym, ap, ◌∙◌, subst, arith, slice_get, get_or, option_map, All}
+use Rattle.std.specs.List.{range_with_len}
+use Rattle.std.proofs.lemmas.List.{length-map}
+use Rattle.std.proofs.lemmas.List.FromFn.{length-range_with_len}
+use Rattle.std.proofs.lemmas.Option.{slice_get-map, slice_get_within, slice_get-get_or}
+use Rattle.dual_rail.specs.ForestData.{ForestData}
+use Rattle.std.proofs.lemmas.List.Elements.{All-weaker}
+use Rattle.dual_rail.specs.ForestOrder.{IsEndOfForest, IsForest}
+use Rattle.dual_rail.specs.declared.forest.End.{End}
+use Rattle.dual_rail.specs.declared.forest.End.TheVariants.{Const, Literal, FromDynamic, FromOutput}
+use Rattle.synth_flow.specs.SinkParts.{HasCell}
+use Rattle.dual_rail.proofs.Zips.{all_zip_back, all_from}
+use Rattle.sp_network.specs.Tree.{Tree, EachLeaf, Leaf}
+use Rattle.sp_network.specs.TypedTree.{tree_of}
+use Rattle.sp_network.specs.declared.plan.GatePlan.{GatePlan}
+use Rattle.clock_phase.specs.Levels.{AreLevels, clock_of, greatest}
+use Rattle.clock_phase.specs.Plans.{ReadEarlierCells}
+use Rattle.clock_phase.proofs.Levels.{clock_within, level_at_most}
+use Rattle.net_flatten.proofs.Lists.{get_of_map}
+use Rattle.tree_map.specs.MappedCover.{plan_trees}
+use Rattle.tree_map.specs.Plans.{IsPlan, IsTreeOf, cost, is_kept, roots}
+use Rattle.tree_map.proofs.PlanCosts.{plan_cost}
+use Rattle.synth_flow.specs.BareDecks.{ArePlans}
+use Rattle.synth_flow.proofs.CellOrder.{root_of_cell, tree_reads}
+use Rattle.synth_flow.proofs.DeckForms.{all_zip_length}
+use Rattle.synth_flow.proofs.PushedDecks.{few_filtered}
+
+module _ (forest : ForestData) (kept : List Bool) (w h : ℕ) (trees : List (Tree ℕ)) (plan : IsPlan forest w h kept trees) (is : IsForest forest) where
+  -- each cell reads cells before it
+  pub reads_earlier : ReadEarlierCells forest.leaves trees
+  reads_earlier k tree at =
+      let r = all_zip_back (IsTreeOf forest kept) (roots kept) trees k tree plan.trees_are at in
+      let root = root_of_cell kept k r.0 r.1 in
+      let low = tree_reads forest kept is.in_place.in_order is.in_place.has_leaves r.0 (omega (arith, root.2)) tree r.2 in
+      subst (λ n. EachLeaf (λ gate. gate < 2 * forest.leaves + n) tree) root.0 low
+
+  pub few_trees : length trees ≤ 800000
+  few_trees =
+      let same = all_zip_length (IsTreeOf forest kept) (roots kept) trees plan.trees_are in
+      let few = few_filtered (λ place. not (is_kept kept place)) (range_with_len 0 (length kept)) in
+      omega (arith, same, few, length-range_with_len 0 (length kept), plan.one_each, is.few_pairs)
+
+  pub cheap_trees : cost trees ≤ 5600000
+  cheap_trees = omega (arith, plan_cost forest kept is.in_place.in_order w h trees plan, is.few_pairs)
+
+-- the plans of these trees
+pub plans_are : (leaves : ℕ) (trees : List (Tree ℕ)) (plans : List GatePlan) → plan_trees plans ≡ trees → ReadEarlierCells leaves trees → length trees ≤ 800000 → cost trees ≤ 5600000 → ArePlans leaves plans
+plans_are leaves trees plans same earlier few cheap = record {
+  few = omega (arith, ap length same, length-map plans (λ (p : GatePlan). tree_of p.tree), few);
+  cheap = omega (arith, ap cost same, cheap);
+  earlier = λ k p at. earlier k (tree_of p.tree) (ap (λ l. slice_get l k) (sym same) ∙ slice_get-map (λ (p : GatePlan). tree_of p.tree) plans k ∙ ap (option_map (λ (p : GatePlan). tree_of p.tree)) at);
+}
+
+-- the clocks of levels are among those of the deck
+pub clocks_fit : (leaves phases : ℕ) (trees : List (Tree ℕ)) (levels : List ℕ) (plans : List GatePlan) → 1 ≤ phases → AreLevels leaves trees levels
+    → map (λ (p : GatePlan). p.clock) plans ≡ map (clock_of phases (greatest levels)) levels → All (λ (p : GatePlan). (1 ≤ p.clock) × (p.clock ≤ phases)) plans
+clocks_fit leaves phases trees levels plans some is same =
+    all_from (λ (p : GatePlan). (1 ≤ p.clock) × (p.clock ≤ phases)) plans
+    (λ k p at.
+    let here = ap (λ l. slice_get l k) (sym same) ∙ slice_get-map (λ (q : GatePlan). q.clock) plans k ∙ ap (option_map (λ (q : GatePlan). q.clock)) at in
+    let level = get_of_map (clock_of phases (greatest levels)) levels k p.clock here in
+    let within = slice_get_within levels k level.0 level.1 in
+    let tree = slice_get-get_or trees k (Leaf 0) (omega (arith, is.one_each, within)) in
+    let from_one = is.levels_are k (get_or trees k (Leaf 0)) level.0 tree level.1 in
+    subst (λ n. (1 ≤ n) × (n ≤ phases)) level.2 (clock_within phases (greatest levels) level.0 some (omega (arith, from_one)) (level_at_most levels k level.0 level.1)))
+
+pub ruleset synth_facts = (reads_earlier, few_trees, cheap_trees, plans_are, clocks_fit)
+
+-- ends that name pairs name cells
+pub ends_have_cells : (forest : ForestData) (n : ℕ) → n ≡ length forest.pairs → All (IsEndOfForest forest) forest.ends → All (HasCell n) forest.ends
+ends_have_cells forest n same =
+    All-weaker (IsEndOfForest forest) (HasCell n) one forest.ends
+  where
+    one : (e : End) → IsEndOfForest forest e → HasCell n e
+    one (Const b) h = tt
+    one (Literal rail) h = tt
+    one (FromDynamic place) h = omega (arith, h, same)
+    one (FromOutput place) h = omega (arith, h, same)

@@ -1,0 +1,28 @@
+-- The parts of a name: its first byte, the number behind it, and what is behind the number.
+use Rattle.std.specs.Prelude.{ℕ, Bool, cond, List, [], ◌∷◌, nat_lt}
+use Rattle.std.specs.Char.{digit_value}
+use Rattle.std.specs.Str.Parse.{digits_value}
+
+abbrev pub is_digit : ℕ → Bool
+is_digit c = nat_lt (digit_value c) 10
+
+-- the digits at the front of some bytes, and what is behind them
+abbrev pub front : List ℕ → List ℕ
+front [] = []
+front (c ∷ cs) = cond (is_digit c) (c ∷ front cs) []
+
+abbrev pub behind : List ℕ → List ℕ
+behind [] = []
+behind (c ∷ cs) = cond (is_digit c) (behind cs) (c ∷ cs)
+
+abbrev pub letter_of : List ℕ → ℕ
+letter_of [] = 0
+letter_of (c ∷ cs) = c
+
+abbrev pub number_of : List ℕ → ℕ
+number_of [] = 0
+number_of (c ∷ cs) = digits_value 10 (front cs)
+
+abbrev pub rest_of : List ℕ → List ℕ
+rest_of [] = []
+rest_of (c ∷ cs) = behind cs

@@ -1,0 +1,81 @@
+//! The circuit of a deck without its devices.
+ghost use Rattle.std.specs.Prelude.{◌≡◌, ◌<◌, ◌≤◌, ◌+◌, All, IfOk, length};
+ghost use Rattle.gate_decompose.specs.Sinks.{leaf_count};
+ghost use Rattle.sp_network.specs.declared.plan.GatePlan.{GatePlan};
+ghost use Rattle.synth_flow.specs.BareDecks.{ArePlans};
+ghost use Rattle.synth_flow.specs.MadeCircuits.{made_deck};
+ghost use Rattle.synth_flow.specs.SinkParts.{HasCell};
+
+use crate::groups::push_deck;
+use crate::names::{escaped_name, out_names, pin_names};
+use crate::sinks::{phases, sink_names};
+use deck::Circuit;
+use dom_base::{Name, OutOfMemory};
+use dual_rail::End;
+use net_flatten::Network;
+use sp_network::GatePlan;
+use std::alloc::Global;
+
+/// The bytes of names are below 256.
+fn see_names(names: &[Name])
+    ensures { All (λ name. All (λ b. b < 256) name) names.now }
+{
+    'names: for name in names {
+        see_bytes(name.as_bytes());
+    }
+}
+
+/// Bytes are below 256.
+#[tactic(auto, using(crate::proofs::PortNets::port_nets))]
+fn see_bytes(bytes: &[u8])
+    ensures { All (λ b. b < 256) bytes.now }
+{}
+
+/// The circuit of a network with these plans of cells, ends of sinks and numbers of cells: its ports,
+/// its phases, and the devices of the deck. The one error is out of memory.
+pub fn deck_of(
+    alloc: Global,
+    network: &Network,
+    clocks: u8,
+    signs: &[bool],
+    plans: &[GatePlan],
+    ends: &[End],
+    cells: &[u32],
+) -> Result<Circuit, OutOfMemory>
+    requires some_clock { 1 ≤ clocks }
+    requires few_clocks { clocks ≤ 4 }
+    requires signs { length signs.now ≡ length network.now.outputs + length network.now.latches }
+    requires plans { ArePlans (leaf_count network.now) plans.now }
+    requires clocks_are { All (λ (p : GatePlan). (1 ≤ p.clock) × (p.clock ≤ clocks)) plans.now }
+    requires ends { All (HasCell (length cells.now)) ends.now }
+    requires one_end { length ends.now ≡ length network.now.outputs + length network.now.latches }
+    ensures { IfOk result (λ c. c ≡ made_deck network.now clocks signs.now plans.now ends.now cells.now) }
+{
+    let names = network.names.as_slice();
+    see_names(names);
+    see_bytes(network.name.as_bytes());
+    let pins = pin_names(alloc, names, network.inputs)?;
+    let outs = out_names(alloc, names, network.outputs.as_slice())?;
+    let sinks = sink_names(alloc, outs.as_slice(), network.latches.len() as u32)?;
+    let phases = phases(alloc, sinks.as_slice(), signs)?;
+    let name = escaped_name(alloc, b"", &network.name)?;
+    let mut circuit = Circuit::new(
+        alloc,
+        name,
+        phases,
+        clocks,
+        pins.as_slice(),
+        outs.as_slice(),
+    )?;
+    push_deck(
+        alloc,
+        &mut circuit,
+        pins.as_slice(),
+        sinks.as_slice(),
+        network.latches.as_slice(),
+        plans,
+        ends,
+        cells,
+    )?;
+    Ok(circuit)
+}
