@@ -1,5 +1,5 @@
 -- Lists and functions that are put together from what is there at each place.
-use Rattle.std.proofs.Common.{◌≡◌, ℕ, zero, suc, ◌<◌, List, [], ◌∷◌, length, Some, slice_get, refl, ap, subst, arith}
+use Rattle.std.proofs.Common.{◌≡◌, ℕ, zero, suc, ◌<◌, List, [], ◌∷◌, length, Some, slice_get, refl, ap, ap₂, subst, arith}
 use Rattle.std.specs.List.{AllZip}
 use Rattle.std.proofs.lemmas.Option.{same_Some}
 
@@ -45,3 +45,12 @@ module _ {X : Type 0} (none : X) (step : (ℕ → X) → ℕ → X)
     (λ n. value_by (suc n) n),
     (λ n. lower (value_by n) (λ m. value_by (suc m) m) n (λ m less. value_stays n (suc m) m less (omega arith))),
   )
+
+-- lists with the same at each place are one
+pub lists_same : {X : Type 0} (xs ys : List X) → length xs ≡ length ys
+    → ((k : ℕ) (x y : X) → slice_get xs k ≡ Some x → slice_get ys k ≡ Some y → x ≡ y) → xs ≡ ys
+lists_same [] [] count each = refl
+lists_same [] (y ∷ ys) count each = absurd (omega (arith, count))
+lists_same (x ∷ xs) [] count each = absurd (omega (arith, count))
+lists_same (x ∷ xs) (y ∷ ys) count each =
+    ap₂ (λ z zs. z ∷ zs) (each 0 x y refl refl) (lists_same xs ys (omega (arith, count)) (λ k. each (suc k)))

@@ -43,7 +43,7 @@ gates_there = λ network order.
     )
 
 -- the trees of a plan read rails and cells before their own
-plan_reads : (forest : ForestData) (w h : ℕ) (kept : List Bool) (trees : List (Tree ℕ)) → IsForestInPlace forest → IsPlan forest w h kept trees
+pub plan_reads : (forest : ForestData) (w h : ℕ) (kept : List Bool) (trees : List (Tree ℕ)) → IsForestInPlace forest → IsPlan forest w h kept trees
     → TreesReadBelow forest.leaves trees
 plan_reads forest w h kept trees is plan = λ k tree at.
     let found = all_zip_back (IsTreeOf forest kept) (roots kept) trees k tree plan.trees_are at in

@@ -3,3 +3,6 @@ pub mod CellLevels
 pub mod DecksThere
 pub mod FilesAnswered
 pub mod ForestThere
+pub mod OneDeck
+pub mod OneForest
+pub mod OneGates

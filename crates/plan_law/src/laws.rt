@@ -8,6 +8,7 @@ ghost use Rattle.plan_law.specs.Laws.{
   SynthTextsAreThere,
   TextsAreThere,
 };
+ghost use Rattle.plan_law.specs.OneText.{ChosenDecksAreOne, SynthTextsAreOne, TextsAreOne};
 
 /// A network has gates, gates have a forest under any signs, and the cells of trees that read only
 /// cells before them have levels.
@@ -23,6 +24,14 @@ pub fn decks_are_there()
     ensures decks { ChosenDecksAreThere }
     ensures written { TextsAreThere }
     ensures texts { SynthTextsAreThere }
+{}
+
+/// A network has one deck of the chosen signs and the chosen plan within a width and a height, and one
+/// text: what synthesis gives is decided by the network, the bounds and the number of clocks.
+pub fn decks_are_one()
+    ensures decks { ChosenDecksAreOne }
+    ensures written { TextsAreOne }
+    ensures texts { SynthTextsAreOne }
 {}
 
 /// Each good file is refused for something, or has a network with the text that synthesis gives of

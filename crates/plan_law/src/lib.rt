@@ -4,4 +4,4 @@
 
 mod laws;
 
-pub use laws::{decks_are_there, files_have_texts, parts_are_there};
+pub use laws::{decks_are_one, decks_are_there, files_have_texts, parts_are_there};

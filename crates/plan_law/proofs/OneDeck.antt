@@ -1,0 +1,77 @@
+-- A network has one deck of the chosen signs and the chosen plan, and one text.
+use Rattle.std.proofs.Common.{◌≡◌, ◌∙◌, refl, sym, ap, subst, ℕ, Bool, true, false, List, map, take, nat_eq}
+use Rattle.std.specs.Cmp.Lexicographic.{pointwise, bytes_decides}
+use Rattle.deck.specs.CircuitData.{CircuitData}
+use Rattle.deck.specs.Ports.{HasRoles}
+use Rattle.spice_text.specs.Text.{IsWritten}
+use Rattle.sp_network.specs.Tree.{Tree}
+use Rattle.net_flatten.specs.NetworkData.{NetworkData}
+use Rattle.net_flatten.specs.Networks.{IsNetwork}
+use Rattle.gate_decompose.specs.GateNodes.{AreGatesOf}
+use Rattle.gate_decompose.specs.GatesData.{GatesData}
+use Rattle.gate_decompose.specs.Sinks.{leaf_count}
+use Rattle.gate_decompose.proofs.GatesOrder.{gates_are_ordered, network_gates_are_in_place}
+use Rattle.gate_decompose.proofs.NetworkOrder.{networks_are_ordered}
+use Rattle.dual_rail.specs.ForestData.{ForestData}
+use Rattle.dual_rail.specs.Forests.{IsForestOf}
+use Rattle.dual_rail.proofs.ForestOrders.{forests_are_in_place}
+use Rattle.phase_assign.specs.Signs.{AreChosen}
+use Rattle.phase_assign.proofs.ChosenSigns.{chosen_signs_one}
+use Rattle.tree_map.specs.LeastPlans.{IsChosenPlan}
+use Rattle.tree_map.proofs.PlanOne.{chosen_plan_one}
+use Rattle.clock_phase.specs.Levels.{AreLevels}
+use Rattle.synth_flow.specs.ChosenDecks.{IsChosenDeck, end_at_cell}
+use Rattle.synth_flow.specs.DominoDecks.{deck_circuit}
+use Rattle.plan_law.specs.Laws.{TreesReadBelow}
+use Rattle.plan_law.specs.OneText.{ChosenDecksAreOne, SynthTextsAreOne, TextsAreOne}
+use Rattle.plan_law.proofs.CellLevels.{levels_one}
+use Rattle.plan_law.proofs.DecksThere.{plan_reads}
+use Rattle.plan_law.proofs.OneForest.{forest_one}
+use Rattle.plan_law.proofs.OneGates.{gates_one}
+
+-- a circuit is written as one text
+pub texts_one : TextsAreOne
+texts_one = λ c a b x y. by c a b x y (pointwise nat_eq a b) refl
+  where
+    by : (c : CircuitData) (a b : List ℕ) → IsWritten c a → IsWritten c b → (same : Bool) → pointwise nat_eq a b ≡ same → a ≡ b
+    by c a b x y true e = (bytes_decides a b).0 e
+    by c a b x y false e =
+        let no_roles : (clocks : ℕ) (pins outs : List (List ℕ)) → HasRoles (take c.ports c.nets) clocks pins outs → ⊥ = λ clocks pins outs has.
+        let equal : pointwise nat_eq a b ≡ true = (bytes_decides a b).1 (x.with_roles clocks pins outs has ∙ sym (y.with_roles clocks pins outs has)) in absurd (cc) in
+        x.without_roles no_roles ∙ sym (y.without_roles no_roles)
+
+-- decks of the same gates: signs, forest, plan and levels are one by one the same
+module _ (network : NetworkData) (is : IsNetwork network) (w h phases : ℕ) where
+  same_levels : (a b : CircuitData) (x : IsChosenDeck network w h phases a) (y : IsChosenDeck network w h phases b)
+      → x.gates ≡ y.gates → x.signs ≡ y.signs → x.forest ≡ y.forest → x.kept ≡ y.kept → x.trees ≡ y.trees → a ≡ b
+  same_levels a b x y gates signs forest kept trees =
+      let in_place = network_gates_are_in_place network y.gates (networks_are_ordered network is) y.are_gates in
+      let stands = forests_are_in_place y.gates y.signs y.forest in_place y.is_forest in
+      let leaves : (y.forest).leaves ≡ leaf_count network = (y.is_forest).leaves_are ∙ (y.are_gates).leaves_are in
+      let below = subst (λ n. TreesReadBelow n y.trees) leaves (plan_reads y.forest w h y.kept y.trees stands (y.is_chosen_plan).plan) in
+      let levels : x.levels ≡ y.levels =
+      levels_one (leaf_count network) y.trees below x.levels y.levels (subst (λ ts. AreLevels (leaf_count network) ts x.levels) trees x.levels_are) y.levels_are in
+      x.circuit_is
+      ∙ (λ i. deck_circuit network phases (trees i) (levels i) (signs i) (map (end_at_cell (kept i)) ((forest i).ends)))
+      ∙ sym y.circuit_is
+
+  deck_one : (a b : CircuitData) → IsChosenDeck network w h phases a → IsChosenDeck network w h phases b → a ≡ b
+  deck_one a b x y =
+      let order = networks_are_ordered network is in
+      let gates : x.gates ≡ y.gates = gates_one network order x.gates y.gates x.are_gates y.are_gates in
+      let signs : x.signs ≡ y.signs = chosen_signs_one y.gates x.signs y.signs (subst (λ g. AreChosen g x.signs) gates x.are_chosen) y.are_chosen in
+      let forest : x.forest ≡ y.forest =
+      forest_one y.gates y.signs x.forest y.forest (subst (λ g. IsForestOf g y.signs x.forest) gates (subst (λ s. IsForestOf x.gates s x.forest) signs x.is_forest)) y.is_forest in
+      let in_place = network_gates_are_in_place network y.gates order y.are_gates in
+      let stands = forests_are_in_place y.gates y.signs y.forest in_place y.is_forest in
+      let plan = chosen_plan_one y.forest w h x.kept y.kept x.trees y.trees stands.in_order
+      (subst (λ f. IsChosenPlan f w h x.kept x.trees) forest x.is_chosen_plan) y.is_chosen_plan in
+      same_levels a b x y gates signs forest plan.0 plan.1
+
+pub decks_one : ChosenDecksAreOne
+decks_one = λ network w h phases a b is x y. deck_one network is w h phases a b x y
+
+pub synth_texts_one : SynthTextsAreOne
+synth_texts_one = λ network bounds phases a b is x y.
+    let same = decks_one network bounds.w bounds.h phases x.circuit y.circuit is x.is_chosen y.is_chosen in
+    texts_one y.circuit a b (subst (λ c. IsWritten c a) same x.written) y.written
