@@ -6,7 +6,8 @@ use Rattle.std.specs.Result.{result_ok}
 use Rattle.std.specs.Str.Parse.{ParsesUnsigned, IsNumeral, without_leading_plus, digits_value}
 use Rattle.std.proofs.lemmas.List.Elements.{All-from_recursion, recursion_from_All}
 use Rattle.std.proofs.lemmas.Str.Parse.{IsNumeralModel, numerals_by_fold, without_leading_plus_none, without_leading_plus_plus}
-use Rattle.command_words.specs.OptionWords.{IsDigit, IsNumberWord, number_behind}
+use Rattle.command_words.specs.NumberWords.{IsDigit, IsNumberWord, number_behind}
+use Rattle.command_words.proofs.WordLists.{first_letter, rest_same}
 
 by_digits : IsNumeralModel (AllByRecursion IsDigit) (number_behind 0)
 by_digits = numerals_by_fold _ (search rules) number_behind (search rules)
@@ -49,3 +50,19 @@ number_read word (Err e) h = λ number writes.
     let all = by_digits.to writes.digits (recursion_from_All IsDigit writes.digits writes.are_digits) in
     let value = writes.number_is ∙ by_digits.same writes.digits all in
     h (subst (λ (ds : List ℕ). IsNumeral 10 ds × (digits_value 10 ds < 2 ^ 64)) (sym digits) ((not_empty writes.digits writes.some, all), subst (λ n. n < 2 ^ 64) value writes.below))
+
+-- digits don't begin with `+`
+no_plus : (digits more : List ℕ) → All IsDigit digits → digits ≢ [] → digits ≡ 43 ∷ more → ⊥
+no_plus [] more all some e = some refl
+no_plus (d ∷ digits) more all some e = omega (arith, all 0 0 (omega arith), first_letter (d ∷ digits) (43 ∷ more) e)
+
+digits_one : (word a b : List ℕ) → All IsDigit a → All IsDigit b → a ≢ [] → b ≢ [] → (word ≡ a) ⊎ (word ≡ 43 ∷ a) → (word ≡ b) ⊎ (word ≡ 43 ∷ b) → a ≡ b
+digits_one word a b da db na nb (inl p) (inl q) = sym p ∙ q
+digits_one word a b da db na nb (inl p) (inr q) = absurd (no_plus a b da na (sym p ∙ q))
+digits_one word a b da db na nb (inr p) (inl q) = absurd (no_plus b a db nb (sym q ∙ p))
+digits_one word a b da db na nb (inr p) (inr q) = rest_same word 43 43 a b p q
+
+-- a word writes one number
+pub number_one : (word : List ℕ) (m n : ℕ) → IsNumberWord word m → IsNumberWord word n → m ≡ n
+number_one word m n a b =
+    a.number_is ∙ ap (number_behind 0) (digits_one word a.digits b.digits a.are_digits b.are_digits a.some b.some a.word_is b.word_is) ∙ sym b.number_is

@@ -1,5 +1,5 @@
 -- Lists of words, by their first ones.
-use Rattle.std.proofs.Common.{◌≡◌, ◌<◌, ◌≤◌, ◌-◌, List, [], ◌∷◌, length, get_or, map, take, drop, refl, sym, ap, ◌∙◌, arith}
+use Rattle.std.proofs.Common.{◌≡◌, ◌<◌, ◌≤◌, ◌-◌, ℕ, List, [], ◌∷◌, ◌++◌, length, get_or, map, take, drop, refl, sym, ap, ◌∙◌, arith}
 use Rattle.std.proofs.lemmas.List.{take_rest}
 
 -- the first word and the rest of a list that is given twice
@@ -28,3 +28,14 @@ two_words f (z ∷ w ∷ ws) x y first second h p q a b = simp take_rest (λ i. 
 pub no_word : {X Y : Type 0} (f : X → Y) (words : List X) → length words < 1 → map f words ≡ []
 no_word f [] h = refl
 no_word f (x ∷ xs) h = absurd (omega arith)
+
+-- the letters of words that are equal
+pub first_letter : (a b : List ℕ) → a ≡ b → get_or a 0 0 ≡ get_or b 0 0
+first_letter a b e = ap (λ w. get_or w 0 0) e
+
+pub third_letter : (a b : List ℕ) → a ≡ b → get_or a 2 0 ≡ get_or b 2 0
+third_letter a b e = ap (λ w. get_or w 2 0) e
+
+-- words that begin with a piece, by the first word
+pub begins : (words piece rest left : List (List ℕ)) (word : List ℕ) → words ≡ piece ++ left → piece ≡ word ∷ rest → words ≡ word ∷ rest ++ left
+begins words piece rest left word e is = e ∙ ap (λ (p : List (List ℕ)). p ++ left) is

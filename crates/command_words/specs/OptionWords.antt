@@ -1,11 +1,11 @@
 -- The options of a simulation on the command line, and what they give.
-use Rattle.std.specs.Prelude.{ℕ, ◌<◌, ◌+◌, ◌*◌, ◌-◌, ◌^◌, ◌≡◌, ◌≢◌, ◌⊎◌, List, [], ◌∷◌, Option, Some, None, is_some, All, codes, flat_map, nat_eq, map}
-use Rattle.std.specs.List.{AllZip, IsDistinct}
-use Rattle.std.specs.Option.{option_or, unwrap_or}
-use Rattle.std.specs.Cmp.Lexicographic.{pointwise}
+use Rattle.std.specs.Prelude.{ℕ, ◌≡◌, List, [], ◌∷◌, Option, Some, None, is_some, codes}
+use Rattle.std.specs.Option.{unwrap_or}
 use Rattle.trace_tool.specs.declared.options.Order.{Order}
 use Rattle.trace_tool.specs.declared.options.Order.TheVariants.{First, Last, Seed}
 use Rattle.trace_tool.specs.TraceData.{TraceOptionsData}
+use Rattle.command_words.specs.NumberWords.{IsNumberWord}
+use Rattle.command_words.specs.WrittenOptions.{AreWritten, first_given}
 
 -- an option of `sim`: the order of events, the seed, or that every event is printed
 pub data OptionWord : Type 0 where
@@ -24,23 +24,6 @@ abbrev pub order_word : Order → List ℕ
 order_word First = codes "first"
 order_word Last = codes "last"
 order_word Seed = codes "seed"
-
-abbrev pub IsDigit : ℕ → Type 0
-IsDigit b = (47 < b) × (b < 58)
-
--- the number that decimal digits write behind a number
-abbrev pub number_behind : ℕ → List ℕ → ℕ
-number_behind n [] = n
-number_behind n (digit ∷ digits) = number_behind (n * 10 + (digit - 48)) digits
-
--- a word that writes a number below 2^64: decimal digits, at least one, with an optional `+` before them
-pub record IsNumberWord (word : List ℕ) (number : ℕ) : Type 0 where
-  pub digits : List ℕ
-  pub some : digits ≢ []
-  pub are_digits : All IsDigit digits
-  pub word_is : (word ≡ digits) ⊎ (word ≡ 43 ∷ digits)
-  pub number_is : number ≡ number_behind 0 digits
-  pub below : number < 2 ^ 64
 
 -- these words write an option
 abbrev pub IsOptionOf : OptionWord → List (List ℕ) → Type 0
@@ -64,11 +47,6 @@ events_in (SetOrder order) = None
 events_in (SetSeed seed) = None
 events_in SetEvents = Some tt
 
--- what the first of the options that gives one gives
-abbrev pub first_given : {X : Type 0} → (OptionWord → Option X) → List OptionWord → Option X
-first_given given [] = None
-first_given given (option ∷ options) = option_or (given option) (first_given given options)
-
 -- what options give: the order `first`, the seed 0, and no event printed where none is given
 abbrev pub options_of : List OptionWord → TraceOptionsData
 options_of options = record {
@@ -78,15 +56,6 @@ options_of options = record {
   events = is_some (first_given events_in options);
 }
 
--- no option is given twice
-abbrev pub AreOnce : List OptionWord → Type 0
-AreOnce options = IsDistinct (pointwise nat_eq) (map option_word options)
-
 -- the words give the options of `sim`: they write some, none of them twice
-pub record AreOptions (words : List (List ℕ)) (options : TraceOptionsData) : Type 0 where
-  pub written : List OptionWord
-  pub pieces : List (List (List ℕ))
-  pub words_are : words ≡ flat_map (λ piece. piece) pieces
-  pub pieces_are : AllZip IsOptionOf written pieces
-  pub once : AreOnce written
-  pub options_are : options ≡ options_of written
+abbrev pub AreOptions : List (List ℕ) → TraceOptionsData → Type 0
+AreOptions words options = AreWritten option_word IsOptionOf options_of words options

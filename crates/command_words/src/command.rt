@@ -1,4 +1,5 @@
 //! What the program is asked for.
+use synth_flow::SynthOptions;
 use trace_tool::TraceOptions;
 
 /// What the words of the command line ask for, with the names of the files.
@@ -6,6 +7,7 @@ use trace_tool::TraceOptions;
 pub enum Command<'a> {
     Synth {
         file: &'a str,
+        options: SynthOptions,
     },
     Flat {
         file: &'a str,

@@ -1,7 +1,12 @@
 //! What holds of each command line.
-ghost use Rattle.command_words.specs.Laws.{AskedIsOne};
+ghost use Rattle.command_words.specs.Laws.{AskedIsInRange, AskedIsOne};
 
 /// Words ask for at most one command.
 pub fn asked_is_one()
     ensures { AskedIsOne }
+{}
+
+/// The options of synthesis that words ask for are within the ranges of their values.
+pub fn asked_is_in_range()
+    ensures { AskedIsInRange }
 {}

@@ -4,8 +4,10 @@
 mod command;
 mod laws;
 mod options;
+mod synth_options;
+mod values;
 mod words;
 
 pub use command::Command;
-pub use laws::asked_is_one;
+pub use laws::{asked_is_in_range, asked_is_one};
 pub use words::command_of;

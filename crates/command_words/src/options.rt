@@ -1,11 +1,12 @@
 //! The options of a simulation on the command line.
-ghost use Rattle.std.specs.Prelude.{◌≡◌, ℕ, ◌∷◌, None, Some, IsSome, MatchOption, map};
+ghost use Rattle.std.specs.Prelude.{◌≡◌, ◌∷◌, MatchOption, map};
 ghost use Rattle.std.specs.String.{string_bytes};
 ghost use Rattle.trace_tool.specs.declared.options.Order.{Order};
 ghost use Rattle.trace_tool.specs.TraceData.{TraceOptionsData};
-ghost use Rattle.command_words.specs.OptionWords.{AreOptions, IsNumberWord, order_word};
-ghost use Rattle.command_words.specs.GivenOptions.{BeginsWithNew, TakesOption};
+ghost use Rattle.command_words.specs.OptionWords.{AreOptions, order_word};
+ghost use Rattle.command_words.specs.GivenOptions.{BeginsWithOption, TakesGiven};
 
+use crate::values::{number_of, once};
 use std::alloc::Global;
 use trace_tool::{Order, TraceOptions};
 
@@ -20,8 +21,8 @@ pub struct Given {
 impl Given {
     /// Takes the option of this word, with its value where it has one, and gives the words behind it.
     fn take<'a>(&mut self, option: &str, rest: &'a [String]) -> Option<&'a [String]>
-        ensures { MatchOption result (BeginsWithNew (option.now ∷ map string_bytes rest.now) self.old → ⊥)
-            (λ left. TakesOption (option.now ∷ map string_bytes rest.now) (map string_bytes left.now) self.old self.new) }
+        ensures { MatchOption result (BeginsWithOption (option.now ∷ map string_bytes rest.now) self.old → ⊥)
+            (λ left. TakesGiven (option.now ∷ map string_bytes rest.now) (map string_bytes left.now) self.old self.new) }
     {
         match option {
             "--events" => {
@@ -69,17 +70,6 @@ pub fn options_of(alloc: Global, words: &[String]) -> Option<TraceOptions>
     })
 }
 
-/// Puts a value where none was given before.
-fn once<T: Drop>(slot: &mut Option<T>, value: T) -> Option<()>
-    ensures { MatchOption result (IsSome slot.old) (λ _. (slot.old ≡ None) × (slot.new ≡ Some value)) }
-{
-    if slot.is_some() {
-        return None;
-    }
-    *slot = Some(value);
-    Some(())
-}
-
 /// The order of events that a word names.
 fn order_named(word: &str) -> Option<Order>
     ensures { MatchOption result ((order : Order) → word.now ≡ order_word order → ⊥) (λ order. word.now ≡ order_word order) }
@@ -90,11 +80,4 @@ fn order_named(word: &str) -> Option<Order>
         "seed" => Some(Order::Seed),
         _ => None,
     }
-}
-
-/// The number below 2^64 that a word writes in decimal digits, with or without a `+` before them.
-fn number_of(word: &str) -> Option<u64>
-    ensures { MatchOption result ((number : ℕ) → IsNumberWord word.now number → ⊥) (λ number. IsNumberWord word.now number) }
-{
-    word.parse::<u64>().ok()
 }

@@ -6,6 +6,7 @@ ghost use Rattle.command_words.specs.Commands.{Asks, IsFileWord, Command as Plai
 
 use crate::command::Command;
 use crate::options::options_of;
+use crate::synth_options::synth_options_of;
 use std::alloc::Global;
 
 /// What the words ask for: the name of a command, its files, then its options.
@@ -25,17 +26,20 @@ pub fn command_of<'a>(alloc: Global, words: &'a [String]) -> Option<Command<'a>>
     }
 }
 
-/// The command `synth FILE` by the words behind its name.
+/// The command `synth FILE` with its options by the words behind its name.
 fn synth_of<'a>(words: &'a [String]) -> Option<Command<'a>>
     ensures { MatchOption result ((command : Plain) → Asks (codes "synth" ∷ map string_bytes words.now) command → ⊥)
         (λ command. Asks (codes "synth" ∷ map string_bytes words.now) (asked command)) }
 {
-    let [file] = words else { return None };
+    let [file, rest @ ..] = words else {
+        return None
+    };
     let file = file.as_str();
     if !is_file(file) {
         return None;
     }
-    Some(Command::Synth { file })
+    let options = synth_options_of(rest)?;
+    Some(Command::Synth { file, options })
 }
 
 /// The command `flat FILE` by the words behind its name.

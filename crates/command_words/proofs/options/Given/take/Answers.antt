@@ -2,7 +2,7 @@ use Rattle.std.proofs.Common.{◌≡◌, ◌∷◌, [], ℕ, List, ap, ◌∙◌
 use Rattle.std.specs.String.{string_bytes}
 use Rattle.command_words.specs.OptionWords.{SetOrder, SetSeed, order_word}
 use Rattle.command_words.proofs.WordLists.{first_word}
-use Rattle.command_words.proofs.WrittenOptions.{no_seed}
+use Rattle.command_words.proofs.SimOptions.{no_seed}
 use Rattle.command_words.proofs.options.Given.take.Goals as goal
 
 first_is : {a b : List ℕ} (more : List (List ℕ)) → a ≡ b → a ∷ more ≡ b ∷ more

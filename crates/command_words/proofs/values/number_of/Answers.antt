@@ -1,8 +1,8 @@
 use Rattle.std.proofs.Common.{ℕ, sym, subst}
 use Rattle.std.specs.Prelude.{MatchOption, Option}
-use Rattle.command_words.specs.OptionWords.{IsNumberWord}
+use Rattle.command_words.specs.NumberWords.{IsNumberWord}
 use Rattle.command_words.proofs.NumberWords.{number_read}
-use Rattle.command_words.proofs.options.number_of.Goals as goal
+use Rattle.command_words.proofs.values.number_of.Goals as goal
 
 pub returns : goal.returns
 returns c =
