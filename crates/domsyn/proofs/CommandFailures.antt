@@ -8,38 +8,39 @@ use Rattle.net_flatten.specs.OneModel.{file_of}
 use Rattle.domsyn.specs.declared.failure.Failure.{Failure}
 use Rattle.domsyn.specs.declared.failure.Failure.TheVariants as failure
 use Rattle.domsyn.specs.declared.refusal.Refusal.{Refusal}
-use Rattle.domsyn.specs.declared.refusal.Refusal.TheVariants.{TooLong, Blif, Flat, TooMany, NotBuilt, Deck, Ports, Stim}
+use Rattle.domsyn.specs.declared.refusal.Refusal.TheVariants.{TooLong, Blif, Flat, TooMany, Deck, Ports, Stim}
 use Rattle.command_words.specs.Commands.{Synth, Flat as flat, Run as run, Sim}
-use Rattle.domsyn.specs.Decks.{IsDeckFor}
+use Rattle.synth_flow.specs.declared.options.SynthOptions.{SynthOptions}
+use Rattle.domsyn.specs.Decks.{IsDeckFor, bounds_of}
 use Rattle.domsyn.specs.Outcomes.{Files, IsDeck, IsFile, IsFlat, IsPrintedRun, IsSimRefusal}
 use Rattle.domsyn.specs.Networks.{HasNetwork, IsNotRunFor, IsRunOf, about}
-use Rattle.domsyn.specs.Refusals.{HasNoNetworkFor, IsRefusedFor}
-use Rattle.domsyn.specs.Failures.{HasNoNetwork, IsFailureOf, IsUnbuilt, IsUnfetched, IsUnrun, IsUnsimulated, IsUntraced, ReadFile}
+use Rattle.domsyn.specs.Refusals.{HasNoNetworkFor}
+use Rattle.domsyn.specs.Failures.{HasNoNetwork, IsFailureOf, IsUnfetched, IsUnrun, IsUnsimulated, IsUntraced, ReadFile}
 use Rattle.trace_tool.specs.TraceData.{TraceOptionsData}
 
 -- the file of a deck to be built has no bytes
-pub synth_unfetched : (files : Files) (file : List ℕ) (Rises : Type 0) (s : Failure) → IsUnfetched files file Rises s → IsFailureOf files (Synth file) Rises s
-synth_unfetched files file Rises (failure.Refused name why) is =
+pub synth_unfetched : (files : Files) (file : List ℕ) (options : SynthOptions) (Rises : Type 0) (s : Failure) → IsUnfetched files file Rises s → IsFailureOf files (Synth file options) Rises s
+synth_unfetched files file options Rises (failure.Refused name why) is =
     record {
       bytes = is.2.bytes;
       holds = is.2.holds;
-      refused = subst (IsRefusedFor is.2.bytes) (sym is.1) is.2.long;
+      refused = subst (HasNoNetworkFor is.2.bytes) (sym is.1) is.2.long;
       name_is = is.0;
     }
-synth_unfetched files file Rises (failure.Unread name) is = is
-synth_unfetched files file Rises failure.Memory is = tt
+synth_unfetched files file options Rises (failure.Unread name) is = is
+synth_unfetched files file options Rises failure.Memory is = tt
 
 -- its bytes have this deck
-pub synth_printed : (files : Files) (file bytes text : List ℕ) (settled : Bool) → IsFile files file bytes → IsDeckFor bytes text → settled ≡ true
-    → IsDeck files file (if settled then 0 else 6) text
-synth_printed files file bytes text settled is deck at_rest =
+pub synth_printed : (files : Files) (file bytes text : List ℕ) (options : SynthOptions) (settled : Bool) → IsFile files file bytes → IsDeckFor bytes (bounds_of options) options.phases text → settled ≡ true
+    → IsDeck files file options (if settled then 0 else 6) text
+synth_printed files file bytes text options settled is deck at_rest =
     record { bytes = bytes; is_file = is; deck = deck; done = ap (λ (b : Bool). if b then 0 else 6) at_rest }
 
 -- they have none
-pub synth_unbuilt : (files : Files) (file bytes : List ℕ) (Rises : Type 0) (s : Failure) → IsFile files file bytes → IsUnbuilt file bytes s → IsFailureOf files (Synth file) Rises s
-synth_unbuilt files file bytes Rises (failure.Refused name why) fetched is = record { bytes = bytes; holds = fetched.holds; refused = is.1; name_is = is.0 }
-synth_unbuilt files file bytes Rises (failure.Unread name) fetched is = absurd is
-synth_unbuilt files file bytes Rises failure.Memory fetched is = tt
+pub synth_unbuilt : (files : Files) (file bytes : List ℕ) (options : SynthOptions) (Rises : Type 0) (s : Failure) → IsFile files file bytes → HasNoNetwork file bytes s → IsFailureOf files (Synth file options) Rises s
+synth_unbuilt files file bytes options Rises (failure.Refused name why) fetched is = record { bytes = bytes; holds = fetched.holds; refused = is.1; name_is = is.0 }
+synth_unbuilt files file bytes options Rises (failure.Unread name) fetched is = absurd is
+synth_unbuilt files file bytes options Rises failure.Memory fetched is = tt
 
 -- the file of a deck to be simulated has no bytes
 pub deck_unfetched : (files : Files) (deck stim : List ℕ) (options : TraceOptionsData) (Rises : Type 0) (s : Failure)
@@ -63,7 +64,6 @@ unsimulated files deck stim name TooLong a b is = absurd is
 unsimulated files deck stim name (Blif line kind) a b is = absurd is
 unsimulated files deck stim name (Flat line kind any) a b is = absurd is
 unsimulated files deck stim name (TooMany limit count) a b is = absurd is
-unsimulated files deck stim name NotBuilt a b is = absurd is
 unsimulated files deck stim name (Deck line kind) a b is =
     (is.0, record { deck_bytes = deck.bytes; stim_bytes = stim.bytes; is_deck = a; is_stim = b; refused = is.1 })
 unsimulated files deck stim name (Ports place) a b is =
@@ -136,7 +136,6 @@ unrun_network file stim (failure.Refused name why) within is = by why is
     by (Blif line kind) is = is
     by (Flat line kind any) is = is
     by (TooMany limit count) is = is
-    by NotBuilt is = absurd is.1
     by (Deck line kind) is = absurd is.1
     by (Ports place) is = absurd is.1
     by (Stim line kind) is = absurd is.1

@@ -1,9 +1,11 @@
 -- Bytes have one network and one run over a stimulus, or none for one cause.
-use Rattle.std.proofs.Common.{◌≡◌, ◌∙◌, ◌⊎◌, inl, inr, ℕ, Bool, List, refl, sym, ap, subst, arith}
+use Rattle.std.proofs.Common.{◌≡◌, ◌∙◌, ◌⊎◌, inl, inr, ℕ, List, refl, sym, ap, subst, arith}
 use Rattle.dom_base.proofs.Faults.{answer_or_refusal, answer_same, refusal_same}
 use Rattle.blif_ast.specs.BlifFileData.{BlifFileData}
-use Rattle.blif_ast.specs.Reading.{IsFileOf}
+use Rattle.blif_ast.specs.declared.kind.BlifKind.{BlifKind}
+use Rattle.blif_ast.specs.Reading.{IsBlifFault, IsBlifFaultAt, IsFileOf}
 use Rattle.blif_read.proofs.AcceptedIsGoodModels.{accepted_file}
+use Rattle.blif_read.proofs.OneAnswer.{one_answer}
 use Rattle.net_flatten.specs.Flattening.{IsNetworkOf}
 use Rattle.net_flatten.specs.NetworkData.{NetworkData}
 use Rattle.net_flatten.specs.Networks.{IsNetwork}
@@ -18,10 +20,13 @@ use Rattle.stim_text.specs.Stimuli.{IsStimFaultAt, IsStimulusOf}
 use Rattle.stim_text.specs.declared.fault.StimKind.{StimKind}
 use Rattle.stim_text.proofs.OneAnswer.{one_answer as stim_answer}
 use Rattle.domsyn.specs.declared.refusal.Refusal.{Refusal}
-use Rattle.domsyn.specs.declared.refusal.Refusal.TheVariants.{TooLong, Blif, Flat, TooMany, NotBuilt, Deck, Ports, Stim}
+use Rattle.domsyn.specs.declared.refusal.Refusal.TheVariants.{TooLong, Blif, Flat, TooMany, Deck, Ports, Stim}
 use Rattle.domsyn.specs.Networks.{HasNetwork, IsNotRunFor, IsRunOf, IsRunText, IsStimRefused, run_lines}
 use Rattle.domsyn.specs.Refusals.{HasNoNetworkFor, IsHierarchyRefused}
-use Rattle.domsyn.proofs.Causes.{faults_alike}
+
+-- a text is refused at one line for one kind
+faults_alike : (text : List ℕ) (m n : ℕ) (a b : BlifKind) → IsBlifFaultAt text m a → IsBlifFaultAt text n b → (m ≡ n) × (a ≡ b)
+faults_alike text m n a b x y = refusal_same (IsFileOf text) (IsBlifFault text) (IsBlifFaultAt text) (λ l k f. f.fault) (one_answer text) m n a b x y
 
 -- bytes are the text of one file
 files_alike : (bytes : List ℕ) (f g : BlifFileData) → IsFileOf bytes f → IsFileOf bytes g → f ≡ g
@@ -48,7 +53,6 @@ network_or_cause bytes n TooLong x y = omega (arith, x.within, y)
 network_or_cause bytes n (Blif line kind) x y = x.accepted.no_fault line kind y.fault.fault
 network_or_cause bytes n (Flat line kind name) x y = not_refused bytes n (hierarchy.At kind line name) x y
 network_or_cause bytes n (TooMany limit count) x y = not_refused bytes n (hierarchy.TooMany limit count) x y
-network_or_cause bytes n NotBuilt x y = y
 network_or_cause bytes n (Deck line kind) x y = y
 network_or_cause bytes n (Ports place) x y = y
 network_or_cause bytes n (Stim line kind) x y = y
@@ -59,7 +63,6 @@ network_causes_alike bytes TooLong TooLong x y = refl
 network_causes_alike bytes TooLong (Blif line kind) x y = absurd (omega (arith, x, y.within))
 network_causes_alike bytes TooLong (Flat line kind name) x y = absurd (omega (arith, x, y.within))
 network_causes_alike bytes TooLong (TooMany limit count) x y = absurd (omega (arith, x, y.within))
-network_causes_alike bytes TooLong NotBuilt x y = absurd y
 network_causes_alike bytes TooLong (Deck line kind) x y = absurd y
 network_causes_alike bytes TooLong (Ports place) x y = absurd y
 network_causes_alike bytes TooLong (Stim line kind) x y = absurd y
@@ -67,7 +70,6 @@ network_causes_alike bytes (Blif line kind) TooLong x y = absurd (omega (arith, 
 network_causes_alike bytes (Blif line kind) (Blif other any) x y = let same = faults_alike bytes line other kind any x.fault y.fault in λ i. Blif (same.0 i) (same.1 i)
 network_causes_alike bytes (Blif line kind) (Flat other any name) x y = absurd (y.accepted.no_fault line kind x.fault.fault)
 network_causes_alike bytes (Blif line kind) (TooMany limit count) x y = absurd (y.accepted.no_fault line kind x.fault.fault)
-network_causes_alike bytes (Blif line kind) NotBuilt x y = absurd y
 network_causes_alike bytes (Blif line kind) (Deck other any) x y = absurd y
 network_causes_alike bytes (Blif line kind) (Ports place) x y = absurd y
 network_causes_alike bytes (Blif line kind) (Stim other any) x y = absurd y
@@ -81,7 +83,6 @@ network_causes_alike bytes (Flat line kind name) (Flat other any word) x y =
     λ i. Flat (lines i) (kinds i) (names i)
 network_causes_alike bytes (Flat line kind name) (TooMany limit count) x y =
     let same = hierarchies_alike bytes (hierarchy.At kind line name) (hierarchy.TooMany limit count) x y in absurd cc
-network_causes_alike bytes (Flat line kind name) NotBuilt x y = absurd y
 network_causes_alike bytes (Flat line kind name) (Deck other any) x y = absurd y
 network_causes_alike bytes (Flat line kind name) (Ports place) x y = absurd y
 network_causes_alike bytes (Flat line kind name) (Stim other any) x y = absurd y
@@ -94,11 +95,9 @@ network_causes_alike bytes (TooMany limit count) (TooMany most number) x y =
     let limits : limit ≡ most = cc in
     let counts : count ≡ number = cc in
     λ i. TooMany (limits i) (counts i)
-network_causes_alike bytes (TooMany limit count) NotBuilt x y = absurd y
 network_causes_alike bytes (TooMany limit count) (Deck other any) x y = absurd y
 network_causes_alike bytes (TooMany limit count) (Ports place) x y = absurd y
 network_causes_alike bytes (TooMany limit count) (Stim other any) x y = absurd y
-network_causes_alike bytes NotBuilt b x y = absurd x
 network_causes_alike bytes (Deck line kind) b x y = absurd x
 network_causes_alike bytes (Ports place) b x y = absurd x
 network_causes_alike bytes (Stim line kind) b x y = absurd x
@@ -127,7 +126,6 @@ cause_of bytes stim TooLong x = absurd x
 cause_of bytes stim (Blif line kind) x = inl x
 cause_of bytes stim (Flat line kind name) x = inl x
 cause_of bytes stim (TooMany limit count) x = inl x
-cause_of bytes stim NotBuilt x = absurd x
 cause_of bytes stim (Deck line kind) x = absurd x
 cause_of bytes stim (Ports place) x = absurd x
 cause_of bytes stim (Stim line kind) x = inr (line, (kind, x, refl))

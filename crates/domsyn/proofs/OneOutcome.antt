@@ -6,15 +6,16 @@ use Rattle.blif_ast.specs.Printed.{printed}
 use Rattle.dom_io.specs.Held.{file_limit, held}
 use Rattle.net_flatten.specs.OneModel.{file_of}
 use Rattle.domsyn.specs.declared.refusal.Refusal.{Refusal}
-use Rattle.domsyn.specs.declared.refusal.Refusal.TheVariants.{TooLong, Blif, Flat, TooMany, NotBuilt, Deck, Ports, Stim}
+use Rattle.domsyn.specs.declared.refusal.Refusal.TheVariants.{TooLong, Blif, Flat, TooMany, Deck, Ports, Stim}
 use Rattle.command_words.specs.Commands.{Command, Synth, Flat as flat, Run as run, Sim}
-use Rattle.domsyn.specs.Decks.{IsDeckFor}
-use Rattle.domsyn.specs.Outcomes.{IsDeck, IsFile, IsFirstTooLong, IsFlat, IsNoDeck, IsNoFlat, IsNoRun, IsNoTrace, IsOutcome, IsPrintedRun, IsRunRefusal, IsSimRefusal, IsTooLong, IsTrace, Outcome, Printed, Refused}
+use Rattle.plan_law.proofs.OneDeck.{synth_texts_one}
+use Rattle.synth_flow.specs.DeckTexts.{IsSynthText}
+use Rattle.synth_flow.specs.declared.options.SynthOptions.{SynthOptions}
+use Rattle.domsyn.specs.Decks.{IsDeckFor, bounds_of}
+use Rattle.domsyn.specs.Outcomes.{IsDeck, IsFile, IsFirstTooLong, IsFlat, HasNone, IsNoRun, IsNoTrace, IsOutcome, IsPrintedRun, IsRunRefusal, IsSimRefusal, IsTooLong, IsTrace, Outcome, Printed, Refused}
 use Rattle.domsyn.specs.Networks.{HasNetwork, IsNotRunFor, IsRunOf, about as about_run}
-use Rattle.domsyn.specs.Refusals.{HasNoNetworkFor, IsRefusedFor}
-use Rattle.domsyn.proofs.Causes.{causes_alike, not_both}
-use Rattle.domsyn.proofs.NetworkCauses.{network_causes_alike, network_or_cause, networks_alike, run_causes_alike, run_or_cause, runs_alike}
-use Rattle.domsyn.proofs.OneDeck.{decks_alike}
+use Rattle.domsyn.specs.Refusals.{HasNoNetworkFor}
+use Rattle.domsyn.proofs.NetworkCauses.{network_causes_alike, network_kept, network_or_cause, networks_alike, run_causes_alike, run_or_cause, runs_alike}
 use Rattle.trace_tool.specs.Refusals.{IsRefused}
 use Rattle.trace_tool.specs.TraceData.{TraceData, TraceOptionsData}
 use Rattle.trace_tool.specs.Traces.{IsTraceOf}
@@ -42,22 +43,6 @@ printed_alike s s' t t' x y = λ i. Printed (x i) (y i)
 
 pub refused_alike : (f f' : List ℕ) (w w' : Refusal) → f ≡ f' → w ≡ w' → Refused f w ≡ Refused f' w'
 refused_alike f f' w w' x y = λ i. Refused (x i) (y i)
-
--- the deck of a file
-synth_printed : (known : Pairs) (file : List ℕ) (s s' : ℕ) (t t' : List ℕ) → IsDeck (Some known) file s t → IsDeck (Some known) file s' t' → Printed s t ≡ Printed s' t'
-synth_printed known file s s' t t' x y =
-    let same = bytes_alike known file y.bytes x.bytes y.is_file.holds x.is_file.holds in
-    printed_alike s s' t t' (x.done ∙ sym y.done) (decks_alike x.bytes t t' x.deck (subst (λ (b : List ℕ). IsDeckFor b t') same y.deck))
-
-synth_refused : (known : Pairs) (file f f' : List ℕ) (w w' : Refusal) → IsNoDeck (Some known) file f w → IsNoDeck (Some known) file f' w' → Refused f w ≡ Refused f' w'
-synth_refused known file f f' w w' x y =
-    let same = bytes_alike known file y.bytes x.bytes y.holds x.holds in
-    refused_alike f f' w w' (x.name_is ∙ sym y.name_is) (causes_alike x.bytes w w' x.refused (subst (λ (b : List ℕ). IsRefusedFor b w') same y.refused))
-
-synth_apart : (known : Pairs) (file f : List ℕ) (s : ℕ) (t : List ℕ) (w : Refusal) → IsDeck (Some known) file s t → IsNoDeck (Some known) file f w → ⊥
-synth_apart known file f s t w x y =
-    let same = bytes_alike known file y.bytes x.bytes y.holds x.is_file.holds in
-    not_both x.bytes w (subst (λ (b : List ℕ). IsRefusedFor b w) same y.refused) x.deck.buildable
 
 -- the trace of a deck over a stimulus
 sim_printed : (known : Pairs) (deck stim : List ℕ) (options : TraceOptionsData) (s s' : ℕ) (t t' : List ℕ)
@@ -106,7 +91,6 @@ sim_cause known deck stim name (Stim line kind) is = inr (record { fault = stim_
 sim_cause known deck stim name (Blif line kind) is = absurd is
 sim_cause known deck stim name (Flat line kind any) is = absurd is
 sim_cause known deck stim name (TooMany limit count) is = absurd is
-sim_cause known deck stim name NotBuilt is = absurd is
 
 -- where both files were read, neither is too long
 pub no_long : (known : Pairs) (deck stim name deck_bytes stim_bytes : List ℕ) → IsFile (Some known) deck deck_bytes → IsFile (Some known) stim stim_bytes → IsFirstTooLong (Some known) deck stim name → ⊥
@@ -151,12 +135,28 @@ flat_printed known file s s' t t' x y =
     let networks = networks_alike x.bytes x.network y.network x.has (subst (λ b. HasNetwork b y.network) same y.has) in
     printed_alike s s' t t' (x.done ∙ sym y.done) (x.text_is ∙ ap (λ n. printed (file_of n)) networks ∙ sym y.text_is)
 
-flat_refused : (known : Pairs) (file f f' : List ℕ) (w w' : Refusal) → IsNoFlat (Some known) file f w → IsNoFlat (Some known) file f' w' → Refused f w ≡ Refused f' w'
-flat_refused known file f f' w w' x y =
+-- the deck of a file
+synth_printed : (known : Pairs) (file : List ℕ) (options : SynthOptions) (s s' : ℕ) (t t' : List ℕ) → IsDeck (Some known) file options s t → IsDeck (Some known) file options s' t' → Printed s t ≡ Printed s' t'
+synth_printed known file options s s' t t' x y =
+    let same = bytes_alike known file y.bytes x.bytes y.is_file.holds x.is_file.holds in
+    let deck = subst (λ b. IsDeckFor b (bounds_of options) options.phases t') same y.deck in
+    let networks = networks_alike x.bytes deck.network x.deck.network deck.has x.deck.has in
+    let text = subst (λ n. IsSynthText t' n (bounds_of options) options.phases) networks deck.is_text in
+    printed_alike s s' t t' (x.done ∙ sym y.done)
+    (synth_texts_one x.deck.network (bounds_of options) options.phases t t' (network_kept x.bytes x.deck.network x.deck.has) x.deck.is_text text)
+
+synth_apart : (known : Pairs) (file f : List ℕ) (options : SynthOptions) (s : ℕ) (t : List ℕ) (w : Refusal) → IsDeck (Some known) file options s t → HasNone (Some known) file f w → ⊥
+synth_apart known file f options s t w x y =
+    let same = bytes_alike known file y.bytes x.bytes y.holds x.is_file.holds in
+    network_or_cause x.bytes x.deck.network w x.deck.has (subst (λ b. HasNoNetworkFor b w) same y.refused)
+
+-- the cause for which it has no network
+none_alike : (known : Pairs) (file f f' : List ℕ) (w w' : Refusal) → HasNone (Some known) file f w → HasNone (Some known) file f' w' → Refused f w ≡ Refused f' w'
+none_alike known file f f' w w' x y =
     let same = bytes_alike known file y.bytes x.bytes y.holds x.holds in
     refused_alike f f' w w' (x.name_is ∙ sym y.name_is) (network_causes_alike x.bytes w w' x.refused (subst (λ b. HasNoNetworkFor b w') same y.refused))
 
-flat_apart : (known : Pairs) (file f : List ℕ) (s : ℕ) (t : List ℕ) (w : Refusal) → IsFlat (Some known) file s t → IsNoFlat (Some known) file f w → ⊥
+flat_apart : (known : Pairs) (file f : List ℕ) (s : ℕ) (t : List ℕ) (w : Refusal) → IsFlat (Some known) file s t → HasNone (Some known) file f w → ⊥
 flat_apart known file f s t w x y =
     let same = bytes_alike known file y.bytes x.bytes y.holds x.is_file.holds in
     network_or_cause x.bytes x.network w x.has (subst (λ b. HasNoNetworkFor b w) same y.refused)
@@ -189,14 +189,14 @@ module _ (known : Pairs) (file stim : List ℕ) where
   run_apart f s t w x (inr y) = run_or_cause x.bytes x.stim_bytes t w x.run_is (not_run_here x.bytes x.stim_bytes f w x.is_file x.is_stim y)
 
 pub one_outcome : (known : List (List ℕ × List ℕ)) (command : Command) (a b : Outcome) → IsOutcome (Some known) command a → IsOutcome (Some known) command b → a ≡ b
-one_outcome known (Synth file) (Printed s t) (Printed s' t') x y = synth_printed known file s s' t t' x y
-one_outcome known (Synth file) (Printed s t) (Refused f w) x y = absurd (synth_apart known file f s t w x y)
-one_outcome known (Synth file) (Refused f w) (Printed s t) x y = absurd (synth_apart known file f s t w y x)
-one_outcome known (Synth file) (Refused f w) (Refused f' w') x y = synth_refused known file f f' w w' x y
+one_outcome known (Synth file o) (Printed s t) (Printed s' t') x y = synth_printed known file o s s' t t' x y
+one_outcome known (Synth file o) (Printed s t) (Refused f w) x y = absurd (synth_apart known file f o s t w x y)
+one_outcome known (Synth file o) (Refused f w) (Printed s t) x y = absurd (synth_apart known file f o s t w y x)
+one_outcome known (Synth file o) (Refused f w) (Refused f' w') x y = none_alike known file f f' w w' x y
 one_outcome known (flat file) (Printed s t) (Printed s' t') x y = flat_printed known file s s' t t' x y
 one_outcome known (flat file) (Printed s t) (Refused f w) x y = absurd (flat_apart known file f s t w x y)
 one_outcome known (flat file) (Refused f w) (Printed s t) x y = absurd (flat_apart known file f s t w y x)
-one_outcome known (flat file) (Refused f w) (Refused f' w') x y = flat_refused known file f f' w w' x y
+one_outcome known (flat file) (Refused f w) (Refused f' w') x y = none_alike known file f f' w w' x y
 one_outcome known (run file stim) (Printed s t) (Printed s' t') x y = run_printed known file stim s s' t t' x y
 one_outcome known (run file stim) (Printed s t) (Refused f w) x y = absurd (run_apart known file stim f s t w x y)
 one_outcome known (run file stim) (Refused f w) (Printed s t) x y = absurd (run_apart known file stim f s t w y x)

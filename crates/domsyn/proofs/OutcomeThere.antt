@@ -1,5 +1,5 @@
 -- Over files that are known, a command has an outcome.
-use Rattle.std.proofs.Common.{◌≡◌, ◌<◌, ◌≤◌, ◌⊎◌, inl, inr, ℕ, List, [], ◌∷◌, length, take, refl, arith}
+use Rattle.std.proofs.Common.{◌≡◌, ◌<◌, ◌≤◌, ◌⊎◌, inl, inr, ℕ, List, [], ◌∷◌, length, refl, arith}
 use Rattle.std.specs.Prelude.{All, Some, if◌then◌else◌}
 use Rattle.std.proofs.lemmas.List.Elements.{All-head, All-tail}
 use Rattle.dom_base.specs.Answers.{HasOneAnswer}
@@ -10,13 +10,10 @@ use Rattle.blif_read.proofs.OneAnswer.{one_answer as blif_answer}
 use Rattle.deck.specs.CircuitData.{CircuitData}
 use Rattle.deck.specs.DeckFaults.{IsDeckFault, IsDeckFaultAt}
 use Rattle.deck.specs.DeckText.{IsDeckOf}
-use Rattle.deck.specs.Ports.{HasRoles, leading_ports, HasSomeRoles}
 use Rattle.deck.specs.Roles.{AreRoles, HaveRolesOrLeave, ports_of}
 use Rattle.deck.specs.declared.role.Roles.{Roles}
-use Rattle.deck.proofs.PortDecisions.{has_roles, roles_or_leave}
-use Rattle.deck.proofs.PortLayout.{HasRoles-same}
+use Rattle.deck.proofs.PortDecisions.{roles_or_leave}
 use Rattle.spice_read.proofs.OneAnswer.{one_answer as deck_answer}
-use Rattle.spice_text.specs.Text.{IsWritten, text_with}
 use Rattle.stim_text.specs.Stimuli.{IsStimFaultAt, IsStimulusOf}
 use Rattle.stim_text.proofs.OneAnswer.{one_answer as stim_answer}
 use Rattle.trace_tool.specs.Refusals.{IsRefused}
@@ -24,7 +21,8 @@ use Rattle.trace_tool.specs.TraceData.{TraceOptionsData}
 use Rattle.trace_tool.specs.declared.fault.TraceFault.{TraceFault}
 use Rattle.trace_tool.specs.declared.fault.TraceFault.TheVariants.{Deck as deck_fault, Ports as port_fault, Stim as stim_fault}
 use Rattle.trace_tool.proofs.TraceThere.{trace_is_there}
-use Rattle.command_words.specs.Commands.{Command, Synth, Flat as flat, Run as run, Sim, files_of}
+use Rattle.command_words.specs.Commands.{Command, Synth, Flat as flat, Run as run, Sim, HasGoodOptions, files_of}
+use Rattle.command_words.specs.SynthOptionWords.{AreGoodOptions}
 use Rattle.blif_ast.specs.Printed.{printed}
 use Rattle.net_flatten.specs.NetworkData.{NetworkData}
 use Rattle.net_flatten.specs.OneModel.{file_of}
@@ -35,17 +33,15 @@ use Rattle.net_run.proofs.OneRun.{one_run}
 use Rattle.network_law.specs.Laws.{HasAnswer}
 use Rattle.network_law.proofs.Answered.{has_answer}
 use Rattle.domsyn.specs.declared.refusal.Refusal.{Refusal}
-use Rattle.domsyn.specs.declared.refusal.Refusal.TheVariants.{TooLong, Blif, Flat, TooMany, NotBuilt, Deck, Ports, Stim}
-use Rattle.domsyn.specs.Deck.{circuit_of}
+use Rattle.domsyn.specs.declared.refusal.Refusal.TheVariants.{TooLong, Blif, Flat, TooMany, Deck, Ports, Stim}
 use Rattle.domsyn.specs.Laws.{IsKnownFile}
+use Rattle.synth_flow.specs.declared.options.SynthOptions.{SynthOptions}
+use Rattle.plan_law.proofs.DecksThere.{texts_there}
+use Rattle.domsyn.specs.Decks.{bounds_of}
 use Rattle.domsyn.specs.Networks.{HasNetwork, IsNotRunFor, about, run_lines}
 use Rattle.domsyn.specs.Refusals.{HasNoNetworkFor}
 use Rattle.domsyn.proofs.NetworkCauses.{network_kept}
-use Rattle.domsyn.specs.OneTable.{IsFileOfTable, IsOneTable}
-use Rattle.domsyn.specs.OneTableData.{OneTableData}
 use Rattle.domsyn.specs.Outcomes.{IsNoTrace, IsOutcome, Outcome, Printed, Refused}
-use Rattle.domsyn.proofs.BuiltFiles.{built_or_not}
-use Rattle.domsyn.proofs.FileNames.{HasByteNames-read}
 
 abbrev Pairs : Type 0
 Pairs = List (List ℕ × List ℕ)
@@ -53,65 +49,11 @@ Pairs = List (List ℕ × List ℕ)
 abbrev HasOne : Pairs → Command → Type 0
 HasOne known command = (outcome : Outcome) × IsOutcome (Some known) command outcome
 
--- a circuit has a text
-written_text : (c : CircuitData) → (text : List ℕ) × IsWritten c text
-written_text c = by (has_roles (take c.ports c.nets))
-  where
-    by : HasSomeRoles (take c.ports c.nets) ⊎ ((clocks : ℕ) (pins outs : List (List ℕ)) → HasRoles (take c.ports c.nets) clocks pins outs → ⊥) → (text : List ℕ) × IsWritten c text
-    by (inl h) = (
-      text_with c (leading_ports h.clocks) (h.pins ∷ h.outs ∷ []),
-      record {
-        with_roles = λ clocks pins outs has.
-            let same = HasRoles-same (take c.ports c.nets) h.clocks clocks h.pins pins h.outs outs h.roles has in
-            λ i. text_with c (leading_ports (same.same_clocks i)) (same.same_pins i ∷ same.same_outs i ∷ []);
-        without_roles = λ none. absurd (none h.clocks h.pins h.outs h.roles);
-      },
-    )
-    by (inr fails) = (
-      text_with c [] (take c.ports c.nets ∷ []),
-      record {
-        with_roles = λ clocks pins outs has. absurd (fails clocks pins outs has);
-        without_roles = λ none. refl;
-      },
-    )
-
 fits_or_not : (bytes : List ℕ) (limit : ℕ) → (length bytes ≤ limit) ⊎ (limit < length bytes)
 fits_or_not bytes limit = by (length bytes)
   where
     by : (n : ℕ) → (n ≤ limit) ⊎ (limit < n)
     by n = grind arith
-
--- the deck of a file, or the cause for which it's refused
-synth_there : (known : Pairs) (file : List ℕ) → IsKnownFile known file → HasOne known (Synth file)
-synth_there known file is = by (fits_or_not is.bytes file_limit)
-  where
-    table : (f : BlifFileData) → length is.bytes ≤ file_limit → IsFileOf is.bytes f
-        → ((t : OneTableData) × IsOneTable t × IsFileOfTable f t) ⊎ ((t : OneTableData) → IsOneTable t → IsFileOfTable f t → ⊥) → HasOne known (Synth file)
-    table f fits accepted (inl t) =
-        let deck = written_text (circuit_of t.0) in (
-          Printed 0 deck.0,
-          record {
-            bytes = is.bytes;
-            is_file = record { holds = is.holds; within = fits };
-            deck = record {
-              buildable = record { within = fits; file = f; accepted = accepted; table = t.0; is_file = t.2; is_one_table = t.1 };
-              names = HasByteNames-read is.bytes f t.0 is.are_bytes accepted t.2;
-              written = deck.1;
-            };
-            done = refl;
-          },
-        )
-    table f fits accepted (inr fails) =
-        (Refused file NotBuilt, record { bytes = is.bytes; holds = is.holds; refused = record { within = fits; file = f; accepted = accepted; other = fails }; name_is = refl })
-
-    read : length is.bytes ≤ file_limit → HasOneAnswer (IsFileOf is.bytes) (IsBlifFault is.bytes) (IsBlifFaultAt is.bytes) → HasOne known (Synth file)
-    read fits (inl f) = table f.0 fits f.1.is_answer (built_or_not f.0)
-    read fits (inr r) =
-        (Refused file (Blif r.0 r.1), record { bytes = is.bytes; holds = is.holds; refused = record { within = fits; fault = r.2.is_refused }; name_is = refl })
-
-    by : (length is.bytes ≤ file_limit) ⊎ (file_limit < length is.bytes) → HasOne known (Synth file)
-    by (inl fits) = read fits (blif_answer is.bytes)
-    by (inr long) = (Refused file TooLong, record { bytes = is.bytes; holds = is.holds; refused = long; name_is = refl })
 
 -- the trace of a deck over a stimulus, or the cause for which one of them is refused
 sim_there : (known : Pairs) (deck stim : List ℕ) (options : TraceOptionsData) → IsKnownFile known deck → IsKnownFile known stim → HasOne known (Sim deck stim options)
@@ -164,7 +106,6 @@ IsNetworkCause TooLong = ⊥
 IsNetworkCause (Blif line kind) = Unit {0}
 IsNetworkCause (Flat line kind name) = Unit {0}
 IsNetworkCause (TooMany limit count) = Unit {0}
-IsNetworkCause NotBuilt = ⊥
 IsNetworkCause (Deck line kind) = ⊥
 IsNetworkCause (Ports place) = ⊥
 IsNetworkCause (Stim line kind) = ⊥
@@ -201,6 +142,20 @@ flat_there known file is = by (fits_or_not is.bytes file_limit)
     by (inl fits) = made fits (network_there is.bytes fits)
     by (inr long) = (Refused file TooLong, record { bytes = is.bytes; holds = is.holds; refused = long; name_is = refl })
 
+-- the deck of a file, or the cause for which it's refused
+synth_there : (known : Pairs) (file : List ℕ) (options : SynthOptions) → AreGoodOptions options → IsKnownFile known file → HasOne known (Synth file options)
+synth_there known file options good is = by (fits_or_not is.bytes file_limit)
+  where
+    made : length is.bytes ≤ file_limit → HasNetworkOrCause is.bytes → HasOne known (Synth file options)
+    made fits (inl n) =
+        let text = texts_there n.0 (bounds_of options) options.phases (network_kept is.bytes n.0 n.1) good.some_width good.some_height in
+        (Printed 0 text.0, record { bytes = is.bytes; is_file = record { holds = is.holds; within = fits }; deck = record { network = n.0; has = n.1; is_text = text.1 }; done = refl })
+    made fits (inr r) = (Refused file r.0, record { bytes = is.bytes; holds = is.holds; refused = r.1; name_is = refl })
+
+    by : (length is.bytes ≤ file_limit) ⊎ (file_limit < length is.bytes) → HasOne known (Synth file options)
+    by (inl fits) = made fits (network_there is.bytes fits)
+    by (inr long) = (Refused file TooLong, record { bytes = is.bytes; holds = is.holds; refused = long; name_is = refl })
+
 -- the run of the network of a file over a stimulus, or the cause for which one of them is refused
 run_there : (known : Pairs) (file stim : List ℕ) → IsKnownFile known file → IsKnownFile known stim → HasOne known (run file stim)
 run_there known file stim f s = by (fits_or_not f.bytes file_limit) (fits_or_not s.bytes file_limit)
@@ -223,7 +178,6 @@ run_there known file stim f s = by (fits_or_not f.bytes file_limit) (fits_or_not
     refused short few (Blif line kind) is network = none short few file (Blif line kind) is refl
     refused short few (Flat line kind name) is network = none short few file (Flat line kind name) is refl
     refused short few (TooMany limit count) is network = none short few file (TooMany limit count) is refl
-    refused short few NotBuilt is network = absurd network
     refused short few (Deck line kind) is network = absurd network
     refused short few (Ports place) is network = absurd network
     refused short few (Stim line kind) is network = absurd network
@@ -255,12 +209,12 @@ run_there known file stim f s = by (fits_or_not f.bytes file_limit) (fits_or_not
         (Refused stim TooLong, inl (refl, inr (f.bytes, refl, record { holds = f.holds; within = short }, record { bytes = s.bytes; holds = s.holds; long = long })))
     by (inr long) any = (Refused file TooLong, inl (refl, inl (refl, record { bytes = f.bytes; holds = f.holds; long = long })))
 
-pub outcome_there : (known : Pairs) (command : Command) → All (IsKnownFile known) (files_of command) → HasOne known command
-outcome_there known (Synth file) all = synth_there known file (All-head (IsKnownFile known) file [] all)
-outcome_there known (flat file) all = flat_there known file (All-head (IsKnownFile known) file [] all)
-outcome_there known (run file stim) all =
+pub outcome_there : (known : Pairs) (command : Command) → HasGoodOptions command → All (IsKnownFile known) (files_of command) → HasOne known command
+outcome_there known (Synth file options) good all = synth_there known file options good (All-head (IsKnownFile known) file [] all)
+outcome_there known (flat file) good all = flat_there known file (All-head (IsKnownFile known) file [] all)
+outcome_there known (run file stim) good all =
     run_there known file stim (All-head (IsKnownFile known) file (stim ∷ []) all)
     (All-head (IsKnownFile known) stim [] (All-tail (IsKnownFile known) file (stim ∷ []) all))
-outcome_there known (Sim deck stim options) all =
+outcome_there known (Sim deck stim options) good all =
     sim_there known deck stim options (All-head (IsKnownFile known) deck (stim ∷ []) all)
     (All-head (IsKnownFile known) stim [] (All-tail (IsKnownFile known) deck (stim ∷ []) all))

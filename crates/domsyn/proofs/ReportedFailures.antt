@@ -1,17 +1,15 @@
 -- What the status of a failure says of the words that are asked.
 use Rattle.std.proofs.Common.{◌≡◌, ◌⊎◌, ℕ, List, None, Some, inl, inr, arith}
 use Rattle.std.specs.Prelude.{IfSome}
-use Rattle.dom_io.specs.Held.{held}
 use Rattle.domsyn.specs.declared.failure.Failure.{Failure}
 use Rattle.domsyn.specs.declared.failure.Failure.TheVariants as failure
 use Rattle.domsyn.specs.declared.refusal.Refusal.{Refusal}
-use Rattle.command_words.specs.Commands.{Asks, Command, Synth}
-use Rattle.domsyn.specs.Decks.{IsBuildable}
+use Rattle.command_words.specs.Commands.{Asks, Command}
 use Rattle.domsyn.specs.Outcomes.{Files, Outcome, Refused, status_of}
 use Rattle.domsyn.specs.Refusals.{refusal_line}
 use Rattle.domsyn.specs.Failures.{IsFailureOf, IsReportedAt}
 use Rattle.domsyn.specs.Top.{HasOutcome, MeetsUnread, line_of, unread_line}
-use Rattle.domsyn.proofs.TopClauses.{each_outcome, each_refusal, refused_not_built}
+use Rattle.domsyn.proofs.TopClauses.{each_outcome, each_refusal}
 
 -- a status with what is reported: the refusal that is the outcome, a file that can't be read, or out of memory
 pub data FailureReported (files : Files) (words : List (List ℕ)) (Rises : Type 0) (status : ℕ) (Reports : List ℕ → Type 0) : Type 0 where
@@ -53,19 +51,3 @@ reported_complete {files = Some known} {words = words} {Rises = Rises} {status =
     each_outcome (Some known) words (Refused file why) (λ outcome. (Rises → ⊥) → (Fails → ⊥) → (status ≡ status_of outcome) ⊎ (status ≡ 5)) comes (λ same_shelf same_out. inl one)
 reported_complete {files = Some known} Fails (unread file meets rises three tells) = λ outcome comes same_shelf same_out. absurd (same_shelf rises)
 reported_complete {files = Some known} Fails (memory five tells) = λ outcome comes same_shelf same_out. inr five
-
--- where no count rose, a file that is built isn't refused
-pub reported_built : {files : Files} {words : List (List ℕ)} {Rises : Type 0} {status : ℕ} {Reports : List ℕ → Type 0} (Fails : Type 0) → FailureReported files words Rises status Reports
-    → IfSome files (λ known. (file whole : List ℕ) → Asks words (Synth file) → held known file ≡ Some whole → IsBuildable whole → (Rises → ⊥) → (Fails → ⊥) → (status ≡ 0) ⊎ (status ≡ 5))
-reported_built {files = None} Fails stop = tt
-reported_built {files = Some known} {words = words} Fails (refusal name why comes one tells) = λ file whole asks found built same_shelf same_out. absurd (refused_not_built known name why file comes asks found built)
-reported_built {files = Some known} Fails (unread name meets rises three tells) = λ file whole asks found built same_shelf same_out. absurd (same_shelf rises)
-reported_built {files = Some known} Fails (memory five tells) = λ file whole asks found built same_shelf same_out. inr five
-
--- and one that isn't built is refused
-pub reported_other : {files : Files} {words : List (List ℕ)} {Rises : Type 0} {status : ℕ} {Reports : List ℕ → Type 0} → FailureReported files words Rises status Reports
-    → IfSome files (λ known. (file whole : List ℕ) → Asks words (Synth file) → held known file ≡ Some whole → (IsBuildable whole → ⊥) → (Rises → ⊥) → (status ≡ 1) ⊎ (status ≡ 5))
-reported_other {files = None} stop = tt
-reported_other {files = Some known} (refusal name why comes one tells) = λ file whole asks found other same_shelf. inl one
-reported_other {files = Some known} (unread name meets rises three tells) = λ file whole asks found other same_shelf. absurd (same_shelf rises)
-reported_other {files = Some known} (memory five tells) = λ file whole asks found other same_shelf. inr five

@@ -4,10 +4,10 @@ use Rattle.command_words.specs.Commands.{Command}
 use Rattle.domsyn.specs.declared.failure.Failure.{Failure}
 use Rattle.domsyn.specs.declared.failure.Failure.TheVariants as failure
 use Rattle.domsyn.specs.declared.refusal.Refusal.{Refusal}
-use Rattle.domsyn.specs.declared.refusal.Refusal.TheVariants.{TooLong, Blif, Flat, TooMany, NotBuilt, Deck, Ports, Stim}
+use Rattle.domsyn.specs.declared.refusal.Refusal.TheVariants.{TooLong, Blif, Flat, TooMany, Deck, Ports, Stim}
 use Rattle.domsyn.specs.Outcomes.{Files, IsOutcome, IsTooLong, IsUnread, Refused}
 use Rattle.domsyn.specs.Networks.{IsNotRunFor, about}
-use Rattle.domsyn.specs.Refusals.{HasNoNetworkFor, IsRefusedFor, refusal_line}
+use Rattle.domsyn.specs.Refusals.{HasNoNetworkFor, refusal_line}
 use Rattle.domsyn.specs.Top.{line_of, unread_line}
 use Rattle.trace_tool.specs.Refusals.{IsRefused}
 use Rattle.trace_tool.specs.declared.fault.TraceFault.TheVariants.{Deck as deck_fault, Ports as port_fault, Stim as stim_fault}
@@ -24,12 +24,6 @@ abbrev pub IsUnfetched : Files → List ℕ → Type 0 → Failure → Type 0
 IsUnfetched files name Rises (failure.Refused file why) = (file.now ≡ name) × (why ≡ TooLong) × IsTooLong files name
 IsUnfetched files name Rises (failure.Unread file) = (file.now ≡ name) × Rises
 IsUnfetched files name Rises failure.Memory = Unit {0}
-
--- why bytes of a file of this name have no deck
-abbrev pub IsUnbuilt : List ℕ → List ℕ → Failure → Type 0
-IsUnbuilt name bytes (failure.Refused file why) = (file.now ≡ name) × IsRefusedFor bytes why
-IsUnbuilt name bytes (failure.Unread file) = ⊥
-IsUnbuilt name bytes failure.Memory = Unit {0}
 
 -- why bytes of a file of this name have no network
 abbrev pub HasNoNetwork : List ℕ → List ℕ → Failure → Type 0
@@ -51,7 +45,6 @@ IsUnsimulated deck stim name TooLong = ⊥
 IsUnsimulated deck stim name (Blif line kind) = ⊥
 IsUnsimulated deck stim name (Flat line kind any) = ⊥
 IsUnsimulated deck stim name (TooMany limit count) = ⊥
-IsUnsimulated deck stim name NotBuilt = ⊥
 
 -- why a deck and a stimulus that were read have no trace
 abbrev pub IsUntraced : (deck stim : ReadFile) → Failure → Type 0

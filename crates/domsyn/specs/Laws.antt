@@ -1,7 +1,7 @@
 -- What holds of each command and its outcomes.
 use Rattle.std.specs.Prelude.{ℕ, ◌≡◌, ◌<◌, List, All, Some}
 use Rattle.dom_io.specs.Held.{held}
-use Rattle.command_words.specs.Commands.{Command, files_of}
+use Rattle.command_words.specs.Commands.{Command, HasGoodOptions, files_of}
 use Rattle.domsyn.specs.Outcomes.{IsOutcome, Outcome}
 
 -- over files that are known a command has at most one outcome
@@ -15,7 +15,8 @@ pub record IsKnownFile (known : List (List ℕ × List ℕ)) (name : List ℕ) :
   pub holds : held known name ≡ Some bytes
   pub are_bytes : All (λ b. b < 256) bytes
 
--- over files that are known a command has an outcome, where each of its files is one of them
+-- over files that are known a command has an outcome, where each of its files is one of them and its options are within the ranges of
+-- their values, as those are that words ask for
 abbrev pub OutcomeIsThere : Type 0
-OutcomeIsThere = (known : List (List ℕ × List ℕ)) (command : Command) → All (IsKnownFile known) (files_of command)
+OutcomeIsThere = (known : List (List ℕ × List ℕ)) (command : Command) → HasGoodOptions command → All (IsKnownFile known) (files_of command)
     → (outcome : Outcome) × IsOutcome (Some known) command outcome

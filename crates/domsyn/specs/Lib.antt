@@ -1,15 +1,10 @@
 pub mod Bits
-pub mod CellNames
-pub mod Deck
 pub mod Decks
 pub mod Failures
 pub mod Headline
 pub mod Laws
 pub mod NetworkRuns
 pub mod Networks
-pub mod OneTable
-pub mod OneTableData
 pub mod Outcomes
-pub mod PullDown
 pub mod Refusals
 pub mod Top

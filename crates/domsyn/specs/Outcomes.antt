@@ -5,11 +5,12 @@ use Rattle.blif_ast.specs.Printed.{printed}
 use Rattle.net_flatten.specs.NetworkData.{NetworkData}
 use Rattle.net_flatten.specs.OneModel.{file_of}
 use Rattle.domsyn.specs.declared.refusal.Refusal.{Refusal}
-use Rattle.domsyn.specs.declared.refusal.Refusal.TheVariants.{TooLong, Blif, Flat, TooMany, NotBuilt, Deck, Ports, Stim}
+use Rattle.domsyn.specs.declared.refusal.Refusal.TheVariants.{TooLong, Blif, Flat, TooMany, Deck, Ports, Stim}
 use Rattle.command_words.specs.Commands.{Command, Synth, Flat as flat, Run as run, Sim}
-use Rattle.domsyn.specs.Decks.{IsDeckFor}
+use Rattle.synth_flow.specs.declared.options.SynthOptions.{SynthOptions}
+use Rattle.domsyn.specs.Decks.{IsDeckFor, bounds_of}
 use Rattle.domsyn.specs.Networks.{HasNetwork, IsNotRunFor, IsRunOf, about}
-use Rattle.domsyn.specs.Refusals.{HasNoNetworkFor, IsRefusedFor}
+use Rattle.domsyn.specs.Refusals.{HasNoNetworkFor}
 use Rattle.trace_tool.specs.Refusals.{IsRefused}
 use Rattle.trace_tool.specs.TraceData.{TraceOptionsData}
 use Rattle.trace_tool.specs.Traces.{IsTraceOf}
@@ -44,20 +45,14 @@ abbrev pub status_of : Outcome → ℕ
 status_of (Printed status text) = status
 status_of (Refused file why) = 1
 
--- the deck of a file, or the cause for which there is none
-pub record IsDeck (files : Files) (file : List ℕ) (status : ℕ) (text : List ℕ) : Type 0 where
+-- the deck of a file, with options
+pub record IsDeck (files : Files) (file : List ℕ) (options : SynthOptions) (status : ℕ) (text : List ℕ) : Type 0 where
   pub bytes : List ℕ
   pub is_file : IsFile files file bytes
-  pub deck : IsDeckFor bytes text
+  pub deck : IsDeckFor bytes (bounds_of options) options.phases text
   pub done : status ≡ 0
 
-pub record IsNoDeck (files : Files) (file name : List ℕ) (why : Refusal) : Type 0 where
-  pub bytes : List ℕ
-  pub holds : HasBytes files file bytes
-  pub refused : IsRefusedFor bytes why
-  pub name_is : name ≡ file
-
--- the network of a file as the text of one model, or the cause for which there is none
+-- the network of a file as the text of one model
 pub record IsFlat (files : Files) (file : List ℕ) (status : ℕ) (text : List ℕ) : Type 0 where
   pub bytes : List ℕ
   pub is_file : IsFile files file bytes
@@ -66,7 +61,8 @@ pub record IsFlat (files : Files) (file : List ℕ) (status : ℕ) (text : List 
   pub text_is : text ≡ printed (file_of network)
   pub done : status ≡ 0
 
-pub record IsNoFlat (files : Files) (file name : List ℕ) (why : Refusal) : Type 0 where
+-- a file has no network for this cause
+pub record HasNone (files : Files) (file name : List ℕ) (why : Refusal) : Type 0 where
   pub bytes : List ℕ
   pub holds : HasBytes files file bytes
   pub refused : HasNoNetworkFor bytes why
@@ -127,14 +123,13 @@ IsSimRefusal files deck stim name (Stim line kind) = (name ≡ stim) × IsNoTrac
 IsSimRefusal files deck stim name (Blif line kind) = ⊥
 IsSimRefusal files deck stim name (Flat line kind any) = ⊥
 IsSimRefusal files deck stim name (TooMany limit count) = ⊥
-IsSimRefusal files deck stim name NotBuilt = ⊥
 
 -- the command has this outcome over these files
 abbrev pub IsOutcome : Files → Command → Outcome → Type 0
-IsOutcome files (Synth file) (Printed status text) = IsDeck files file status text
-IsOutcome files (Synth file) (Refused name why) = IsNoDeck files file name why
+IsOutcome files (Synth file options) (Printed status text) = IsDeck files file options status text
+IsOutcome files (Synth file options) (Refused name why) = HasNone files file name why
 IsOutcome files (flat file) (Printed status text) = IsFlat files file status text
-IsOutcome files (flat file) (Refused name why) = IsNoFlat files file name why
+IsOutcome files (flat file) (Refused name why) = HasNone files file name why
 IsOutcome files (run file stim) (Printed status text) = IsPrintedRun files file stim status text
 IsOutcome files (run file stim) (Refused name why) = IsRunRefusal files file stim name why
 IsOutcome files (Sim deck stim options) (Printed status text) = IsTrace files deck stim options status text
@@ -142,7 +137,7 @@ IsOutcome files (Sim deck stim options) (Refused name why) = IsSimRefusal files 
 
 -- a file of the command, before which each one was read and isn't too long
 abbrev pub IsUnread : Files → Command → List ℕ → Type 0
-IsUnread files (Synth file) name = name ≡ file
+IsUnread files (Synth file options) name = name ≡ file
 IsUnread files (flat file) name = name ≡ file
 IsUnread files (run file stim) name = (name ≡ file) ⊎ ((bytes : List ℕ) × (name ≡ stim) × IsFile files file bytes)
 IsUnread files (Sim deck stim options) name = (name ≡ deck) ⊎ ((bytes : List ℕ) × (name ≡ stim) × IsFile files deck bytes)

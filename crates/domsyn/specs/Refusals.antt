@@ -14,22 +14,13 @@ use Rattle.net_flatten.specs.Refusal.{Refusal as Hierarchy}
 use Rattle.net_flatten.specs.Refusal as hierarchy
 use Rattle.net_flatten.specs.Refusals.{IsRefusal}
 use Rattle.domsyn.specs.declared.refusal.Refusal.{Refusal}
-use Rattle.domsyn.specs.declared.refusal.Refusal.TheVariants.{TooLong, Blif, Flat, TooMany, NotBuilt, Deck, Ports, Stim}
+use Rattle.domsyn.specs.declared.refusal.Refusal.TheVariants.{TooLong, Blif, Flat, TooMany, Deck, Ports, Stim}
 use Rattle.stim_text.specs.Stimuli.{stim_kind_word}
-use Rattle.domsyn.specs.OneTable.{IsOneTable, IsFileOfTable}
-use Rattle.domsyn.specs.OneTableData.{OneTableData}
 
 -- no more bytes than a file may have, with a fault of this kind at this line: the first line with a fault, and its smallest kind
 pub record IsFaultyAt (bytes : List ℕ) (line : ℕ) (kind : BlifKind) : Type 0 where
   pub within : length bytes ≤ file_limit
   pub fault : IsBlifFaultAt bytes line kind
-
--- no more bytes than a file may have, which are accepted, but whose file is no network that is built
-pub record IsNotBuilt (bytes : List ℕ) : Type 0 where
-  pub within : length bytes ≤ file_limit
-  pub file : BlifFileData
-  pub accepted : IsFileOf bytes file
-  pub other : (t : OneTableData) → IsOneTable t → IsFileOfTable file t → ⊥
 
 -- no more bytes than a file may have, which are accepted, but whose file is refused for this
 pub record IsHierarchyRefused (bytes : List ℕ) (why : Hierarchy) : Type 0 where
@@ -38,24 +29,12 @@ pub record IsHierarchyRefused (bytes : List ℕ) (why : Hierarchy) : Type 0 wher
   pub accepted : IsFileOf bytes file
   pub refused : IsRefusal file why
 
--- no deck is built of a file of these bytes, for this cause
-abbrev pub IsRefusedFor : List ℕ → Refusal → Type 0
-IsRefusedFor bytes TooLong = file_limit < length bytes
-IsRefusedFor bytes (Blif line kind) = IsFaultyAt bytes line kind
-IsRefusedFor bytes NotBuilt = IsNotBuilt bytes
-IsRefusedFor bytes (Flat line kind name) = ⊥
-IsRefusedFor bytes (TooMany limit count) = ⊥
-IsRefusedFor bytes (Deck line kind) = ⊥
-IsRefusedFor bytes (Ports place) = ⊥
-IsRefusedFor bytes (Stim line kind) = ⊥
-
 -- a file of these bytes has no network, for this cause
 abbrev pub HasNoNetworkFor : List ℕ → Refusal → Type 0
 HasNoNetworkFor bytes TooLong = file_limit < length bytes
 HasNoNetworkFor bytes (Blif line kind) = IsFaultyAt bytes line kind
 HasNoNetworkFor bytes (Flat line kind name) = IsHierarchyRefused bytes (hierarchy.At kind line name)
 HasNoNetworkFor bytes (TooMany limit count) = IsHierarchyRefused bytes (hierarchy.TooMany limit count)
-HasNoNetworkFor bytes NotBuilt = ⊥
 HasNoNetworkFor bytes (Deck line kind) = ⊥
 HasNoNetworkFor bytes (Ports place) = ⊥
 HasNoNetworkFor bytes (Stim line kind) = ⊥
@@ -77,7 +56,6 @@ refusal_text (Blif line kind) =
     codes ":" ++ decimal line ++ codes ": blif " ++ decimal (blif_kind_number kind) ++ codes " " ++ blif_kind_word kind ++ codes "\n"
 refusal_text (Flat line kind name) = named_text line kind name
 refusal_text (TooMany limit count) = count_text limit count
-refusal_text NotBuilt = codes ": not built\n"
 refusal_text (Deck line kind) =
     codes ":" ++ decimal line ++ codes ": deck " ++ decimal (deck_kind_number kind) ++ codes " " ++ deck_kind_word kind ++ codes "\n"
 refusal_text (Ports place) = codes ": deck port " ++ decimal place ++ codes "\n"

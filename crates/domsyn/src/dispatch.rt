@@ -2,9 +2,10 @@
 ghost use Rattle.std.specs.Prelude.{◌≡◌, ◌≤◌, ◌↔◌, ℕ, List, All, IfOk, IsErrOf, if◌then◌else◌};
 ghost use Rattle.dom_io.specs.Faults.{Rose};
 ghost use Rattle.command_words.specs.Asked.{asked};
-ghost use Rattle.command_words.specs.Commands.{HasNoProbe, files_of};
+ghost use Rattle.command_words.specs.Commands.{HasGoodOptions, HasNoProbe, files_of};
 ghost use Rattle.domsyn.specs.declared.failure.Failure.{Failure as Failed};
 ghost use Rattle.domsyn.specs.Failures.{IsFailureOf};
+ghost use Rattle.domsyn.specs.Headline.{IsRightFor};
 ghost use Rattle.domsyn.specs.Outcomes.{IsOutcome, Printed};
 
 use crate::answer::Answer;
@@ -25,8 +26,10 @@ pub fn outcome_of<'a, S: Shelf>(
 ) -> Result<Answer, Failure<'a>>
     requires names { All (S.may_ask shelf.old) (files_of (asked command.now)) }
     requires no_probe { HasNoProbe (asked command.now) }
+    requires good_options { HasGoodOptions (asked command.now) }
     ensures text { IfOk result (λ answer.
         IsOutcome (S.files shelf.old) (asked command.now) (Printed (if answer.settled then 0 else 6) answer.text.items)) }
+    ensures right { IfOk result (λ answer. IsRightFor (S.files shelf.old) (asked command.now) answer.text.items) }
     ensures failed { (failure : Failed) → IsErrOf result failure
         → IsFailureOf (S.files shelf.old) (asked command.now) (Rose (S.faults shelf.old) (S.faults shelf.new)) failure }
     ensures same_files { S.files shelf.new ≡ S.files shelf.old }
@@ -34,7 +37,7 @@ pub fn outcome_of<'a, S: Shelf>(
     ensures later { S.faults shelf.old ≤ S.faults shelf.new }
 {
     match command {
-        Command::Synth { file } => synth(alloc, shelf, file),
+        Command::Synth { file, options } => synth(alloc, shelf, file, *options),
         Command::Flat { file } => flat(alloc, shelf, file),
         Command::Run { file, stim } => run(alloc, shelf, file, stim),
         Command::Sim {

@@ -7,7 +7,8 @@ pub fn outcome_is_one()
     ensures { OutcomeIsOne }
 {}
 
-/// Over files that are known, a command has an outcome, where each of its files is one of them.
+/// Over files that are known, a command has an outcome, where each of its files is one of them and its
+/// options are within the ranges of their values.
 pub fn outcome_is_there()
     ensures { OutcomeIsThere }
 {}

@@ -2,16 +2,12 @@
 #![tactic(auto)]
 
 mod answer;
-mod cell;
 mod dispatch;
 mod failure;
 mod fetch;
 mod flat;
-mod form;
 mod laws;
-mod names;
 mod network;
-mod one_table;
 mod program;
 mod refusal;
 mod report;
@@ -20,6 +16,6 @@ mod sim;
 mod status;
 mod synth;
 
-pub use command_words::asked_is_one;
+pub use command_words::{asked_is_in_range, asked_is_one};
 pub use laws::{outcome_is_one, outcome_is_there};
 pub use program::top;

@@ -6,7 +6,7 @@ ghost use Rattle.dom_io.specs.Faults.{Rose};
 ghost use Rattle.dom_io.specs.Pieces.{AppendsPrefix};
 ghost use Rattle.domsyn.specs.declared.refusal.Refusal.{Refusal};
 ghost use Rattle.command_words.specs.Commands.{Asks, Command, files_of};
-ghost use Rattle.domsyn.specs.Headline.{BuildsEach, GivesDeck, RefusesOthers};
+ghost use Rattle.domsyn.specs.Headline.{GivesRightDeck};
 ghost use Rattle.domsyn.specs.Outcomes.{Outcome, Refused, Printed, status_of};
 ghost use Rattle.domsyn.specs.Refusals.{refusal_line};
 ghost use Rattle.domsyn.specs.Top.{HasOutcome, HasRoomFor, IsRefusalLine, IsText, MeetsUnread, Reports, line_of, unread_line};
@@ -69,14 +69,9 @@ pub fn top<S: Shelf, K: Sink, E: Sink>(
         → (Rose (S.faults shelf.old) (S.faults shelf.new) → ⊥) → (Rose (K.faults out.old) (K.faults out.new) → ⊥)
         → (result ≡ status_of outcome) ⊎ (result ≡ 5)) }
 
-    // Where the words ask for the deck of a file, what was put out reads back as a circuit whose pull-down conducts
-    // exactly where the table is 1. A file of a network that is built gives its deck, and each other one is refused.
-    ensures pulled { result ≡ 0 → GivesDeck (S.files shelf.old) (map string_bytes words.now)
+    // Where the words ask for the deck of a file, what was put out is a right deck of that file, in every order of events.
+    ensures headline { result ≡ 0 → GivesRightDeck (S.files shelf.old) (map string_bytes words.now)
         (Appends (K.taken out.old) (K.taken out.new)) }
-    ensures built { BuildsEach (S.files shelf.old) (map string_bytes words.now) result
-        (Rose (S.faults shelf.old) (S.faults shelf.new)) (Rose (K.faults out.old) (K.faults out.new)) }
-    ensures other { RefusesOthers (S.files shelf.old) (map string_bytes words.now) result
-        (Rose (S.faults shelf.old) (S.faults shelf.new)) }
 
     // Nothing is put out at another status, and `err` gets the line of the status, of the cause, or of the file.
     ensures nothing { result ≢ 0 → result ≢ 4 → result ≢ 6 → out.new ≡ out.old }

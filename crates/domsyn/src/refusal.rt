@@ -32,8 +32,6 @@ pub enum Refusal {
         limit: Limit,
         count: u64,
     },
-    /// Its network isn't one of those that are built.
-    NotBuilt,
     /// Its text, read as a deck, has this fault at this line, from 1.
     Deck {
         line: u64,
@@ -70,7 +68,6 @@ impl Refusal {
             }
             Refusal::Flat { line, kind, name } => put_named(text, *line, *kind, name.as_bytes()),
             Refusal::TooMany { limit, count } => put_count(text, *limit, *count),
-            Refusal::NotBuilt => append(text, b": not built\n"),
             Refusal::Deck { line, kind } => {
                 put_fault(text, *line, b": deck ", kind.number(), kind.word())
             }

@@ -1,20 +1,18 @@
 use Rattle.std.proofs.Common.{map, refl, arith}
 use Rattle.std.specs.String.{string_bytes}
 use Rattle.command_words.specs.Asked.{asked}
+use Rattle.command_words.proofs.AskedOnce.{asks_in_range}
 use Rattle.domsyn.specs.Top.{IsText}
-use Rattle.domsyn.proofs.TopClauses.{none_asked, finished_built, finished_complete, finished_other, printed_is_deck}
+use Rattle.domsyn.proofs.TopClauses.{finished_complete, right_deck}
 use Rattle.domsyn.proofs.Rooms.{room_for_failure, room_of}
-use Rattle.domsyn.proofs.ReportedFailures.{failure_reported, reported_built, reported_cause, reported_complete, reported_other, reported_refused, reported_unread}
+use Rattle.domsyn.proofs.ReportedFailures.{failure_reported, reported_cause, reported_complete, reported_refused, reported_unread}
 use Rattle.domsyn.proofs.program.top.Goals as goal
 
 pub report-requires : goal.report-requires
 report-requires g c = c.requires.err_room 2
 
-pub returns-in_default-clause-built : goal.returns-in_default-clause-built
-returns-in_default-clause-built g c = none_asked _ _ _ c.in_default.ensures
-
-pub returns-in_default-clause-other : goal.returns-in_default-clause-other
-returns-in_default-clause-other g c = none_asked _ _ _ c.in_default.ensures
+pub outcome_of-requires-clause-good_options : goal.outcome_of-requires-clause-good_options
+outcome_of-requires-clause-good_options g c = asks_in_range (map string_bytes c.args.words.now) (asked c.in-Some.command) c.in-Some.ensures
 
 pub finish-requires-clause-out_room : goal.finish-requires-clause-out_room
 finish-requires-clause-out_room g c =
@@ -25,18 +23,10 @@ pub returns-in-Ok-clause-complete : goal.returns-in-Ok-clause-complete
 returns-in-Ok-clause-complete g c =
     finished_complete c.in-Ok.answer.text.items _ (record { command = asked c.in-Some.command; asks = c.in-Some.ensures; outcome_is = c.in-Ok.ensures.text }) c.finish.ensures.known c.finish.ensures.cannot_write
 
-pub returns-in-Ok-clause-built : goal.returns-in-Ok-clause-built
-returns-in-Ok-clause-built g c =
-    finished_built c.in-Ok.answer.text.items _ (record { command = asked c.in-Some.command; asks = c.in-Some.ensures; outcome_is = c.in-Ok.ensures.text }) c.finish.ensures.known c.finish.ensures.cannot_write
-
-pub returns-in-Ok-clause-other : goal.returns-in-Ok-clause-other
-returns-in-Ok-clause-other g c =
-    finished_other c.in-Ok.answer.text.items _ _ (record { command = asked c.in-Some.command; asks = c.in-Some.ensures; outcome_is = c.in-Ok.ensures.text })
-
-pub returns-in-Ok-clause-pulled : goal.returns-in-Ok-clause-pulled
-returns-in-Ok-clause-pulled g c = λ zero file asks. (
+pub returns-in-Ok-clause-headline : goal.returns-in-Ok-clause-headline
+returns-in-Ok-clause-headline g c = λ zero file options asks. (
   c.in-Ok.answer.text.items,
-  printed_is_deck c.in-Ok.answer.text.items file (record { command = asked c.in-Some.command; asks = c.in-Some.ensures; outcome_is = c.in-Ok.ensures.text }) asks,
+  right_deck (g.S.Shelf.files c.args.shelf.now) (map string_bytes c.args.words.now) (asked c.in-Some.command) c.in-Ok.answer.text.items file options c.in-Some.ensures asks c.in-Ok.ensures.right,
   c.finish.ensures.done (λ four. absurd (omega (arith, zero, four))),
 )
 
@@ -57,12 +47,6 @@ returns-clause-cause g c = reported_cause (failure_reported (asked c.in-Some.com
 
 pub returns-clause-complete : goal.returns-clause-complete
 returns-clause-complete g c = reported_complete _ (failure_reported (asked c.in-Some.command) c.in-Err.failure c.in-Some.ensures (c.in-Err.ensures.failed c.in-Err.failure refl) c.report_failure.ensures.reported)
-
-pub returns-clause-built : goal.returns-clause-built
-returns-clause-built g c = reported_built _ (failure_reported (asked c.in-Some.command) c.in-Err.failure c.in-Some.ensures (c.in-Err.ensures.failed c.in-Err.failure refl) c.report_failure.ensures.reported)
-
-pub returns-clause-other : goal.returns-clause-other
-returns-clause-other g c = reported_other (failure_reported (asked c.in-Some.command) c.in-Err.failure c.in-Some.ensures (c.in-Err.ensures.failed c.in-Err.failure refl) c.report_failure.ensures.reported)
 
 pub returns-clause-unread : goal.returns-clause-unread
 returns-clause-unread g c = λ three.
