@@ -5,7 +5,7 @@ use spice_text::write;
 use std::alloc::Global;
 use std::process::Abort;
 use std::test::Fail;
-use test_calls::synth;
+use test_calls::{answer_to, synth};
 
 /// Asserts that a file of these bytes gives the deck, and that the deck reads back: it is what is
 /// written of its circuit.
@@ -16,7 +16,19 @@ pub fn gives(
     text: &[u8],
     deck: &[u8],
 ) -> Result<(), Fail> {
-    let answer = synth(alloc, text)?;
+    gives_by(rt, alloc, what, &["synth", "t.blif"], text, deck)
+}
+
+/// Asserts that these words give the deck, where `t.blif` has these bytes, and that the deck reads back.
+pub fn gives_by(
+    rt: &impl Abort,
+    alloc: Global,
+    what: &str,
+    words: &[&str],
+    text: &[u8],
+    deck: &[u8],
+) -> Result<(), Fail> {
+    let answer = answer_to(alloc, words, &[("t.blif", text)])?;
     assert_eq!(rt; answer.status, 0, "at {what}");
     assert_eq!(rt; answer.out.as_slice(), deck, "at {what}");
     assert!(rt; answer.err.is_empty(), "at {what}");

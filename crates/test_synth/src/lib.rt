@@ -8,9 +8,11 @@ mod decks;
 #[cfg(test)]
 mod forms;
 #[cfg(test)]
-mod not_built;
+mod options;
 #[cfg(test)]
 mod refused;
+#[cfg(test)]
+mod rows;
 #[cfg(test)]
 mod statuses;
 #[cfg(test)]

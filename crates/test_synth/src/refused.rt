@@ -282,14 +282,13 @@ fn cut_short(rt: HostRuntime) -> Result<(), Fail> {
         (0..1, "1: blif 8 NoModel"),
         (1..6, "1: blif 2 UnknownCard"),
         (6..8, "1: blif 3 BadCard"),
-        (8..13, " not built"),
         (13..19, "2: blif 2 UnknownCard"),
-        (19..25, " not built"),
         (25..32, "3: blif 2 UnknownCard"),
-        (32..36, " not built"),
+        (34..36, "1: blif 16 Undriven f"),
         (36..41, "4: blif 2 UnknownCard"),
         (41..43, "4: blif 3 BadCard"),
-        (43..49, " not built"),
+        (43..45, "4: blif 15 DrivenTwice a"),
+        (45..47, "4: blif 15 DrivenTwice b"),
         (49..52, "5: blif 5 BadRow"),
         (54..57, "6: blif 2 UnknownCard"),
     ] {
@@ -305,6 +304,37 @@ fn cut_short(rt: HostRuntime) -> Result<(), Fail> {
             AND.get(..end).unwrap_or(AND),
             AND_DECK,
         )?;
+    }
+    Ok(())
+}
+
+/// Files that are accepted and have no network.
+#[test]
+fn without_network(rt: HostRuntime) -> Result<(), Fail> {
+    let alloc = rt.alloc();
+    for (text, fault) in [
+        (
+            ".model t\n.inputs a b\n.outputs f\n.end\n",
+            "1: blif 16 Undriven f",
+        ),
+        (
+            ".model t\n.inputs a a\n.outputs f\n.names a a f\n11 1\n.end\n",
+            "1: blif 11 DuplicatePort a",
+        ),
+        (
+            ".model t\n.inputs a f\n.outputs f\n.names a f f\n11 1\n.end\n",
+            "4: blif 15 DrivenTwice f",
+        ),
+        (
+            ".model t\n.inputs a b\n.outputs f\n.names a b f\n11 1\n.subckt u x=a y=g\n.end\n",
+            "6: blif 12 UnknownModel u",
+        ),
+        (
+            ".model l\n.inputs a\n.outputs f\n.names a g f\n11 1\n.names f g\n1 1\n.end\n",
+            "4: blif 17 Cycle f",
+        ),
+    ] {
+        refuses(&rt, alloc, fault, text.as_bytes(), fault)?;
     }
     Ok(())
 }

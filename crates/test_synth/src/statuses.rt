@@ -9,7 +9,12 @@ fn done_and_refused(rt: HostRuntime) -> Result<(), Fail> {
     let alloc = rt.alloc();
     for (text, status, deck, line) in [
         (AND, 0, AND_DECK, b"".as_slice()),
-        (b".model t\n", 1, b"", b"domsyn: and2.blif: not built\n"),
+        (
+            b".model t\n.outputs f\n",
+            1,
+            b"",
+            b"domsyn: and2.blif:1: blif 16 Undriven f\n",
+        ),
         (b"", 1, b"", b"domsyn: and2.blif:1: blif 8 NoModel\n"),
     ] {
         let mut shelf = shelf_of(alloc, "and2.blif", text)?;

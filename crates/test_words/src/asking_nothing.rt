@@ -16,7 +16,62 @@ const LISTS: &[(&str, &[&[&str]])] = &[
             &["synth", "-"],
             &["synth", "--"],
             &["synth", "-x"],
-            &["synth", "a", "--width", "4"],
+            &["synth", "--width", "4"],
+            &["synth", "--width", "4", "a"],
+            &["synth", "a", "a", "--width", "4"],
+            &["synth", "a", "--width", "4", "a"],
+        ],
+    ),
+    (
+        "synth: options are unknown or twice",
+        &[
+            &["synth", "a", "--widths", "4"],
+            &["synth", "a", "--Width", "4"],
+            &["synth", "a", "-width", "4"],
+            &["synth", "a", "width", "4"],
+            &["synth", "a", ""],
+            &["synth", "a", "-"],
+            &["synth", "a", "--events"],
+            &["synth", "a", "--seed", "1"],
+            &["synth", "a", "--width", "4", "--width", "4"],
+            &["synth", "a", "--height", "4", "--height", "5"],
+            &["synth", "a", "--phases", "1", "--phases", "1"],
+            &[
+                "synth", "a", "--width", "4", "--phases", "1", "--width", "4",
+            ],
+        ],
+    ),
+    (
+        "synth: values are missing or out of range",
+        &[
+            &["synth", "a", "--width"],
+            &["synth", "a", "--width", "--height", "4"],
+            &["synth", "a", "--width", "4", "--height"],
+            &["synth", "a", "--width", ""],
+            &["synth", "a", "--width", "0"],
+            &["synth", "a", "--width", "1"],
+            &["synth", "a", "--width", "9"],
+            &["synth", "a", "--width", "258"],
+            &["synth", "a", "--width", "18446744073709551618"],
+            &["synth", "a", "--height"],
+            &["synth", "a", "--height", "1"],
+            &["synth", "a", "--height", "7"],
+            &["synth", "a", "--phases"],
+            &["synth", "a", "--phases", "0"],
+            &["synth", "a", "--phases", "5"],
+            &["synth", "a", "--phases", "257"],
+        ],
+    ),
+    (
+        "synth: numbers are wrong",
+        &[
+            &["synth", "a", "--width", "+"],
+            &["synth", "a", "--width", "++4"],
+            &["synth", "a", "--height", "-4"],
+            &["synth", "a", "--height", "4.0"],
+            &["synth", "a", "--phases", " 1"],
+            &["synth", "a", "--phases", "0x1"],
+            &["synth", "a", "--phases", "first"],
         ],
     ),
     (
@@ -132,6 +187,29 @@ fn words_that_ask_for_nothing(rt: HostRuntime) -> Result<(), Fail> {
     let files = [("a", AND), ("d", AND_DECK), ("s", b"11\n".as_slice())];
     for (what, lists) in LISTS {
         assert_eq!(rt; asking(rt.alloc(), &files, lists)?, None, "at {what}");
+    }
+    Ok(())
+}
+
+#[test]
+fn limits_of_options_are_taken(rt: HostRuntime) -> Result<(), Fail> {
+    let files = [("a", AND)];
+    let lists: &[&[&str]] = &[
+        &["synth", "a"],
+        &["synth", "a", "--width", "2"],
+        &["synth", "a", "--width", "8"],
+        &["synth", "a", "--height", "2"],
+        &["synth", "a", "--height", "6"],
+        &["synth", "a", "--phases", "1"],
+        &["synth", "a", "--phases", "4"],
+        &["synth", "a", "--width", "+2"],
+        &["synth", "a", "--width", "0000000000000000000000008"],
+        &[
+            "synth", "a", "--phases", "+01", "--height", "03", "--width", "4",
+        ],
+    ];
+    for words in lists {
+        assert_eq!(rt; asking(rt.alloc(), &files, &[words])?, Some(0));
     }
     Ok(())
 }
