@@ -18,6 +18,13 @@ pub enum PlainNode {
     Or(PlainRef, PlainRef),
 }
 
+/// A part of an expression, as it is or under Not.
+#[derive(Clone, Copy)]
+struct Item {
+    part: PlainRef,
+    plus: bool,
+}
+
 /// Nodes over leaves, each of which reads nodes before it, and what the sinks are.
 #[derive(Drop)]
 pub struct PlainGates {
@@ -61,16 +68,26 @@ impl PlainGates {
         }
     }
 
-    /// Adds the operator on the balanced first half of these items, rounded up, and on the balanced rest.
+    /// Adds the Not of an item, where it is under one.
+    fn add_item(&mut self, item: Item) -> Result<PlainRef, AllocError> {
+        if item.plus {
+            Ok(item.part)
+        } else {
+            self.add_not(item.part)
+        }
+    }
+
+    /// Adds the operator on the balanced first half of these items, rounded up, and on the balanced rest. A Not
+    /// stands where its item stands.
     fn add_balanced(
         &mut self,
         and: bool,
-        items: &[PlainRef],
+        items: &[Item],
         fuel: usize,
     ) -> Result<PlainRef, AllocError> {
         match items {
             [] => Ok(PlainRef::Const(and)),
-            [item] => Ok(*item),
+            [item] => self.add_item(*item),
             _ => {
                 if fuel == 0 {
                     return Ok(PlainRef::Const(and));
@@ -94,21 +111,21 @@ fn signal_ref(signals: &[PlainRef], signal: usize) -> PlainRef {
         .unwrap_or(PlainRef::Const(false))
 }
 
-/// The items of a row, with their Nots.
+/// The items of a row.
 fn row_items(
     alloc: Global,
-    gates: &mut PlainGates,
     signals: &[PlainRef],
     inputs: &[usize],
     row: &[u8],
-) -> Result<Vec<PlainRef>, AllocError> {
+) -> Result<Vec<Item>, AllocError> {
     let mut items = Vec::new(alloc);
     for (index, letter) in row.iter().enumerate() {
         let signal = inputs.get(index).copied().unwrap_or(0);
-        match *letter {
-            b'1' => items.push(signal_ref(signals, signal))?,
-            b'0' => items.push(gates.add_not(signal_ref(signals, signal))?)?,
-            _ => (),
+        if *letter == b'0' || *letter == b'1' {
+            items.push(Item {
+                part: signal_ref(signals, signal),
+                plus: *letter == b'1',
+            })?;
         }
     }
     Ok(items)
@@ -123,8 +140,9 @@ fn add_table(
 ) -> Result<PlainRef, AllocError> {
     let mut rows = Vec::new(alloc);
     for row in table.rows.iter() {
-        let items = row_items(alloc, gates, signals, &table.inputs, row)?;
-        rows.push(gates.add_balanced(true, &items, items.len())?)?;
+        let items = row_items(alloc, signals, &table.inputs, row)?;
+        let part = gates.add_balanced(true, &items, items.len())?;
+        rows.push(Item { part, plus: true })?;
     }
     let any = gates.add_balanced(false, &rows, rows.len())?;
     if table.on {
