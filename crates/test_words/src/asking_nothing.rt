@@ -1,11 +1,13 @@
 //! Words that ask for nothing: the answer is 2, and no file is fetched.
 
+use std::alloc::Global;
+use std::process::Abort;
 use std::test::Fail;
 use test_calls::asking;
 use worked_texts::{AND, AND_DECK};
 
-/// Lists of words, and what is wrong with them.
-const LISTS: &[(&str, &[&[&str]])] = &[
+/// Lists of words for `synth` with files or options that it doesn't take, and what is wrong with them.
+const SYNTH_WORDS: &[(&str, &[&[&str]])] = &[
     (
         "synth: files are missing or too many",
         &[
@@ -41,6 +43,10 @@ const LISTS: &[(&str, &[&[&str]])] = &[
             ],
         ],
     ),
+];
+
+/// Lists of words for `synth` with values that an option doesn't take.
+const SYNTH_VALUES: &[(&str, &[&[&str]])] = &[
     (
         "synth: values are missing or out of range",
         &[
@@ -74,6 +80,10 @@ const LISTS: &[(&str, &[&[&str]])] = &[
             &["synth", "a", "--phases", "first"],
         ],
     ),
+];
+
+/// Lists of words for `flat` and `run`, and for no command.
+const OTHER_WORDS: &[(&str, &[&[&str]])] = &[
     (
         "flat: files are missing or too many",
         &[
@@ -115,6 +125,10 @@ const LISTS: &[(&str, &[&[&str]])] = &[
             &["bench", "1", "0"],
         ],
     ),
+];
+
+/// Lists of words for `sim`.
+const SIM_WORDS: &[(&str, &[&[&str]])] = &[
     (
         "sim: files are missing or too many",
         &[
@@ -182,13 +196,33 @@ const LISTS: &[(&str, &[&[&str]])] = &[
     ),
 ];
 
-#[test]
-fn words_that_ask_for_nothing(rt: HostRuntime) -> Result<(), Fail> {
+/// Asserts that each list asks for nothing.
+fn ask_for_nothing(rt: &impl Abort, alloc: Global, all: &[(&str, &[&[&str]])]) -> Result<(), Fail> {
     let files = [("a", AND), ("d", AND_DECK), ("s", b"11\n".as_slice())];
-    for (what, lists) in LISTS {
-        assert_eq!(rt; asking(rt.alloc(), &files, lists)?, None, "at {what}");
+    for (what, lists) in all {
+        assert_eq!(rt; asking(alloc, &files, lists)?, None, "at {what}");
     }
     Ok(())
+}
+
+#[test]
+fn words_of_synth(rt: HostRuntime) -> Result<(), Fail> {
+    ask_for_nothing(&rt, rt.alloc(), SYNTH_WORDS)
+}
+
+#[test]
+fn values_of_synth(rt: HostRuntime) -> Result<(), Fail> {
+    ask_for_nothing(&rt, rt.alloc(), SYNTH_VALUES)
+}
+
+#[test]
+fn words_of_flat_and_run(rt: HostRuntime) -> Result<(), Fail> {
+    ask_for_nothing(&rt, rt.alloc(), OTHER_WORDS)
+}
+
+#[test]
+fn words_of_sim(rt: HostRuntime) -> Result<(), Fail> {
+    ask_for_nothing(&rt, rt.alloc(), SIM_WORDS)
 }
 
 #[test]
