@@ -1,0 +1,71 @@
+//! Compares what files are refused for, their counts, their networks and the runs of these with plain and slow functions that
+//! were written from the rules alone. The files are the same each time.
+#![tactic(auto)]
+
+mod cases;
+mod faults;
+mod parse;
+mod runs;
+mod same;
+mod shapes;
+mod tally;
+mod trouble;
+
+use cases::{compare_drawn, compare_faults, compare_shapes};
+use std::alloc::Global;
+use std::io;
+use std::process::ExitCode;
+use tally::{ORDER, Tally};
+use trouble::Trouble;
+
+/// The status where a result differs.
+const DIFFERS: u8 = 1;
+
+/// The status where a text isn't read, memory doesn't suffice or a line isn't printed.
+const NOT_COMPARED: u8 = 2;
+
+/// How many hierarchies are generated.
+const HIERARCHIES: u64 = 4_000;
+
+/// Whether a line was printed.
+fn printed(line: io::Result<()>) -> Result<(), Trouble> {
+    match line {
+        Ok(()) => Ok(()),
+        Err(_) => Err(Trouble::NotPrinted),
+    }
+}
+
+/// Prints how many files were refused for each kind.
+fn print_refused(rt: &impl Print, tally: &Tally) -> Result<(), Trouble> {
+    for (kind, count) in ORDER.iter().zip(tally.refused.iter()) {
+        printed(println!(rt; "  refused for {kind}: {count}"))?;
+    }
+    Ok(())
+}
+
+/// Prints what came of a comparison. It answers whether all files were alike.
+fn print(rt: &impl Print, what: &str, tally: &Tally) -> Result<bool, Trouble> {
+    if let Some(case) = tally.differs {
+        printed(println!(rt; "{what} differ at case {case}"))?;
+        return Ok(false);
+    }
+    let (files, networks, cycles) = (tally.files, tally.networks, tally.cycles);
+    printed(println!(rt; "{what} {files} files, {networks} networks, {cycles} cycles, all alike"))?;
+    print_refused(rt, tally)?;
+    Ok(true)
+}
+
+fn all_alike(rt: &impl Print, alloc: Global) -> Result<bool, Trouble> {
+    let drawn = print(rt, "hierarchies", &compare_drawn(alloc, HIERARCHIES)?)?;
+    let faults = print(rt, "faults", &compare_faults(alloc)?)?;
+    let shapes = print(rt, "shapes", &compare_shapes(alloc)?)?;
+    Ok(drawn && faults && shapes)
+}
+
+fn main(rt: HostRuntime) -> ExitCode {
+    match all_alike(&rt, rt.alloc()) {
+        Ok(true) => ExitCode::from(0),
+        Ok(false) => ExitCode::from(DIFFERS),
+        Err(_) => ExitCode::from(NOT_COMPARED),
+    }
+}
