@@ -4,6 +4,8 @@
 #[cfg(test)]
 mod answer;
 #[cfg(test)]
+mod decks;
+#[cfg(test)]
 mod files;
 #[cfg(test)]
 mod refused;
