@@ -7,7 +7,7 @@ use crate::line::{end_line, put_words};
 use crate::{Binding, Control, Edge2, Instance, Latch, Letter, Row, Table};
 use dom_base::{Name, OutOfMemory, append, append_word};
 
-/// Appends a card with the names of ports, if there are any.
+/// Appends a line of a card and the names of ports, if there are any.
 pub fn put_ports(text: &mut Vec<u8>, card: &[u8], names: &[Name]) -> Result<(), OutOfMemory>
     ensures { OnOk result (text.new.items ≡ text.old.items ++ flat_map printed_line (ports_card card.now names.now)) }
 {
@@ -27,7 +27,7 @@ pub fn put_table(text: &mut Vec<u8>, table: &Table) -> Result<(), OutOfMemory>
     ensures { OnOk result (text.new.items ≡ text.old.items ++ flat_map printed_line (table_lines table.now)) }
 {
     put_names(text, table)?;
-    put_rows(text, table)
+    put_rows(text, table.on, &table.rows)
 }
 
 fn put_names(text: &mut Vec<u8>, table: &Table) -> Result<(), OutOfMemory>
@@ -39,12 +39,12 @@ fn put_names(text: &mut Vec<u8>, table: &Table) -> Result<(), OutOfMemory>
     end_line(text, table.output.as_bytes())
 }
 
-fn put_rows(text: &mut Vec<u8>, table: &Table) -> Result<(), OutOfMemory>
-    ensures { OnOk result (text.new.items
-        ≡ text.old.items ++ flat_map (λ row. printed_line (row_words table.now.on row)) table.now.rows) }
+/// Appends a line for each row: its letters, if there are any, and `1` where `on` is true, else `0`.
+pub fn put_rows(text: &mut Vec<u8>, on: bool, rows: &[Row]) -> Result<(), OutOfMemory>
+    ensures { OnOk result (text.new.items ≡ text.old.items ++ flat_map (λ row. printed_line (row_words on row)) rows.now) }
 {
-    for row in &table.rows {
-        put_row(text, table.on, row)?;
+    for row in rows {
+        put_row(text, on, row)?;
     }
     Ok(())
 }

@@ -17,13 +17,16 @@ mod models;
 mod table;
 
 pub use card::Card;
+pub use cards::{put_ports, put_rows};
 use dom_base::OutOfMemory;
 pub use file::{BlifFile, BlifModel};
 pub use instance::{Binding, Instance};
 pub use kind::BlifKind;
 pub use latch::{Control, Edge2, Latch};
 pub use letter::{Letter, Row};
+pub use line::end_line;
 use models::put_models;
+pub use models::{put_head, put_latches};
 use std::alloc::Global;
 pub use table::Table;
 

@@ -33,7 +33,8 @@ fn put_model(text: &mut Vec<u8>, model: &BlifModel) -> Result<(), OutOfMemory>
     append(text, b".end\n")
 }
 
-fn put_head(text: &mut Vec<u8>, name: &[u8]) -> Result<(), OutOfMemory>
+/// Appends the line `.model NAME`.
+pub fn put_head(text: &mut Vec<u8>, name: &[u8]) -> Result<(), OutOfMemory>
     ensures { OnOk result (text.new.items ≡ text.old.items ++ printed_line (codes ".model" ∷ name.now ∷ [])) }
 {
     append(text, b".model")?;
@@ -50,7 +51,8 @@ fn put_tables(text: &mut Vec<u8>, tables: &[Table]) -> Result<(), OutOfMemory>
     Ok(())
 }
 
-fn put_latches(text: &mut Vec<u8>, latches: &[Latch]) -> Result<(), OutOfMemory>
+/// Appends a line for each latch.
+pub fn put_latches(text: &mut Vec<u8>, latches: &[Latch]) -> Result<(), OutOfMemory>
     requires { All IsGoodLatch latches.now }
     ensures { OnOk result (text.new.items ≡ text.old.items ++ flat_map (λ latch. printed_line (latch_words latch)) latches.now) }
 {

@@ -1,5 +1,5 @@
 -- What the loops over instances keep, that look for the first formal that is wrong.
-use Rattle.std.proofs.Common.{◌≡◌, ℕ, zero, suc, ◌<◌, ◌+◌, ◌⊎◌, inl, inr, Bool, true, false, ◌||◌, List, [], ◌∷◌, ◌++◌, length, map, take, Option, Some, None, refl, ap, sym, ◌∙◌, subst, arith, append-nil, cond}
+use Rattle.std.proofs.Common.{◌≡◌, ℕ, zero, suc, ◌<◌, ◌+◌, inl, inr, Bool, true, false, ◌||◌, List, [], ◌∷◌, ◌++◌, length, map, take, Option, Some, None, refl, ap, sym, ◌∙◌, subst, arith, append-nil, cond}
 use Rattle.std.specs.Prelude.{Contains, nat_eq, slice_get}
 use Rattle.std.specs.HashMap.{HashMap, get}
 use Rattle.std.specs.List.{find, flat_map, list_any}
@@ -7,10 +7,9 @@ use Rattle.std.specs.Map.{lookup}
 use Rattle.std.specs.Option.{option_to_list}
 use Rattle.std.specs.Cmp.Lexicographic.{bytes_decides}
 use Rattle.std.proofs.lemmas.Bool.{eqb-true, false_from_ne_true}
-use Rattle.std.proofs.lemmas.List.{length-append, length-map, take_all}
+use Rattle.std.proofs.lemmas.List.{length-map, take_all}
 use Rattle.std.proofs.lemmas.List.Concat.{flat_map-append}
 use Rattle.std.proofs.lemmas.List.Folds.{flat_map-map}
-use Rattle.std.proofs.lemmas.Option.{slice_get_within}
 use Rattle.blif_ast.specs.Cards.{same}
 use Rattle.blif_ast.specs.BlifFileData.{BlifFileData}
 use Rattle.blif_ast.specs.BlifModelData.{BlifModelData}
@@ -20,7 +19,7 @@ use Rattle.graph_order.proofs.Lists.{get_push, take_next}
 use Rattle.net_flatten.proofs.CallNumbers.{known_at}
 use Rattle.net_flatten.proofs.Lists.{get_map, get_of_map, get_take}
 use Rattle.net_flatten.proofs.Reports.{behind_none, none_of_each, reported_of_each}
-use Rattle.net_flatten.proofs.Scans.{scan_reports, take_none}
+use Rattle.net_flatten.proofs.Scans.{scan_reports}
 use Rattle.net_flatten.specs.CallNumbers.{AreCallees, AreCalls, names_of_models}
 use Rattle.net_flatten.specs.declared.report.Report.{Report}
 use Rattle.net_flatten.specs.Formals.{HavePorts, IsUnbound, formals_in_model, formals_of_instance, names_of_ports}

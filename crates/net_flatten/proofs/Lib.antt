@@ -17,6 +17,7 @@ pub mod Drivers
 pub mod EachPart
 pub mod ExpansionSteps
 pub mod ExpansionWork
+pub mod FirstNames
 pub mod Firsts
 pub mod Fitting
 pub mod FormalReports
@@ -76,6 +77,7 @@ pub mod Sums
 pub mod TableNumbers
 pub mod TableOutputs
 pub mod TablesAlike
+pub mod TextOfNetwork
 pub mod ToFile
 pub mod UniqueNames
 pub mod Unrefused

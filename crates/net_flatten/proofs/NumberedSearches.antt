@@ -1,11 +1,10 @@
 -- Searches over the numbers of a file, as far as they have come.
 use Rattle.std.proofs.Common.{◌≡◌, ℕ, ◌<◌, ◌≤◌, ◌+◌, ◌⊎◌, inl, inr, Bool, true, false, List, [], ◌∷◌, ◌++◌, append_assoc, append-nil, length, map, take, set, Some, ap, sym, ◌∙◌, subst, arith}
-use Rattle.std.specs.Prelude.{All, slice_get}
+use Rattle.std.specs.Prelude.{slice_get}
 use Rattle.std.proofs.lemmas.Bool.{cases_lt}
 use Rattle.std.proofs.lemmas.List.{take_all}
-use Rattle.std.proofs.lemmas.List.Elements.{recursion_from_All}
 use Rattle.std.proofs.lemmas.Option.{slice_get_within}
-use Rattle.dom_base.proofs.Lists.{AllByRecursion-contains, Contains-slice_get, map-push}
+use Rattle.dom_base.proofs.Lists.{map-push}
 use Rattle.net_flatten.specs.DriverSearches.{IsSetOfDrivers}
 use Rattle.net_flatten.specs.FoundFirst.{HoldsOfNone, IsFirstAt}
 use Rattle.net_flatten.specs.NumberSets.{IsSetOf}

@@ -93,7 +93,7 @@ module _ (n : NetworkData) (is : IsNetwork n) where
   lines_are : part_lines (main_model (file_of n)) ≡ lines_here
   lines_are = ap (λ l. l ++ map (λ (k : Latch). k.line) (latches_here n) ++ []) table_lines ∙ ap (λ l. row 2 (length n.tables) ++ l ++ []) latch_lines
 
-  one_good : IsGoodModel (main_model (file_of n))
+  pub one_good : IsGoodModel (main_model (file_of n))
   one_good = record {
     name = is.name;
     inputs = All-from_recursion IsGoodName (take n.inputs n.names) (AllByRecursion-take IsGoodName n.inputs n.names (recursion_from_All IsGoodName n.names is.names));

@@ -6,10 +6,12 @@ ghost use Rattle.net_flatten.specs.declared.fault.FlatFault.TheVariants.{TooMany
 ghost use Rattle.net_flatten.specs.Limits.{most_signals};
 ghost use Rattle.net_flatten.specs.ModelCalls.{AreModelCalls};
 ghost use Rattle.net_flatten.specs.NetworkSizes.{IsSizeCheck};
+ghost use Rattle.net_flatten.specs.SignalNumbers.{AreFirstNames};
 
 use crate::counting::count_network;
 use crate::fault::{FlatFault, Limit};
 use crate::models::ModelCalls;
+use crate::name_table::NameTable;
 use blif_ast::BlifFile;
 use std::alloc::Global;
 
@@ -22,14 +24,20 @@ const MOST_LETTERS: u64 = 400_000;
 const MOST_SINKS: u64 = 8_192;
 
 /// Looks for the first count of a file's network that is above its limit: signals, instances, letters
-/// and sinks, in this order.
-pub fn check_sizes(alloc: Global, file: &BlifFile, calls: &ModelCalls) -> Result<(), FlatFault>
+/// and sinks, in this order. `first` has the names of the first models.
+pub fn check_sizes(
+    alloc: Global,
+    file: &BlifFile,
+    calls: &ModelCalls,
+    first: &[NameTable<'_>],
+) -> Result<(), FlatFault>
     requires good { IsGoodFile file.now }
+    requires first { AreFirstNames file.now.models first.now }
     requires planned { AreModelCalls file.now calls.now }
     ensures check { IsSizeCheck file.now result }
     ensures few { OnOk result (signal_count file.now ≤ most_signals) }
 {
-    let sizes = count_network(alloc, file, calls)?;
+    let sizes = count_network(alloc, file, calls, first)?;
     if MOST_SIGNALS < sizes.signals {
         return Err(too_many(Limit::Signals, sizes.signals));
     }

@@ -11,10 +11,11 @@ ghost use Rattle.net_flatten.specs.PartNumbers.{IsNumberedPart, control_name, la
 ghost use Rattle.net_flatten.specs.Plans.{IsPlanned, HasMainPlan};
 ghost use Rattle.net_flatten.specs.Refusal.{At};
 ghost use Rattle.net_flatten.specs.Refusals.{HasRefusal};
-ghost use Rattle.net_flatten.specs.SignalNumbers.{HasSignalNumber, signal_number};
+ghost use Rattle.net_flatten.specs.SignalNumbers.{AreFirstNames, HasSignalNumber, signal_number};
 ghost use Rattle.net_flatten.specs.declared.fault.FlatKind.TheVariants.{Recursion};
 
 use crate::models::{ModelCalls, plan_all};
+use crate::name_table::NameTable;
 use crate::numbered::{NumberedFile, NumberedPart, PartCard};
 use crate::plan::Plan;
 use crate::signals::{SignalNumbers, number_signals};
@@ -154,15 +155,17 @@ fn main_model(file: &BlifFile) -> &BlifModel
     &file.models[0]
 }
 
-/// A good file of these plans by numbers, where `depth` is at least the rank of model 0 and no path
+/// A good file of these plans by numbers, from the names of its first models, where `depth` is at least the rank of model 0 and no path
 /// passes more models. It fails only for want of memory.
-pub fn number_file(
+pub fn number_file<'a>(
     alloc: Global,
-    file: &BlifFile,
+    file: &'a BlifFile,
+    first: Vec<NameTable<'a>>,
     plans: &[Plan],
     depth: usize,
 ) -> Result<NumberedFile, OutOfMemory>
     requires good { IsGoodFile file.now }
+    requires first { AreFirstNames file.now.models first.items }
     requires planned { IsPlanned file.now plans.now }
     requires ready { HasMainPlan plans.now depth }
     requires deep { length file.now.models ≤ depth + 1 }
@@ -171,7 +174,7 @@ pub fn number_file(
     ensures { IfOk result (HasNumbers file.now) }
 {
     let expansion = expand(alloc, plans, depth)?;
-    let numbers = number_signals(alloc, file, &expansion.scopes)?;
+    let numbers = number_signals(alloc, file, first, &expansion.scopes)?;
     let main = main_model(file);
     Ok(NumberedFile {
         signals: numbers.count(),
@@ -182,18 +185,20 @@ pub fn number_file(
     })
 }
 
-/// A good file by numbers, by the calls of its models. It fails only for want of memory.
-pub fn number_planned_file(
+/// A good file by numbers, by the calls of its models and the names of the first of them. It fails only for want of memory.
+pub fn number_planned_file<'a>(
     alloc: Global,
-    file: &BlifFile,
+    file: &'a BlifFile,
     calls: &ModelCalls,
+    first: Vec<NameTable<'a>>,
 ) -> Result<NumberedFile, OutOfMemory>
     requires good { IsGoodFile file.now }
     requires calls { AreModelCalls file.now calls.now }
+    requires first { AreFirstNames file.now.models first.items }
     requires few { signal_count file.now ≤ most_signals }
     ensures { IfOk result (HasNumbers file.now) }
 {
     let plans = plan_all(alloc, &file.models, &calls.nodes)?;
     let depth = calls.order.len() + file.models.len();
-    number_file(alloc, file, &plans, depth)
+    number_file(alloc, file, first, &plans, depth)
 }

@@ -18,7 +18,7 @@ pub fn sizes(alloc: Global, file: &BlifFile) -> Result<Sizes, OutOfMemory>
     ensures { IfOk result (AreSizes file.now) }
 {
     match find_plans(alloc, &file.models)? {
-        Planning::Planned(calls) => count_network(alloc, file, &calls),
+        Planning::Planned(calls) => count_network(alloc, file, &calls, &[]),
         Planning::Refused(_, _) => unreachable!(),
     }
 }

@@ -14,6 +14,7 @@ use crate::fault::FlatFault;
 use crate::models::plan_models;
 use crate::network::Network;
 use crate::signal_checks::check_signals;
+use crate::signals::first_tables;
 use blif_ast::BlifFile;
 use std::alloc::Global;
 
@@ -30,8 +31,9 @@ pub fn flatten(alloc: Global, file: &BlifFile) -> Result<Network, FlatFault>
         → IsRefusal file.now (TooMany limit count) }
 {
     let calls = plan_models(alloc, file)?;
-    check_sizes(alloc, file, &calls)?;
-    let numbered = number_planned_file(alloc, file, &calls)?;
+    let names = first_tables(alloc, &file.models)?;
+    check_sizes(alloc, file, &calls, &names)?;
+    let numbered = number_planned_file(alloc, file, &calls, names)?;
     drop(calls);
     let levels = check_signals(alloc, file, &numbered)?;
     Ok(network_of(alloc, file, &numbered, &levels)?)

@@ -41,7 +41,7 @@ fn model_of(alloc: Global, network: &Network) -> Result<BlifModel, OutOfMemory>
 }
 
 /// The names of the signals of these numbers.
-fn names_of(alloc: Global, network: &Network, signals: &[u32]) -> Result<Vec<Name>, OutOfMemory>
+pub fn names_of(alloc: Global, network: &Network, signals: &[u32]) -> Result<Vec<Name>, OutOfMemory>
     requires { All (λ signal. signal < length network.now.names) signals.now }
     ensures { IfOk result (λ names. names.items ≡ map (name_at network.now) signals.now) }
 {
@@ -94,7 +94,8 @@ fn copies(alloc: Global, rows: &[Row]) -> Result<Vec<Row>, OutOfMemory>
     Ok(rows.to_vec(alloc)?)
 }
 
-fn latches_of(alloc: Global, network: &Network) -> Result<Vec<Latch>, OutOfMemory>
+/// The latches of the file.
+pub fn latches_of(alloc: Global, network: &Network) -> Result<Vec<Latch>, OutOfMemory>
     ensures { IfOk result (λ latches.
         latches.items ≡ map (λ (p : ℕ × NetLatch). latch_at network.now p.0 p.1) (enumerate_from 0 network.now.latches)) }
 {

@@ -1,16 +1,16 @@
 //! The numbers of the signals of a file, over the scopes of a walk.
-ghost use Rattle.std.specs.Prelude.{◌≡◌, ◌<◌, ◌≤◌, ◌+◌, ◌-◌, IfOk, List, [], OnOk, Some, length, map, slice_get};
+ghost use Rattle.std.specs.Prelude.{◌≡◌, ◌<◌, ◌≤◌, ◌+◌, ◌-◌, ◌++◌, IfOk, List, [], OnOk, Some, length, map, slice_get};
 ghost use Rattle.std.specs.List.{AllByRecursion};
 ghost use Rattle.blif_ast.specs.InstanceData.{InstanceData};
 ghost use Rattle.blif_ast.specs.declared.instance.Binding.{Binding};
 ghost use Rattle.net_flatten.specs.Limits.{most_signals};
 ghost use Rattle.net_flatten.specs.NumberedFiles.{model_at};
-ghost use Rattle.net_flatten.specs.SignalNumbers.{AddsScope, AreDistinctNames, HasFewPairs, HasSignalNumber, HasSignalNumbers, IsBelowNumbered, IsInstanceAt, IsNextScope, model_names, names_at, scope_roots, signal_number, with_binding};
+ghost use Rattle.net_flatten.specs.SignalNumbers.{AddsScope, AreDistinctNames, AreFirstNames, HasFewPairs, HasSignalNumber, HasSignalNumbers, IsBelowNumbered, IsInstanceAt, IsNextScope, model_names, names_at, scope_roots, signal_number, with_binding};
 ghost use Rattle.net_flatten.specs.declared.walk.Scope.{Scope};
 
 use crate::name_table::NameTable;
 use crate::walk::Scope;
-use blif_ast::{Binding, BlifFile, Instance};
+use blif_ast::{Binding, BlifFile, BlifModel, Instance};
 use dom_base::{Name, OutOfMemory};
 use std::alloc::Global;
 use std::marker::Model;
@@ -177,28 +177,64 @@ fn own_numbers(alloc: Global, start: usize, names: &NameTable<'_>) -> Result<Vec
     Ok(numbers)
 }
 
-/// The names of all models of a file.
-fn name_tables<'a>(alloc: Global, file: &'a BlifFile) -> Result<Vec<NameTable<'a>>, OutOfMemory>
-    ensures { IfOk result (λ tables. tables.items ≡ map model_names file.now.models) }
+/// Of how many models at most the names are kept from when they are counted to when they are numbered.
+const KEPT: usize = 65_536;
+
+/// Appends the names of each model.
+fn add_tables<'a>(
+    alloc: Global,
+    tables: &mut Vec<NameTable<'a>>,
+    models: &'a [BlifModel],
+) -> Result<(), OutOfMemory>
+    ensures { OnOk result (tables.new.items ≡ tables.old.items ++ map model_names models.now) }
 {
-    let mut tables = Vec::with_capacity(alloc, file.models.len())?;
-    for model in &file.models {
+    for model in models {
         tables.push(NameTable::of_model(alloc, model)?)?;
     }
+    Ok(())
+}
+
+/// The names of the first models, as many as are kept. It fails only for want of memory.
+pub fn first_tables<'a>(
+    alloc: Global,
+    models: &'a [BlifModel],
+) -> Result<Vec<NameTable<'a>>, OutOfMemory>
+    ensures { IfOk result (λ tables. AreFirstNames models.now tables.items) }
+{
+    let count = models.len().min(KEPT);
+    let mut tables = Vec::with_capacity(alloc, count)?;
+    add_tables(alloc, &mut tables, &models[..count])?;
     Ok(tables)
 }
 
-/// The numbers of the names in all scopes of a walk over a file.
+/// The names of all models, from those of the first.
+fn all_tables<'a>(
+    alloc: Global,
+    models: &'a [BlifModel],
+    first: Vec<NameTable<'a>>,
+) -> Result<Vec<NameTable<'a>>, OutOfMemory>
+    requires { AreFirstNames models.now first.items }
+    ensures { IfOk result (λ tables. tables.items ≡ map model_names models.now) }
+{
+    let mut tables = first;
+    let count = tables.len();
+    add_tables(alloc, &mut tables, &models[count..])?;
+    Ok(tables)
+}
+
+/// The numbers of the names in all scopes of a walk over a file, from the names of its first models.
 pub fn number_signals<'a>(
     alloc: Global,
     file: &'a BlifFile,
+    first: Vec<NameTable<'a>>,
     scopes: &[Scope],
 ) -> Result<SignalNumbers<'a>, OutOfMemory>
+    requires first { AreFirstNames file.now.models first.items }
     requires few { HasFewPairs file.now scopes.now }
     ensures { IfOk result (HasSignalNumbers file.now scopes.now) }
 {
     let mut numbers = SignalNumbers {
-        names: name_tables(alloc, file)?,
+        names: all_tables(alloc, &file.models, first)?,
         starts: Vec::new(alloc),
         roots: Vec::new(alloc),
     };

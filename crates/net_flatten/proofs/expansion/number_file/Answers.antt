@@ -11,6 +11,7 @@ use Rattle.net_flatten.proofs.expansion.number_file.Goals as goal
 
 pub number_signals-requires : goal.number_signals-requires
 number_signals-requires c = record {
+  first = c.requires.first;
   few = subst (HasFewPairs c.args.file.now)
       (sym (c.deref.ensures.value ∙ ap (λ (v : ExpansionData). v.scopes) c.expansion.view_is))
       (few_pairs c.args.file.now c.args.depth c.requires.good c.requires.deep c.requires.no_recursion c.in_ok-expansion.expansion

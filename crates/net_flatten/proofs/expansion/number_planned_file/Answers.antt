@@ -40,6 +40,7 @@ number_file-requires c =
     let plans : c.deref-3.result.now ≡ c.in_ok-plans.plans.items = c.deref-3.ensures.value in
     record {
       good = c.requires.good;
+      first = c.requires.first;
       planned = rw plans planned;
       ready = rw plans (deeper c.in_ok-plans.plans.items (length c.args.calls.now.order) (c.len.result + c.len-2.result) ready (omega (arith, order, order_is)));
       deep = omega (arith, models, models_is);

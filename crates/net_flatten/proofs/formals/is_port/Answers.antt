@@ -1,4 +1,4 @@
-use Rattle.std.proofs.Common.{Contains, sym, ap, ◌∙◌}
+use Rattle.std.proofs.Common.{sym, ap, ◌∙◌}
 use Rattle.std.specs.Prelude.{option_copied}
 use Rattle.dom_base.proofs.Lists.{Contains-slice_get, slice_get-contained}
 use Rattle.net_flatten.specs.Formals.{names_of_ports}

@@ -1,5 +1,4 @@
-use Rattle.std.proofs.Common.{◌≡◌, replicate, take}
-use Rattle.net_flatten.specs.NetworkNumbers.{IsRenumbering}
+use Rattle.std.proofs.Common.{◌≡◌, replicate}
 use Rattle.net_flatten.proofs.Renumbering.{IsRenumberingSoFar}
 use Rattle.net_flatten.proofs.numbering.renumber.Given as goal
 

@@ -1,12 +1,15 @@
+use Rattle.std.proofs.Common.{◌∙◌, ap, map}
 use Rattle.std.specs.Prelude.{slice_index_or}
+use Rattle.blif_ast.specs.BlifFileData.{BlifFileData}
+use Rattle.net_flatten.specs.SignalNumbers.{model_names}
 use Rattle.std.proofs.lemmas.Option.{slice_get-get_or}
 use Rattle.net_flatten.proofs.SignalNumbers.{first_numbers, next_scope, still_numbers}
 use Rattle.net_flatten.proofs.signals.number_signals.Goals as goal
 
 pub loop-scope-init : goal.loop-scope-init
 loop-scope-init c = λ paths are. first_numbers c.args.file.now c.args.scopes.now paths
-    (record { names = c.in_ok-name_tables.field-0.items; starts = c.new.result.items; roots = c.new-2.result.items })
-    c.in_ok-name_tables.ensures c.new.ensures.items c.new-2.ensures.items
+    (record { names = c.in_ok-all_tables.field-0.items; starts = c.new.result.items; roots = c.new-2.result.items })
+    (c.in_ok-all_tables.ensures ∙ ap (map model_names) (c.deref.ensures.value ∙ ap (λ (f : BlifFileData). f.models) c.file.view_is)) c.new.ensures.items c.new-2.ensures.items
 
 pub add-requires : goal.add-requires
 add-requires c = record {
