@@ -5,9 +5,14 @@
 
 mod laws;
 mod names;
+mod net_at;
+mod numbers;
 mod push;
 mod tree;
 mod worked;
 
 pub use laws::{cell_pulls_down, tree_joins_foot};
-pub use push::{push_domino, push_static};
+pub use names::CellNames;
+pub use net_at::{NetAt, push_at, reserve_nets};
+pub use numbers::{number_of, set_number};
+pub use push::{push_domino, push_named_domino, push_static};

@@ -1,5 +1,5 @@
 //! Names of the nets of a cell.
-ghost use Rattle.std.specs.Prelude.{◌≡◌, ◌++◌, All, IfOk};
+ghost use Rattle.std.specs.Prelude.{◌≡◌, ◌++◌, All, IfOk, codes};
 ghost use Rattle.std.specs.Fmt.{decimal};
 ghost use Rattle.dom_base.specs.Names.{IsNetByte, IsNetName};
 ghost use Rattle.domino_cell.specs.HeldNames.{AreNamesOfCell, AreNamesOfGate};
@@ -28,6 +28,24 @@ impl CellNames {
         Ok(CellNames {
             vdd: joined_name(alloc, b"vdd", b"")?,
             vss: joined_name(alloc, b"vss", b"")?,
+            clock: numbered_name(alloc, b"ck", u32::from(clock))?,
+            dynamic: numbered_name(alloc, b"d", k)?,
+            output: numbered_name(alloc, b"z", k)?,
+            foot: numbered_name(alloc, b"f", k)?,
+            front: joined_name(alloc, tree.as_bytes(), b"_")?,
+        })
+    }
+
+    /// The nets of cell `k` on the clock of this number, with the supplies of this other cell.
+    pub fn next(self, alloc: Global, clock: u8, k: u32) -> Result<CellNames, OutOfMemory>
+        requires vdd { self.vdd ≡ codes "vdd" }
+        requires vss { self.vss ≡ codes "vss" }
+        ensures { IfOk result (AreNamesOfCell clock k) }
+    {
+        let tree = numbered_name(alloc, b"t", k)?;
+        Ok(CellNames {
+            vdd: self.vdd,
+            vss: self.vss,
             clock: numbered_name(alloc, b"ck", u32::from(clock))?,
             dynamic: numbered_name(alloc, b"d", k)?,
             output: numbered_name(alloc, b"z", k)?,

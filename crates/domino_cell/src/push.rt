@@ -3,15 +3,18 @@ ghost use Rattle.std.specs.Prelude.{◌≡◌, ◌≤◌, ◌<◌, ◌+◌, ◌*
 ghost use Rattle.deck.specs.CircuitGrowth.{Grew};
 ghost use Rattle.deck.specs.Limits.{most_devices};
 ghost use Rattle.deck.specs.NamedDevices.{with_devices};
+ghost use Rattle.deck.specs.Nets.{IsCircuit};
 ghost use Rattle.sp_network.specs.Tree.{EachLeaf, dual, leaves};
 ghost use Rattle.sp_network.specs.TypedTree.{tree_of};
 ghost use Rattle.domino_cell.specs.Cell.{cell};
-ghost use Rattle.domino_cell.specs.HeldNames.{AreNamesOfGate, held_nets};
+ghost use Rattle.domino_cell.specs.HeldNames.{AreNamesOfCell, AreNamesOfGate, held_nets};
 ghost use Rattle.domino_cell.specs.NamedTrees.{named_tree};
 ghost use Rattle.domino_cell.specs.PushedNames.{HasRoomForCell, HasRoomForGate, numbered_cell, static_gate};
 ghost use Rattle.domino_cell.specs.PushedPaths.{HoldsCell, IsDrivenByTree, JoinsWhereOne, MayJoinWhereNotZero};
 
 use crate::names::{CellNames, GateNames};
+use crate::net_at::{NetAt, last_source, push_at};
+use crate::numbers::set_number;
 use crate::tree::TreeNames;
 use deck::Circuit;
 use dom_base::{Kind, NetName, OutOfMemory, ToVdd, ToVss};
@@ -43,8 +46,42 @@ pub fn push_domino(
     ensures refused { OnErr result (circuit.new ≡ circuit.old) }
 {
     let nets = CellNames::new(alloc, plan.clock, k)?;
+    let mut numbers = Vec::new(alloc);
+    push_named_domino(
+        alloc,
+        circuit,
+        plan,
+        names,
+        k,
+        0,
+        &nets,
+        numbers.as_mut_slice(),
+    )
+}
+
+/// Appends the devices of domino cell `k` as `push_domino` does, where `nets` has the names of its nets,
+/// and its output is the net of `gate`. Gate by gate `numbers` has the number that its net may have in the
+/// circuit, and takes the one that it has. The one error is out of memory, and it leaves the circuit as it was.
+pub fn push_named_domino(
+    alloc: Global,
+    circuit: &mut Circuit,
+    plan: &GatePlan,
+    names: &[NetName],
+    k: u32,
+    gate: usize,
+    nets: &CellNames,
+    numbers: &mut [Option<u32>],
+) -> Result<(), OutOfMemory>
+    requires named { AreNamesOfCell plan.now.clock k nets.now }
+    requires gates { EachLeaf (λ gate. gate < length names.now) (tree_of plan.now.tree) }
+    requires room { length circuit.old.devices + leaves (tree_of plan.now.tree) + 5 ≤ most_devices }
+    ensures devices { OnOk result (circuit.new
+        ≡ with_devices circuit.old (cell (numbered_cell plan.now.clock k) (named_tree names.now (tree_of plan.now.tree)))) }
+    ensures refused { OnErr result (circuit.new ≡ circuit.old) }
+    ensures whole { IsCircuit circuit.old.ports circuit.old.nets circuit.old.devices }
+{
     let before = circuit.device_count();
-    match push_cell(alloc, circuit, plan, names, &nets) {
+    match push_cell(alloc, circuit, plan, names, gate, nets, numbers) {
         Ok(()) => Ok(()),
         Err(failed) => {
             circuit.cut(before);
@@ -59,7 +96,9 @@ fn push_cell(
     circuit: &mut Circuit,
     plan: &GatePlan,
     names: &[NetName],
+    gate: usize,
     nets: &CellNames,
+    numbers: &mut [Option<u32>],
 ) -> Result<(), OutOfMemory>
     requires gates { EachLeaf (λ gate. gate < length names.now) (tree_of plan.now.tree) }
     requires room { length circuit.old.devices + leaves (tree_of plan.now.tree) + 5 ≤ most_devices }
@@ -71,12 +110,49 @@ fn push_cell(
         gates: names,
         front: nets.front.as_bytes(),
     };
-    circuit.push(Kind::P, &nets.dynamic, &nets.clock, &nets.vdd)?;
-    circuit.push(Kind::Keep, &nets.dynamic, &nets.output, &nets.vdd)?;
-    tree.push(alloc, circuit, &plan.tree, &nets.dynamic, &nets.foot, 0)?;
-    circuit.push(Kind::N, &nets.foot, &nets.clock, &nets.vss)?;
-    circuit.push(Kind::P, &nets.output, &nets.dynamic, &nets.vdd)?;
-    circuit.push(Kind::N, &nets.output, &nets.dynamic, &nets.vss)?;
+    let vdd = NetAt {
+        name: &nets.vdd,
+        number: Some(0),
+    };
+    let vss = NetAt {
+        name: &nets.vss,
+        number: Some(1),
+    };
+    let clock = NetAt {
+        name: &nets.clock,
+        number: Some(1 + u32::from(plan.clock)),
+    };
+    let dynamic = NetAt {
+        name: &nets.dynamic,
+        number: None,
+    };
+    let output = NetAt {
+        name: &nets.output,
+        number: None,
+    };
+    let foot = NetAt {
+        name: &nets.foot,
+        number: None,
+    };
+    let precharge = push_at(circuit, Kind::P, dynamic, clock, vdd)?;
+    let dynamic = NetAt {
+        name: &nets.dynamic,
+        number: Some(precharge.drain),
+    };
+    let keeper = push_at(circuit, Kind::Keep, dynamic, output, vdd)?;
+    let output = NetAt {
+        name: &nets.output,
+        number: Some(keeper.gate),
+    };
+    tree.push(alloc, circuit, &plan.tree, dynamic, foot, 0, numbers)?;
+    let foot = NetAt {
+        name: &nets.foot,
+        number: last_source(circuit),
+    };
+    push_at(circuit, Kind::N, foot, clock, vss)?;
+    push_at(circuit, Kind::P, output, dynamic, vdd)?;
+    let last = push_at(circuit, Kind::N, output, dynamic, vss)?;
+    set_number(numbers, gate, last.drain);
     Ok(())
 }
 
@@ -139,7 +215,20 @@ fn push_gate(
         gates: names,
         front: nets.lower.as_bytes(),
     };
-    to_vdd.push(alloc, circuit, upper, out, &nets.vdd, 0)?;
-    to_vss.push(alloc, circuit, tree, out, &nets.vss, 0)?;
+    let out = NetAt {
+        name: out,
+        number: None,
+    };
+    let vdd = NetAt {
+        name: &nets.vdd,
+        number: Some(0),
+    };
+    let vss = NetAt {
+        name: &nets.vss,
+        number: Some(1),
+    };
+    let mut numbers = Vec::new(alloc);
+    to_vdd.push(alloc, circuit, upper, out, vdd, 0, numbers.as_mut_slice())?;
+    to_vss.push(alloc, circuit, tree, out, vss, 0, numbers.as_mut_slice())?;
     Ok(())
 }

@@ -10,6 +10,8 @@ ghost use Rattle.domino_cell.specs.NamedTrees.{inner_net, named_tree};
 ghost use Rattle.domino_cell.specs.Spelling.{spell};
 
 use crate::names::numbered_name;
+use crate::net_at::{NetAt, last_source, push_at};
+use crate::numbers::{number_of, set_number};
 use deck::Circuit;
 use dom_base::{NetName, OutOfMemory, Polarity};
 use sp_network::Sp;
@@ -26,40 +28,60 @@ pub struct TreeNames<'a> {
 impl<'a> TreeNames<'a> {
     /// Appends the devices of a tree from `top` to `bottom`: left parts first, and a series takes its
     /// inner net before its parts do, from the number `inner` on. Gives the number after the last
-    /// one. The one error is out of memory, and then some of the devices may stand at the end.
+    /// one. Gate by gate `numbers` has the number that its net may have in the circuit, and takes the
+    /// one that it has. The one error is out of memory, and then some of the devices may stand at the end.
     #[tactic(auto, using(crate::proofs::PushedTrees::tree_counts))]
     pub fn push<S: Polarity>(
         &self,
         alloc: Global,
         circuit: &mut Circuit,
         tree: &Sp<S>,
-        top: &NetName,
-        bottom: &NetName,
+        top: NetAt<'_>,
+        bottom: NetAt<'_>,
         inner: u32,
+        numbers: &mut [Option<u32>],
     ) -> Result<u32, OutOfMemory>
         requires gates { EachLeaf (λ gate. gate < length self.now.gates.now) (tree_of tree.now) }
         requires front { All IsNetByte self.now.front.now }
         requires room { length circuit.old.devices + leaves (tree_of tree.now) ≤ most_devices }
-        requires numbers { inner + inner_count (tree_of tree.now) < 2 ^ 32 }
+        requires inner_numbers { inner + inner_count (tree_of tree.now) < 2 ^ 32 }
         ensures next { IfOk result (λ next. next ≡ inner + inner_count (tree_of tree.now)) }
         ensures devices { OnOk result (circuit.new ≡ with_devices circuit.old
-            (spell S.KIND (inner_net self.now.front.now) (named_tree self.now.gates.now (tree_of tree.now)) top.now bottom.now inner)) }
+            (spell S.KIND (inner_net self.now.front.now) (named_tree self.now.gates.now (tree_of tree.now)) top.entry.name.now bottom.entry.name.now inner)) }
         ensures count { OnOk result (length circuit.new.devices ≡ length circuit.old.devices + leaves (tree_of tree.now)) }
         ensures grew { Grew circuit.old circuit.new }
     {
         match tree {
             Sp::Leaf { gate, .. } => {
-                circuit.push(S::KIND, top, &self.gates[*gate as usize], bottom)?;
+                let gate = *gate as usize;
+                let net = NetAt {
+                    name: &self.gates[gate],
+                    number: number_of(numbers, gate),
+                };
+                let device = push_at(circuit, S::KIND, top, net, bottom)?;
+                set_number(numbers, gate, device.gate);
                 Ok(inner)
             }
             Sp::Series(left, right) => {
-                let middle = numbered_name(alloc, self.front, inner)?;
-                let next = self.push(alloc, circuit, left, top, &middle, inner + 1)?;
-                self.push(alloc, circuit, right, &middle, bottom, next)
+                let name = numbered_name(alloc, self.front, inner)?;
+                let middle = NetAt {
+                    name: &name,
+                    number: None,
+                };
+                let next = self.push(alloc, circuit, left, top, middle, inner + 1, numbers)?;
+                let middle = NetAt {
+                    name: &name,
+                    number: last_source(circuit),
+                };
+                self.push(alloc, circuit, right, middle, bottom, next, numbers)
             }
             Sp::Parallel(left, right) => {
-                let next = self.push(alloc, circuit, left, top, bottom, inner)?;
-                self.push(alloc, circuit, right, top, bottom, next)
+                let next = self.push(alloc, circuit, left, top, bottom, inner, numbers)?;
+                let bottom = NetAt {
+                    name: bottom.name,
+                    number: last_source(circuit),
+                };
+                self.push(alloc, circuit, right, top, bottom, next, numbers)
             }
         }
     }

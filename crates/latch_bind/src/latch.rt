@@ -3,12 +3,14 @@ ghost use Rattle.std.specs.Prelude.{◌≡◌, ◌≤◌, ◌<◌, ◌+◌, ◌+
 ghost use Rattle.deck.specs.CircuitGrowth.{Grew};
 ghost use Rattle.deck.specs.Limits.{most_devices};
 ghost use Rattle.deck.specs.NamedDevices.{with_devices};
+ghost use Rattle.deck.specs.Pushes.{pushed};
 ghost use Rattle.latch_bind.specs.HeldNames.{held_inverter, held_reset};
 ghost use Rattle.latch_bind.specs.Latches.{HasRoomForLatch, named_latch};
 
 use crate::names::{StageNames, SupplyNames, joined_name, numbered_name};
 use deck::Circuit;
 use dom_base::{Kind, NetName, OutOfMemory};
+use domino_cell::{NetAt, push_at};
 use std::alloc::Global;
 
 /// Appends the nine devices of latch `j` with its start value: a master that takes the net `xJ`
@@ -56,28 +58,109 @@ fn push_parts(
         ++ held_inverter supplies.now slave.now master.now.out ++ held_reset supplies.now slave.now.out init ∷ [])) }
     ensures grew { Grew circuit.old circuit.new }
 {
-    push_inverter(circuit, supplies, master, input)?;
-    push_inverter(circuit, supplies, slave, &master.out)?;
-    push_reset(alloc, circuit, supplies, &slave.out, init)?;
+    let data = NetAt {
+        name: input,
+        number: None,
+    };
+    let held = push_inverter(circuit, supplies, master, data)?;
+    let data = NetAt {
+        name: &master.out,
+        number: Some(held),
+    };
+    let number = push_inverter(circuit, supplies, slave, data)?;
+    let out = NetAt {
+        name: &slave.out,
+        number: Some(number),
+    };
+    push_reset(alloc, circuit, supplies, out, init)?;
     Ok(())
 }
 
-/// Appends the four devices of a clocked inverter. After a refusal some of them may stand at the end.
+/// Appends the four devices of a clocked inverter, and gives a number that its output may have. After
+/// a refusal some of them may stand at the end.
 fn push_inverter(
     circuit: &mut Circuit,
     supplies: &SupplyNames,
     stage: &StageNames,
-    input: &NetName,
-) -> Result<(), OutOfMemory>
+    input: NetAt<'_>,
+) -> Result<u32, OutOfMemory>
     requires { length circuit.old.devices + 4 ≤ most_devices }
-    ensures devices { OnOk result (circuit.new ≡ with_devices circuit.old (held_inverter supplies.now stage.now input.now)) }
+    ensures devices { OnOk result (circuit.new ≡ with_devices circuit.old (held_inverter supplies.now stage.now input.entry.name.now)) }
     ensures grew { Grew circuit.old circuit.new }
 {
-    circuit.push(Kind::P, &stage.out, &stage.opposite, &stage.upper)?;
-    circuit.push(Kind::P, &stage.upper, input, &supplies.vdd)?;
-    circuit.push(Kind::N, &stage.out, &stage.clock, &stage.lower)?;
-    circuit.push(Kind::N, &stage.lower, input, &supplies.vss)?;
-    Ok(())
+    let vdd = NetAt {
+        name: &supplies.vdd,
+        number: Some(0),
+    };
+    let vss = NetAt {
+        name: &supplies.vss,
+        number: Some(1),
+    };
+    let out = NetAt {
+        name: &stage.out,
+        number: None,
+    };
+    let (number, data) = push_branch(
+        circuit,
+        Kind::P,
+        out,
+        &stage.opposite,
+        &stage.upper,
+        input,
+        vdd,
+    )?;
+    let out = NetAt {
+        name: &stage.out,
+        number: Some(number),
+    };
+    let input = NetAt {
+        name: input.name,
+        number: Some(data),
+    };
+    push_branch(
+        circuit,
+        Kind::N,
+        out,
+        &stage.clock,
+        &stage.lower,
+        input,
+        vss,
+    )?;
+    Ok(number)
+}
+
+/// Appends the two devices in series of a branch of a clocked inverter, from its output to a supply,
+/// with the net between them, and gives numbers that its output and its data may have. After a refusal
+/// one of them may stand at the end.
+fn push_branch(
+    circuit: &mut Circuit,
+    kind: Kind,
+    out: NetAt<'_>,
+    clock: &NetName,
+    between: &NetName,
+    input: NetAt<'_>,
+    supply: NetAt<'_>,
+) -> Result<(u32, u32), OutOfMemory>
+    requires { length circuit.old.devices + 2 ≤ most_devices }
+    ensures devices { OnOk result (circuit.new ≡ pushed (pushed circuit.old kind out.entry.name.now clock.now between.now)
+        kind between.now input.entry.name.now supply.entry.name.now) }
+    ensures grew { Grew circuit.old circuit.new }
+{
+    let clock = NetAt {
+        name: clock,
+        number: None,
+    };
+    let middle = NetAt {
+        name: between,
+        number: None,
+    };
+    let first = push_at(circuit, kind, out, clock, middle)?;
+    let middle = NetAt {
+        name: between,
+        number: Some(first.source),
+    };
+    let second = push_at(circuit, kind, middle, input, supply)?;
+    Ok((first.drain, second.gate))
 }
 
 /// Appends the device that resets `out` to the start value.
@@ -85,18 +168,36 @@ fn push_reset(
     alloc: Global,
     circuit: &mut Circuit,
     supplies: &SupplyNames,
-    out: &NetName,
+    out: NetAt<'_>,
     init: bool,
 ) -> Result<(), OutOfMemory>
     requires { length circuit.old.devices < most_devices }
-    ensures devices { OnOk result (circuit.new ≡ with_devices circuit.old (held_reset supplies.now out.now init ∷ [])) }
+    ensures devices { OnOk result (circuit.new ≡ with_devices circuit.old (held_reset supplies.now out.entry.name.now init ∷ [])) }
     ensures refused { OnErr result (circuit.new ≡ circuit.old) }
 {
     if init {
-        let gate = joined_name(alloc, b"rsb", b"")?;
-        circuit.push(Kind::P, out, &gate, &supplies.vdd)
+        let name = joined_name(alloc, b"rsb", b"")?;
+        let gate = NetAt {
+            name: &name,
+            number: None,
+        };
+        let vdd = NetAt {
+            name: &supplies.vdd,
+            number: Some(0),
+        };
+        push_at(circuit, Kind::P, out, gate, vdd)?;
+        Ok(())
     } else {
-        let gate = joined_name(alloc, b"rs", b"")?;
-        circuit.push(Kind::N, out, &gate, &supplies.vss)
+        let name = joined_name(alloc, b"rs", b"")?;
+        let gate = NetAt {
+            name: &name,
+            number: None,
+        };
+        let vss = NetAt {
+            name: &supplies.vss,
+            number: Some(1),
+        };
+        push_at(circuit, Kind::N, out, gate, vss)?;
+        Ok(())
     }
 }

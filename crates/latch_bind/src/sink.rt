@@ -9,6 +9,7 @@ ghost use Rattle.latch_bind.specs.Sinks.{HasRoomForSink, sink_inverter};
 use crate::names::SupplyNames;
 use deck::Circuit;
 use dom_base::{Kind, NetName, OutOfMemory};
+use domino_cell::{NetAt, push_at};
 use std::alloc::Global;
 
 /// Appends the inverter of a sink from `gate` to `out`. Where the value of `gate` is known, a
@@ -28,9 +29,33 @@ pub fn push_sink(
 {
     let supplies = SupplyNames::new(alloc)?;
     let before = circuit.device_count();
-    circuit.push(Kind::P, out, gate, &supplies.vdd)?;
-    match circuit.push(Kind::N, out, gate, &supplies.vss) {
-        Ok(()) => Ok(()),
+    let input = NetAt {
+        name: gate,
+        number: None,
+    };
+    let output = NetAt {
+        name: out,
+        number: None,
+    };
+    let vdd = NetAt {
+        name: &supplies.vdd,
+        number: Some(0),
+    };
+    let vss = NetAt {
+        name: &supplies.vss,
+        number: Some(1),
+    };
+    let first = push_at(circuit, Kind::P, output, input, vdd)?;
+    let input = NetAt {
+        name: gate,
+        number: Some(first.gate),
+    };
+    let output = NetAt {
+        name: out,
+        number: Some(first.drain),
+    };
+    match push_at(circuit, Kind::N, output, input, vss) {
+        Ok(_) => Ok(()),
         Err(failed) => {
             circuit.cut(before);
             Err(failed)

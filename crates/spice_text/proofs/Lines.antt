@@ -62,3 +62,15 @@ card_parts t number drain gate source bulk model {m} {n} {d} {g} {s} {b} {k} {e}
     let last = ek ∙ ap (λ w. b ++ 32 ∷ w) (sym (append-nil model)) in
     let words = appended n (32 ∷ drain) _ ed (appended d (32 ∷ gate) _ eg (appended g (32 ∷ source) _ es (appended s (32 ∷ bulk) _ eb last))) in
     appended t _ (10 ∷ []) (appended t (109 ∷ []) _ em (appended m number _ en words)) ee
+
+-- a card, where its bulk, its model and LF are appended together
+pub card_with_end : (t number drain gate source bulk model : List ℕ) {m n d g s e : List ℕ}
+    → m ≡ t ++ 109 ∷ [] → n ≡ m ++ number → d ≡ n ++ 32 ∷ drain → g ≡ d ++ 32 ∷ gate → s ≡ g ++ 32 ∷ source → e ≡ s ++ (32 ∷ bulk ++ 32 ∷ model ++ 10 ∷ [])
+    → e ≡ t ++ deck_line (codes "m" ++ number) (drain ∷ gate ∷ source ∷ bulk ∷ model ∷ [])
+card_with_end t number drain gate source bulk model {s = s} {e = e} em en ed eg es ee =
+    let one : List ℕ = 32 ∷ bulk in
+    let two : List ℕ = 32 ∷ model in
+    let end : List ℕ = 10 ∷ [] in
+    let apart : e ≡ ((s ++ one) ++ two) ++ end =
+    ee ∙ sym (append_assoc s (one ++ two) end) ∙ ap (λ l. l ++ end) (sym (append_assoc s one two)) in
+    card_parts t number drain gate source bulk model {b = s ++ one} {k = (s ++ one) ++ two} em en ed eg es refl refl apart

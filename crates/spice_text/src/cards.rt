@@ -1,5 +1,5 @@
 //! The lines of phases and the cards of devices.
-ghost use Rattle.std.specs.Prelude.{◌≡◌, ◌++◌, ◌<◌, All, OnOk, length};
+ghost use Rattle.std.specs.Prelude.{◌≡◌, ◌++◌, ◌∷◌, ◌<◌, [], All, OnOk, length};
 ghost use Rattle.std.specs.List.{flat_map};
 ghost use Rattle.spice_text.specs.Text.{phase_line, device_card, device_cards, bulk_of};
 ghost use Rattle.deck.specs.DeckText.{model_word};
@@ -55,9 +55,7 @@ fn put_card(
     append_word(text, net_name(nets, device.drain))?;
     append_word(text, net_name(nets, device.gate))?;
     append_word(text, net_name(nets, device.source))?;
-    append_word(text, bulk(device.kind))?;
-    append_word(text, model(device.kind))?;
-    append(text, b"\n")?;
+    append(text, card_end(device.kind))?;
     Ok(())
 }
 
@@ -68,21 +66,13 @@ fn net_name(nets: &[NetName], net: u32) -> &[u8]
     nets[net as usize].as_bytes()
 }
 
-fn bulk(kind: Kind) -> &'static [u8]
-    ensures { result.now ≡ bulk_of kind }
+/// The end of a card: the bulk and the model of a kind of device, each after a blank, and LF.
+fn card_end(kind: Kind) -> &'static [u8]
+    ensures { result.now ≡ 32 ∷ bulk_of kind ++ 32 ∷ model_word kind ++ 10 ∷ [] }
 {
     match kind {
-        Kind::N => b"vss",
-        Kind::P | Kind::Keep => b"vdd",
-    }
-}
-
-fn model(kind: Kind) -> &'static [u8]
-    ensures { result.now ≡ model_word kind }
-{
-    match kind {
-        Kind::N => b"nch",
-        Kind::P => b"pch",
-        Kind::Keep => b"pkeep",
+        Kind::N => b" vss nch\n",
+        Kind::P => b" vdd pch\n",
+        Kind::Keep => b" vdd pkeep\n",
     }
 }

@@ -8,9 +8,12 @@ ghost use Rattle.synth_flow.specs.MadeDecks.{AreGated, HasRoomForCells, cells_fr
 
 use deck::Circuit;
 use dom_base::{NetName, OutOfMemory};
-use domino_cell::push_domino;
+use domino_cell::{CellNames, push_named_domino, reserve_nets};
 use sp_network::GatePlan;
 use std::alloc::Global;
+
+/// How many nets a cell of two switches has at most that no other cell has.
+const NETS_OF_A_CELL: usize = 4;
 
 /// Appends the cells of these plans in order from cell 0, where gate by gate `names` has the net that
 /// gates it. The one error is out of memory, and then some of the cells may stand at the end.
@@ -26,8 +29,24 @@ pub fn push_cells(
     requires room { length circuit.old.devices + cost (plan_trees plans.now) ≤ most_devices }
     ensures { OnOk result (circuit.new ≡ with_devices circuit.old (cells_from names.now 0 plans.now)) }
 {
+    let outputs = names.len().saturating_sub(plans.len());
+    let mut numbers = vec![in alloc; None; names.len()]?;
+    let mut nets = CellNames::new(alloc, 1, 0)?;
+    reserve_nets(circuit, plans.len().saturating_mul(NETS_OF_A_CELL));
     'cells: for k in 0..plans.len() {
-        push_domino(alloc, circuit, &plans[k], names, k as u32)?;
+        let plan = &plans[k];
+        let gate = outputs.saturating_add(k);
+        nets = nets.next(alloc, plan.clock, k as u32)?;
+        push_named_domino(
+            alloc,
+            circuit,
+            plan,
+            names,
+            k as u32,
+            gate,
+            &nets,
+            numbers.as_mut_slice(),
+        )?;
     }
     Ok(())
 }

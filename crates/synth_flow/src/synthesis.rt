@@ -33,6 +33,7 @@ pub fn synth(
     let gates = decompose(alloc, network)?;
     let signs = assign(alloc, &gates)?;
     let forest = rails(alloc, &gates, signs.as_slice())?;
+    drop(gates);
     let Cover { kept, plans } = cover(alloc, &forest, options.bounds)?;
     let plans = clocked(alloc, plans, forest.leaves, options.phases)?;
     let cells = cell_numbers(alloc, kept.as_slice())?;

@@ -1,40 +1,34 @@
-use Rattle.std.proofs.Common.{◌≤◌, ◌^◌, ap, arith, ◌∙◌}
-use Rattle.deck.specs.Cuts.{cut_to}
-use Rattle.deck.specs.NamedDevices.{with_devices}
-use Rattle.deck.proofs.Cuts.{cut_to-grew}
+use Rattle.std.proofs.Common.{◌≤◌, ◌^◌, arith}
+use Rattle.std.proofs.lemmas.Result.{on_ok_weaker}
 use Rattle.sp_network.specs.Tree.{leaves}
 use Rattle.sp_network.specs.TypedTree.{tree_of}
-use Rattle.domino_cell.specs.Cell.{cell}
 use Rattle.domino_cell.specs.NamedTrees.{named_tree}
 use Rattle.domino_cell.specs.PushedNames.{numbered_cell}
-use Rattle.domino_cell.proofs.CellCircuits.{Grew-longer}
-use Rattle.domino_cell.proofs.PushedCells.{HoldsCell-numbered, JoinsWhereOne-cell, MayJoinWhereNotZero-cell, held_nets_are}
+use Rattle.domino_cell.proofs.PushedCells.{HoldsCell-numbered, JoinsWhereOne-cell, MayJoinWhereNotZero-cell}
 use Rattle.domino_cell.proofs.push.push_domino.Goals as goal
 
-pub cut-requires : goal.cut-requires
-cut-requires c = omega (arith, c.device_count-before.ensures.count, Grew-longer c.push_cell.ensures.grew)
-
-pub returns-in-Ok-clause-devices : goal.returns-in-Ok-clause-devices
-returns-in-Ok-clause-devices c =
-    c.in-Ok.ensures.devices
-    ∙ ap (λ nets. with_devices c.args.circuit.now (cell nets (named_tree c.args.names.now (tree_of c.args.plan.now.tree)))) (held_nets_are _ _ c.in_ok-nets.nets c.in_ok-nets.ensures)
-
-pub returns-in-Ok-clause-holds : goal.returns-in-Ok-clause-holds
-returns-in-Ok-clause-holds c =
+pub returns-clause-holds : goal.returns-clause-holds
+returns-clause-holds c =
     let few : leaves (tree_of c.args.plan.now.tree) ≤ 2 ^ 24 = omega (arith, c.requires.room) in
-    HoldsCell-numbered c.args.circuit.now c.push_cell.new.circuit c.args.plan.now.clock c.args.k c.args.names.now (tree_of c.args.plan.now.tree)
-    c.device_count-before.ensures.whole c.requires.nets few (returns-in-Ok-clause-devices c)
+    on_ok_weaker c.push_named_domino.result
+    (λ made. HoldsCell-numbered c.args.circuit.now c.push_named_domino.new.circuit c.args.plan.now.clock c.args.k c.args.names.now (tree_of c.args.plan.now.tree)
+    c.push_named_domino.ensures.whole c.requires.nets few made)
+    c.push_named_domino.ensures.devices
 
-pub returns-in-Ok-clause-definite : goal.returns-in-Ok-clause-definite
-returns-in-Ok-clause-definite c =
-    JoinsWhereOne-cell c.push_cell.new.circuit (numbered_cell c.args.plan.now.clock c.args.k) (named_tree c.args.names.now (tree_of c.args.plan.now.tree)) (returns-in-Ok-clause-holds c)
+pub returns-clause-definite : goal.returns-clause-definite
+returns-clause-definite c =
+    let few : leaves (tree_of c.args.plan.now.tree) ≤ 2 ^ 24 = omega (arith, c.requires.room) in
+    on_ok_weaker c.push_named_domino.result
+    (λ made. JoinsWhereOne-cell c.push_named_domino.new.circuit (numbered_cell c.args.plan.now.clock c.args.k) (named_tree c.args.names.now (tree_of c.args.plan.now.tree))
+    (HoldsCell-numbered c.args.circuit.now c.push_named_domino.new.circuit c.args.plan.now.clock c.args.k c.args.names.now (tree_of c.args.plan.now.tree)
+    c.push_named_domino.ensures.whole c.requires.nets few made))
+    c.push_named_domino.ensures.devices
 
-pub returns-in-Ok-clause-possible : goal.returns-in-Ok-clause-possible
-returns-in-Ok-clause-possible c =
-    MayJoinWhereNotZero-cell c.push_cell.new.circuit (numbered_cell c.args.plan.now.clock c.args.k) (named_tree c.args.names.now (tree_of c.args.plan.now.tree)) (returns-in-Ok-clause-holds c)
-
-pub returns-clause-refused : goal.returns-clause-refused
-returns-clause-refused c =
-    c.cut.ensures
-    ∙ ap (cut_to c.push_cell.new.circuit) c.device_count-before.ensures.count
-    ∙ cut_to-grew c.args.circuit.now c.push_cell.new.circuit c.push_cell.ensures.grew c.device_count-before.ensures.whole.all_used
+pub returns-clause-possible : goal.returns-clause-possible
+returns-clause-possible c =
+    let few : leaves (tree_of c.args.plan.now.tree) ≤ 2 ^ 24 = omega (arith, c.requires.room) in
+    on_ok_weaker c.push_named_domino.result
+    (λ made. MayJoinWhereNotZero-cell c.push_named_domino.new.circuit (numbered_cell c.args.plan.now.clock c.args.k) (named_tree c.args.names.now (tree_of c.args.plan.now.tree))
+    (HoldsCell-numbered c.args.circuit.now c.push_named_domino.new.circuit c.args.plan.now.clock c.args.k c.args.names.now (tree_of c.args.plan.now.tree)
+    c.push_named_domino.ensures.whole c.requires.nets few made))
+    c.push_named_domino.ensures.devices

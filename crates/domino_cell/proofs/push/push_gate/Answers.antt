@@ -19,16 +19,16 @@ push-requires-clause-gates c =
 pub push-requires-clause-room : goal.push-requires-clause-room
 push-requires-clause-room c = omega (arith, c.requires.room, ap leaves c.requires.upper, leaves-dual (tree_of c.args.tree.now))
 
-pub push-requires-clause-numbers : goal.push-requires-clause-numbers
-push-requires-clause-numbers c =
+pub push-requires-clause-inner_numbers : goal.push-requires-clause-inner_numbers
+push-requires-clause-inner_numbers c =
     omega (arith, c.requires.room, ap leaves c.requires.upper, leaves-dual (tree_of c.args.tree.now), inner_count-below (tree_of c.args.upper.now))
 
 pub push-requires-2-clause-room : goal.push-requires-2-clause-room
 push-requires-2-clause-room c =
     omega (arith, c.requires.room, c.in_ok-push.ensures.count, ap leaves c.requires.upper, leaves-dual (tree_of c.args.tree.now))
 
-pub push-requires-2-clause-numbers : goal.push-requires-2-clause-numbers
-push-requires-2-clause-numbers c = omega (arith, c.requires.room, inner_count-below (tree_of c.args.tree.now))
+pub push-requires-2-clause-inner_numbers : goal.push-requires-2-clause-inner_numbers
+push-requires-2-clause-inner_numbers c = omega (arith, c.requires.room, inner_count-below (tree_of c.args.tree.now))
 
 pub returns-in_err-push-2-clause-grew : goal.returns-in_err-push-2-clause-grew
 returns-in_err-push-2-clause-grew c = Grew-trans c.args.circuit.now c.push.new.circuit c.push-2.new.circuit c.push.ensures.grew c.push-2.ensures.grew

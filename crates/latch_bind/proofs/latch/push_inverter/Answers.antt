@@ -1,33 +1,21 @@
-use Rattle.std.proofs.Common.{refl, subst, sym}
-use Rattle.deck.specs.CircuitGrowth.{Grew}
-use Rattle.deck.proofs.CircuitGrowth.{Grew-same}
-use Rattle.domino_cell.proofs.CellCircuits.{Grew-pushed}
+use Rattle.std.proofs.Common.{ap, ◌∙◌}
+use Rattle.dom_base.specs.declared.kind.Kind.TheVariants.{N as nch}
+use Rattle.deck.specs.CircuitData.{CircuitData}
+use Rattle.deck.specs.Pushes.{pushed}
+use Rattle.deck.proofs.CircuitGrowth.{Grew-trans}
 use Rattle.latch_bind.proofs.latch.push_inverter.Goals as goal
 
-pub returns-in_err-push-2-clause-grew : goal.returns-in_err-push-2-clause-grew
-returns-in_err-push-2-clause-grew c =
-    let first = Grew-pushed c.args.circuit.now _ c.push.new.self _ _ _ _ (Grew-same refl) c.in_ok-push.ensures.ok in
-    subst (Grew c.args.circuit.now) (sym c.in_err-push-2.ensures.err) first
-
-pub returns-in_err-push-3-clause-grew : goal.returns-in_err-push-3-clause-grew
-returns-in_err-push-3-clause-grew c =
-    let first = Grew-pushed c.args.circuit.now _ c.push.new.self _ _ _ _ (Grew-same refl) c.in_ok-push.ensures.ok in
-    let second = Grew-pushed c.args.circuit.now _ c.push-2.new.self _ _ _ _ first c.in_ok-push-2.ensures.ok in
-    subst (Grew c.args.circuit.now) (sym c.in_err-push-3.ensures.err) second
-
-pub returns-in_err-push-4-clause-grew : goal.returns-in_err-push-4-clause-grew
-returns-in_err-push-4-clause-grew c =
-    let first = Grew-pushed c.args.circuit.now _ c.push.new.self _ _ _ _ (Grew-same refl) c.in_ok-push.ensures.ok in
-    let second = Grew-pushed c.args.circuit.now _ c.push-2.new.self _ _ _ _ first c.in_ok-push-2.ensures.ok in
-    let third = Grew-pushed c.args.circuit.now _ c.push-3.new.self _ _ _ _ second c.in_ok-push-3.ensures.ok in
-    subst (Grew c.args.circuit.now) (sym c.in_err-push-4.ensures.err) third
+pub returns-in_err-push_branch-clause-grew : goal.returns-in_err-push_branch-clause-grew
+returns-in_err-push_branch-clause-grew c =
+    Grew-trans c.args.circuit.now c.push_branch.new.circuit c.push_branch-2.new.circuit c.push_branch.ensures.grew c.push_branch-2.ensures.grew
 
 pub returns-clause-grew : goal.returns-clause-grew
 returns-clause-grew c =
-    let first = Grew-pushed c.args.circuit.now _ c.push.new.self _ _ _ _ (Grew-same refl) c.in_ok-push.ensures.ok in
-    let second = Grew-pushed c.args.circuit.now _ c.push-2.new.self _ _ _ _ first c.in_ok-push-2.ensures.ok in
-    let third = Grew-pushed c.args.circuit.now _ c.push-3.new.self _ _ _ _ second c.in_ok-push-3.ensures.ok in
-    Grew-pushed c.args.circuit.now _ c.push-4.new.self _ _ _ _ third c.in_ok-push-4.ensures.ok
+    Grew-trans c.args.circuit.now c.push_branch.new.circuit c.push_branch-2.new.circuit c.push_branch.ensures.grew c.push_branch-2.ensures.grew
 
-pub returns-in_err-push-clause-grew : goal.returns-in_err-push-clause-grew
-returns-in_err-push-clause-grew c = Grew-same c.in_err-push.ensures.err
+pub returns-clause-devices : goal.returns-clause-devices
+returns-clause-devices c =
+    let stage = c.args.stage.now in
+    let input = c.args.input.name.now in
+    c.in_ok-push_branch.ensures.devices
+    ∙ ap (λ (x : CircuitData). pushed (pushed x nch stage.out stage.clock stage.lower) nch stage.lower input c.args.supplies.now.vss) c.in_ok-number.ensures.devices

@@ -5,8 +5,8 @@ use Rattle.latch_bind.specs.HeldNames.{held_inverter, held_reset}
 use Rattle.latch_bind.proofs.LatchParts.{Grew-with, two_parts}
 use Rattle.latch_bind.proofs.latch.push_parts.Goals as goal
 
-pub returns-in_err-push_inverter-2-clause-grew : goal.returns-in_err-push_inverter-2-clause-grew
-returns-in_err-push_inverter-2-clause-grew c =
+pub returns-in_err-number-clause-grew : goal.returns-in_err-number-clause-grew
+returns-in_err-number-clause-grew c =
     Grew-trans c.args.circuit.now c.push_inverter.new.circuit c.push_inverter-2.new.circuit c.push_inverter.ensures.grew c.push_inverter-2.ensures.grew
 
 pub returns-in_err-push_reset-clause-grew : goal.returns-in_err-push_reset-clause-grew
@@ -26,4 +26,4 @@ returns-clause-devices c =
     let reset = held_reset c.args.supplies.now c.args.slave.now.out c.args.init ∷ [] in
     two_parts c.args.circuit.now c.push_inverter-2.new.circuit c.push_reset.new.circuit (master ++ slave) reset
     (two_parts c.args.circuit.now c.push_inverter.new.circuit c.push_inverter-2.new.circuit master slave
-    c.in_ok-push_inverter.ensures.devices c.in_ok-push_inverter-2.ensures.devices) c.in_ok-push_reset.ensures.devices
+    c.in_ok-held.ensures.devices c.in_ok-number.ensures.devices) c.in_ok-push_reset.ensures.devices

@@ -16,18 +16,18 @@ returns-in-Ok-clause-devices c =
     let gate = c.args.gate.now in
     let out = c.args.out.now in
     let supplies = c.in_ok-supplies.ensures in
-    let first : c.push.new.self ≡ pushed old pch out gate (codes "vdd") = c.in_ok-push.ensures.ok ∙ ap (pushed old pch out gate) supplies.vdd in
+    let first : c.push_at.new.circuit ≡ pushed old pch out gate (codes "vdd") = c.in_ok-first.ensures.ok ∙ ap (pushed old pch out gate) supplies.vdd in
     c.in-Ok.ensures.ok ∙ (λ i. pushed (first i) nch out gate (supplies.vss i))
 
 pub returns-in-Ok-clause-driven : goal.returns-in-Ok-clause-driven
 returns-in-Ok-clause-driven c =
-    IsDrivenByTree-sink c.args.circuit.now c.push-2.new.self c.args.gate.now c.args.out.now c.device_count-before.ensures.whole c.requires.nets
+    IsDrivenByTree-sink c.args.circuit.now c.push_at-2.new.circuit c.args.gate.now c.args.out.now c.device_count-before.ensures.whole c.requires.nets
     (returns-in-Ok-clause-devices c)
 
 pub returns-clause-refused : goal.returns-clause-refused
 returns-clause-refused c =
-    let first = Grew-pushed c.args.circuit.now _ c.push.new.self _ _ _ _ (Grew-same refl) c.in_ok-push.ensures.ok in
+    let first = Grew-pushed c.args.circuit.now _ c.push_at.new.circuit _ _ _ _ (Grew-same refl) c.in_ok-first.ensures.ok in
     let grew = subst (Grew c.args.circuit.now) (sym c.in-Err.ensures.err) first in
     c.cut.ensures
-    ∙ ap (cut_to c.push-2.new.self) c.device_count-before.ensures.count
-    ∙ cut_to-grew c.args.circuit.now c.push-2.new.self grew c.device_count-before.ensures.whole.all_used
+    ∙ ap (cut_to c.push_at-2.new.circuit) c.device_count-before.ensures.count
+    ∙ cut_to-grew c.args.circuit.now c.push_at-2.new.circuit grew c.device_count-before.ensures.whole.all_used

@@ -1,7 +1,17 @@
-use Rattle.std.proofs.Common.{◌≡◌, take}
+use Rattle.std.proofs.Common.{◌≡◌, ℕ, List, take}
+use Rattle.std.specs.Prelude.{codes}
+use Rattle.deck.specs.CircuitData.{CircuitData}
 use Rattle.deck.specs.NamedDevices.{with_devices}
+use Rattle.sp_network.specs.declared.plan.GatePlan.{GatePlan}
+use Rattle.domino_cell.specs.declared.names.CellNames.{CellNames}
 use Rattle.synth_flow.specs.MadeDecks.{cells_from}
 use Rattle.synth_flow.proofs.cells.push_cells.Given as goal
 
+-- the cells of the first plans stand, and the supplies have their names
+pub record AreCells (old now : CircuitData) (names : List (List ℕ)) (plans : List GatePlan) (k : ℕ) (nets : CellNames) : Type 0 where
+  pub made : now ≡ with_devices old (cells_from names 0 (take k plans))
+  pub vdd : nets.vdd ≡ codes "vdd"
+  pub vss : nets.vss ≡ codes "vss"
+
 abbrev pub invariant-cells : goal.invariant-cells
-invariant-cells l = l.circuit ≡ with_devices l.fn.circuit (cells_from l.names 0 (take l.k l.plans))
+invariant-cells l = AreCells l.fn.circuit l.circuit l.names l.plans l.k l.nets

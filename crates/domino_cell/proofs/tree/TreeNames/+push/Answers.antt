@@ -9,32 +9,32 @@ use Rattle.domino_cell.specs.NamedTrees.{inner_net}
 use Rattle.domino_cell.proofs.PushedTrees.{parallel_pushed, series_pushed}
 use Rattle.domino_cell.proofs.tree.TreeNames.+push.Goals as goal
 
-pub returns-in_err-push-in-Leaf-clause-grew : goal.returns-in_err-push-in-Leaf-clause-grew
-returns-in_err-push-in-Leaf-clause-grew g t c = Grew-same c.in_err-push-in-Leaf.ensures.err
+pub returns-in_err-device-in-Leaf-clause-grew : goal.returns-in_err-device-in-Leaf-clause-grew
+returns-in_err-device-in-Leaf-clause-grew g t c = Grew-same c.in_err-device-in-Leaf.ensures.err
 
-pub returns-in_err-middle-in-Series-clause-grew : goal.returns-in_err-middle-in-Series-clause-grew
-returns-in_err-middle-in-Series-clause-grew g t c = Grew-same refl
+pub returns-in_err-name-in-Series-clause-grew : goal.returns-in_err-name-in-Series-clause-grew
+returns-in_err-name-in-Series-clause-grew g t c = Grew-same refl
 
-pub returns-in_ok-push-in-Leaf-clause-grew : goal.returns-in_ok-push-in-Leaf-clause-grew
-returns-in_ok-push-in-Leaf-clause-grew g t c =
-    subst (Grew c.args.circuit.now) (sym c.in_ok-push-in-Leaf.ensures.ok) (pushed-grew c.args.circuit.now _ _ _ _)
+pub returns-in_ok-device-in-Leaf-clause-grew : goal.returns-in_ok-device-in-Leaf-clause-grew
+returns-in_ok-device-in-Leaf-clause-grew g t c =
+    subst (Grew c.args.circuit.now) (sym c.in_ok-device-in-Leaf.ensures.ok) (pushed-grew c.args.circuit.now _ _ _ _)
 
 pub returns-in_ok-next-in-Series-clause-devices : goal.returns-in_ok-next-in-Series-clause-devices
 returns-in_ok-next-in-Series-clause-devices g t c =
-    on_ok_weaker c.push-in-Series-2.result
-    (λ two. series_pushed c.args.circuit.now c.push-in-Series.new.circuit c.push-in-Series-2.new.circuit _
+    on_ok_weaker c.push-in-Series.result
+    (λ two. series_pushed c.args.circuit.now c.push.new.circuit c.push-in-Series.new.circuit _
     (inner_net c.args.self.now.front.now) (net_name c.args.self.now.gates.now) (tree_of c.args.tree.now) (tree_of c.deref.result.now)
-    (tree_of c.deref-in-Series.result.now) c.args.top.now c.args.bottom.now _ c.args.inner _
+    (tree_of c.deref-in-Series.result.now) c.args.top.name.now c.args.bottom.name.now _ c.args.inner _
     (ap tree_of c.in-Series.is ∙ ap₂ Series (ap tree_of (sym c.deref.ensures)) (ap tree_of (sym c.deref-in-Series.ensures)))
-    c.in_ok-middle-in-Series.ensures c.in_ok-next-in-Series.ensures.next c.in_ok-next-in-Series.ensures.devices two)
-    c.push-in-Series-2.ensures.devices
+    c.in_ok-name-in-Series.ensures c.in_ok-next-in-Series.ensures.next c.in_ok-next-in-Series.ensures.devices two)
+    c.push-in-Series.ensures.devices
 
 pub returns-in_ok-next-in-Parallel-clause-devices : goal.returns-in_ok-next-in-Parallel-clause-devices
 returns-in_ok-next-in-Parallel-clause-devices g t c =
     on_ok_weaker c.push-in-Parallel-2.result
     (λ two. parallel_pushed c.args.circuit.now c.push-in-Parallel.new.circuit c.push-in-Parallel-2.new.circuit _
     (inner_net c.args.self.now.front.now) (net_name c.args.self.now.gates.now) (tree_of c.args.tree.now) (tree_of c.deref-in-Parallel.result.now)
-    (tree_of c.deref-in-Parallel-2.result.now) c.args.top.now c.args.bottom.now c.args.inner _
+    (tree_of c.deref-in-Parallel-2.result.now) c.args.top.name.now c.args.bottom.name.now c.args.inner _
     (ap tree_of c.in-Parallel.is ∙ ap₂ Parallel (ap tree_of (sym c.deref-in-Parallel.ensures)) (ap tree_of (sym c.deref-in-Parallel-2.ensures)))
     c.in_ok-next-in-Parallel.ensures.next c.in_ok-next-in-Parallel.ensures.devices two)
     c.push-in-Parallel-2.ensures.devices
