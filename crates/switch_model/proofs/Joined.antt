@@ -69,7 +69,7 @@ module _ (Q : Device → Type 0) (is_source : ℕ → Bool) where
   Reaches-more d ds a b r = Reach-weaker (λ f h. (Contains-later d ds f h.0, h.1)) r
 
   -- what is joined is the same or reached
-  joined_reaches : (ds : List Device) (a b : ℕ) → Joined ds a b → (a ≡ b) ⊎ Reaches ds a b
+  pub joined_reaches : (ds : List Device) (a b : ℕ) → Joined ds a b → (a ≡ b) ⊎ Reaches ds a b
   joined_reaches [] a b e = inl e
   joined_reaches (d ∷ ds) a b (inl x) = elim (joined_reaches ds a b x) [ inl e ↦ inl e | inr r ↦ inr (Reaches-more d ds a b r) ]
   joined_reaches (d ∷ ds) a b (inr (u, inl x)) =
@@ -108,7 +108,7 @@ module _ (Q : Device → Type 0) (is_source : ℕ → Bool) where
   abbrev pub Leads : List Device → (ℕ → Type 0) → ℕ → Device → Type 0
   Leads ds P a d = Q d × (((is_source d.drain ≡ false) × (Joined ds a d.drain × P d.source)) ⊎ ((is_source d.source ≡ false) × (Joined ds a d.source × P d.drain)))
 
-  leads_reaches : (ds : List Device) (P : ℕ → Type 0) (a : ℕ) (d : Device) → Contains ds d → Leads ds P a d → (n : ℕ) × Reaches ds a n × P n
+  pub leads_reaches : (ds : List Device) (P : ℕ → Type 0) (a : ℕ) (d : Device) → Contains ds d → Leads ds P a d → (n : ℕ) × Reaches ds a n × P n
   leads_reaches ds P a d c (q, inl (f, (j, p))) = (d.source, go (joined_reaches ds a d.drain j), p)
     where
       go : (a ≡ d.drain) ⊎ Reaches ds a d.drain → Reaches ds a d.source
@@ -120,7 +120,7 @@ module _ (Q : Device → Type 0) (is_source : ℕ → Bool) where
       go (inl e) = last (c, q) (inr (sym e, refl))
       go (inr r) = Reach-trans r f (last (c, q) (inr (refl, refl)))
 
-  reaches_leads : (ds : List Device) (P : ℕ → Type 0) {a n : ℕ} → is_source a ≡ false → Reaches ds a n → P n → (d : Device) × Contains ds d × Leads ds P a d
+  pub reaches_leads : (ds : List Device) (P : ℕ → Type 0) {a n : ℕ} → is_source a ≡ false → Reaches ds a n → P n → (d : Device) × Contains ds d × Leads ds P a d
   reaches_leads ds P {a} {n} f (last {d = d} (c, q) e) p = (
     d,
     c,
@@ -165,7 +165,7 @@ module _ (Q : Device → Type 0) (is_source : ℕ → Bool) where
   abbrev WeakSide : List Device → (ℕ → Type 0) → ℕ → ℕ → ℕ → Type 0
   WeakSide ds P a x y = (is_source x ≡ false) × (Joined ds a x × (P y ⊎ ((is_source y ≡ false) × ((n : ℕ) × Reaches ds y n × P n))))
 
-  abbrev LeadsWeak : List Device → (ℕ → Type 0) → ℕ → Device → Type 0
+  abbrev pub LeadsWeak : List Device → (ℕ → Type 0) → ℕ → Device → Type 0
   LeadsWeak ds P a d = (d.kind ≡ Keep) × (Q d × (WeakSide ds P a d.drain d.source ⊎ WeakSide ds P a d.source d.drain))
 
   weak_side : (ds : List Device) (P : ℕ → Type 0) (a x y : ℕ) (d : Device) → Contains ds d → Q d → d.kind ≡ Keep → Ends d x y → WeakSide ds P a x y → (n : ℕ) × WeakPath ds a n × P n

@@ -11,7 +11,7 @@ use Rattle.switch_model.specs.Targets.{Pulls, Disputes, Else, IsTarget}
 use Rattle.switch_model.proofs.Joined.{Path-append}
 use Rattle.dom_base.proofs.Lists.{AllByRecursion-append, AllByRecursion-both, AllByRecursion-weaker}
 use Rattle.switch_model.proofs.Targets.{on-not_off, definite-possible_strong, definite-possible_weak}
-use Rattle.switch_model.proofs.Visits.{ends_at}
+use Rattle.switch_model.proofs.Searches.{ends_at}
 
 -- the gate of the device has the same value in both lists
 abbrev SameGate : List Tri → List Tri → Device → Type 0

@@ -1,7 +1,14 @@
+pub mod ComponentLists
+pub mod Components
+pub mod Drives
+pub mod Joins
 pub mod Laws
 pub mod LinksData
+pub mod Locality
+pub mod Pending
 pub mod Power
-pub mod Search
+pub mod SourceDrives
+pub mod Sweeps
 pub mod Switch
 pub mod Targets
-pub mod Wiring
+pub mod Walks

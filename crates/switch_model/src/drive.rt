@@ -1,6 +1,6 @@
 //! What sources drive a net to.
-ghost use Rattle.std.specs.Prelude.{◌≡◌, not};
-ghost use Rattle.switch_model.specs.Search.{IsAdded, drive_of, pull_of};
+ghost use Rattle.std.specs.Prelude.{◌≡◌};
+ghost use Rattle.switch_model.specs.SourceDrives.{IsAdded, pull_of};
 
 use dom_base::Tri;
 
@@ -22,27 +22,6 @@ impl Drive {
             Drive::Nothing => Drive::Only(value),
             Drive::Only(known) => { if known == value { self } else { Drive::Mixed } }
             Drive::Mixed => Drive::Mixed,
-        }
-    }
-}
-
-/// The drives by strong and by weak paths.
-#[derive(Clone, Copy, Debug, PartialEq, Eq)]
-pub struct Drives {
-    pub strong: Drive,
-    pub weak: Drive,
-}
-
-impl Drives {
-    /// Adds a source at the end of a strong or weak path.
-    pub fn add(&mut self, weak: bool, value: Tri)
-        ensures added { IsAdded (drive_of self.old weak) value (drive_of self.new weak) }
-        ensures other { drive_of self.new (not weak) ≡ drive_of self.old (not weak) }
-    {
-        if weak {
-            self.weak = self.weak.with(value);
-        } else {
-            self.strong = self.strong.with(value);
         }
     }
 }

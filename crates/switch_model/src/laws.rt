@@ -7,6 +7,8 @@ ghost use Rattle.switch_model.specs.Laws.{
   SourcesStandFirst,
   TargetsAreThoseOfCircuit,
 };
+ghost use Rattle.switch_model.specs.Drives.{TargetsByDrives};
+ghost use Rattle.switch_model.specs.Locality.{KeepsPendingElsewhere, KeepsTargetsElsewhere};
 
 /// Each net that is no source has exactly one target.
 pub fn has_one_target()
@@ -30,4 +32,16 @@ pub fn depends_on_near_nets()
 pub fn sources_stand_first()
     ensures first { SourcesStandFirst }
     ensures targets { TargetsAreThoseOfCircuit }
+{}
+
+/// Where one net's value changes, no targets change but that net's and those of nets in the
+/// components that it touches, and no other net begins or ceases to be pending.
+pub fn local_targets()
+    ensures targets { KeepsTargetsElsewhere }
+    ensures pending { KeepsPendingElsewhere }
+{}
+
+/// The drives of four sorts of paths give the target of a net.
+pub fn targets_by_drives()
+    ensures { TargetsByDrives }
 {}

@@ -2,15 +2,31 @@
 //! conducts, and the value that a net takes from the paths that join it to other nets.
 #![tactic(auto)]
 
-mod crossing;
+mod class;
+mod components;
 mod drive;
+mod groups;
+mod joins;
 mod laws;
+mod lead;
 mod links;
 mod places;
-mod search;
+mod refresh;
+mod sort;
+mod steps;
+mod survey;
+mod sweep;
 mod switch;
-mod wiring;
+mod values;
+mod walk;
+mod wires;
 
-pub use laws::{depends_on_near_nets, has_one_target, keeps_where_off, sources_stand_first};
+pub use laws::{
+    depends_on_near_nets, has_one_target, keeps_where_off, local_targets, sources_stand_first,
+    targets_by_drives,
+};
 pub use links::Links;
+pub use pending_nets::Pending;
+pub use steps::Steps;
 pub use switch::{Switch, conducts};
+pub use wires::Wires;

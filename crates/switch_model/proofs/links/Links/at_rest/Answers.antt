@@ -1,5 +1,4 @@
 use Rattle.std.proofs.Common.{◌≡◌, ◌<◌, false, true, length, ap, subst, refl, ◌∙◌, inl, inr, arith}
-use Rattle.switch_model.specs.declared.links.Links.TheInside.{Inside}
 use Rattle.switch_model.specs.LinksData.{LinksData, is_first}
 use Rattle.switch_model.specs.Targets.{IsPending, IsTarget}
 use Rattle.dom_base.proofs.Decided.{dec_nat}
@@ -13,8 +12,8 @@ returns-then-not-has_value-clause-rest c =
     let net = c.loop-net.net in
     let values = c.args.values.now in
     let target = subst (λ (l : LinksData). IsTarget l.devices (is_first l.sources) values net c.target-target.result) c.loop-net.invariant.same c.target-target.ensures.target in
-    let free = first-false s.sources net (omega (arith, c.loop-net.auto.net, ap (λ (l : Inside). (l.wiring).sources) c.self-inside.view_is, ap (λ (l : LinksData). l.sources) c.self.view_is)) in
-    let lt : net < length values = omega (arith, c.loop-net-test.true, c.nets-net-end.ensures, c.requires, ap (λ (l : LinksData). l.nets) c.self.view_is) in
+    let free = first-false s.sources net (omega (arith, c.loop-net.auto.net, ap (λ (l : LinksData). l.sources) c.self.view_is)) in
+    let lt : net < length values = omega (arith, c.loop-net-test.true, c.len-net-end.ensures, c.requires, ap (λ (l : LinksData). l.nets) c.self.view_is) in
     let differs = c.has_value.ensures.no c.if-not-has_value.true in
     ((λ e. absurd (clash e)), (λ rest. absurd (rest net c.target-target.result lt (free, target, differs))))
   where
@@ -41,6 +40,6 @@ loop-net-preserved c =
 pub returns-clause-rest : goal.returns-clause-rest
 returns-clause-rest c =
     let nets = ap (λ (l : LinksData). l.nets) c.self.view_is in (
-      (λ _ n v lt p. c.loop-net.invariant.rest n v (omega (arith, lt, c.loop-net-test.false, c.nets-net-end.ensures, c.requires, nets)) p),
+      (λ _ n v lt p. c.loop-net.invariant.rest n v (omega (arith, lt, c.loop-net-test.false, c.len-net-end.ensures, c.requires, nets)) p),
       (λ _. refl),
     )

@@ -1,0 +1,11 @@
+use Rattle.std.proofs.Common.{◌≡◌, ◌<◌, ℕ, length, get_or}
+use Rattle.switch_model.specs.declared.drive.Drive.TheVariants.{Nothing}
+use Rattle.switch_model.specs.Joins.{top_of}
+use Rattle.switch_model.specs.Walks.{drive_at}
+use Rattle.switch_model.proofs.class.undrive.Given as goal
+
+abbrev pub invariant-loop-net : goal.invariant-loop-net
+invariant-loop-net l = record {
+  long : length l.drives.items ≡ length l.fn.drives.items;
+  none : (k : ℕ) → k < l.net-index → drive_at l.drives.items (top_of l.parents (get_or l.nets k 0)) ≡ Nothing;
+}

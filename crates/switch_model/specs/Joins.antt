@@ -1,0 +1,23 @@
+-- Nets that are joined, as a forest.
+use Rattle.std.specs.Prelude.{◌≡◌, ◌≤◌, zero, suc, ℕ, List, length, slice_index_or}
+
+-- the net above a net; the net itself at the top
+abbrev pub above : List ℕ → ℕ → ℕ
+above parents net = slice_index_or parents net net
+
+-- so many times up
+abbrev pub climb : ℕ → List ℕ → ℕ → ℕ
+climb zero parents net = net
+climb (suc times) parents net = climb times parents (above parents net)
+
+-- the top above a net: nets with one top are joined
+abbrev pub top_of : List ℕ → ℕ → ℕ
+top_of parents net = climb (length parents) parents net
+
+-- each net stands above itself or has one of a smaller number above it
+abbrev pub IsForest : List ℕ → Type 0
+IsForest parents = (net : ℕ) → above parents net ≤ net
+
+-- two nets are joined
+abbrev pub AreJoined : List ℕ → ℕ → ℕ → Type 0
+AreJoined parents a b = top_of parents a ≡ top_of parents b

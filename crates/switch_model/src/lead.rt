@@ -1,0 +1,81 @@
+//! Sources that devices join to nets.
+ghost use Rattle.std.specs.Prelude.{◌≡◌, ◌≢◌, ◌<◌, ◌+◌, ◌↔◌, ℕ, All, IfSome, List, Some, false, length, true};
+ghost use Rattle.deck.specs.Paths.{Ends};
+ghost use Rattle.deck.specs.declared.device.Device.{Device as DeviceData};
+ghost use Rattle.switch_model.specs.LinksData.{is_first};
+ghost use Rattle.switch_model.specs.SourceDrives.{IsAdded, IsDrive};
+ghost use Rattle.deck.specs.Nets.{IsInRange};
+ghost use Rattle.switch_model.specs.declared.drive.Drive.TheVariants.{Nothing};
+ghost use Rattle.switch_model.specs.Joins.{IsForest};
+ghost use Rattle.switch_model.specs.Walks.{AreAt, IsLed, Passes, drive_at};
+
+use crate::drive::Drive;
+use crate::joins::top;
+use crate::sort::Sort;
+use crate::{Steps, Wires};
+use deck::Device;
+use dom_base::Tri;
+use std::sync::ledger::Ledger;
+
+/// The end of a device that is no source, and the source at its other end, where paths of a sort go
+/// through the device.
+fn lead_of(sort: Sort, device: Device, sources: u32, values: &[Tri]) -> Option<(u32, u32)>
+    requires { IsInRange (length values.now) device }
+    ensures some { IfSome result (λ p.
+        Passes sort values.now device × Ends device p.0 p.1 × (is_first sources p.0 ≡ false) × (is_first sources p.1 ≡ true)) }
+    ensures only { (m s : ℕ) → Passes sort values.now device → Ends device m s
+        → is_first sources m ≡ false → is_first sources s ≡ true → result ≡ Some (m, s) }
+{
+    if !sort.passes(device, values) {
+        return None;
+    }
+    if device.drain < sources && device.source >= sources {
+        Some((device.source, device.drain))
+    } else if device.source < sources && device.drain >= sources {
+        Some((device.drain, device.source))
+    } else {
+        None
+    }
+}
+
+/// Adds a value to a drive.
+pub fn add(drives: &mut Vec<Drive>, top: u32, value: Tri)
+    requires { top < length drives.old.items }
+    ensures long { length drives.new.items ≡ length drives.old.items }
+    ensures added { IsAdded (drive_at drives.old.items top) value (drive_at drives.new.items top) }
+    ensures others { (t : ℕ) → t ≢ top → drive_at drives.new.items t ≡ drive_at drives.old.items t }
+{
+    drives[top as usize] = drives[top as usize].with(value);
+}
+
+/// Adds to the drive of each top the sources that the devices at some places join to nets below it
+/// by paths of a sort, by one step a place.
+pub fn drive_all<L: Ledger>(
+    wires: &Wires,
+    places: &[u32],
+    sources: u32,
+    sort: Sort,
+    values: &[Tri],
+    parents: &[u32],
+    drives: &mut Vec<Drive>,
+    steps: &mut Steps<L>,
+)
+    requires forest { IsForest parents.now }
+    requires whole { length values.now ≡ length parents.now }
+    requires room { length drives.old.items ≡ length parents.now }
+    requires places { All (λ place. place < length wires.now) places.now }
+    requires in_range { All (IsInRange (length parents.now)) wires.now }
+    ensures long { length drives.new.items ≡ length drives.old.items }
+    ensures driven { (ds : List DeviceData) × AreAt wires.now places.now ds
+        × ((t : ℕ) → drive_at drives.old.items t ≡ Nothing
+        → IsDrive (IsLed parents.now (Passes sort values.now) (is_first sources) ds t) values.now (drive_at drives.new.items t)) }
+    ensures cost { steps.new ≡ steps.old + length places.now }
+{
+    for place in places {
+        let device = wires.wire(*place, steps);
+        if let Some((inner, source)) = lead_of(sort, device, sources, values) {
+            let above = top(parents, inner);
+            add(drives, above, values[source as usize]);
+        }
+    }
+}

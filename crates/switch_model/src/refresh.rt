@@ -1,0 +1,100 @@
+//! The pending nets of one component, found anew.
+ghost use Rattle.std.specs.Prelude.{◌≡◌, ◌≢◌, true, ◌<◌, ◌≤◌, ◌+◌, ◌*◌, ◌↔◌, ℕ, All, Contains, length};
+ghost use Rattle.std.specs.List.{sum_by};
+ghost use Rattle.std.specs.List.Sorted.{IsStrictlyIncreasing};
+ghost use Rattle.dom_base.specs.declared.tri.Tri.{Tri as TriData};
+ghost use Rattle.switch_model.specs.ComponentLists.{AreComponents, list_at};
+ghost use Rattle.switch_model.specs.LinksData.{is_first};
+ghost use Rattle.switch_model.specs.Targets.{IsPending};
+ghost use Rattle.deck.specs.Nets.{IsInRange};
+ghost use Rattle.switch_model.specs.Components.{IsClosed};
+ghost use Rattle.switch_model.specs.Sweeps.{AreRooms};
+
+use crate::components::Components;
+use crate::sweep::{Rooms, find_targets};
+use crate::{Steps, Wires};
+use dom_base::Tri;
+use pending_nets::Pending;
+use std::sync::ledger::Ledger;
+
+/// Puts those nets of a component into the set that are pending and takes the others out, in nine
+/// steps a device at most. Takes no memory.
+pub fn refresh_component<L: Ledger>(
+    wires: &Wires,
+    nets: &[u32],
+    places: &[u32],
+    sources: u32,
+    values: &[Tri],
+    rooms: &mut Rooms,
+    pending: &mut Pending,
+    steps: &mut Steps<L>,
+)
+    requires rooms { AreRooms (length values.now) rooms.old }
+    requires nets { All (λ net. net < length values.now) nets.now }
+    requires places { All (λ place. place < length wires.now) places.now }
+    requires in_range { All (IsInRange (length values.now)) wires.now }
+    requires closed { IsClosed wires.now (is_first sources) nets.now places.now }
+    requires whole { pending.old.nets ≡ length values.now }
+    ensures rooms { AreRooms (length values.now) rooms.new }
+    ensures whole { pending.new.nets ≡ pending.old.nets }
+    ensures rising { IsStrictlyIncreasing pending.old.listed → IsStrictlyIncreasing pending.new.listed }
+    ensures here { (net : ℕ) → Contains nets.now net
+        → Contains pending.new.listed net ↔ ((v : TriData) × IsPending wires.now (is_first sources) values.now net v) }
+    ensures others { (net : ℕ) → (Contains nets.now net → ⊥) → Contains pending.new.listed net ↔ Contains pending.old.listed net }
+    ensures cost { steps.new ≤ steps.old + 9 * length places.now }
+{
+    let survey = find_targets(wires, nets, places, sources, values, rooms, steps);
+    for net in nets {
+        let target = rooms.target(survey, values, *net);
+        pending.set(*net, differ(target, values[*net as usize]));
+    }
+}
+
+/// Refreshes some components, by rising number, in at most nine steps a device. Takes no memory.
+pub fn refresh_all<L: Ledger>(
+    wires: &Wires,
+    components: &Components,
+    numbers: &[u32],
+    sources: u32,
+    values: &[Tri],
+    rooms: &mut Rooms,
+    pending: &mut Pending,
+    steps: &mut Steps<L>,
+)
+    requires rooms { AreRooms (length values.now) rooms.old }
+    requires in_range { All (IsInRange (length values.now)) wires.now }
+    requires components { AreComponents wires.now (is_first sources) (length values.now) components.now }
+    requires numbers { All (λ number. number < length values.now) numbers.now }
+    requires whole { pending.old.nets ≡ length values.now }
+    ensures rooms { AreRooms (length values.now) rooms.new }
+    ensures whole { pending.new.nets ≡ pending.old.nets }
+    ensures rising { IsStrictlyIncreasing pending.old.listed → IsStrictlyIncreasing pending.new.listed }
+    ensures here { (net number : ℕ) → Contains numbers.now number → Contains (list_at components.now.nets number) net
+        → Contains pending.new.listed net ↔ ((v : TriData) × IsPending wires.now (is_first sources) values.now net v) }
+    ensures others { (net : ℕ) → ((number : ℕ) → Contains numbers.now number → Contains (list_at components.now.nets number) net → ⊥)
+        → Contains pending.new.listed net ↔ Contains pending.old.listed net }
+    ensures cost { steps.new ≤ steps.old + 9 * sum_by (λ number. length (list_at components.now.places number)) numbers.now }
+{
+    for number in numbers {
+        refresh_component(
+            wires,
+            components.nets.at(*number),
+            components.places.at(*number),
+            sources,
+            values,
+            rooms,
+            pending,
+            steps,
+        );
+    }
+}
+
+/// Whether two values differ.
+fn differ(a: Tri, b: Tri) -> bool
+    ensures { (result ≡ true) ↔ (a ≢ b) }
+{
+    match (a, b) {
+        (Tri::Zero, Tri::Zero) | (Tri::One, Tri::One) | (Tri::Unknown, Tri::Unknown) => false,
+        _ => true,
+    }
+}
