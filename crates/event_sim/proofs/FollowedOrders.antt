@@ -11,9 +11,9 @@ use Rattle.event_sim.specs.declared.event.Settled.TheVariants.{Rest, Unsettled}
 use Rattle.event_sim.specs.Chains.{IsChain, IsChosen, changed, next_step}
 use Rattle.event_sim.specs.Laws.{FollowingIsBy}
 use Rattle.event_sim.specs.Orders.{By, Follows}
-use Rattle.event_sim.specs.Pending.{ArePending}
+use Rattle.switch_model.specs.Pending.{ArePending}
 use Rattle.event_sim.specs.Settling.{IsSettling}
-use Rattle.event_sim.proofs.RisingLists.{rising_is_short}
+use Rattle.switch_model.proofs.RisingLists.{rising_is_short}
 
 -- there are no more pending nets than values
 pub pending_is_short : (links : LinksData) (values : List Tri) (nets : List ℕ) → ArePending links values nets → length nets ≤ length values

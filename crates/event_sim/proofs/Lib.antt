@@ -3,7 +3,7 @@ pub mod FollowedOrders
 pub mod OneSettling
 pub mod PendingLists
 pub mod PowerState
-pub mod RisingLists
+pub mod ProbeLooks
 pub mod SettlingThere
 pub mod StepFacts
 pub mod ThreeOrders

@@ -11,10 +11,11 @@ use Rattle.event_sim.specs.declared.event.Settled.{Settled}
 use Rattle.event_sim.specs.declared.event.Settled.TheVariants.{Rest, Unsettled}
 use Rattle.event_sim.specs.Chains.{IsChain, IsChosen, changed, next_step, values_after}
 use Rattle.event_sim.specs.Orders.{By}
-use Rattle.event_sim.specs.Pending.{ArePending, IsPendingNet, IsResting}
+use Rattle.switch_model.specs.Pending.{ArePending, IsPendingNet}
+use Rattle.event_sim.specs.Pending.{IsResting}
 use Rattle.event_sim.specs.Settling.{IsSettling, most_events}
 use Rattle.switch_model.proofs.Targets.{target_unique}
-use Rattle.event_sim.proofs.RisingLists.{rising_are_one}
+use Rattle.switch_model.proofs.RisingLists.{rising_are_one}
 
 -- there is one list of the pending nets by rising number
 pub pending_are_one : (links : LinksData) (values : List Tri) (a b : List ℕ) → ArePending links values a → ArePending links values b → a ≡ b

@@ -3,7 +3,7 @@ use Rattle.std.proofs.Common.{◌≡◌, ℕ, ◌+◌, ◌<◌, ◌≤◌, ◌�
 use Rattle.std.specs.List.Sorted.{IsStrictlyIncreasing}
 use Rattle.std.proofs.lemmas.List.{get_or_append_left, get_or_push, length_push, get_or_default}
 use Rattle.std.proofs.lemmas.List.Elements.{Contains-append_left, Contains-push, Contains-push_cases}
-use Rattle.event_sim.proofs.RisingLists.{rising_is_short}
+use Rattle.switch_model.proofs.RisingLists.{rising_is_short}
 use Rattle.std.proofs.lemmas.Bool.{cases_eq, cases_lt}
 
 -- the list rises strictly and has exactly the numbers below the bound of which P holds

@@ -1,7 +1,8 @@
 -- From each list of values a function that answers below the count has a settling.
 use Rattle.std.proofs.Common.{◌≡◌, ℕ, zero, suc, ◌+◌, ◌<◌, ◌≤◌, ◌⊎◌, inl, inr, false, List, [], ◌∷◌, ◌++◌, length, get_or, refl, arith}
 use Rattle.std.proofs.lemmas.Bool.{cases_lt}
-use Rattle.std.proofs.lemmas.List.{get_or_default}
+use Rattle.std.specs.Prelude.{Some, slice_get}
+use Rattle.std.proofs.lemmas.Option.{slice_get-get_or}
 use Rattle.dom_base.specs.declared.tri.Tri.{Tri}
 use Rattle.deck.specs.Switches.{value_of}
 use Rattle.dom_base.specs.Decided.{Decided}
@@ -14,11 +15,12 @@ use Rattle.event_sim.specs.declared.event.Settled.TheVariants.{Rest, Unsettled}
 use Rattle.event_sim.specs.Chains.{IsChain, IsChosen, changed, next_step, values_after}
 use Rattle.event_sim.specs.Laws.{IsBelow, SettlingIsThere}
 use Rattle.event_sim.specs.Orders.{By}
-use Rattle.event_sim.specs.Pending.{ArePending, IsPendingNet, IsResting, Targets}
+use Rattle.switch_model.specs.Pending.{ArePending, IsPendingNet, Targets}
+use Rattle.event_sim.specs.Pending.{IsResting}
 use Rattle.event_sim.specs.Settling.{IsSettling, most_events}
 use Rattle.event_sim.proofs.OneSettling.{none_at_rest}
 use Rattle.event_sim.proofs.PendingLists.{IsListed, listed-none, listed-push, listed-skip, listed-all}
-use Rattle.event_sim.proofs.StepFacts.{differs_where_pending, pending_at, rests_where_none, stands_at}
+use Rattle.event_sim.proofs.StepFacts.{differs_where_pending, pending_at, rests_where_none}
 
 -- whether a net with a value is pending can be decided
 pending_is_decided : (links : LinksData) (values : List Tri) (net : ℕ) → net < length values → Decided (IsPendingNet links values net)
@@ -68,8 +70,8 @@ chosen_among place links values step nets below pending some =
     let k = place step (length nets) in
     let net = get_or nets k 0 in
     let lt : k < length nets = below step (length nets) some in
-    let same : net ≡ get_or nets k net = get_or_default nets k 0 net lt in
-    let at = pending_at links values nets k net pending lt same in (
+    let is : slice_get nets k ≡ Some net = slice_get-get_or nets k 0 lt in
+    let at = pending_at links values nets k net pending is in (
       record { step = step; net = net; before = value_of values net; after = at.1.0 },
       refl,
       record {
@@ -77,7 +79,7 @@ chosen_among place links values step nets below pending some =
         pending = pending;
         place = k;
         asked = refl;
-        net_is = stands_at nets k net lt same;
+        net_is = is;
         before_is = refl;
         after_is = at.1.1.1;
       },

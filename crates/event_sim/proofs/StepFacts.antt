@@ -1,14 +1,15 @@
 -- What a step finds: pending nets, rest, and facts moved along equal simulations.
-use Rattle.std.proofs.Common.{◌≡◌, ℕ, ◌<◌, ◌≤◌, false, nat_lt, List, length, get_or, Some, sym, ap, ◌∙◌, subst, arith}
+use Rattle.std.proofs.Common.{◌≡◌, ℕ, zero, suc, ◌<◌, ◌≤◌, false, nat_lt, List, [], ◌∷◌, length, get_or, set, Some, refl, sym, ap, ◌∙◌, subst, arith}
 use Rattle.std.specs.List.{slice_get}
-use Rattle.std.proofs.lemmas.Option.{slice_get-get_or}
 use Rattle.std.proofs.lemmas.Bool.Decides.{nat_tests}
+use Rattle.dom_base.proofs.Lists.{Contains-slice_get}
 use Rattle.dom_base.specs.declared.tri.Tri.{Tri}
 use Rattle.deck.specs.Switches.{value_of}
 use Rattle.switch_model.proofs.Targets.{target_unique}
 use Rattle.switch_model.specs.LinksData.{LinksData, is_first}
 use Rattle.switch_model.specs.Targets.{EventAt}
-use Rattle.event_sim.specs.Pending.{ArePending, IsPendingNet, IsResting, Targets}
+use Rattle.switch_model.specs.Pending.{ArePending, IsPendingNet, Targets}
+use Rattle.event_sim.specs.Pending.{IsResting}
 use Rattle.event_sim.specs.SimData.{SimData}
 
 -- without pending nets there is rest
@@ -17,14 +18,21 @@ rests_where_none links values nets pending none = λ net v lt is.
     let at = (pending.exact net).1 (lt, (v, is)) in
     omega (arith, at.1, none)
 
+-- at rest no net is pending
+pub none_where_rests : (links : LinksData) (values : List Tri) (nets : List ℕ) → ArePending links values nets → IsResting links values → length nets ≡ 0
+none_where_rests links values [] pending rest = refl
+none_where_rests links values (n ∷ nets) pending rest =
+    let at = (pending.exact n).0 (0, omega arith, refl) in
+    absurd (rest n at.1.0 at.0 at.1.1)
+
 -- with a pending net there is none
 pub moves_where_some : (links : LinksData) (values : List Tri) (net : ℕ) → IsPendingNet links values net → IsResting links values → ⊥
 moves_where_some links values net at rest = rest net at.1.0 at.0 at.1.1
 
 -- what stands in the list is pending
 pub pending_at : (links : LinksData) (values : List Tri) (nets : List ℕ) (place net : ℕ)
-    → ArePending links values nets → place < length nets → net ≡ get_or nets place net → IsPendingNet links values net
-pending_at links values nets place net pending lt e = (pending.exact net).0 (place, lt, sym e)
+    → ArePending links values nets → slice_get nets place ≡ Some net → IsPendingNet links values net
+pending_at links values nets place net pending is = (pending.exact net).0 (Contains-slice_get nets place net is)
 
 -- a pending net is no source
 pub pending_is_free : (links : LinksData) (values : List Tri) (net : ℕ) → IsPendingNet links values net → links.sources ≤ net
@@ -55,8 +63,12 @@ pub event_moved : (links : LinksData) (net : ℕ) (before : List Tri) {after oth
     → EventAt links.devices (is_first links.sources) net before after → EventAt links.devices (is_first links.sources) net before other
 event_moved links net before e h = (h.0, h.1, h.2, sym e ∙ h.3)
 
-pub stands_at : (nets : List ℕ) (place net : ℕ) → place < length nets → net ≡ get_or nets place net → slice_get nets place ≡ Some net
-stands_at nets place net lt e = slice_get-get_or nets place net lt ∙ ap Some (sym e)
+-- values with one of them set and set back
+pub set_back : (values : List Tri) (net : ℕ) (v before : Tri) → net < length values → before ≡ get_or values net before
+    → set (set values net v) net before ≡ values
+set_back (x ∷ values) zero v before lt e = ap (λ (y : Tri). y ∷ values) e
+set_back (x ∷ values) (suc net) v before lt e = ap (λ (l : List Tri). x ∷ l) (set_back values net v before (omega (arith, lt)) e)
+set_back [] net v before lt e = absurd (omega (arith, lt))
 
 module _ {F : Type 0} where
   pub links_same : {s t : SimData F} → s ≡ t → s.links ≡ t.links

@@ -4,7 +4,7 @@ use Rattle.dom_base.specs.declared.tri.Tri.{Tri}
 use Rattle.deck.specs.Switches.{value_of}
 use Rattle.switch_model.specs.LinksData.{LinksData}
 use Rattle.event_sim.specs.declared.event.Event.{Event}
-use Rattle.event_sim.specs.Pending.{ArePending, Targets}
+use Rattle.switch_model.specs.Pending.{ArePending, Targets}
 
 -- one event, the chosen one: the order is asked for the step and the number of pending nets, and the net at the
 -- place that it answers, in the list of the pending nets by rising number, takes its target

@@ -6,7 +6,7 @@ use Rattle.event_sim.specs.declared.event.Event.{Event}
 use Rattle.event_sim.specs.declared.event.Settled.{Settled}
 use Rattle.event_sim.specs.Chains.{IsChain, step_after, values_after}
 use Rattle.event_sim.specs.Orders.{By, Follows, first_place, last_place, seeded_place}
-use Rattle.event_sim.specs.Pending.{ArePending}
+use Rattle.switch_model.specs.Pending.{ArePending}
 use Rattle.event_sim.specs.Settling.{IsSettling}
 
 -- there is one list of the pending nets by rising number

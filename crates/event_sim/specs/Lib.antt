@@ -4,5 +4,6 @@ pub mod Inside
 pub mod Laws
 pub mod Orders
 pub mod Pending
+pub mod Probes
 pub mod Settling
 pub mod SimData

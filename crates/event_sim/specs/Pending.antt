@@ -1,23 +1,8 @@
--- The nets that differ from their targets.
-use Rattle.std.specs.Prelude.{ℕ, ◌<◌, ◌↔◌, List, length, Contains}
-use Rattle.std.specs.List.Sorted.{IsStrictlyIncreasing}
+-- Rest.
+use Rattle.std.specs.Prelude.{List}
 use Rattle.dom_base.specs.declared.tri.Tri.{Tri}
 use Rattle.switch_model.specs.LinksData.{LinksData, is_first}
-use Rattle.switch_model.specs.Targets.{IsAtRest, IsPending, IsTarget}
-
--- v is the target of the net
-abbrev pub Targets : LinksData → List Tri → ℕ → Tri → Type 0
-Targets links values net v = IsTarget links.devices (is_first links.sources) values net v
-
--- the net has a value, is no source and differs from its target
-abbrev pub IsPendingNet : LinksData → List Tri → ℕ → Type 0
-IsPendingNet links values net =
-    (net < length values) × ((v : Tri) × IsPending links.devices (is_first links.sources) values net v)
-
--- the pending nets by rising number: the list rises strictly and has exactly the pending nets
-pub record ArePending (links : LinksData) (values : List Tri) (nets : List ℕ) : Type 0 where
-  pub rising : IsStrictlyIncreasing nets
-  pub exact : (net : ℕ) → Contains nets net ↔ IsPendingNet links values net
+use Rattle.switch_model.specs.Targets.{IsAtRest}
 
 -- no net is pending
 abbrev pub IsResting : LinksData → List Tri → Type 0

@@ -7,8 +7,9 @@ mod event;
 mod fault;
 mod laws;
 mod order;
-mod pending;
 mod power;
+mod probe;
+mod probe_set;
 mod sim;
 
 pub use chooser::Chooser;
@@ -19,4 +20,6 @@ pub use laws::{
     settling_is_there,
 };
 pub use order::{first, last, seeded};
+pub use probe::Probe;
+pub use probe_set::ProbeSet;
 pub use sim::Sim;

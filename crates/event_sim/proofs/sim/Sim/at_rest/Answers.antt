@@ -1,11 +1,14 @@
-use Rattle.std.proofs.Common.{sym, ◌∙◌}
-use Rattle.event_sim.proofs.StepFacts.{links_same, resting_moved, values_same}
+use Rattle.std.proofs.Common.{◌≡◌, ◌<◌, length, arith, ◌∙◌}
+use Rattle.std.proofs.lemmas.Bool.{eq-eqb, eqb-true}
+use Rattle.dom_base.proofs.Decided.{lt_or_ge}
+use Rattle.event_sim.proofs.StepFacts.{links_same, moves_where_some, none_where_rests, pending_moved, rests_where_none, values_same}
 use Rattle.event_sim.proofs.sim.Sim.at_rest.Goals as goal
 
 pub returns-clause-rest : goal.returns-clause-rest
 returns-clause-rest g c =
-    let links = links_same c.self.view_is in
-    let values = c.as_slice.ensures.value ∙ values_same c.self.view_is in (
-      λ yes. resting_moved links values (c.at_rest.ensures.rest.0 yes),
-      λ rest. c.at_rest.ensures.rest.1 (resting_moved (sym links) (sym values) rest),
+    let s = c.args.self.now in
+    let nets = c.self.inside.pending.listed in
+    let pending = pending_moved (links_same c.self.view_is) (values_same c.self.view_is) c.self.invariant.right in (
+      λ yes. rests_where_none s.links s.values nets pending (omega (arith, c.count.ensures, eqb-true c.count.result 0 yes)),
+      λ rest. eq-eqb c.count.result 0 (c.count.ensures ∙ none_where_rests s.links s.values nets pending rest),
     )

@@ -10,6 +10,7 @@ use Rattle.switch_model.specs.Power.{source_values}
 use Rattle.deck.specs.declared.role.Roles.{Roles}
 use Rattle.deck.proofs.PortLayout.{AreRoles-same}
 use Rattle.event_sim.specs.SimData.{power_sim}
+use Rattle.event_sim.proofs.StepFacts.{pending_moved}
 use Rattle.event_sim.proofs.PowerState.{few_nets, power-length, sources_within}
 use Rattle.event_sim.proofs.sim.Sim.with_roles.Goals as goal
 
@@ -18,39 +19,50 @@ power_values-requires g c =
     let nets : c.len-nets.result ≡ length c.args.circuit.now.nets = search rules in
     omega (arith, nets, sources_within c.args.circuit.now c.args.roles c.requires)
 
+pub pending-requires : goal.pending-requires
+pending-requires g c =
+    let circuit = c.args.circuit.now in
+    let roles = c.args.roles in
+    let within : source_count roles ≤ length circuit.nets = sources_within circuit roles c.requires in
+    let nets : c.len-nets.result ≡ length circuit.nets = search rules in
+    let values : c.in_ok-values.values.items ≡ source_values roles ++ replicate (c.len-nets.result - source_count roles) Unknown = c.in_ok-values.ensures in
+    ap (λ (v : List Tri). length v) c.as_slice.ensures.value ∙ ap (λ (v : List Tri). length v) values ∙ power-length roles c.len-nets.result (omega (arith, within, nets)) ∙ nets
+    ∙ sym (ap (λ (l : LinksData). l.nets) c.in_ok-links.ensures)
+
 pub invariant_of-result : goal.invariant_of-result
 invariant_of-result g c =
     let circuit = c.args.circuit.now in
     let roles = c.args.roles in
-    let links : c.in_ok-links.links ≡ links_of circuit roles = c.in_ok-links.ensures in
+    let links : c.pending.new.self ≡ links_of circuit roles = c.in_ok-pending.ensures.same ∙ c.in_ok-links.ensures in
     let are : AreRoles (ports_of circuit) roles = c.requires in
     let is : IsCircuit circuit.ports circuit.nets circuit.devices = subst (λ (v : CircuitData). IsCircuit v.ports v.nets v.devices) c.circuit.view_is c.circuit.invariant in
     let within : source_count roles ≤ length circuit.nets = sources_within circuit roles are in
     let nets : c.len-nets.result ≡ length circuit.nets = search rules in
     let values : c.in_ok-values.values.items ≡ source_values roles ++ replicate (c.len-nets.result - source_count roles) Unknown = c.in_ok-values.ensures in
-    let linked : c.in_ok-links.links.nets ≡ length circuit.nets = ap (λ (l : LinksData). l.nets) links in
+    let linked : c.pending.new.self.nets ≡ length circuit.nets = ap (λ (l : LinksData). l.nets) links in
     record {
       within = omega (arith, within, linked, ap (λ (l : LinksData). l.sources) links);
       whole = ap (λ (v : List Tri). length v) values ∙ power-length roles c.len-nets.result (omega (arith, within, nets)) ∙ nets ∙ sym linked;
       few = omega (arith, few_nets circuit is, linked);
-      roomy = omega (arith, c.in_ok-pending.ensures.capacity, nets, linked);
+      nets = c.in_ok-pending.ensures.nets ∙ ap (λ (l : LinksData). l.nets) (sym c.in_ok-pending.ensures.same);
+      right = pending_moved (sym c.in_ok-pending.ensures.same) c.as_slice.ensures.value c.in_ok-pending.ensures.right;
     }
 
 pub returns-clause-whole : goal.returns-clause-whole
 returns-clause-whole g c =
     let circuit = c.args.circuit.now in
     let roles = c.args.roles in
-    let links : c.in_ok-links.links ≡ links_of circuit roles = c.in_ok-links.ensures in
+    let links : c.pending.new.self ≡ links_of circuit roles = c.in_ok-pending.ensures.same ∙ c.in_ok-links.ensures in
     let within : source_count roles ≤ length circuit.nets = sources_within circuit roles c.requires in
     let nets : c.len-nets.result ≡ length circuit.nets = search rules in
     let values : c.in_ok-values.values.items ≡ source_values roles ++ replicate (c.len-nets.result - source_count roles) Unknown = c.in_ok-values.ensures in
-    let linked : c.in_ok-links.links.nets ≡ length circuit.nets = ap (λ (l : LinksData). l.nets) links in
+    let linked : c.pending.new.self.nets ≡ length circuit.nets = ap (λ (l : LinksData). l.nets) links in
     let whole = ap (λ (v : List Tri). length v) values ∙ power-length roles c.len-nets.result (omega (arith, within, nets)) ∙ nets in
     (whole, whole ∙ sym linked)
 
 pub returns-clause-power : goal.returns-clause-power
 returns-clause-power g c =
-    let links : c.in_ok-links.links ≡ links_of c.args.circuit.now c.args.roles = c.in_ok-links.ensures in
+    let links : c.pending.new.self ≡ links_of c.args.circuit.now c.args.roles = c.in_ok-pending.ensures.same ∙ c.in_ok-links.ensures in
     let nets : c.len-nets.result ≡ length c.args.circuit.now.nets = search rules in
     let values : c.in_ok-values.values.items ≡ source_values c.args.roles ++ replicate (c.len-nets.result - source_count c.args.roles) Unknown = c.in_ok-values.ensures in
     let all = values ∙ ap (λ (n : ℕ). source_values c.args.roles ++ replicate (n - source_count c.args.roles) Unknown) nets in

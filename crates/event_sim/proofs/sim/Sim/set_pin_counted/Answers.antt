@@ -1,0 +1,16 @@
+use Rattle.std.proofs.Common.{◌≡◌, ◌<◌, ◌∙◌, List, length, set, ap, refl, sym, arith}
+use Rattle.dom_base.specs.declared.tri.Tri.{Tri}
+use Rattle.switch_model.specs.LinksData.{LinksData}
+use Rattle.event_sim.proofs.StepFacts.{links_same, pending_moved, set_back}
+use Rattle.event_sim.proofs.sim.Sim.set_pin_counted.Goals as goal
+
+pub refresh-requires-clause-right : goal.refresh-requires-clause-right
+refresh-requires-clause-right g c =
+    let w = c.self.inside in
+    let values = w.values.items in
+    let before = c.index-before.result.now in
+    let lt : c.args.place < length values =
+    omega (arith, c.requires.source, c.self.invariant.within, c.self.invariant.whole, ap (λ (l : LinksData). l.sources) (links_same c.self.view_is)) in
+    let same : set c.as_slice-values.result.now c.args.place before ≡ values =
+    ap (λ (l : List Tri). set l c.args.place before) c.as_slice-values.ensures.value ∙ set_back values c.args.place c.args.value before lt c.index-before.ensures in
+    pending_moved refl (sym same) c.self.invariant.right
