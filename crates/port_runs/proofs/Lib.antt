@@ -1,2 +1,4 @@
+pub mod GoingOn
 pub mod Order
 pub mod RunOrder
+pub mod Steps

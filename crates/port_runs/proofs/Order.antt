@@ -59,7 +59,7 @@ bits_taken clocks count (Moves (Open place) ∷ steps) w w' r = bits_taken clock
 bits_taken clocks count (Moves (Take bits) ∷ steps) w w' r = ((r.1).1, bits_taken clocks count steps (record (after_move (Take bits) w) { values = r.0 }) w' r.2)
 bits_taken clocks count (Moves Rise ∷ steps) w w' r = bits_taken clocks count steps (record (after_move Rise w) { values = r.0 }) w' r.2
 
-snoc_same : {X : Type 0} (xs ys : List X) (x y : X) → xs ++ x ∷ [] ≡ ys ++ y ∷ [] → (xs ≡ ys) × (x ≡ y)
+pub snoc_same : {X : Type 0} (xs ys : List X) (x y : X) → xs ++ x ∷ [] ≡ ys ++ y ∷ [] → (xs ≡ ys) × (x ≡ y)
 snoc_same [] [] x y e = (refl, cc)
 snoc_same [] (b ∷ ys) x y e = absurd (short (length-append ys (y ∷ [])) (ap length e))
   where

@@ -4,4 +4,4 @@
 
 mod laws;
 
-pub use laws::runs_stand_in_order;
+pub use laws::{runs_go_on, runs_stand_in_order};
