@@ -23,6 +23,7 @@ use Rattle.event_sim.specs.Orders.{By}
 use Rattle.event_sim.specs.Settling.{EndsAtRest, EndsUnsettled}
 use Rattle.trace_tool.specs.Courses.{EndsWithin, LeadsTo, State, after, moved}
 use Rattle.trace_tool.specs.Moves.{evaluation_moves, latching_moves, power_moves}
+use Rattle.trace_tool.proofs.FailedCourses.{Fails, fails}
 use Rattle.chosen_law.specs.Chosen.{CycleNeverUnsettled, IsReadyForPins, IsSettled, PowerNeverUnsettled}
 use Rattle.chosen_law.proofs.Chosen.{chosen_event, goes, run_append}
 use Rattle.chosen_law.proofs.OwnReadings.{came_after}
@@ -38,21 +39,6 @@ chain_happens order links net s (event ∷ events) w step c =
 nets_long : (events : List Event) → length (map (λ e. e.net) events) ≡ length events
 nets_long [] = refl
 nets_long (event ∷ events) = ap suc (nets_long events)
-
--- of the moves in turn, each with its settling, one ends unsettled
-abbrev Fails : (ℕ → ℕ → ℕ → Type 0) → LinksData → State → List (List PortValue) → Type 0
-Fails order links t [] = ⊥
-Fails order links t (move ∷ moves) =
-    ((last : List Event) × EndsUnsettled order links (moved t move).values t.step last)
-    ⊎ ((first : List Event) × EndsAtRest order links (moved t move).values t.step first × Fails order links (after (moved t move) first) moves)
-
-fails_from : (order : ℕ → ℕ → ℕ → Type 0) (links : LinksData) (before never : List (List PortValue)) (move : List PortValue) (t state : State) (earlier last : List Event)
-    → LeadsTo order links t before earlier state → EndsUnsettled order links (moved state move).values state.step last → Fails order links t (before ++ move ∷ never)
-fails_from order links [] never move t state earlier last l u = inl (last, subst (λ x. EndsUnsettled order links (moved x move).values x.step last) l.1 u)
-fails_from order links (b ∷ bs) never move t state earlier last l u = inr (l.0, l.3, fails_from order links bs never move (after (moved t b) l.0) state l.1 last l.4 u)
-
-fails : (order : ℕ → ℕ → ℕ → Type 0) (links : LinksData) (t : State) (moves : List (List PortValue)) (events last : List Event) (reached : State) → EndsWithin order links t moves events last reached → Fails order links t moves
-fails order links t moves events last reached e = subst (Fails order links t) (sym e.moves_are) (fails_from order links e.before e.never e.move t e.state e.earlier last e.leads e.unsettled)
 
 module _ (order : ℕ → ℕ → ℕ → Type 0) (roles : Roles) (links : LinksData) (net : Net → ℕ) (s : Shape) (ports : HasPorts roles links net s) (loose : IsLooseDeck links net s) (start : World) (power : IsPower links net s start) where
   no_unrest : (w : World) (steps : List Step) (step : ℕ) (last : List Event) → Run links net s steps start w → EndsUnsettled order links w.values step last → ⊥

@@ -10,15 +10,15 @@ use Rattle.event_sim.proofs.SettlingThere.{settling_there}
 use Rattle.switch_model.specs.LinksData.{links_of}
 use Rattle.trace_tool.specs.Courses.{Course, IsCourse, Settled, State, Unsettled, after, moved}
 use Rattle.port_runs.specs.Moves.{PortValue}
-use Rattle.trace_tool.specs.declared.setup.Setup.{Setup}
+use Rattle.trace_tool.specs.SetupData.{SetupData}
 use Rattle.trace_tool.proofs.CoursesJoined.{behind, course-first}
 
 -- the moves have a course
-abbrev pub HasCourse : (ℕ → ℕ → ℕ) → Setup → State → List (List PortValue) → Type 0
+abbrev pub HasCourse : (ℕ → ℕ → ℕ) → SetupData → State → List (List PortValue) → Type 0
 HasCourse place setup s moves = (course : Course) × (t : State) × IsCourse (By place) setup s moves course t
 
 -- the first move has a settling, and from where it leads the others have a course
-course-on : (place : ℕ → ℕ → ℕ) (setup : Setup) (s : State) (move : List PortValue) (moves : List (List PortValue)) (events : List Event) (answer : Answer)
+course-on : (place : ℕ → ℕ → ℕ) (setup : SetupData) (s : State) (move : List PortValue) (moves : List (List PortValue)) (events : List Event) (answer : Answer)
     → IsSettling (By place) (links_of setup.circuit setup.roles) (moved s move).values s.step events answer
     → HasCourse place setup (after (moved s move) events) moves → HasCourse place setup s (move ∷ moves)
 course-on place setup s move moves events (answers.Rest k) is (course, t, more) = (
@@ -43,7 +43,7 @@ course-on place setup s move moves events (answers.Unsettled k) is later = (
   },
 )
 
-pub course_is_there : (place : ℕ → ℕ → ℕ) (setup : Setup) → IsBelow place → (s : State) (moves : List (List PortValue)) → HasCourse place setup s moves
+pub course_is_there : (place : ℕ → ℕ → ℕ) (setup : SetupData) → IsBelow place → (s : State) (moves : List (List PortValue)) → HasCourse place setup s moves
 course_is_there place setup below s [] = (Settled [], s, (refl, refl))
 course_is_there place setup below s (move ∷ moves) =
     let settling = settling_there place (links_of setup.circuit setup.roles) (moved s move).values s.step below in

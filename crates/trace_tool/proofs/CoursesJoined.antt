@@ -9,7 +9,7 @@ use Rattle.event_sim.proofs.FollowedOrders.{settling_by}
 use Rattle.trace_tool.specs.Courses.{Course, EndsWithin, IsCourse, LeadsTo, Settled, State, Unsettled, after, moved}
 use Rattle.port_runs.specs.Moves.{PortValue}
 use Rattle.trace_tool.specs.RunData.{events_of}
-use Rattle.trace_tool.specs.declared.setup.Setup.{Setup}
+use Rattle.trace_tool.specs.SetupData.{SetupData}
 use Rattle.port_runs.proofs.RunOrder.{length-set_all}
 use Rattle.trace_tool.proofs.SetupNets.{step_after-fits}
 
@@ -102,26 +102,26 @@ module _ (order : ℕ → ℕ → ℕ → Type 0) (links : LinksData) where
       }
 
 -- moves that follow others which settled
-pub course-after : (order : ℕ → ℕ → ℕ → Type 0) (setup : Setup) (s t u : State) (xs ys : List (List PortValue)) (d : List Event) (course : Course)
+pub course-after : (order : ℕ → ℕ → ℕ → Type 0) (setup : SetupData) (s t u : State) (xs ys : List (List PortValue)) (d : List Event) (course : Course)
     → IsCourse order setup s xs (Settled d) t → IsCourse order setup t ys course u → IsCourse order setup s (xs ++ ys) (behind d course) u
 course-after order setup s t u xs ys d (Settled events) leads more = leads-append order (links_of setup.circuit setup.roles) s t u xs ys d events leads more
 course-after order setup s t u xs ys d (Unsettled events last) leads more = ends-after order (links_of setup.circuit setup.roles) s t u xs ys d events last leads more
 
 -- the first move settles, and the others have a course from there
-pub course-first : (order : ℕ → ℕ → ℕ → Type 0) (setup : Setup) (s t : State) (move : List PortValue) (moves : List (List PortValue)) (first : List Event) (course : Course)
+pub course-first : (order : ℕ → ℕ → ℕ → Type 0) (setup : SetupData) (s t : State) (move : List PortValue) (moves : List (List PortValue)) (first : List Event) (course : Course)
     → IsCourse order setup s (move ∷ []) (Settled first) (after (moved s move) first) → IsCourse order setup (after (moved s move) first) moves course t
     → IsCourse order setup s (move ∷ moves) (behind first course) t
 course-first order setup s t move moves first course is more =
     course-after order setup s (after (moved s move) first) t (move ∷ []) moves first course is more
 
-pub course-fits : (order : ℕ → ℕ → ℕ → Type 0) (setup : Setup) (s t : State) (moves : List (List PortValue)) (course : Course)
+pub course-fits : (order : ℕ → ℕ → ℕ → Type 0) (setup : SetupData) (s t : State) (moves : List (List PortValue)) (course : Course)
     → s.step < 2 ^ 64 → IsCourse order setup s moves course t → t.step < 2 ^ 64
 course-fits order setup s t moves (Settled events) fits is = leads-fits order (links_of setup.circuit setup.roles) s t moves events fits is
 course-fits order setup s t moves (Unsettled events last) fits is =
     let now : is.state.step < 2 ^ 64 = leads-fits order (links_of setup.circuit setup.roles) s is.state is.before is.earlier fits is.leads in
     subst (λ (r : State). r.step < 2 ^ 64) (sym is.reached) (step_after-fits is.state.step last now)
 
-pub course-length : (order : ℕ → ℕ → ℕ → Type 0) (setup : Setup) (s t : State) (moves : List (List PortValue)) (course : Course)
+pub course-length : (order : ℕ → ℕ → ℕ → Type 0) (setup : SetupData) (s t : State) (moves : List (List PortValue)) (course : Course)
     → IsCourse order setup s moves course t → length t.values ≡ length s.values
 course-length order setup s t moves (Settled events) is = leads-length order (links_of setup.circuit setup.roles) s t moves events is
 course-length order setup s t moves (Unsettled events last) is =
@@ -129,7 +129,7 @@ course-length order setup s t moves (Unsettled events last) is =
     ∙ leads-length order (links_of setup.circuit setup.roles) s is.state is.before is.earlier is.leads
 
 -- where the order follows a function
-pub course-by : (place : ℕ → ℕ → ℕ) (order : ℕ → ℕ → ℕ → Type 0) (setup : Setup) (s t : State) (moves : List (List PortValue)) (course : Course)
+pub course-by : (place : ℕ → ℕ → ℕ) (order : ℕ → ℕ → ℕ → Type 0) (setup : SetupData) (s t : State) (moves : List (List PortValue)) (course : Course)
     → Follows place order → s.step < 2 ^ 64 → length s.values < 2 ^ 64 → IsCourse order setup s moves course t → IsCourse (By place) setup s moves course t
 course-by place order setup s t moves (Settled events) follows fits few is =
     leads-by order (links_of setup.circuit setup.roles) place s t moves events follows fits few is

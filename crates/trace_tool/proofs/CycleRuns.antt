@@ -12,7 +12,7 @@ use Rattle.trace_tool.specs.TraceLines.{event_lines, power_line, unsettled_line}
 use Rattle.trace_tool.specs.Traces.{outputs, row_line}
 use Rattle.trace_tool.specs.declared.halt.Halt.{Halt}
 use Rattle.trace_tool.specs.declared.halt.Halt.TheVariants as halts
-use Rattle.trace_tool.specs.declared.setup.Setup.{Setup}
+use Rattle.trace_tool.specs.SetupData.{SetupData}
 use Rattle.trace_tool.proofs.EventLines.{piece}
 use Rattle.trace_tool.proofs.MoveRuns.{ran-before, ran-more}
 
@@ -62,7 +62,7 @@ module _ {F : Type 0} (P : F → ℕ → ℕ → ℕ → Type 0) where
       → row ≡ record { cycle = cycle; pins = pins; outs = outputs r.setup.roles r.state.values; events = Some (m + n) }
       → RunsCycle P cycle pins s true now
   cycle-settled s r t now cycle pins row m n (d, h, counted, few) (e, k, counted', few') is row_is =
-      let moves = ap (λ (c : Setup). latching_moves c.roles) h.same_setup in
+      let moves = ap (λ (c : SetupData). latching_moves c.roles) h.same_setup in
       let all = ran-more P s r t (evaluation_moves s.setup.roles pins) (latching_moves s.setup.roles) d (Settled e) h
       (subst (λ (l : List (List PortValue)). Ran P l (Settled e) r t) moves k) in
       let number : m + n ≡ length (d ++ e) = (λ i. counted i + counted' i) ∙ sym (length-append d e) in
@@ -105,7 +105,7 @@ module _ {F : Type 0} (P : F → ℕ → ℕ → ℕ → Type 0) where
     r.state,
     h.course_is,
     ran-more P s r t (evaluation_moves s.setup.roles pins) (latching_moves s.setup.roles) d (Unsettled e last) h
-        (subst (λ (l : List (List PortValue)). Ran P l (Unsettled e last) r t) (ap (λ (c : Setup). latching_moves c.roles) h.same_setup) k),
+        (subst (λ (l : List (List PortValue)). Ran P l (Unsettled e last) r t) (ap (λ (c : SetupData). latching_moves c.roles) h.same_setup) k),
     counted',
   )
   cycle-read s r t pins m halts.Memory h k = tt

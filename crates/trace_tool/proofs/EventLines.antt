@@ -1,11 +1,13 @@
 -- The lines of events, and texts put together from pieces.
-use Rattle.std.proofs.Common.{◌≡◌, ℕ, Bool, true, false, List, [], ◌∷◌, ◌++◌, codes, slice_index_or, refl, sym, ap, ◌∙◌, append_assoc}
+use Rattle.std.proofs.Common.{◌≡◌, ℕ, Bool, true, false, if◌then◌else◌, List, [], ◌∷◌, ◌++◌, codes, filter, flat_map, slice_index_or, refl, sym, ap, ◌∙◌, append_assoc, append-nil}
+use Rattle.std.proofs.lemmas.List.Elements.{filter-append}
 use Rattle.std.proofs.lemmas.Grind.{flat_map-append}
 use Rattle.std.specs.Fmt.{decimal}
 use Rattle.dom_base.specs.Tri.{letter_of}
 use Rattle.event_sim.specs.declared.event.Event.{Event}
-use Rattle.trace_tool.specs.TraceLines.{event_line, event_lines, lines_where}
-use Rattle.trace_tool.specs.declared.setup.Setup.{Setup}
+use Rattle.trace_tool.specs.Probes.{is_told}
+use Rattle.trace_tool.specs.TraceLines.{event_line, event_lines}
+use Rattle.trace_tool.specs.SetupData.{SetupData}
 
 -- a piece of a text, and what follows it
 pub piece : (before mid after a rest : List ℕ) → mid ≡ before ++ a → after ≡ mid ++ rest → after ≡ before ++ (a ++ rest)
@@ -19,23 +21,25 @@ pub event_line-is : (nets : List (List ℕ)) (event : Event)
     → event_line nets event ≡ event_front nets event ++ (letter_of event.before ∷ 32 ∷ letter_of event.after ∷ 10 ∷ [])
 event_line-is nets event = append_assoc (event_front nets event) (letter_of event.before ∷ 32 ∷ []) (letter_of event.after ∷ 10 ∷ [])
 
-lines_where-append : (printed : Bool) (nets : List (List ℕ)) (d e : List Event) → lines_where printed nets (d ++ e) ≡ lines_where printed nets d ++ lines_where printed nets e
-lines_where-append true nets d e = flat_map-append (event_line nets) d e
-lines_where-append false nets d e = refl
-
-lines_where-none : (printed : Bool) (nets : List (List ℕ)) → lines_where printed nets [] ≡ []
-lines_where-none true nets = refl
-lines_where-none false nets = refl
-
 -- the lines of events that follow others
-pub event_lines-append : (setup : Setup) (d e : List Event) → event_lines setup (d ++ e) ≡ event_lines setup d ++ event_lines setup e
-event_lines-append setup d e = lines_where-append setup.events setup.circuit.nets d e
+pub event_lines-append : (setup : SetupData) (d e : List Event) → event_lines setup (d ++ e) ≡ event_lines setup d ++ event_lines setup e
+event_lines-append setup d e =
+    ap (flat_map (event_line setup.circuit.nets)) (filter-append (is_told setup) d e)
+    ∙ flat_map-append (event_line setup.circuit.nets) (filter (is_told setup) d) (filter (is_told setup) e)
 
-pub event_lines-none : (setup : Setup) → event_lines setup [] ≡ []
-event_lines-none setup = lines_where-none setup.events setup.circuit.nets
+pub event_lines-none : (setup : SetupData) → event_lines setup [] ≡ []
+event_lines-none setup = refl
+
+-- the line of one event, where it is told and where it isn't
+pub event_lines-told : (setup : SetupData) (event : Event) → is_told setup event ≡ true → event_lines setup (event ∷ []) ≡ event_line setup.circuit.nets event
+event_lines-told setup event told =
+    ap (λ (b : Bool). flat_map (event_line setup.circuit.nets) (if b then event ∷ [] else [])) told ∙ append-nil (event_line setup.circuit.nets event)
+
+pub event_lines-untold : (setup : SetupData) (event : Event) → is_told setup event ≡ false → event_lines setup (event ∷ []) ≡ []
+event_lines-untold setup event untold = ap (λ (b : Bool). flat_map (event_line setup.circuit.nets) (if b then event ∷ [] else [])) untold
 
 -- a text goes on with the lines of further events
-pub text-append : (setup : Setup) (before mid after : List ℕ) (d e : List Event)
+pub text-append : (setup : SetupData) (before mid after : List ℕ) (d e : List Event)
     → mid ≡ before ++ event_lines setup d → after ≡ mid ++ event_lines setup e → after ≡ before ++ event_lines setup (d ++ e)
 text-append setup before mid after d e p q =
     piece before mid after (event_lines setup d) (event_lines setup e) p q

@@ -9,7 +9,7 @@ use Rattle.trace_tool.specs.RunData.{Ran, RunData, Runs, Settles, events_of, wit
 use Rattle.trace_tool.specs.TraceLines.{event_lines}
 use Rattle.trace_tool.specs.declared.halt.Halt.{Halt}
 use Rattle.trace_tool.specs.declared.halt.Halt.TheVariants as halts
-use Rattle.trace_tool.specs.declared.setup.Setup.{Setup}
+use Rattle.trace_tool.specs.SetupData.{SetupData}
 use Rattle.trace_tool.proofs.CoursesJoined.{behind, course-after, ends-before, events_of-behind}
 use Rattle.trace_tool.proofs.EventLines.{event_lines-none, text-append}
 
@@ -18,7 +18,7 @@ module _ {F : Type 0} (P : F → ℕ → ℕ → ℕ → Type 0) where
   pub course-moved : (s t : RunData F) (at to : State) (moves : List (List PortValue)) (course : Course) → t.pick ≡ s.pick → t.setup ≡ s.setup
       → IsCourse (P t.pick) t.setup at moves course to → IsCourse (P s.pick) s.setup at moves course to
   course-moved s t at to moves course pick setup h =
-      subst (λ (p : F). IsCourse (P p) s.setup at moves course to) pick (subst (λ (c : Setup). IsCourse (P t.pick) c at moves course to) setup h)
+      subst (λ (p : F). IsCourse (P p) s.setup at moves course to) pick (subst (λ (c : SetupData). IsCourse (P t.pick) c at moves course to) setup h)
 
   -- moves that follow others which settled
   pub ran-more : (s t u : RunData F) (xs ys : List (List PortValue)) (d : List Event) (course : Course)
@@ -27,7 +27,7 @@ module _ {F : Type 0} (P : F → ℕ → ℕ → ℕ → Type 0) where
     course_is = course-after (P s.pick) s.setup s.state t.state u.state xs ys d course h.course_is
         (course-moved s t t.state u.state ys course h.same_pick h.same_setup k.course_is);
     text_is = text-append s.setup s.text t.text u.text d (events_of course) h.text_is
-        (k.text_is ∙ ap (λ (c : Setup). t.text ++ event_lines c (events_of course)) h.same_setup)
+        (k.text_is ∙ ap (λ (c : SetupData). t.text ++ event_lines c (events_of course)) h.same_setup)
         ∙ ap (λ (e : List Event). s.text ++ event_lines s.setup e) (sym (events_of-behind d course));
     same_setup = k.same_setup ∙ h.same_setup;
     same_pick = k.same_pick ∙ h.same_pick;

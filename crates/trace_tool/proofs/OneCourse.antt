@@ -10,7 +10,7 @@ use Rattle.event_sim.specs.Settling.{EndsAtRest, EndsUnsettled}
 use Rattle.event_sim.proofs.OneSettling.{settling_has_one_chain}
 use Rattle.port_runs.specs.Moves.{PortValue}
 use Rattle.trace_tool.specs.Courses.{Course, EndsWithin, IsCourse, LeadsTo, Settled, State, Unsettled, after, moved}
-use Rattle.trace_tool.specs.declared.setup.Setup.{Setup}
+use Rattle.trace_tool.specs.SetupData.{SetupData}
 
 -- two settlings that end at rest have the same events
 rest_is_one : (place : ℕ → ℕ → ℕ) (links : LinksData) (values : List Tri) (step : ℕ) (a b : List Event)
@@ -102,7 +102,7 @@ leads_or_ends place links s (move ∷ moves) a b last t u (first, rest, are, at_
     (subst (λ (f : List Event). EndsFrom (By place) links (after (moved s move) f) moves rest' last u) (sym e) ends)
 
 -- two courses of the same moves from one state are the same, and end in the same state
-pub course_is_one : (place : ℕ → ℕ → ℕ) (setup : Setup) (s : State) (moves : List (List PortValue)) (c d : Course) (t u : State)
+pub course_is_one : (place : ℕ → ℕ → ℕ) (setup : SetupData) (s : State) (moves : List (List PortValue)) (c d : Course) (t u : State)
     → IsCourse (By place) setup s moves c t → IsCourse (By place) setup s moves d u → (c ≡ d) × (t ≡ u)
 course_is_one place setup s moves (Settled a) (Settled b) t u x y =
     let same = leads_are_one place (links_of setup.circuit setup.roles) s moves a b t u x y in

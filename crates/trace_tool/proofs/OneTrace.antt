@@ -7,11 +7,11 @@ use Rattle.trace_tool.specs.Moves.{cycle_moves, evaluation_moves, power_moves}
 use Rattle.trace_tool.specs.TraceData.{TraceData}
 use Rattle.trace_tool.specs.TraceLines.{lines_of, power_line}
 use Rattle.trace_tool.specs.Traces.{AreCycles, IsCycle, IsTraceFrom, power_state, row_line}
-use Rattle.trace_tool.specs.declared.setup.Setup.{Setup}
+use Rattle.trace_tool.specs.SetupData.{SetupData}
 use Rattle.trace_tool.proofs.OneCourse.{course_is_one}
 
 -- two cycles with the same pins from one state have one course, are read in one state and end in one
-cycle_is_one : (place : ℕ → ℕ → ℕ) (setup : Setup) (s : State) (pins : List Bool) (c d : Course) (read last read' last' : State)
+cycle_is_one : (place : ℕ → ℕ → ℕ) (setup : SetupData) (s : State) (pins : List Bool) (c d : Course) (read last read' last' : State)
     → IsCycle (By place) setup s pins c read last → IsCycle (By place) setup s pins d read' last' → (c ≡ d) × (read ≡ read') × (last ≡ last')
 cycle_is_one place setup s pins c d read last read' last' x y =
     let half = course_is_one place setup s (evaluation_moves setup.roles pins) x.evaluated y.evaluated read read' x.evaluation y.evaluation in
@@ -19,7 +19,7 @@ cycle_is_one place setup s pins c d read last read' last' x y =
     (all.0, half.1, all.1)
 
 -- two traces that begin with one course are the same where what follows is
-trace_from_same : (setup : Setup) (cycle : ℕ) (line : ℕ → List ℕ) (course : Course) (Rest : TraceData → Type 0) (a b : TraceData)
+trace_from_same : (setup : SetupData) (cycle : ℕ) (line : ℕ → List ℕ) (course : Course) (Rest : TraceData → Type 0) (a b : TraceData)
     → ((p q : TraceData) → Rest p → Rest q → p ≡ q) → IsTraceFrom setup cycle line course Rest a → IsTraceFrom setup cycle line course Rest b → a ≡ b
 trace_from_same setup cycle line (Settled events) Rest a b one (rest, h, is) (rest', h', is') =
     is
@@ -27,7 +27,7 @@ trace_from_same setup cycle line (Settled events) Rest a b one (rest, h, is) (re
     ∙ sym is'
 trace_from_same setup cycle line (Unsettled events last) Rest a b one is is' = is ∙ sym is'
 
-cycles_are_one : (place : ℕ → ℕ → ℕ) (setup : Setup) (s : State) (cycle : ℕ) (cycles : List (List Bool)) (a b : TraceData)
+cycles_are_one : (place : ℕ → ℕ → ℕ) (setup : SetupData) (s : State) (cycle : ℕ) (cycles : List (List Bool)) (a b : TraceData)
     → AreCycles (By place) setup s cycle cycles a → AreCycles (By place) setup s cycle cycles b → a ≡ b
 cycles_are_one place setup s cycle [] a b x y = x ∙ sym y
 cycles_are_one place setup s cycle (pins ∷ more) a b (c, read, last, one, from) (d, read', last', one', from') =

@@ -17,7 +17,7 @@ use Rattle.event_sim.proofs.PowerState.{joined_length}
 use Rattle.port_runs.proofs.RunOrder.{length-set_all}
 use Rattle.trace_tool.specs.RunData.{IsRunning, with_move}
 use Rattle.port_runs.specs.Moves.{PortValue, set_all}
-use Rattle.trace_tool.specs.declared.setup.Setup.{Setup}
+use Rattle.trace_tool.specs.SetupData.{SetupData}
 
 outs_within : (l a b c n p d o : ℕ) → a + (b + c) ≡ l → a ≡ d + 8 → b ≡ p → c ≡ o → l ≤ n → d + 8 + p + o ≤ n
 outs_within l a b c n p d o e f g h i = omega arith
@@ -35,7 +35,7 @@ step_after-fits step (e ∷ es) fits = step_after-fits (next_step step) es (mod_
 
 module _ {F : Type 0} where
   -- events leave a simulation of the setup's circuit
-  pub running-ran : (setup : Setup) (s : SimData F) (events : List Event) → IsRunning setup s → IsRunning setup (ran s events)
+  pub running-ran : (setup : SetupData) (s : SimData F) (events : List Event) → IsRunning setup s → IsRunning setup (ran s events)
   running-ran setup s events running = record {
     are_roles = running.are_roles;
     links_are = running.links_are;
@@ -45,7 +45,7 @@ module _ {F : Type 0} where
   }
 
   -- and so do moves
-  pub running-set : (setup : Setup) (s : SimData F) (move : List PortValue) → IsRunning setup s → IsRunning setup (with_move s move)
+  pub running-set : (setup : SetupData) (s : SimData F) (move : List PortValue) → IsRunning setup s → IsRunning setup (with_move s move)
   running-set setup s move running = record {
     are_roles = running.are_roles;
     links_are = running.links_are;

@@ -9,8 +9,8 @@ use Rattle.trace_tool.specs.Moves.{cycle_moves, evaluation_moves, power_moves}
 use Rattle.trace_tool.specs.RunData.{HasCycles, IsPrinted, RunData, RunsCycle, RunsPower, power_run}
 use Rattle.trace_tool.specs.TraceData.{TraceData, TraceOptionsData}
 use Rattle.trace_tool.specs.TraceLines.{lines_of, power_line}
-use Rattle.trace_tool.specs.Traces.{AreCycles, IsCycle, IsRun, IsTraceFrom, order_of, power_state, row_line}
-use Rattle.trace_tool.specs.declared.setup.Setup.{Setup}
+use Rattle.trace_tool.specs.Traces.{AreCycles, IsCycle, IsRun, IsTraceFrom, order_of, power_state, row_line, setup_of}
+use Rattle.trace_tool.specs.SetupData.{SetupData}
 use Rattle.trace_tool.proofs.CoursesJoined.{course-by, course-fits, course-length}
 
 pub if_ok-both : {T E : Type 0} {A B C : T → Type 0} (result : Result T E) → ((x : T) → A x → B x → C x) → IfOk result A → IfOk result B → IfOk result C
@@ -55,7 +55,7 @@ module _ {F : Type 0} where
         → IsCycle (P now.pick) now.setup now.state pins course read last → IsCycle (P s.pick) s.setup now.state pins course read last
     cycle-moved s now pins course read last pick setup h =
         subst (λ (p : F). IsCycle (P p) s.setup now.state pins course read last) pick
-        (subst (λ (c : Setup). IsCycle (P now.pick) c now.state pins course read last) setup h)
+        (subst (λ (c : SetupData). IsCycle (P now.pick) c now.state pins course read last) setup h)
 
     -- the trace of one more cycle, where it settled with what follows
     cycle-traced : (s now new : RunData F) (cycles : List (List Bool)) (number : ℕ) (pins : List Bool) (course : Course) (read : State) (trace : TraceData)
@@ -118,14 +118,14 @@ module _ {F : Type 0} where
         )
 
     -- power ended unsettled
-    pub run-halted : (pick : F) (setup : Setup) (new : RunData F) (cycles : List (List Bool)) (settled : Bool)
+    pub run-halted : (pick : F) (setup : SetupData) (new : RunData F) (cycles : List (List Bool)) (settled : Bool)
         → RunsPower P (power_run pick setup) settled new → settled ≡ false → IsRun (P pick) setup cycles (trace_of new.text false)
     run-halted pick setup new cycles settled (Settled events, is, printed) off = absurd (let never : true ≡ false = sym printed.settled_is ∙ off in cc)
     run-halted pick setup new cycles settled (Unsettled events last, is, printed) off =
         (Unsettled events last, new.state, is, (λ i. trace_of (printed.text_is i) false))
 
     -- power settled, and then the cycles were run
-    pub run-through : (pick : F) (setup : Setup) (mid new : RunData F) (cycles : List (List Bool)) (first settled : Bool)
+    pub run-through : (pick : F) (setup : SetupData) (mid new : RunData F) (cycles : List (List Bool)) (first settled : Bool)
         → RunsPower P (power_run pick setup) first mid → first ≡ true → HasCycles P mid cycles settled new → IsRun (P pick) setup cycles (trace_of new.text settled)
     run-through pick setup mid new cycles first settled (Unsettled events last, is, printed) on later =
         absurd (let never : true ≡ false = sym on ∙ printed.settled_is in cc)
@@ -136,16 +136,16 @@ module _ {F : Type 0} where
       (
         trace_of lines settled,
         subst (λ (p : F). AreCycles (P p) setup mid.state 0 cycles (trace_of lines settled)) printed.same_pick
-            (subst (λ (c : Setup). AreCycles (P mid.pick) c mid.state 0 cycles (trace_of lines settled)) printed.same_setup later),
+            (subst (λ (c : SetupData). AreCycles (P mid.pick) c mid.state 0 cycles (trace_of lines settled)) printed.same_setup later),
         (λ i. trace_of ((text ∙ ap (λ (l : List ℕ). l ++ lines) printed.text_is) i) settled),
       ),
     )
 
 -- a trace of cycles in an order that follows a function
-abbrev IsShort : State → Type 0
+abbrev pub IsShort : State → Type 0
 IsShort s = (s.step < 2 ^ 64) × (length s.values < 2 ^ 64)
 
-module _ (place : ℕ → ℕ → ℕ) (order : ℕ → ℕ → ℕ → Type 0) (setup : Setup) (follows : Follows place order) where
+module _ (place : ℕ → ℕ → ℕ) (order : ℕ → ℕ → ℕ → Type 0) (setup : SetupData) (follows : Follows place order) where
   trace_from-by : (cycle : ℕ) (line : ℕ → List ℕ) (course : Course) (Rest Rest' : TraceData → Type 0) (trace : TraceData)
       → ((rest : TraceData) → Rest rest → Rest' rest) → IsTraceFrom setup cycle line course Rest trace → IsTraceFrom setup cycle line course Rest' trace
   trace_from-by cycle line (Settled events) Rest Rest' trace f (rest, h, is) = (rest, f rest h, is)
@@ -189,7 +189,7 @@ module _ (place : ℕ → ℕ → ℕ) (order : ℕ → ℕ → ℕ → Type 0) 
 
 module _ {F : Type 0} (P : F → ℕ → ℕ → ℕ → Type 0) where
   -- the trace of a run whose power settled, and of one whose power did not
-  pub traced-through : (place : ℕ → ℕ → ℕ) (pick : F) (setup : Setup) (start mid new : RunData F) (cycles : List (List Bool)) (first settled : Bool) (trace : TraceData)
+  pub traced-through : (place : ℕ → ℕ → ℕ) (pick : F) (setup : SetupData) (start mid new : RunData F) (cycles : List (List Bool)) (first settled : Bool) (trace : TraceData)
       → Follows place (P pick) → start ≡ power_run pick setup → length start.state.values ≤ 2 ^ 26 → RunsPower P start first mid → first ≡ true
       → HasCycles P mid cycles settled new → trace ≡ trace_of new.text settled → IsRun (By place) setup cycles trace
   traced-through place pick setup start mid new cycles first settled trace follows is few power on later trace_is =
@@ -197,7 +197,7 @@ module _ {F : Type 0} (P : F → ℕ → ℕ → ℕ → Type 0) where
       (run-by place (P pick) setup follows cycles (trace_of new.text settled) (subst (λ (r : RunData F). length r.state.values ≤ 2 ^ 26) is few)
       (run-through P pick setup mid new cycles first settled (subst (λ (r : RunData F). RunsPower P r first mid) is power) on later))
 
-  pub traced-halted : (place : ℕ → ℕ → ℕ) (pick : F) (setup : Setup) (start new : RunData F) (cycles : List (List Bool)) (settled : Bool) (trace : TraceData)
+  pub traced-halted : (place : ℕ → ℕ → ℕ) (pick : F) (setup : SetupData) (start new : RunData F) (cycles : List (List Bool)) (settled : Bool) (trace : TraceData)
       → Follows place (P pick) → start ≡ power_run pick setup → length start.state.values ≤ 2 ^ 26 → RunsPower P start settled new → settled ≡ false
       → trace ≡ trace_of new.text false → IsRun (By place) setup cycles trace
   traced-halted place pick setup start new cycles settled trace follows is few power off trace_is =
@@ -205,12 +205,11 @@ module _ {F : Type 0} (P : F → ℕ → ℕ → ℕ → Type 0) where
       (run-by place (P pick) setup follows cycles (trace_of new.text false) (subst (λ (r : RunData F). length r.state.values ≤ 2 ^ 26) is few)
       (run-halted P pick setup new cycles settled (subst (λ (r : RunData F). RunsPower P r settled new) is power) off))
 
--- a run in the order of the options
+-- a run with the options
 pub run_is : (circuit : CircuitData) (roles : Roles) (read options : TraceOptionsData) (cycles items : List (List Bool)) (trace : TraceData)
     → read ≡ options → cycles ≡ items
-    → IsRun (By (order_of read.order read.seed)) (record { circuit = circuit; roles = roles; events = read.events }) cycles trace
-    → IsRun (By (order_of options.order options.seed)) (record { circuit = circuit; roles = roles; events = options.events }) items trace
+    → IsRun (By (order_of read.order read.seed)) (setup_of circuit roles read) cycles trace
+    → IsRun (By (order_of options.order options.seed)) (setup_of circuit roles options) items trace
 run_is circuit roles read options cycles items trace o c run =
-    let setup : TraceOptionsData → Setup = λ x. record { circuit = circuit; roles = roles; events = x.events } in
-    subst (λ (all : List (List Bool)). IsRun (By (order_of options.order options.seed)) (setup options) all trace) c
-    (subst (λ (x : TraceOptionsData). IsRun (By (order_of x.order x.seed)) (setup x) cycles trace) o run)
+    subst (λ (all : List (List Bool)). IsRun (By (order_of options.order options.seed)) (setup_of circuit roles options) all trace) c
+    (subst (λ (x : TraceOptionsData). IsRun (By (order_of x.order x.seed)) (setup_of circuit roles x) cycles trace) o run)

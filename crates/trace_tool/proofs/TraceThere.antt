@@ -8,26 +8,26 @@ use Rattle.trace_tool.specs.Laws.{TraceIsThere}
 use Rattle.trace_tool.specs.Moves.{cycle_moves, evaluation_moves, power_moves}
 use Rattle.trace_tool.specs.TraceData.{TraceData}
 use Rattle.trace_tool.specs.TraceLines.{lines_of, power_line}
-use Rattle.trace_tool.specs.Traces.{AreCycles, IsRun, IsTraceFrom, order_of, power_state, row_line}
+use Rattle.trace_tool.specs.Traces.{AreCycles, IsRun, IsTraceFrom, order_of, power_state, row_line, setup_of}
 use Rattle.trace_tool.specs.declared.options.Order.{Order}
 use Rattle.trace_tool.specs.declared.options.Order.TheVariants.{First, Last, Seed}
-use Rattle.trace_tool.specs.declared.setup.Setup.{Setup}
+use Rattle.trace_tool.specs.SetupData.{SetupData}
 use Rattle.trace_tool.proofs.CourseThere.{course_is_there}
 
-order-below : (order : Order) (seed : ℕ) → IsBelow (order_of order seed)
+pub order-below : (order : Order) (seed : ℕ) → IsBelow (order_of order seed)
 order-below First seed = orders_are_below.first
 order-below Last seed = orders_are_below.last
 order-below Seed seed = orders_are_below.seeded seed
 
 -- a trace that begins with a course is there where one is that follows
-trace_from_there : (setup : Setup) (cycle : ℕ) (line : ℕ → List ℕ) (course : Course) (Rest : TraceData → Type 0)
+trace_from_there : (setup : SetupData) (cycle : ℕ) (line : ℕ → List ℕ) (course : Course) (Rest : TraceData → Type 0)
     → (rest : TraceData) × Rest rest → (trace : TraceData) × IsTraceFrom setup cycle line course Rest trace
 trace_from_there setup cycle line (Settled events) Rest (rest, h) =
     (record { text = lines_of setup cycle line (Settled events) ++ rest.text; settled = rest.settled }, (rest, h, refl))
 trace_from_there setup cycle line (Unsettled events last) Rest more =
     (record { text = lines_of setup cycle line (Unsettled events last); settled = false }, refl)
 
-cycles-there : (place : ℕ → ℕ → ℕ) (setup : Setup) → IsBelow place → (s : State) (cycle : ℕ) (cycles : List (List Bool))
+cycles-there : (place : ℕ → ℕ → ℕ) (setup : SetupData) → IsBelow place → (s : State) (cycle : ℕ) (cycles : List (List Bool))
     → (trace : TraceData) × AreCycles (By place) setup s cycle cycles trace
 cycles-there place setup below s cycle [] = (record { text = []; settled = true }, refl)
 cycles-there place setup below s cycle (pins ∷ more) =
@@ -37,15 +37,15 @@ cycles-there place setup below s cycle (pins ∷ more) =
     (cycles-there place setup below all.1 (cycle + 1) more) in
     (from.0, (all.0, half.1, all.1, record { evaluated = half.0; evaluation = half.2; whole = all.2 }, from.1))
 
-run-there : (place : ℕ → ℕ → ℕ) (setup : Setup) → IsBelow place → (cycles : List (List Bool)) → (trace : TraceData) × IsRun (By place) setup cycles trace
+run-there : (place : ℕ → ℕ → ℕ) (setup : SetupData) → IsBelow place → (cycles : List (List Bool)) → (trace : TraceData) × IsRun (By place) setup cycles trace
 run-there place setup below cycles =
     let power = course_is_there place setup below (power_state setup) (power_moves setup.roles) in
     let from = trace_from_there setup 0 power_line power.0 (AreCycles (By place) setup power.1 0 cycles) (cycles-there place setup below power.1 0 cycles) in
     (from.0, (power.0, power.1, power.2, from.1))
 
 pub trace_is_there : TraceIsThere
-trace_is_there deck stim options circuit roles cycles is_deck are_roles is_stimulus =
-    let run = run-there (order_of options.order options.seed) (record { circuit = circuit; roles = roles; events = options.events })
+trace_is_there deck stim options circuit roles cycles is_deck are_roles are_nets is_stimulus =
+    let run = run-there (order_of options.order options.seed) (setup_of circuit roles options)
     (order-below options.order options.seed) cycles in (
       run.0,
       record {
@@ -54,6 +54,7 @@ trace_is_there deck stim options circuit roles cycles is_deck are_roles is_stimu
         cycles = cycles;
         is_deck = is_deck;
         are_roles = are_roles;
+        are_nets = are_nets;
         is_stimulus = is_stimulus;
         is_run = run.1;
       },

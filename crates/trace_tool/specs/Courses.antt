@@ -6,7 +6,7 @@ use Rattle.event_sim.specs.declared.event.Event.{Event}
 use Rattle.event_sim.specs.Chains.{step_after, values_after}
 use Rattle.event_sim.specs.Settling.{EndsAtRest, EndsUnsettled}
 use Rattle.port_runs.specs.Moves.{PortValue, set_all}
-use Rattle.trace_tool.specs.declared.setup.Setup.{Setup}
+use Rattle.trace_tool.specs.SetupData.{SetupData}
 
 -- the value of each net, and the step, which counts events modulo 2^64
 pub record State : Type 0 where
@@ -48,6 +48,6 @@ pub record EndsWithin (order : ℕ → ℕ → ℕ → Type 0) (links : LinksDat
   pub reached : t ≡ after (moved state move) last
 
 -- from a state the moves in turn have this course in an order of events, and it ends in that state
-abbrev pub IsCourse : (ℕ → ℕ → ℕ → Type 0) → Setup → State → List (List PortValue) → Course → State → Type 0
+abbrev pub IsCourse : (ℕ → ℕ → ℕ → Type 0) → SetupData → State → List (List PortValue) → Course → State → Type 0
 IsCourse order setup s moves (Settled events) t = LeadsTo order (links_of setup.circuit setup.roles) s moves events t
 IsCourse order setup s moves (Unsettled events last) t = EndsWithin order (links_of setup.circuit setup.roles) s moves events last t

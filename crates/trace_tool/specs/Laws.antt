@@ -1,4 +1,4 @@
--- What holds of each deck and stimulus and their trace.
+-- What holds of each deck and stimulus with options and their trace.
 use Rattle.std.specs.Prelude.{◌≡◌, ◌≢◌, ℕ, Bool, List}
 use Rattle.deck.specs.CircuitData.{CircuitData}
 use Rattle.deck.specs.DeckText.{IsDeckOf}
@@ -8,27 +8,30 @@ use Rattle.event_sim.specs.Orders.{By}
 use Rattle.stim_text.specs.Stimuli.{IsStimulusOf}
 use Rattle.trace_tool.specs.declared.fault.TraceFault.{TraceFault}
 use Rattle.trace_tool.specs.declared.fault.TraceFault.TheVariants.{Memory}
+use Rattle.trace_tool.specs.declared.options.ProbeWord.{ProbeWord}
+use Rattle.trace_tool.specs.Probes.{AreNets}
 use Rattle.trace_tool.specs.Refusals.{IsRefused}
 use Rattle.trace_tool.specs.TraceData.{TraceData, TraceOptionsData}
 use Rattle.trace_tool.specs.Traces.{IsRun, IsTraceOf}
-use Rattle.trace_tool.specs.declared.setup.Setup.{Setup}
+use Rattle.trace_tool.specs.SetupData.{SetupData}
 
 -- over the same cycles a circuit has at most one trace in each order
 abbrev pub TraceIsOne : Type 0
-TraceIsOne = (order : ℕ → ℕ → ℕ) (setup : Setup) (cycles : List (List Bool)) (a b : TraceData)
+TraceIsOne = (order : ℕ → ℕ → ℕ) (setup : SetupData) (cycles : List (List Bool)) (a b : TraceData)
     → IsRun (By order) setup cycles a → IsRun (By order) setup cycles b → a ≡ b
 
--- a deck and a stimulus have at most one trace, or are refused for at most one cause, and never both
+-- with its options a deck and a stimulus have at most one trace, or are refused for at most one cause, and never both
 pub record AnswerIsOne : Type 0 where
   pub trace : (deck stim : List ℕ) (options : TraceOptionsData) (a b : TraceData)
       → IsTraceOf deck stim options a → IsTraceOf deck stim options b → a ≡ b
-  pub cause : (deck stim : List ℕ) (a b : TraceFault) → a ≢ Memory → b ≢ Memory
-      → IsRefused deck stim a → IsRefused deck stim b → a ≡ b
+  pub cause : (deck stim : List ℕ) (probes : List ProbeWord) (a b : TraceFault) → a ≢ Memory → b ≢ Memory
+      → IsRefused deck stim probes a → IsRefused deck stim probes b → a ≡ b
   pub apart : (deck stim : List ℕ) (options : TraceOptionsData) (a : TraceData) (b : TraceFault) → b ≢ Memory
-      → IsTraceOf deck stim options a → IsRefused deck stim b → ⊥
+      → IsTraceOf deck stim options a → IsRefused deck stim options.probes b → ⊥
 
--- a deck whose ports are in order has a trace over each stimulus for its pins, for all options
+-- a deck whose ports are in order has a trace over each stimulus for its pins, for all options whose probe words name its nets
 abbrev pub TraceIsThere : Type 0
 TraceIsThere = (deck stim : List ℕ) (options : TraceOptionsData) (circuit : CircuitData) (roles : Roles) (cycles : List (List Bool))
-    → IsDeckOf deck circuit → AreRoles (ports_of circuit) roles → IsStimulusOf roles.pins stim cycles
+    → IsDeckOf deck circuit → AreRoles (ports_of circuit) roles → AreNets circuit.nets options.probes
+    → IsStimulusOf roles.pins stim cycles
     → (trace : TraceData) × IsTraceOf deck stim options trace

@@ -1,8 +1,17 @@
+pub mod AskedEdges
+pub mod Comparisons
+pub mod CosimRefusals
 pub mod Courses
 pub mod Laws
 pub mod Moves
+pub mod PortDifferences
+pub mod Probes
 pub mod Refusals
 pub mod RunData
+pub mod SetupData
 pub mod TraceData
 pub mod TraceLines
 pub mod Traces
+pub mod VerdictLaws
+pub mod VerdictLines
+pub mod Verdicts

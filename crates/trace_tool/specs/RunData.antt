@@ -1,5 +1,6 @@
 -- Runs: what the code's run holds, and what its calls do.
-use Rattle.std.specs.Prelude.{ℕ, ◌≡◌, ◌≤◌, ◌<◌, ◌*◌, ◌^◌, Bool, true, false, List, [], ◌∷◌, ◌++◌, length, map, replicate, take, drop, Result, Ok, Err}
+use Rattle.std.specs.Prelude.{ℕ, ◌≡◌, ◌≤◌, ◌<◌, ◌*◌, ◌^◌, Bool, true, false, List, [], ◌∷◌, ◌++◌, length, map}
+use Rattle.std.specs.Prelude.{replicate, take, drop, Result, Ok, Err}
 use Rattle.dom_base.specs.declared.tri.Tri.{Tri}
 use Rattle.dom_base.specs.declared.tri.Tri.TheVariants.{One}
 use Rattle.deck.specs.Roles.{AreRoles, ports_of}
@@ -16,7 +17,7 @@ use Rattle.trace_tool.specs.TraceLines.{event_lines, lines_of, power_line, unset
 use Rattle.trace_tool.specs.Traces.{AreCycles, IsCycle, power_state, row_line}
 use Rattle.trace_tool.specs.declared.halt.Halt.{Halt}
 use Rattle.trace_tool.specs.declared.halt.Halt.TheVariants as halts
-use Rattle.trace_tool.specs.declared.setup.Setup.{Setup}
+use Rattle.trace_tool.specs.SetupData.{SetupData}
 
 -- the values of so many nets from one on
 abbrev pub values_from : ℕ → ℕ → List Tri → List Tri
@@ -28,7 +29,7 @@ rises port count = map (λ s. s ∷ []) (set_from port (replicate count One))
 
 -- a run: its setup, who picks, the state of the nets, and the text so far
 pub record RunData (F : Type 0) : Type 0 where
-  pub setup : Setup
+  pub setup : SetupData
   pub pick : F
   pub state : State
   pub text : List ℕ
@@ -49,7 +50,7 @@ module _ {F : Type 0} where
   with_move s move = record s { values = set_all s.values move }
 
   -- a simulation of the setup's circuit, which has the setup's roles
-  pub record IsRunning (setup : Setup) (sim : SimData F) : Type 0 where
+  pub record IsRunning (setup : SetupData) (sim : SimData F) : Type 0 where
     pub are_roles : AreRoles (ports_of setup.circuit) setup.roles
     pub links_are : sim.links ≡ links_of setup.circuit setup.roles
     pub whole : length sim.values ≡ length setup.circuit.nets
@@ -57,7 +58,7 @@ module _ {F : Type 0} where
     pub fits : sim.step < 2 ^ 64
 
   -- a run in the power state
-  abbrev pub power_run : F → Setup → RunData F
+  abbrev pub power_run : F → SetupData → RunData F
   power_run pick setup = record { setup = setup; pick = pick; state = power_state setup; text = [] }
 
   -- a run after a move, with a further line, and after events with their lines

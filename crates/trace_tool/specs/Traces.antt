@@ -12,7 +12,8 @@ use Rattle.stim_text.specs.CycleLines.{cycle_line}
 use Rattle.stim_text.specs.Stimuli.{IsStimulusOf}
 use Rattle.trace_tool.specs.declared.options.Order.{Order}
 use Rattle.trace_tool.specs.declared.options.Order.TheVariants.{First, Last, Seed}
-use Rattle.trace_tool.specs.declared.setup.Setup.{Setup}
+use Rattle.trace_tool.specs.SetupData.{SetupData}
+use Rattle.trace_tool.specs.Probes.{AreNets}
 use Rattle.trace_tool.specs.Courses.{Course, IsCourse, Settled, State, Unsettled}
 use Rattle.trace_tool.specs.Moves.{cycle_moves, evaluation_moves, power_moves}
 use Rattle.trace_tool.specs.TraceData.{TraceData, TraceOptionsData}
@@ -23,12 +24,12 @@ abbrev pub outputs : Roles → List Tri → List Tri
 outputs roles values = take roles.outs (drop (first_output roles) values)
 
 -- the line of a cycle with these pins, read in this state, for the number of its events
-abbrev pub row_line : Setup → ℕ → List Bool → State → ℕ → List ℕ
+abbrev pub row_line : SetupData → ℕ → List Bool → State → ℕ → List ℕ
 row_line setup cycle pins read events =
     cycle_line (record { cycle = cycle; pins = pins; outs = outputs setup.roles read.values; events = Some events })
 
 -- a cycle with these pins: its moves have this course, and it is read in the state in which those up to its reading end
-pub record IsCycle (order : ℕ → ℕ → ℕ → Type 0) (setup : Setup) (s : State) (pins : List Bool)
+pub record IsCycle (order : ℕ → ℕ → ℕ → Type 0) (setup : SetupData) (s : State) (pins : List Bool)
     (course : Course) (read last : State) : Type 0 where
   pub evaluated : Course
   pub evaluation : IsCourse order setup s (evaluation_moves setup.roles pins) evaluated read
@@ -36,7 +37,7 @@ pub record IsCycle (order : ℕ → ℕ → ℕ → Type 0) (setup : Setup) (s :
 
 -- a trace that begins with a course in a cycle, which has a line of its own: after a course that settled another trace
 -- follows, and after one that ended unsettled nothing
-abbrev pub IsTraceFrom : Setup → ℕ → (ℕ → List ℕ) → Course → (TraceData → Type 0) → TraceData → Type 0
+abbrev pub IsTraceFrom : SetupData → ℕ → (ℕ → List ℕ) → Course → (TraceData → Type 0) → TraceData → Type 0
 IsTraceFrom setup cycle line (Settled events) Follows trace =
     (rest : TraceData) × Follows rest
     × (trace ≡ record { text = lines_of setup cycle line (Settled events) ++ rest.text; settled = rest.settled })
@@ -44,18 +45,18 @@ IsTraceFrom setup cycle line (Unsettled events last) Follows trace =
     trace ≡ record { text = lines_of setup cycle line (Unsettled events last); settled = false }
 
 -- the trace of the cycles from one on, from a state
-abbrev pub AreCycles : (ℕ → ℕ → ℕ → Type 0) → Setup → State → ℕ → List (List Bool) → TraceData → Type 0
+abbrev pub AreCycles : (ℕ → ℕ → ℕ → Type 0) → SetupData → State → ℕ → List (List Bool) → TraceData → Type 0
 AreCycles order setup s cycle [] trace = trace ≡ record { text = []; settled = true }
 AreCycles order setup s cycle (pins ∷ more) trace =
     (course : Course) × (read last : State) × IsCycle order setup s pins course read last
     × IsTraceFrom setup cycle (row_line setup cycle pins read) course (AreCycles order setup last (cycle + 1) more) trace
 
 -- the power state, before the first event
-abbrev pub power_state : Setup → State
+abbrev pub power_state : SetupData → State
 power_state setup = record { values = power_values setup.circuit setup.roles; step = 0 }
 
 -- the trace of a run over these cycles: power, then each cycle
-abbrev pub IsRun : (ℕ → ℕ → ℕ → Type 0) → Setup → List (List Bool) → TraceData → Type 0
+abbrev pub IsRun : (ℕ → ℕ → ℕ → Type 0) → SetupData → List (List Bool) → TraceData → Type 0
 IsRun order setup cycles trace =
     (course : Course) × (start : State) × IsCourse order setup (power_state setup) (power_moves setup.roles) course start
     × IsTraceFrom setup 0 power_line course (AreCycles order setup start 0 cycles) trace
@@ -66,13 +67,19 @@ order_of First seed = first_place
 order_of Last seed = last_place
 order_of Seed seed = seeded_place seed
 
--- the trace of a deck over a stimulus: its circuit has its ports in order, and is run over the cycles
+-- the setup of a circuit in which the events are told that the options ask for
+abbrev pub setup_of : CircuitData → Roles → TraceOptionsData → SetupData
+setup_of circuit roles options =
+    record { circuit = circuit; roles = roles; events = options.events; probes = options.probes }
+
+-- the trace of a deck over a stimulus: its circuit has its ports in order and a net of each probe word's name, and is run over
+-- the cycles
 pub record IsTraceOf (deck stim : List ℕ) (options : TraceOptionsData) (trace : TraceData) : Type 0 where
   pub circuit : CircuitData
   pub roles : Roles
   pub cycles : List (List Bool)
   pub is_deck : IsDeckOf deck circuit
   pub are_roles : AreRoles (ports_of circuit) roles
+  pub are_nets : AreNets circuit.nets options.probes
   pub is_stimulus : IsStimulusOf roles.pins stim cycles
-  pub is_run : IsRun (By (order_of options.order options.seed))
-      (record { circuit = circuit; roles = roles; events = options.events }) cycles trace
+  pub is_run : IsRun (By (order_of options.order options.seed)) (setup_of circuit roles options) cycles trace

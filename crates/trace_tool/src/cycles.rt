@@ -18,14 +18,15 @@ use stim_text::{CycleRow, Pins};
 /// The trace of power and of these cycles.
 pub fn traced<F: Fn(u64, u64) -> u64>(
     alloc: Global,
-    setup: Setup,
+    setup: Setup<'_>,
     cycles: &[Pins],
     chooser: Chooser<F>,
 ) -> Result<Trace, OutOfMemory>
     requires chooses { Chooses (F.pre chooser.pick) (F.post chooser.pick) }
     requires roles { AreRoles (ports_of setup.circuit) setup.roles }
     requires widths { All (λ pins. length pins ≡ setup.roles.pins) cycles.now }
-    ensures { IfOk result (λ trace. (order : ℕ → ℕ → ℕ) → Follows order (F.post chooser.pick) → IsRun (By order) setup cycles.now trace) }
+    ensures { IfOk result (λ trace. (order : ℕ → ℕ → ℕ) → Follows order (F.post chooser.pick)
+        → IsRun (By order) setup.entry cycles.now trace) }
 {
     let mut run = Run::new(alloc, setup, chooser)?;
     if run.power()? {
@@ -36,7 +37,7 @@ pub fn traced<F: Fn(u64, u64) -> u64>(
     }
 }
 
-impl<F: Fn(u64, u64) -> u64> Run<F> {
+impl<'a, F: Fn(u64, u64) -> u64> Run<'a, F> {
     /// Power, with its lines. It answers whether it settled.
     fn power(&mut self) -> Result<bool, OutOfMemory>
         requires { Chooses (F.pre self.old.pick) (F.post self.old.pick) }

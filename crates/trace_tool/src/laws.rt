@@ -1,5 +1,6 @@
-//! What holds of each deck and stimulus and their trace.
+//! What holds of each deck and stimulus, of their trace and of their verdict.
 ghost use Rattle.trace_tool.specs.Laws.{AnswerIsOne, TraceIsOne, TraceIsThere};
+ghost use Rattle.trace_tool.specs.VerdictLaws.{VerdictIsOne, VerdictIsThere};
 
 /// Over the same cycles a circuit has at most one trace in each order.
 pub fn trace_is_one()
@@ -12,7 +13,20 @@ pub fn answer_is_one()
     ensures { AnswerIsOne }
 {}
 
-/// A deck whose ports are in the order of roles has a trace over each stimulus for its pins, for all options.
+/// A deck whose ports are in the order of roles has a trace over each stimulus for its pins, for all
+/// options whose probe words name nets of the deck.
 pub fn trace_is_there()
     ensures { TraceIsThere }
+{}
+
+/// In an order of events a text of BLIF, a deck and a stimulus have at most one verdict, or are refused
+/// for at most one cause, and never both.
+pub fn verdict_is_one()
+    ensures { VerdictIsOne }
+{}
+
+/// A text of BLIF that has a network, a deck whose ports are in the order of roles, and a stimulus for
+/// the network's inputs have a verdict in each order of events.
+pub fn verdict_is_there()
+    ensures { VerdictIsThere }
 {}

@@ -1,22 +1,30 @@
-//! The simulation of a deck over a stimulus, and its trace.
+//! The simulation of a deck over a stimulus: its trace, and its verdict beside a file of BLIF.
 #![tactic(auto)]
 
+mod asked;
+mod comparison;
+mod cosimulation;
 mod cycles;
 mod fault;
 mod halt;
 mod laws;
 mod lines;
 mod moves;
+mod names;
 mod options;
 mod ordered;
+mod port_names;
 mod ports;
 mod run;
 mod setup;
 mod simulation;
 mod trace;
+mod verdict;
 
+pub use cosimulation::cosim;
 pub use fault::TraceFault;
-pub use laws::{answer_is_one, trace_is_one, trace_is_there};
+pub use laws::{answer_is_one, trace_is_one, trace_is_there, verdict_is_one, verdict_is_there};
 pub use options::{Order, ProbeWord, TraceOptions};
 pub use simulation::sim;
 pub use trace::Trace;
+pub use verdict::Verdict;

@@ -7,12 +7,12 @@ use deck::Circuit;
 use dom_base::{OutOfMemory, append, append_number};
 use event_sim::Event;
 
-/// Appends the line of an event, where events are printed.
-pub fn append_event(text: &mut Vec<u8>, setup: &Setup, event: Event) -> Result<(), OutOfMemory>
+/// Appends the line of an event, where it is told.
+pub fn append_event(text: &mut Vec<u8>, setup: &Setup<'_>, event: Event) -> Result<(), OutOfMemory>
     requires { event.net < length setup.now.circuit.nets }
     ensures { OnOk result (text.new.items ≡ text.old.items ++ event_lines setup.now (event ∷ [])) }
 {
-    if setup.events {
+    if setup.is_told(event) {
         append_event_line(text, &setup.circuit, event)?;
     }
     Ok(())

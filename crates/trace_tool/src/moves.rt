@@ -16,7 +16,7 @@ const CLOSED: [bool; 2] = [false, true];
 /// The bits of clocks that have fallen.
 const FALLEN: [bool; 4] = [false, false, false, false];
 
-impl<F: Fn(u64, u64) -> u64> Run<F> {
+impl<'a, F: Fn(u64, u64) -> u64> Run<'a, F> {
     /// Power: settles, then the reset ends.
     pub fn power_up(&mut self) -> Result<u64, Halt>
         requires { Chooses (F.pre self.old.pick) (F.post self.old.pick) }

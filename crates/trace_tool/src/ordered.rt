@@ -1,82 +1,78 @@
-//! A run in the order that the options name.
-ghost use Rattle.std.specs.Prelude.{◌≡◌, ◌<◌, ◌≤◌, All, IfOk, length};
-ghost use Rattle.event_sim.specs.Orders.{By, first_place, last_place, seeded_place};
+//! A run in an order of events with a seed.
+ghost use Rattle.std.specs.Prelude.{◌≡◌, ◌<◌, ◌≤◌, All, IfOk, List, length};
+ghost use Rattle.event_sim.specs.Orders.{By};
 ghost use Rattle.deck.specs.Roles.{AreRoles, ports_of};
+ghost use Rattle.net_run.specs.Runs.{Cycle, IsNetworkRun};
 ghost use Rattle.trace_tool.specs.Traces.{IsRun, order_of};
+ghost use Rattle.trace_tool.specs.Verdicts.{IsRunVerdict};
 
+use crate::comparison::compared;
 use crate::cycles::traced;
 use crate::setup::Setup;
-use crate::{Order, Trace};
+use crate::{Order, Trace, Verdict};
 use dom_base::OutOfMemory;
 use event_sim::{Chooser, first, last, seeded};
+use net_flatten::Network;
 use std::alloc::Global;
 use stim_text::Pins;
 
 /// The trace over these cycles, in an order with a seed.
 pub fn traced_by(
     alloc: Global,
-    setup: Setup,
+    setup: Setup<'_>,
     cycles: &[Pins],
     order: Order,
     seed: u64,
 ) -> Result<Trace, OutOfMemory>
     requires roles { AreRoles (ports_of setup.circuit) setup.roles }
     requires widths { All (λ pins. length pins ≡ setup.roles.pins) cycles.now }
-    ensures { IfOk result (λ trace. IsRun (By (order_of order seed)) setup cycles.now trace) }
-{
-    match order {
-        Order::First => traced_by_first(alloc, setup, cycles),
-        Order::Last => traced_by_last(alloc, setup, cycles),
-        Order::Seed => traced_by_seed(alloc, setup, cycles, seed),
-    }
-}
-
-fn traced_by_first(alloc: Global, setup: Setup, cycles: &[Pins]) -> Result<Trace, OutOfMemory>
-    requires roles { AreRoles (ports_of setup.circuit) setup.roles }
-    requires widths { All (λ pins. length pins ≡ setup.roles.pins) cycles.now }
-    ensures { IfOk result (λ trace. IsRun (By first_place) setup cycles.now trace) }
-{
-    let chooser = Chooser::new(
-        |step: u64, count: u64| -> u64
-            requires { 1 ≤ count }
-            ensures place { result ≡ first_place step count }
-            ensures below { result < count }
-        { first(step, count) },
-    );
-    traced(alloc, setup, cycles, chooser)
-}
-
-fn traced_by_last(alloc: Global, setup: Setup, cycles: &[Pins]) -> Result<Trace, OutOfMemory>
-    requires roles { AreRoles (ports_of setup.circuit) setup.roles }
-    requires widths { All (λ pins. length pins ≡ setup.roles.pins) cycles.now }
-    ensures { IfOk result (λ trace. IsRun (By last_place) setup cycles.now trace) }
-{
-    let chooser = Chooser::new(
-        |step: u64, count: u64| -> u64
-            requires { 1 ≤ count }
-            ensures place { result ≡ last_place step count }
-            ensures below { result < count }
-        { last(step, count) },
-    );
-    traced(alloc, setup, cycles, chooser)
-}
-
-fn traced_by_seed(
-    alloc: Global,
-    setup: Setup,
-    cycles: &[Pins],
-    seed: u64,
-) -> Result<Trace, OutOfMemory>
-    requires roles { AreRoles (ports_of setup.circuit) setup.roles }
-    requires widths { All (λ pins. length pins ≡ setup.roles.pins) cycles.now }
-    ensures { IfOk result (λ trace. IsRun (By (seeded_place seed)) setup cycles.now trace) }
+    ensures { IfOk result (λ trace. IsRun (By (order_of order seed)) setup.entry cycles.now trace) }
 {
     let chooser = Chooser::new(
         move |step: u64, count: u64| -> u64
             requires { 1 ≤ count }
-            ensures place { result ≡ seeded_place seed step count }
+            ensures place { result ≡ order_of order seed step count }
             ensures below { result < count }
-        { seeded(seed, step, count) },
+        { place_in(order, seed, step, count) },
     );
     traced(alloc, setup, cycles, chooser)
+}
+
+/// The verdict of these cycles beside those of a network, in an order with a seed.
+pub fn compared_by(
+    alloc: Global,
+    setup: Setup<'_>,
+    network: &Network,
+    cycles: &[Pins],
+    order: Order,
+    seed: u64,
+) -> Result<Verdict, OutOfMemory>
+    requires roles { AreRoles (ports_of setup.circuit) setup.roles }
+    requires inputs { network.now.inputs ≡ setup.roles.pins }
+    requires outputs { length network.now.outputs ≡ setup.roles.outs }
+    requires widths { All (λ pins. length pins ≡ setup.roles.pins) cycles.now }
+    ensures { IfOk result (λ verdict. (wanted : List Cycle) → IsNetworkRun network.now cycles.now wanted
+        → IsRunVerdict (By (order_of order seed)) setup.entry cycles.now wanted verdict) }
+{
+    let chooser = Chooser::new(
+        move |step: u64, count: u64| -> u64
+            requires { 1 ≤ count }
+            ensures place { result ≡ order_of order seed step count }
+            ensures below { result < count }
+        { place_in(order, seed, step, count) },
+    );
+    compared(alloc, setup, network, cycles, chooser)
+}
+
+/// The place that an order picks among so many pending nets at a step.
+fn place_in(order: Order, seed: u64, step: u64, count: u64) -> u64
+    requires { 1 ≤ count }
+    ensures place { result ≡ order_of order seed step count }
+    ensures below { result < count }
+{
+    match order {
+        Order::First => first(step, count),
+        Order::Last => last(step, count),
+        Order::Seed => seeded(seed, step, count),
+    }
 }

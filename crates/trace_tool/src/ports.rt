@@ -21,7 +21,7 @@ pub fn set_ports<F: Fn(u64, u64) -> u64>(sim: &mut Sim<F>, port: u32, bits: &[bo
 }
 
 /// The value of a bit.
-fn value_of(on: bool) -> Tri
+pub fn value_of(on: bool) -> Tri
     ensures { result ≡ bit on }
 {
     if on { Tri::One } else { Tri::Zero }

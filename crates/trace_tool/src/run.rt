@@ -1,11 +1,11 @@
 //! A run: a simulation of a setup's circuit, and the text of its trace so far.
-ghost use Rattle.std.specs.Prelude.{◌≡◌, ◌+◌, ◌<◌, ◌≤◌, ◌↔◌, ◌^◌, IfOk, IsTrue, OnOk, [], ◌∷◌, length, true, false};
+ghost use Rattle.std.specs.Prelude.{◌≡◌, ◌+◌, ◌<◌, ◌≤◌, ◌↔◌, ◌^◌, IfOk, IsTrue, OnOk, Some, [], ◌∷◌, drop, length, slice_get, true, false};
 ghost use Rattle.deck.specs.Roles.{AreRoles, ports_of};
 ghost use Rattle.event_sim.specs.Choices.{Chooses};
 ghost use Rattle.event_sim.specs.Pending.{IsResting};
 ghost use Rattle.event_sim.specs.Settling.{most_events as most_of};
 ghost use Rattle.stim_text.specs.CycleLines.{cycle_line};
-ghost use Rattle.deck.specs.PortLayout.{source_count};
+ghost use Rattle.deck.specs.PortLayout.{first_output, source_count};
 ghost use Rattle.switch_model.specs.LinksData.{links_of};
 ghost use Rattle.trace_tool.specs.Moves.{set_bits};
 ghost use Rattle.trace_tool.specs.RunData.{Runs, Settles, Steps, IsHalted, power_run, with_line, with_moved};
@@ -15,10 +15,11 @@ ghost use Rattle.trace_tool.specs.Traces.{outputs as outputs_of};
 use crate::Trace;
 use crate::halt::Halt;
 use crate::lines::{append_event, append_power, append_unsettled};
+use crate::names::copied;
 use crate::ports::{read_ports, set_ports};
 use crate::setup::Setup;
 use deck::Roles;
-use dom_base::{OutOfMemory, Tri};
+use dom_base::{NetName, OutOfMemory, Tri};
 use event_sim::{Chooser, Sim};
 use std::alloc::Global;
 use std::marker::Model;
@@ -26,13 +27,13 @@ use stim_text::{CycleRow, write_cycle};
 
 /// A simulation of the setup's circuit, and the text of its trace so far.
 #[derive(Drop)]
-pub struct Run<F: Fn(u64, u64) -> u64> {
-    setup: Setup,
+pub struct Run<'a, F: Fn(u64, u64) -> u64> {
+    setup: Setup<'a>,
     sim: Sim<F>,
     text: Vec<u8>,
 }
 
-impl<F: Fn(u64, u64) -> u64> Model for Run<F> {
+impl<'a, F: Fn(u64, u64) -> u64> Model for Run<'a, F> {
     ghost use Rattle.trace_tool.specs.RunData.{IsRunning, RunData};
 
     ghost Value = { RunData F };
@@ -47,11 +48,15 @@ impl<F: Fn(u64, u64) -> u64> Model for Run<F> {
     ghost invariant = { λ r. IsRunning r.setup r.sim };
 }
 
-impl<F: Fn(u64, u64) -> u64> Run<F> {
+impl<'a, F: Fn(u64, u64) -> u64> Run<'a, F> {
     /// The power state, with an empty text.
-    pub fn new(alloc: Global, setup: Setup, chooser: Chooser<F>) -> Result<Run<F>, OutOfMemory>
+    pub fn new(
+        alloc: Global,
+        setup: Setup<'a>,
+        chooser: Chooser<F>,
+    ) -> Result<Run<'a, F>, OutOfMemory>
         requires { AreRoles (ports_of setup.circuit) setup.roles }
-        ensures power { IfOk result (λ run. run ≡ power_run chooser.pick setup) }
+        ensures power { IfOk result (λ run. run ≡ power_run chooser.pick setup.entry) }
         ensures few { IfOk result (λ run. length run.state.values ≤ 2 ^ 26) }
     {
         let sim = Sim::with_roles(alloc, &setup.circuit, setup.roles, chooser)?;
@@ -67,7 +72,7 @@ impl<F: Fn(u64, u64) -> u64> Run<F> {
         ensures roles { result ≡ self.now.setup.roles }
         ensures few { result.clocks ≤ 4 }
     {
-        self.setup.roles
+        self.setup.roles()
     }
 
     /// Gives the ports from one on the values of these bits, one each, with no event between them.
@@ -79,7 +84,7 @@ impl<F: Fn(u64, u64) -> u64> Run<F> {
         set_ports(&mut self.sim, port, bits);
     }
 
-    /// One event, with its line where events are printed; `false` comes at rest.
+    /// One event, with its line where it is told; `false` comes at rest.
     fn step(&mut self) -> Result<bool, OutOfMemory>
         requires { Chooses (F.pre self.old.pick) (F.post self.old.pick) }
         ensures { IfOk result (λ some. Steps F.post self.old some self.new) }
@@ -113,11 +118,46 @@ impl<F: Fn(u64, u64) -> u64> Run<F> {
     pub fn outputs(&self, alloc: Global) -> Result<Vec<Tri>, OutOfMemory>
         ensures { IfOk result (λ values. values.items ≡ outputs_of self.now.setup.roles self.now.state.values) }
     {
-        let roles = self.setup.roles;
+        let roles = self.setup.roles();
         read_ports(alloc, &self.sim, roles.first_output(), roles.outs)
     }
 
-    /// Settles, with the lines of the events where they are printed. It answers their number.
+    /// The number of the outputs.
+    pub fn output_count(&self) -> usize
+        ensures count { result ≡ self.now.setup.roles.outs }
+        ensures values { length (outputs_of self.now.setup.roles self.now.state.values) ≡ self.now.setup.roles.outs }
+    {
+        self.setup.roles().outs as usize
+    }
+
+    /// The value of the output of this index.
+    pub fn output(&self, index: usize) -> Tri
+        requires { index < self.now.setup.roles.outs }
+        ensures { slice_get (outputs_of self.now.setup.roles self.now.state.values) index ≡ Some result }
+    {
+        let roles = self.setup.roles();
+        self.sim.value(roles.first_output() + index as u32)
+    }
+
+    /// The name of the net of the output of this index.
+    pub fn output_name(&self, index: usize) -> Result<NetName, OutOfMemory>
+        requires { index < self.now.setup.roles.outs }
+        ensures { IfOk result (λ name.
+            slice_get (drop (first_output self.now.setup.roles) (ports_of self.now.setup.circuit)) index ≡ Some name) }
+    {
+        let roles = self.setup.roles();
+        let net = roles.first_output() as usize + index;
+        copied(self.setup.net_name(net))
+    }
+
+    /// The number of events so far, modulo 2^64.
+    pub fn steps(&self) -> u64
+        ensures { result ≡ self.now.state.step }
+    {
+        self.sim.steps()
+    }
+
+    /// Settles, with the lines of the events that are told. It answers their number.
     pub fn settle(&mut self) -> Result<u64, Halt>
         requires { Chooses (F.pre self.old.pick) (F.post self.old.pick) }
         ensures { Settles F.post self.old result self.new }
@@ -180,7 +220,7 @@ impl<F: Fn(u64, u64) -> u64> Run<F> {
 
     /// The trace.
     pub fn trace(self, settled: bool) -> Trace
-        ensures { result ≡ record { text = self.text; settled = settled } }
+        ensures { result ≡ record { text = self.entry.text; settled = settled } }
     {
         Trace {
             text: self.text,

@@ -3,7 +3,7 @@ use Rattle.deck.specs.PortLayout.{first_clock, first_pin}
 use Rattle.deck.specs.declared.role.Roles.{Roles}
 use Rattle.trace_tool.specs.Moves.{evaluation_moves, set_bits}
 use Rattle.trace_tool.specs.RunData.{rises}
-use Rattle.trace_tool.specs.declared.setup.Setup.{Setup}
+use Rattle.trace_tool.specs.SetupData.{SetupData}
 use Rattle.trace_tool.proofs.MoveLists.{evaluation_are}
 use Rattle.trace_tool.proofs.MoveRuns.{halts-after, halts-before, runs-all}
 use Rattle.trace_tool.proofs.PortValues.{length-rises}
@@ -22,7 +22,7 @@ returns-in_err-raised-clause-runs g c =
     let set = set_bits c.first_pin.result c.args.pins.now ∷ [] in
     halts-after (λ pick step count place. g.F.Fn.post pick (step, (count, tt)) place) c.args.self.now c.drive.new.self c.raise_clocks.new.self
     set (rises first_clock c.drive.new.self.setup.roles.clocks) (evaluation_moves roles c.args.pins.now) c.in_ok-set.set c.in_err-raised.field-0.0 c.from_residual-in_err-raised.result
-    (ap (λ (x : Setup). set ++ rises first_clock x.roles.clocks) c.in_ok-set.ensures.1.same_setup
+    (ap (λ (x : SetupData). set ++ rises first_clock x.roles.clocks) c.in_ok-set.ensures.1.same_setup
     ∙ evaluation_are roles c.first_pin.result c.args.pins.now (c.first_pin.ensures ∙ ap (λ (r : Roles). first_pin r) c.roles.ensures.roles))
     c.from_residual-in_err-raised.ensures.1 c.in_ok-set.ensures c.in_err-raised.ensures
 
@@ -34,7 +34,7 @@ overflow_add-result g c =
       c.in_ok-raised.ensures.3,
       length-rises first_clock c.drive.new.self.setup.roles.clocks,
       ap (λ (r : Roles). r.clocks) c.roles.ensures.roles,
-      ap (λ (x : Setup). x.roles.clocks) c.in_ok-set.ensures.1.same_setup,
+      ap (λ (x : SetupData). x.roles.clocks) c.in_ok-set.ensures.1.same_setup,
       c.roles.ensures.few,
     )
 
@@ -46,7 +46,7 @@ returns-clause-few g c =
       c.in_ok-raised.ensures.3,
       length-rises first_clock c.drive.new.self.setup.roles.clocks,
       ap (λ (r : Roles). r.clocks) c.roles.ensures.roles,
-      ap (λ (x : Setup). x.roles.clocks) c.in_ok-set.ensures.1.same_setup,
+      ap (λ (x : SetupData). x.roles.clocks) c.in_ok-set.ensures.1.same_setup,
       c.roles.ensures.few,
     )
 
@@ -56,6 +56,6 @@ returns-clause-runs g c =
     let set = set_bits c.first_pin.result c.args.pins.now ∷ [] in
     runs-all (λ pick step count place. g.F.Fn.post pick (step, (count, tt)) place) c.args.self.now c.drive.new.self c.raise_clocks.new.self
     set (rises first_clock c.drive.new.self.setup.roles.clocks) (evaluation_moves roles c.args.pins.now) c.in_ok-set.set c.in_ok-raised.raised
-    (ap (λ (x : Setup). set ++ rises first_clock x.roles.clocks) c.in_ok-set.ensures.1.same_setup
+    (ap (λ (x : SetupData). set ++ rises first_clock x.roles.clocks) c.in_ok-set.ensures.1.same_setup
     ∙ evaluation_are roles c.first_pin.result c.args.pins.now (c.first_pin.ensures ∙ ap (λ (r : Roles). first_pin r) c.roles.ensures.roles))
     c.in_ok-set.ensures c.in_ok-raised.ensures

@@ -1,0 +1,59 @@
+//! From a file of BLIF, a deck and a stimulus to a verdict.
+ghost use Rattle.std.specs.Prelude.{IfOk, IsErrOf};
+ghost use Rattle.trace_tool.specs.CosimRefusals.{HasNetworkOf, IsCosimRefused, IsUnflattened};
+ghost use Rattle.trace_tool.specs.Verdicts.{IsVerdictOf};
+ghost use Rattle.trace_tool.specs.declared.fault.TraceFault.{TraceFault as Fault};
+
+use crate::ordered::compared_by;
+use crate::port_names::different_port;
+use crate::setup::Setup;
+use crate::{Order, TraceFault, Verdict};
+use deck::roles;
+use net_flatten::{Network, flatten};
+use std::alloc::Global;
+use stim_text::read_stim;
+
+/// The verdict of a deck beside the network of a text of BLIF over a stimulus for the network's inputs,
+/// in an order of events with a seed: whether the ports from the first pin on are the network's inputs
+/// and then outputs, whether each settling ends at rest, and whether the outputs of each cycle are the
+/// network's; the first of these that isn't so is told. The text is read first and flattened, then the
+/// deck is read, then its ports are looked at, then the stimulus is read; the first fault in this order
+/// is reported.
+pub fn cosim(
+    alloc: Global,
+    blif: &[u8],
+    deck: &[u8],
+    stim: &[u8],
+    order: Order,
+    seed: u64,
+) -> Result<Verdict, TraceFault>
+    ensures verdict { IfOk result (λ verdict. IsVerdictOf blif.now deck.now stim.now order seed verdict) }
+    ensures refused { (why : Fault) → IsErrOf result why → IsCosimRefused blif.now deck.now stim.now why }
+{
+    let network = network_of(alloc, blif)?;
+    let circuit = spice_read::read(alloc, deck)?;
+    let roles = roles(&circuit)?;
+    let cycles = read_stim(alloc, stim, network.inputs)?;
+    if let Some(place) = different_port(alloc, &network, &circuit, roles)? {
+        return Ok(Verdict::PortsDiffer { place });
+    }
+    let setup = Setup {
+        circuit,
+        roles,
+        events: false,
+        probes: &[],
+        asked: Vec::new(alloc),
+    };
+    let verdict = compared_by(alloc, setup, &network, &cycles, order, seed)?;
+    Ok(verdict)
+}
+
+/// The network of a text of BLIF.
+fn network_of(alloc: Global, blif: &[u8]) -> Result<Network, TraceFault>
+    ensures network { IfOk result (HasNetworkOf blif.now) }
+    ensures refused { (why : Fault) → IsErrOf result why → IsUnflattened blif.now why }
+{
+    let file = blif_read::read(alloc, blif)?;
+    let network = flatten(alloc, &file)?;
+    Ok(network)
+}
