@@ -1,0 +1,4 @@
+pub mod PortCycles
+pub mod PortWalks
+pub mod RightVerdicts
+pub mod SameVerdicts

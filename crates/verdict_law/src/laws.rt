@@ -1,0 +1,15 @@
+//! Laws of the verdicts of decks beside the networks of texts of BLIF.
+ghost use Rattle.verdict_law.specs.Laws.{RealisedIsSame, RightDeckIsAccepted, RightDeckIsSame};
+
+/// A circuit that has a network's ports, whose legal runs read the network's outputs and have few enough events between two
+/// moves, has the verdict that all is the same in each cycle, over each stream and in each order of events.
+pub fn realised_is_same()
+    ensures { RealisedIsSame }
+{}
+
+/// A right deck of a text has that verdict over each stimulus for the inputs of the text's network, and neither the text
+/// nor the deck nor the stimulus is refused.
+pub fn right_deck_is_same()
+    ensures same { RightDeckIsSame }
+    ensures accepted { RightDeckIsAccepted }
+{}
