@@ -1,116 +1,132 @@
--- Words ask for one command.
-use Rattle.std.proofs.Common.{◌≡◌, ◌≢◌, ◌+◌, ℕ, List, [], ◌∷◌, get_or, refl, sym, ap, subst, arith}
-use Rattle.std.specs.Prelude.{codes}
-use Rattle.trace_tool.specs.TraceData.{TraceOptionsData}
+-- Words ask for one command, and its options of synthesis are within the ranges of their values.
+use Rattle.std.proofs.Common.{◌≡◌, ℕ, ◌≤◌, Bool, true, false, List, [], ◌∷◌, Option, Some, None, refl, sym, ap, ◌∙◌, subst, arith, rules}
+use Rattle.std.specs.Prelude.{IfSome, codes, if◌then◌else◌}
+use Rattle.std.specs.List.{list_all}
+use Rattle.std.specs.Option.{option_map}
+use Rattle.std.specs.Cmp.Lexicographic.{bytes_decides}
 use Rattle.synth_flow.specs.declared.options.SynthOptions.{SynthOptions}
-use Rattle.command_words.specs.Commands.{Command, Synth, Flat, Run, Sim, Asks, AsksSim, AsksSynth, HasGoodOptions}
-use Rattle.command_words.specs.OptionWords.{AreOptions}
-use Rattle.command_words.specs.SynthOptionWords.{AreSynthOptions}
-use Rattle.command_words.proofs.SimOptions.{options_apart}
-use Rattle.command_words.proofs.SynthOptions.{bounds_apart, good_options}
-use Rattle.command_words.proofs.WordLists.{first_same, rest_same}
-use Rattle.command_words.proofs.WrittenOptions.{answers_one}
+use Rattle.trace_tool.specs.TraceData.{TraceOptionsData}
+use Rattle.trace_tool.specs.declared.options.Order.{Order}
+use Rattle.command_words.specs.Commands.{Asks, Command, Cosim, Flat, HasGoodOptions, Run, Sim, Synth, command_for, command_named, cosim_in, flat_in, run_in, sim_in, synth_in, taken}
+use Rattle.command_words.specs.Given.{given, of_one, of_three, of_two, with_three, with_two}
+use Rattle.command_words.specs.NumberWords.{number_from}
+use Rattle.command_words.specs.SynthOptionWords.{AreGoodOptions, height_of, phases_of, synth_option_names, synth_options, synth_options_with, width_of}
+use Rattle.command_words.specs.TraceOptionWords.{order_of, order_option_names, seed_of, trace_flag_names, trace_option_names, trace_options}
+use Rattle.command_words.specs.Written.{Written, is_same, plain_words, takes, values_of, written}
+use Rattle.command_words.proofs.NumberWords.{number_range}
+use Rattle.dom_base.proofs.Bools.{not_true}
+use Rattle.dom_base.proofs.Options.{some≢none}
 
--- the name of a command
-abbrev name_of : Command → List ℕ
-name_of (Synth file options) = codes "synth"
-name_of (Flat file) = codes "flat"
-name_of (Run file stim) = codes "run"
-name_of (Sim deck stim options) = codes "sim"
-
--- the names of two commands differ by the sum of their first two letters
-abbrev mark : List ℕ → ℕ
-mark name = get_or name 0 0 + get_or name 1 0
-
-apart_marks : (a b : List ℕ) → a ≡ b → mark a ≢ mark b → ⊥
-apart_marks a b e apart = apart (ap mark e)
-
--- words that ask for a command begin with its name
-begun : (words : List (List ℕ)) (c : Command) → Asks words c → (rest : List (List ℕ)) × (words ≡ name_of c ∷ rest)
-begun words (Synth file options) h = (file ∷ h.more, h.words_are)
-begun words (Flat file) h = (file ∷ [], h.words_are)
-begun words (Run file stim) h = (file ∷ stim ∷ [], h.words_are)
-begun words (Sim deck stim options) h = (deck ∷ stim ∷ h.more, h.words_are)
-
-same_name : (words : List (List ℕ)) (a b : Command) → Asks words a → Asks words b → name_of a ≡ name_of b
-same_name words a b h k = let x = begun words a h in let y = begun words b k in first_same words (name_of a) (name_of b) x.0 y.0 x.1 y.1
-
-apart_names : (words : List (List ℕ)) (a b : Command) → Asks words a → Asks words b → mark (name_of a) ≢ mark (name_of b) → ⊥
-apart_names words a b h k apart = apart_marks (name_of a) (name_of b) (same_name words a b h k) apart
-
-synth_one : (words : List (List ℕ)) (f g : List ℕ) (o p : SynthOptions) → AsksSynth words f o → AsksSynth words g p → Synth f o ≡ Synth g p
-synth_one words f g o p h k =
-    let behind = rest_same words (codes "synth") (codes "synth") (f ∷ h.more) (g ∷ k.more) h.words_are k.words_are in
-    let file = first_same (f ∷ h.more) f g h.more k.more refl behind in
-    let more = rest_same (f ∷ h.more) f g h.more k.more refl behind in
-    let options = answers_one k.more o p bounds_apart (subst (λ w. AreSynthOptions w o) more h.are_options) k.are_options in
-    λ i. Synth (file i) (options i)
-
-sim_one : (words : List (List ℕ)) (d s e t : List ℕ) (o p : TraceOptionsData) → AsksSim words d s o → AsksSim words e t p → Sim d s o ≡ Sim e t p
-sim_one words d s e t o p h k =
-    let behind = rest_same words (codes "sim") (codes "sim") (d ∷ s ∷ h.more) (e ∷ t ∷ k.more) h.words_are k.words_are in
-    let deck = first_same (d ∷ s ∷ h.more) d e (s ∷ h.more) (t ∷ k.more) refl behind in
-    let files = rest_same (d ∷ s ∷ h.more) d e (s ∷ h.more) (t ∷ k.more) refl behind in
-    let stim = first_same (s ∷ h.more) s t h.more k.more refl files in
-    let more = rest_same (s ∷ h.more) s t h.more k.more refl files in
-    let options = answers_one k.more o p options_apart (subst (λ w. AreOptions w o) more h.are_options) k.are_options in
-    λ i. Sim (deck i) (stim i) (options i)
+some_same : {X : Type 0} (x y : X) → Some x ≡ Some y → x ≡ y
+some_same x y e = cc
 
 -- words ask for one command
 pub asks_one : (words : List (List ℕ)) (a b : Command) → Asks words a → Asks words b → a ≡ b
-asks_one words (Synth f o) (Synth g p) h k = synth_one words f g o p h k
-asks_one words (Flat f) (Flat g) h k =
-    let behind = rest_same words (codes "flat") (codes "flat") (f ∷ []) (g ∷ []) h.words_are k.words_are in
-    ap Flat (first_same (f ∷ []) f g [] [] refl behind)
-asks_one words (Run f s) (Run g t) h k =
-    let behind = rest_same words (codes "run") (codes "run") (f ∷ s ∷ []) (g ∷ t ∷ []) h.words_are k.words_are in
-    let file = first_same (f ∷ s ∷ []) f g (s ∷ []) (t ∷ []) refl behind in
-    let stim = first_same (s ∷ []) s t [] [] refl (rest_same (f ∷ s ∷ []) f g (s ∷ []) (t ∷ []) refl behind) in
-    λ i. Run (file i) (stim i)
-asks_one words (Sim d s o) (Sim e t p) h k = sim_one words d s e t o p h k
-asks_one words (Synth f n) (Flat g) h k = absurd (apart_names words (Synth f n) (Flat g) h k (omega arith))
-asks_one words (Synth f n) (Run g t) h k = absurd (apart_names words (Synth f n) (Run g t) h k (omega arith))
-asks_one words (Synth f n) (Sim e t p) h k = absurd (apart_names words (Synth f n) (Sim e t p) h k (omega arith))
-asks_one words (Flat f) (Synth g n) h k = absurd (apart_names words (Flat f) (Synth g n) h k (omega arith))
-asks_one words (Flat f) (Run g t) h k = absurd (apart_names words (Flat f) (Run g t) h k (omega arith))
-asks_one words (Flat f) (Sim e t p) h k = absurd (apart_names words (Flat f) (Sim e t p) h k (omega arith))
-asks_one words (Run f s) (Synth g n) h k = absurd (apart_names words (Run f s) (Synth g n) h k (omega arith))
-asks_one words (Run f s) (Flat g) h k = absurd (apart_names words (Run f s) (Flat g) h k (omega arith))
-asks_one words (Run f s) (Sim e t p) h k = absurd (apart_names words (Run f s) (Sim e t p) h k (omega arith))
-asks_one words (Sim d s o) (Synth g n) h k = absurd (apart_names words (Sim d s o) (Synth g n) h k (omega arith))
-asks_one words (Sim d s o) (Flat g) h k = absurd (apart_names words (Sim d s o) (Flat g) h k (omega arith))
-asks_one words (Sim d s o) (Run g t) h k = absurd (apart_names words (Sim d s o) (Run g t) h k (omega arith))
+asks_one words a b h k = some_same a b (sym h ∙ k)
 
--- words that begin with the name of a command ask for none of another name
-pub other_name : (words rest : List (List ℕ)) (name : List ℕ) (command : Command) → words ≡ name ∷ rest → Asks words command → name ≡ name_of command
-other_name words rest name command are asks = let x = begun words command asks in first_same words name (name_of command) rest x.0 are x.1
+-- a number that an option gives is within its range, where its default is
+given_range : (low high default : ℕ) → low ≤ default → default ≤ high → (values : List (List ℕ))
+    → IfSome (given (number_from low high) default values) (λ n. (low ≤ n) × (n ≤ high))
+given_range low high default least most [] = (least, most)
+given_range low high default least most (value ∷ []) = number_range low high value
+given_range low high default least most (value ∷ another ∷ values) = tt
 
--- words whose options are none ask for no simulation
-pub no_simulation : (words rest : List (List ℕ)) (deck stim : List ℕ) → words ≡ deck ∷ stim ∷ rest → ((options : TraceOptionsData) → AreOptions rest options → ⊥)
-    → (command : Command) → Asks (codes "sim" ∷ words) command → ⊥
-no_simulation words rest deck stim are none (Synth file o) h = apart_marks (codes "sim") (codes "synth") (other_name (codes "sim" ∷ words) words (codes "sim") (Synth file o) refl h) (omega arith)
-no_simulation words rest deck stim are none (Flat file) h = apart_marks (codes "sim") (codes "flat") (other_name (codes "sim" ∷ words) words (codes "sim") (Flat file) refl h) (omega arith)
-no_simulation words rest deck stim are none (Run file s) h = apart_marks (codes "sim") (codes "run") (other_name (codes "sim" ∷ words) words (codes "sim") (Run file s) refl h) (omega arith)
-no_simulation words rest deck stim are none (Sim d s options) h =
-    let behind = rest_same (codes "sim" ∷ words) (codes "sim") (codes "sim") words (d ∷ s ∷ h.more) refl h.words_are in
-    let files = rest_same words deck d (stim ∷ rest) (s ∷ h.more) are behind in
-    let more = rest_same (stim ∷ rest) stim s rest h.more refl files in
-    none options (subst (λ w. AreOptions w options) (sym more) h.are_options)
+all_good : (w h p : Option ℕ) → IfSome w (λ n. (2 ≤ n) × (n ≤ 8)) → IfSome h (λ n. (2 ≤ n) × (n ≤ 6)) → IfSome p (λ n. (1 ≤ n) × (n ≤ 4))
+    → IfSome (with_three synth_options_with w h p) AreGoodOptions
+all_good None h p a b c = tt
+all_good (Some w) None p a b c = tt
+all_good (Some w) (Some h) None a b c = tt
+all_good (Some w) (Some h) (Some p) a b c = record { some_width = a.0; few_wide = a.1; some_height = b.0; few_high = b.1; some_phase = c.0; few_phases = c.1 }
 
--- words whose options are none ask for no deck of a file
-pub no_synthesis : (words rest : List (List ℕ)) (file : List ℕ) → words ≡ file ∷ rest → ((options : SynthOptions) → AreSynthOptions rest options → ⊥)
-    → (command : Command) → Asks (codes "synth" ∷ words) command → ⊥
-no_synthesis words rest file are none (Synth f options) h =
-    let behind = rest_same (codes "synth" ∷ words) (codes "synth") (codes "synth") words (f ∷ h.more) refl h.words_are in
-    let more = rest_same words file f rest h.more are behind in
-    none options (subst (λ w. AreSynthOptions w options) (sym more) h.are_options)
-no_synthesis words rest file are none (Flat f) h = apart_marks (codes "synth") (codes "flat") (other_name (codes "synth" ∷ words) words (codes "synth") (Flat f) refl h) (omega arith)
-no_synthesis words rest file are none (Run f s) h = apart_marks (codes "synth") (codes "run") (other_name (codes "synth" ∷ words) words (codes "synth") (Run f s) refl h) (omega arith)
-no_synthesis words rest file are none (Sim d s o) h = apart_marks (codes "synth") (codes "sim") (other_name (codes "synth" ∷ words) words (codes "synth") (Sim d s o) refl h) (omega arith)
+good_options : (words : List Written) → IfSome (synth_options words) AreGoodOptions
+good_options words = all_good (width_of words) (height_of words) (phases_of words)
+    (given_range 2 8 4 (omega arith) (omega arith) (values_of (codes "--width") words))
+    (given_range 2 6 4 (omega arith) (omega arith) (values_of (codes "--height") words))
+    (given_range 1 4 1 (omega arith) (omega arith) (values_of (codes "--phases") words))
+
+either_good : (t : Bool) (a b : Option Command) → IfSome a HasGoodOptions → IfSome b HasGoodOptions → IfSome (if t then a else b) HasGoodOptions
+either_good true a b h k = h
+either_good false a b h k = k
+
+one_good : (f : List ℕ → Option Command) → ((a : List ℕ) → IfSome (f a) HasGoodOptions) → (all : List (List ℕ)) → IfSome (of_one f all) HasGoodOptions
+one_good f good [] = tt
+one_good f good (a ∷ []) = good a
+one_good f good (a ∷ b ∷ all) = tt
+
+two_good : (f : List ℕ → List ℕ → Option Command) → ((a b : List ℕ) → IfSome (f a b) HasGoodOptions) → (all : List (List ℕ)) → IfSome (of_two f all) HasGoodOptions
+two_good f good [] = tt
+two_good f good (a ∷ all) = one_good (f a) (good a) all
+
+three_good : (f : List ℕ → List ℕ → List ℕ → Option Command) → ((a b c : List ℕ) → IfSome (f a b c) HasGoodOptions) → (all : List (List ℕ))
+    → IfSome (of_three f all) HasGoodOptions
+three_good f good [] = tt
+three_good f good (a ∷ all) = two_good (f a) (good a) all
+
+synth_good : (file : List ℕ) (o : Option SynthOptions) → IfSome o AreGoodOptions → IfSome (option_map (Synth file) o) HasGoodOptions
+synth_good file None h = tt
+synth_good file (Some options) h = h
+
+sim_good : (deck stim : List ℕ) (o : Option TraceOptionsData) → IfSome (option_map (Sim deck stim) o) HasGoodOptions
+sim_good deck stim None = tt
+sim_good deck stim (Some options) = tt
+
+cosim_good : (file deck stim : List ℕ) (o : Option Order) (p : Option ℕ) → IfSome (with_two (Cosim file deck stim) o p) HasGoodOptions
+cosim_good file deck stim None p = tt
+cosim_good file deck stim (Some o) None = tt
+cosim_good file deck stim (Some o) (Some p) = tt
+
+taken_good : (valued flags : List (List ℕ)) (words : List Written) (command : Option Command) → IfSome command HasGoodOptions
+    → IfSome (taken valued flags words command) HasGoodOptions
+taken_good valued flags words command h = either_good (list_all (takes valued flags) words) command None h tt
+
+synth_in_good : (words : List Written) → IfSome (synth_in words) HasGoodOptions
+synth_in_good words = taken_good synth_option_names [] words (of_one (λ file. option_map (Synth file) (synth_options words)) (plain_words words))
+    (one_good (λ file. option_map (Synth file) (synth_options words)) (λ file. synth_good file (synth_options words) (good_options words)) (plain_words words))
+
+flat_in_good : (words : List Written) → IfSome (flat_in words) HasGoodOptions
+flat_in_good words = taken_good [] [] words (of_one (λ file. Some (Flat file)) (plain_words words))
+    (one_good (λ file. Some (Flat file)) (λ file. tt) (plain_words words))
+
+run_in_good : (words : List Written) → IfSome (run_in words) HasGoodOptions
+run_in_good words = taken_good [] [] words (of_two (λ file stim. Some (Run file stim)) (plain_words words))
+    (two_good (λ file stim. Some (Run file stim)) (λ file stim. tt) (plain_words words))
+
+sim_in_good : (words : List Written) → IfSome (sim_in words) HasGoodOptions
+sim_in_good words = taken_good trace_option_names trace_flag_names words (of_two (λ deck stim. option_map (Sim deck stim) (trace_options words)) (plain_words words))
+    (two_good (λ deck stim. option_map (Sim deck stim) (trace_options words)) (λ deck stim. sim_good deck stim (trace_options words)) (plain_words words))
+
+cosim_in_good : (words : List Written) → IfSome (cosim_in words) HasGoodOptions
+cosim_in_good words =
+    taken_good order_option_names [] words (of_three (λ file deck stim. with_two (Cosim file deck stim) (order_of words) (seed_of words)) (plain_words words))
+    (three_good (λ file deck stim. with_two (Cosim file deck stim) (order_of words) (seed_of words))
+    (λ file deck stim. cosim_good file deck stim (order_of words) (seed_of words)) (plain_words words))
+
+named_good : (name : List ℕ) (words : List Written) → IfSome (command_named name words) HasGoodOptions
+named_good name words =
+    let cosim : IfSome (if is_same name (codes "cosim") then cosim_in words else None) HasGoodOptions =
+    either_good (is_same name (codes "cosim")) (cosim_in words) None (cosim_in_good words) tt in
+    let sim = either_good (is_same name (codes "sim")) (sim_in words) (if is_same name (codes "cosim") then cosim_in words else None) (sim_in_good words) cosim in
+    let run = either_good (is_same name (codes "run")) (run_in words) _ (run_in_good words) sim in
+    let flat = either_good (is_same name (codes "flat")) (flat_in words) _ (flat_in_good words) run in
+    either_good (is_same name (codes "synth")) (synth_in words) _ (synth_in_good words) flat
+
+for_good : (words : List (List ℕ)) → IfSome (command_for words) HasGoodOptions
+for_good [] = tt
+for_good (name ∷ words) = named_good name (written words)
 
 -- options of synthesis that words ask for are within the ranges of their values
 pub asks_in_range : (words : List (List ℕ)) (command : Command) → Asks words command → HasGoodOptions command
-asks_in_range words (Synth file options) h = good_options h.more options h.are_options
-asks_in_range words (Flat file) h = tt
-asks_in_range words (Run file stim) h = tt
-asks_in_range words (Sim deck stim options) h = tt
+asks_in_range words command asks = subst (λ o. IfSome o HasGoodOptions) asks (for_good words)
+
+not_same : (name other : List ℕ) → (name ≡ other → ⊥) → is_same name other ≡ false
+not_same name other apart = not_true (is_same name other) (λ e. apart ((bytes_decides name other).0 e))
+
+-- words that begin with another name ask for no command
+pub unknown : (words : List (List ℕ)) (name : List ℕ) (rest : List (List ℕ)) → words ≡ name ∷ rest
+    → (name ≡ codes "synth" → ⊥) → (name ≡ codes "flat" → ⊥) → (name ≡ codes "run" → ⊥) → (name ≡ codes "sim" → ⊥) → (name ≡ codes "cosim" → ⊥)
+    → (command : Command) → Asks words command → ⊥
+unknown words name rest are synth flat run sim cosim command asks =
+    let no_command : command_named name (written rest) ≡ None =
+    rw (not_same name (codes "synth") synth) (rw (not_same name (codes "flat") flat) (rw (not_same name (codes "run") run)
+    (rw (not_same name (codes "sim") sim) (rw (not_same name (codes "cosim") cosim) refl)))) in
+    some≢none command (sym asks ∙ ap command_for are ∙ no_command)

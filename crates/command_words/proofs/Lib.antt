@@ -1,7 +1,6 @@
 pub mod AskedOnce
+pub mod Given
+pub mod Lists
 pub mod NumberWords
-pub mod ReadOptions
-pub mod SimOptions
-pub mod SynthOptions
-pub mod WordLists
-pub mod WrittenOptions
+pub mod ProbeWords
+pub mod Written

@@ -1,68 +1,100 @@
 -- The words that write a number.
-use Rattle.std.proofs.Common.{◌≡◌, ◌≢◌, ◌⊎◌, inl, inr, ℕ, ◌<◌, ◌^◌, Ok, Err, Result, Bool, true, false, List, [], ◌∷◌, drop, length, get_or, eqb-true, refl, sym, ap, ◌∙◌, subst, cond, eqb, arith, rules}
-use Rattle.std.specs.Prelude.{All, MatchOption}
-use Rattle.std.specs.List.{AllByRecursion}
-use Rattle.std.specs.Result.{result_ok}
+use Rattle.std.proofs.Common.{◌≡◌, ◌⊎◌, inl, inr, ℕ, ◌<◌, ◌≤◌, ◌^◌, Ok, Err, Result, Option, Some, None, Bool, true, false, List, [], ◌∷◌, length, not, nat_lt, refl, sym, ap, ◌∙◌, subst, cond, arith, rules}
+use Rattle.std.specs.Prelude.{◌&&◌, IfSome, if◌then◌else◌}
+use Rattle.std.specs.Str.{all_ascii_digits}
 use Rattle.std.specs.Str.Parse.{ParsesUnsigned, IsNumeral, without_leading_plus, digits_value}
-use Rattle.std.proofs.lemmas.List.Elements.{All-from_recursion, recursion_from_All}
-use Rattle.std.proofs.lemmas.Str.Parse.{IsNumeralModel, numerals_by_fold, without_leading_plus_none, without_leading_plus_plus}
-use Rattle.command_words.specs.NumberWords.{IsDigit, IsNumberWord, number_behind}
-use Rattle.command_words.proofs.WordLists.{first_letter, rest_same}
+use Rattle.std.proofs.lemmas.Str.Parse.{IsNumeralModel, numerals_by_fold, tells_all_ascii_digits}
+use Rattle.dom_base.specs.Lines.{is_word}
+use Rattle.std.specs.Option.{option_and_then}
+use Rattle.std.specs.Result.{result_ok}
+use Rattle.dom_base.proofs.Bools.{and_both, never, not_true}
+use Rattle.command_words.specs.NumberWords.{is_within, number_behind, number_from, number_of_digits, writes_number}
 
-by_digits : IsNumeralModel (AllByRecursion IsDigit) (number_behind 0)
-by_digits = numerals_by_fold _ (search rules) number_behind (search rules)
+digits_model : IsNumeralModel (λ digits. all_ascii_digits digits ≡ true) (number_behind 0)
+digits_model = numerals_by_fold _ tells_all_ascii_digits number_behind (search rules)
 
--- a word is its digits, or a `+` before them
-signed : (word : List ℕ) → (word ≡ without_leading_plus word) ⊎ (word ≡ 43 ∷ without_leading_plus word)
-signed [] = inl refl
-signed (b ∷ word) = by (eqb b 43) refl
+within : (low high n : ℕ) → low ≤ n → n ≤ high → is_within low high n ≡ true
+within low high n l h = search rules
+
+from_within : (low high n : ℕ) → is_within low high n ≡ true → (low ≤ n) × (n ≤ high)
+from_within low high n e = search rules
+
+some_digits : (digits : List ℕ) → 0 < length digits → is_word digits ≡ true
+some_digits [] h = absurd (omega arith)
+some_digits (d ∷ ds) h = refl
+
+from_some_digits : (digits : List ℕ) → is_word digits ≡ true → 0 < length digits
+from_some_digits [] h = absurd (let never : false ≡ true = h in cc)
+from_some_digits (d ∷ ds) h = omega arith
+
+-- digits whose number is within a range write it
+writes : (low high : ℕ) (digits : List ℕ) → IsNumeral 10 digits → low ≤ digits_value 10 digits → digits_value 10 digits ≤ high
+    → number_of_digits low high digits ≡ Some (digits_value 10 digits)
+writes low high digits numeral least most =
+    let same : number_behind 0 digits ≡ digits_value 10 digits = digits_model.same digits numeral.1 in
+    let is_number : writes_number low high digits ≡ true =
+    rw (some_digits digits numeral.0) (rw (digits_model.from digits numeral.1) (rw same (within low high (digits_value 10 digits) least most))) in
+    rw is_number (ap Some same)
+
+-- what writes a number within a range
+written_number : (low high : ℕ) (digits : List ℕ) → writes_number low high digits ≡ true
+    → IsNumeral 10 digits × (low ≤ digits_value 10 digits) × (digits_value 10 digits ≤ high)
+written_number low high digits e =
+    let parts = and_both (is_word digits && all_ascii_digits digits) (is_within low high (number_behind 0 digits)) e in
+    let shape = and_both (is_word digits) (all_ascii_digits digits) parts.0 in
+    let all = digits_model.to digits shape.1 in
+    let range = from_within low high (digits_value 10 digits) (subst (λ n. is_within low high n ≡ true) (digits_model.same digits all) parts.1) in
+    ((from_some_digits digits shape.0, all), range.0, range.1)
+
+none_by : (low high : ℕ) (digits : List ℕ) → (writes_number low high digits ≡ true → ⊥) → number_of_digits low high digits ≡ None
+none_by low high digits wrong = by (writes_number low high digits) refl
   where
-    by : (t : Bool) → eqb b 43 ≡ t → ((b ∷ word) ≡ drop (cond t 1 0) (b ∷ word)) ⊎ ((b ∷ word) ≡ 43 ∷ drop (cond t 1 0) (b ∷ word))
-    by true e = let plus : b ≡ 43 = eqb-true b 43 e in inr (λ i. plus i ∷ word)
-    by false e = inl refl
+    by : (t : Bool) → writes_number low high digits ≡ t → (if t then Some (number_behind 0 digits) else None) ≡ None
+    by true e = absurd (wrong e)
+    by false e = refl
 
-not_empty : (digits : List ℕ) → digits ≢ [] → 0 < length digits
-not_empty [] some = absurd (some refl)
-not_empty (d ∷ digits) some = omega arith
+-- a number where it is within a range
+abbrev pub within_range : (low high : ℕ) → ℕ → Option ℕ
+within_range low high n = if is_within low high n then Some n else None
 
-unsigned : (word digits : List ℕ) → All IsDigit digits → digits ≢ [] → (word ≡ digits) ⊎ (word ≡ 43 ∷ digits) → without_leading_plus word ≡ digits
-unsigned word [] all some h = absurd (some refl)
-unsigned word (d ∷ digits) all some (inl e) =
-    let digit = all 0 0 (omega arith) in
-    let first : get_or word 0 0 ≢ 43 = λ plus. omega (arith, plus, ap (λ (w : List ℕ). get_or w 0 0) e, digit) in
-    without_leading_plus_none word first ∙ e
-unsigned word (d ∷ digits) all some (inr e) =
-    let first : get_or word 0 0 ≡ 43 = ap (λ (w : List ℕ). get_or w 0 0) e in
-    without_leading_plus_plus word first ∙ ap (λ (w : List ℕ). drop 1 w) e
+pub inside : (low high n : ℕ) → low ≤ n → n ≤ high → within_range low high n ≡ Some n
+inside low high n least most = rw (within low high n least most) refl
 
-pub number_read : {E : Type 0} (word : List ℕ) (r : Result ℕ E) → ParsesUnsigned 64 10 word r
-    → MatchOption (result_ok r) ((number : ℕ) → IsNumberWord word number → ⊥) (λ number. IsNumberWord word number)
-number_read word (Ok number) h = record {
-  digits = without_leading_plus word;
-  some = λ e. absurd (omega (arith, ap length e, h.0.0.0));
-  are_digits = All-from_recursion IsDigit (without_leading_plus word) (by_digits.from (without_leading_plus word) h.0.0.1);
-  word_is = signed word;
-  number_is = h.1 ∙ sym (by_digits.same (without_leading_plus word) h.0.0.1);
-  below = subst (λ n. n < 2 ^ 64) (sym h.1) h.0.1;
-}
-number_read word (Err e) h = λ number writes.
-    let digits = unsigned word writes.digits writes.are_digits writes.some writes.word_is in
-    let all = by_digits.to writes.digits (recursion_from_All IsDigit writes.digits writes.are_digits) in
-    let value = writes.number_is ∙ by_digits.same writes.digits all in
-    h (subst (λ (ds : List ℕ). IsNumeral 10 ds × (digits_value 10 ds < 2 ^ 64)) (sym digits) ((not_empty writes.digits writes.some, all), subst (λ n. n < 2 ^ 64) value writes.below))
+pub outside : (low high n : ℕ) → (is_within low high n ≡ true → ⊥) → within_range low high n ≡ None
+outside low high n wrong = rw (not_true (is_within low high n) wrong) refl
 
--- digits don't begin with `+`
-no_plus : (digits more : List ℕ) → All IsDigit digits → digits ≢ [] → digits ≡ 43 ∷ more → ⊥
-no_plus [] more all some e = some refl
-no_plus (d ∷ digits) more all some e = omega (arith, all 0 0 (omega arith), first_letter (d ∷ digits) (43 ∷ more) e)
+out_of_range : (low high n : ℕ) → (n < low) ⊎ (high < n) → is_within low high n ≡ true → ⊥
+out_of_range low high n (inl below) e = let range = from_within low high n e in absurd (omega (arith, below, range.0))
+out_of_range low high n (inr above) e = let range = from_within low high n e in absurd (omega (arith, above, range.1))
 
-digits_one : (word a b : List ℕ) → All IsDigit a → All IsDigit b → a ≢ [] → b ≢ [] → (word ≡ a) ⊎ (word ≡ 43 ∷ a) → (word ≡ b) ⊎ (word ≡ 43 ∷ b) → a ≡ b
-digits_one word a b da db na nb (inl p) (inl q) = sym p ∙ q
-digits_one word a b da db na nb (inl p) (inr q) = absurd (no_plus a b da na (sym p ∙ q))
-digits_one word a b da db na nb (inr p) (inl q) = absurd (no_plus b a db nb (sym q ∙ p))
-digits_one word a b da db na nb (inr p) (inr q) = rest_same word 43 43 a b p q
+pub outside_range : (low high n : ℕ) → (n < low) ⊎ (high < n) → within_range low high n ≡ None
+outside_range low high n out = outside low high n (out_of_range low high n out)
 
--- a word writes one number
-pub number_one : (word : List ℕ) (m n : ℕ) → IsNumberWord word m → IsNumberWord word n → m ≡ n
-number_one word m n a b =
-    a.number_is ∙ ap (number_behind 0) (digits_one word a.digits b.digits a.are_digits b.are_digits a.some b.some a.word_is b.word_is) ∙ sym b.number_is
+-- a word by what its parse gives
+pub number_read : {E : Type 0} (word : List ℕ) (low high : ℕ) (o : Option ℕ) (r : Result ℕ E) → ParsesUnsigned 64 10 word r → o ≡ result_ok r → high < 2 ^ 64
+    → number_from low high word ≡ option_and_then (within_range low high) o
+number_read word low high o (Ok n) h e fits = rw e (by (is_within low high n) refl)
+  where
+    within_value : low ≤ digits_value 10 (without_leading_plus word) → digits_value 10 (without_leading_plus word) ≤ high → is_within low high n ≡ true
+    within_value least most = within low high n (subst (λ m. low ≤ m) (sym h.1) least) (subst (λ m. m ≤ high) (sym h.1) most)
+
+    by : (t : Bool) → is_within low high n ≡ t → number_from low high word ≡ (if t then Some n else None)
+    by true within =
+        let range = from_within low high n within in
+        writes low high (without_leading_plus word) h.0.0 (subst (λ m. low ≤ m) h.1 range.0) (subst (λ m. m ≤ high) h.1 range.1) ∙ ap Some (sym h.1)
+    by false without =
+        none_by low high (without_leading_plus word) (λ t. let w = written_number low high (without_leading_plus word) t in
+        never (within_value w.1 w.2) without)
+number_read word low high o (Err x) h e fits =
+    rw e (none_by low high (without_leading_plus word) (λ t. let w = written_number low high (without_leading_plus word) t in h (w.0, omega (arith, w.2, fits))))
+
+-- the number of a word is within the range
+pub number_range : (low high : ℕ) (word : List ℕ) → IfSome (number_from low high word) (λ n. (low ≤ n) × (n ≤ high))
+number_range low high word = by (writes_number low high digits) refl
+  where
+    digits : List ℕ
+    digits = without_leading_plus word
+
+    by : (t : Bool) → writes_number low high digits ≡ t → IfSome (if t then Some (number_behind 0 digits) else None) (λ n. (low ≤ n) × (n ≤ high))
+    by true e = from_within low high (number_behind 0 digits) (and_both (is_word digits && all_ascii_digits digits) (is_within low high (number_behind 0 digits)) e).1
+    by false e = tt

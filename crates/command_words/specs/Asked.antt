@@ -1,10 +1,11 @@
 -- A command that was read from the words, as plain data.
-use Rattle.command_words.specs.Commands.{Command, Synth, Flat, Run, Sim}
+use Rattle.command_words.specs.Commands.{Command, Synth, Flat, Run, Sim, Cosim}
 use Rattle.command_words.specs.declared.command.Command.{Command as Read}
-use Rattle.command_words.specs.declared.command.Command.TheVariants.{Synth as read_synth, Flat as read_flat, Run as read_run, Sim as read_sim}
+use Rattle.command_words.specs.declared.command.Command.TheVariants as read
 
 abbrev pub asked : Read → Command
-asked (read_synth file options) = Synth file.now options
-asked (read_flat file) = Flat file.now
-asked (read_run file stim) = Run file.now stim.now
-asked (read_sim deck stim options) = Sim deck.now stim.now options
+asked (read.Synth file options) = Synth file.now options
+asked (read.Flat file) = Flat file.now
+asked (read.Run file stim) = Run file.now stim.now
+asked (read.Sim deck stim options) = Sim deck.now stim.now options
+asked (read.Cosim file deck stim order seed) = Cosim file.now deck.now stim.now order seed

@@ -1,18 +1,23 @@
--- The commands, and the words of a command line that ask for each: its name, its files, then its options.
-use Rattle.std.specs.Prelude.{ℕ, ◌≡◌, ◌≢◌, false, List, [], ◌∷◌, codes, nat_eq}
-use Rattle.std.specs.List.{starts_with}
+-- The commands, and the words of a command line that ask for each.
+use Rattle.std.specs.Prelude.{ℕ, ◌≡◌, List, [], ◌∷◌, Option, Some, None, codes, if◌then◌else◌}
+use Rattle.std.specs.List.{list_all}
+use Rattle.std.specs.Option.{option_map}
+use Rattle.trace_tool.specs.declared.options.Order.{Order}
 use Rattle.trace_tool.specs.TraceData.{TraceOptionsData}
 use Rattle.synth_flow.specs.declared.options.SynthOptions.{SynthOptions}
-use Rattle.command_words.specs.OptionWords.{AreOptions}
-use Rattle.command_words.specs.SynthOptionWords.{AreGoodOptions, AreSynthOptions}
+use Rattle.command_words.specs.Given.{of_one, of_three, of_two, with_two}
+use Rattle.command_words.specs.SynthOptionWords.{AreGoodOptions, synth_option_names, synth_options}
+use Rattle.command_words.specs.TraceOptionWords.{order_of, order_option_names, seed_of, trace_flag_names, trace_option_names, trace_options}
+use Rattle.command_words.specs.Written.{Written, is_same, plain_words, takes, written}
 
--- what the program is asked for: the deck of a file, its network, the run of its network over a stimulus, or the trace of a
--- deck over a stimulus
+-- what the program is asked for: the deck of a file, its network, the run of its network over a stimulus, the trace of a deck over a
+-- stimulus, or whether a deck does what the network of a file does over a stimulus
 pub data Command : Type 0 where
   Synth : (file : List ℕ) → (options : SynthOptions) → Command
   Flat : (file : List ℕ) → Command
   Run : (file stim : List ℕ) → Command
   Sim : (deck stim : List ℕ) → (options : TraceOptionsData) → Command
+  Cosim : (file deck stim : List ℕ) → (order : Order) → (seed : ℕ) → Command
 
 -- the files of a command, in order
 abbrev pub files_of : Command → List (List ℕ)
@@ -20,13 +25,7 @@ files_of (Synth file options) = file ∷ []
 files_of (Flat file) = file ∷ []
 files_of (Run file stim) = file ∷ stim ∷ []
 files_of (Sim deck stim options) = deck ∷ stim ∷ []
-
--- a command that prints the changes of no net alone
-abbrev pub HasNoProbe : Command → Type 0
-HasNoProbe (Synth file options) = Unit {0}
-HasNoProbe (Flat file) = Unit {0}
-HasNoProbe (Run file stim) = Unit {0}
-HasNoProbe (Sim deck stim options) = options.probes ≡ []
+files_of (Cosim file deck stim order seed) = file ∷ deck ∷ stim ∷ []
 
 -- a command whose options of synthesis are within the ranges of their values
 abbrev pub HasGoodOptions : Command → Type 0
@@ -34,37 +33,43 @@ HasGoodOptions (Synth file options) = AreGoodOptions options
 HasGoodOptions (Flat file) = Unit {0}
 HasGoodOptions (Run file stim) = Unit {0}
 HasGoodOptions (Sim deck stim options) = Unit {0}
+HasGoodOptions (Cosim file deck stim order seed) = Unit {0}
 
--- a word that names a file: not empty, and not begun with `-`
-pub record IsFileWord (word : List ℕ) : Type 0 where
-  pub some : word ≢ []
-  pub no_dash : starts_with nat_eq word (codes "-") ≡ false
+-- each command by what is written behind its name: its files, its options with a value, its options without one
+abbrev pub taken : (valued flags : List (List ℕ)) → List Written → Option Command → Option Command
+taken valued flags words command = if list_all (takes valued flags) words then command else None
 
-pub record AsksSynth (words : List (List ℕ)) (file : List ℕ) (options : SynthOptions) : Type 0 where
-  pub more : List (List ℕ)
-  pub words_are : words ≡ codes "synth" ∷ file ∷ more
-  pub is_file : IsFileWord file
-  pub are_options : AreSynthOptions more options
+abbrev pub synth_in : List Written → Option Command
+synth_in words = taken synth_option_names [] words
+    (of_one (λ file. option_map (Synth file) (synth_options words)) (plain_words words))
 
-pub record AsksFlat (words : List (List ℕ)) (file : List ℕ) : Type 0 where
-  pub words_are : words ≡ codes "flat" ∷ file ∷ []
-  pub is_file : IsFileWord file
+abbrev pub flat_in : List Written → Option Command
+flat_in words = taken [] [] words (of_one (λ file. Some (Flat file)) (plain_words words))
 
-pub record AsksRun (words : List (List ℕ)) (file stim : List ℕ) : Type 0 where
-  pub words_are : words ≡ codes "run" ∷ file ∷ stim ∷ []
-  pub is_file : IsFileWord file
-  pub is_stim : IsFileWord stim
+abbrev pub run_in : List Written → Option Command
+run_in words = taken [] [] words (of_two (λ file stim. Some (Run file stim)) (plain_words words))
 
-pub record AsksSim (words : List (List ℕ)) (deck stim : List ℕ) (options : TraceOptionsData) : Type 0 where
-  pub more : List (List ℕ)
-  pub words_are : words ≡ codes "sim" ∷ deck ∷ stim ∷ more
-  pub is_deck : IsFileWord deck
-  pub is_stim : IsFileWord stim
-  pub are_options : AreOptions more options
+abbrev pub sim_in : List Written → Option Command
+sim_in words = taken trace_option_names trace_flag_names words
+    (of_two (λ deck stim. option_map (Sim deck stim) (trace_options words)) (plain_words words))
+
+abbrev pub cosim_in : List Written → Option Command
+cosim_in words = taken order_option_names [] words
+    (of_three (λ file deck stim. with_two (Cosim file deck stim) (order_of words) (seed_of words)) (plain_words words))
+
+abbrev pub command_named : List ℕ → List Written → Option Command
+command_named name words =
+    if is_same name (codes "synth") then synth_in words
+    else (if is_same name (codes "flat") then flat_in words
+    else (if is_same name (codes "run") then run_in words
+    else (if is_same name (codes "sim") then sim_in words
+    else (if is_same name (codes "cosim") then cosim_in words else None))))
+
+-- the command of a command line, whose first word is its name
+abbrev pub command_for : List (List ℕ) → Option Command
+command_for [] = None
+command_for (name ∷ words) = command_named name (written words)
 
 -- the words ask for the command
 abbrev pub Asks : List (List ℕ) → Command → Type 0
-Asks words (Synth file options) = AsksSynth words file options
-Asks words (Flat file) = AsksFlat words file
-Asks words (Run file stim) = AsksRun words file stim
-Asks words (Sim deck stim options) = AsksSim words deck stim options
+Asks words command = command_for words ≡ Some command

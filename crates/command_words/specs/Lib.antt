@@ -1,8 +1,10 @@
 pub mod Asked
 pub mod Commands
-pub mod GivenOptions
+pub mod Given
+pub mod Items
 pub mod Laws
 pub mod NumberWords
-pub mod OptionWords
+pub mod ProbeWords
 pub mod SynthOptionWords
-pub mod WrittenOptions
+pub mod TraceOptionWords
+pub mod Written

@@ -1,27 +1,25 @@
 -- The words that write a number.
-use Rattle.std.specs.Prelude.{ℕ, ◌<◌, ◌≤◌, ◌+◌, ◌*◌, ◌-◌, ◌^◌, ◌≡◌, ◌≢◌, ◌⊎◌, List, [], ◌∷◌, All}
-
-abbrev pub IsDigit : ℕ → Type 0
-IsDigit b = (47 < b) × (b < 58)
+use Rattle.std.specs.Prelude.{ℕ, ◌+◌, ◌*◌, ◌-◌, Bool, ◌&&◌, not, nat_lt, List, [], ◌∷◌, if◌then◌else◌}
+use Rattle.std.specs.Prelude.{Option, Some, None}
+use Rattle.std.specs.Str.{all_ascii_digits}
+use Rattle.std.specs.Str.Parse.{without_leading_plus}
+use Rattle.dom_base.specs.Lines.{is_word}
 
 -- the number that decimal digits write behind a number
 abbrev pub number_behind : ℕ → List ℕ → ℕ
 number_behind n [] = n
 number_behind n (digit ∷ digits) = number_behind (n * 10 + (digit - 48)) digits
 
--- a word that writes a number below 2^64: decimal digits, at least one, with an optional `+` before them
-pub record IsNumberWord (word : List ℕ) (number : ℕ) : Type 0 where
-  pub digits : List ℕ
-  pub some : digits ≢ []
-  pub are_digits : All IsDigit digits
-  pub word_is : (word ≡ digits) ⊎ (word ≡ 43 ∷ digits)
-  pub number_is : number ≡ number_behind 0 digits
-  pub below : number < 2 ^ 64
+abbrev pub is_within : (low high : ℕ) → ℕ → Bool
+is_within low high n = not (nat_lt n low) && not (nat_lt high n)
 
--- these words write the option of this name with a number from `low` to `high`
-pub record IsNumberOption (name : List ℕ) (low high number : ℕ) (words : List (List ℕ)) : Type 0 where
-  pub word : List ℕ
-  pub words_are : words ≡ name ∷ word ∷ []
-  pub is_number : IsNumberWord word number
-  pub least : low ≤ number
-  pub most : number ≤ high
+-- at least one decimal digit and nothing else, and a number from `low` to `high`
+abbrev pub writes_number : (low high : ℕ) → List ℕ → Bool
+writes_number low high digits = (is_word digits && all_ascii_digits digits) && is_within low high (number_behind 0 digits)
+
+abbrev pub number_of_digits : (low high : ℕ) → List ℕ → Option ℕ
+number_of_digits low high digits = if writes_number low high digits then Some (number_behind 0 digits) else None
+
+-- the number from `low` to `high` that a word writes in decimal digits, with an optional `+` before them
+abbrev pub number_from : (low high : ℕ) → List ℕ → Option ℕ
+number_from low high word = number_of_digits low high (without_leading_plus word)

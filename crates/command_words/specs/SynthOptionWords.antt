@@ -1,54 +1,28 @@
 -- The options of synthesis on the command line, and what they give.
-use Rattle.std.specs.Prelude.{ℕ, ◌≤◌, List, Option, Some, None, codes}
-use Rattle.std.specs.Option.{unwrap_or}
+use Rattle.std.specs.Prelude.{ℕ, ◌≤◌, List, [], ◌∷◌, Option, codes}
 use Rattle.synth_flow.specs.declared.options.SynthOptions.{SynthOptions}
-use Rattle.command_words.specs.NumberWords.{IsNumberOption}
-use Rattle.command_words.specs.WrittenOptions.{AreWritten, first_given}
+use Rattle.command_words.specs.Given.{given, with_three}
+use Rattle.command_words.specs.NumberWords.{number_from}
+use Rattle.command_words.specs.Written.{Written, values_of}
 
--- an option of `synth`: the greatest width of a tree, its greatest height, or the number of clocks
-pub data SynthOptionWord : Type 0 where
-  SetWidth : (width : ℕ) → SynthOptionWord
-  SetHeight : (height : ℕ) → SynthOptionWord
-  SetPhases : (phases : ℕ) → SynthOptionWord
+abbrev pub synth_option_names : List (List ℕ)
+synth_option_names = codes "--width" ∷ codes "--height" ∷ codes "--phases" ∷ []
 
--- the word of an option
-abbrev pub synth_option_word : SynthOptionWord → List ℕ
-synth_option_word (SetWidth width) = codes "--width"
-synth_option_word (SetHeight height) = codes "--height"
-synth_option_word (SetPhases phases) = codes "--phases"
+-- a width of 2 to 8 and a height of 2 to 6, 4 where none is given, and 1 to 4 clocks, one where none is given
+abbrev pub width_of : List Written → Option ℕ
+width_of words = given (number_from 2 8) 4 (values_of (codes "--width") words)
 
--- these words write an option: a width of 2 to 8, a height of 2 to 6, or 1 to 4 clocks
-abbrev pub IsSynthOptionOf : SynthOptionWord → List (List ℕ) → Type 0
-IsSynthOptionOf (SetWidth width) words = IsNumberOption (codes "--width") 2 8 width words
-IsSynthOptionOf (SetHeight height) words = IsNumberOption (codes "--height") 2 6 height words
-IsSynthOptionOf (SetPhases phases) words = IsNumberOption (codes "--phases") 1 4 phases words
+abbrev pub height_of : List Written → Option ℕ
+height_of words = given (number_from 2 6) 4 (values_of (codes "--height") words)
 
--- what an option gives
-abbrev pub width_in : SynthOptionWord → Option ℕ
-width_in (SetWidth width) = Some width
-width_in (SetHeight height) = None
-width_in (SetPhases phases) = None
+abbrev pub phases_of : List Written → Option ℕ
+phases_of words = given (number_from 1 4) 1 (values_of (codes "--phases") words)
 
-abbrev pub height_in : SynthOptionWord → Option ℕ
-height_in (SetWidth width) = None
-height_in (SetHeight height) = Some height
-height_in (SetPhases phases) = None
+abbrev pub synth_options_with : (width height phases : ℕ) → SynthOptions
+synth_options_with width height phases = record { bounds = record { w = width; h = height }; phases = phases }
 
-abbrev pub phases_in : SynthOptionWord → Option ℕ
-phases_in (SetWidth width) = None
-phases_in (SetHeight height) = None
-phases_in (SetPhases phases) = Some phases
-
--- what options give: width 4, height 4 and one clock where none is given
-abbrev pub synth_options_of : List SynthOptionWord → SynthOptions
-synth_options_of options = record {
-  bounds = record { w = unwrap_or (first_given width_in options) 4; h = unwrap_or (first_given height_in options) 4 };
-  phases = unwrap_or (first_given phases_in options) 1;
-}
-
--- the words give the options of `synth`: they write some, none of them twice
-abbrev pub AreSynthOptions : List (List ℕ) → SynthOptions → Type 0
-AreSynthOptions words options = AreWritten synth_option_word IsSynthOptionOf synth_options_of words options
+abbrev pub synth_options : List Written → Option SynthOptions
+synth_options words = with_three synth_options_with (width_of words) (height_of words) (phases_of words)
 
 -- options within the ranges of their values
 pub record AreGoodOptions (options : SynthOptions) : Type 0 where

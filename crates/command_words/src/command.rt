@@ -1,6 +1,6 @@
 //! What the program is asked for.
 use synth_flow::SynthOptions;
-use trace_tool::TraceOptions;
+use trace_tool::{Order, TraceOptions};
 
 /// What the words of the command line ask for, with the names of the files.
 #[derive(Drop)]
@@ -20,5 +20,12 @@ pub enum Command<'a> {
         deck: &'a str,
         stim: &'a str,
         options: TraceOptions,
+    },
+    Cosim {
+        file: &'a str,
+        deck: &'a str,
+        stim: &'a str,
+        order: Order,
+        seed: u64,
     },
 }

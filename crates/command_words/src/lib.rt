@@ -2,9 +2,11 @@
 #![tactic(auto)]
 
 mod command;
+mod items;
 mod laws;
-mod options;
+mod probes;
 mod synth_options;
+mod trace_options;
 mod values;
 mod words;
 

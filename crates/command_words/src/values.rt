@@ -1,33 +1,30 @@
 //! Values of options, and the numbers that words write.
-ghost use Rattle.std.specs.Prelude.{◌≡◌, ◌≤◌, ℕ, None, Some, IsSome, MatchOption};
-ghost use Rattle.command_words.specs.NumberWords.{IsNumberWord};
+ghost use Rattle.std.specs.Prelude.{◌≡◌, map};
+ghost use Rattle.std.specs.String.{string_bytes};
+ghost use Rattle.command_words.specs.Given.{given};
+ghost use Rattle.command_words.specs.NumberWords.{number_from};
+ghost use Rattle.command_words.specs.Written.{values_of, written};
 
-/// Puts a value where none was given before.
-pub fn once<T: Drop>(slot: &mut Option<T>, value: T) -> Option<()>
-    ensures { MatchOption result (IsSome slot.old) (λ _. (slot.old ≡ None) × (slot.new ≡ Some value)) }
+use crate::items::{Wanted, only_wanted};
+
+/// The number from `low` to `high` that a word writes in decimal digits, with or without a `+` before them.
+pub fn number_from(word: &str, low: u64, high: u64) -> Option<u64>
+    ensures { result ≡ number_from low high word.now }
 {
-    if slot.is_some() {
+    let number = word.parse::<u64>().ok()?;
+    if number < low || number > high {
         return None;
     }
-    *slot = Some(value);
-    Some(())
+    Some(number)
 }
 
-/// The number below 2^64 that a word writes in decimal digits, with or without a `+` before them.
-pub fn number_of(word: &str) -> Option<u64>
-    ensures { MatchOption result ((number : ℕ) → IsNumberWord word.now number → ⊥) (λ number. IsNumberWord word.now number) }
+/// The number from `low` to `high` that an option gives, or its default where it isn't given.
+#[tactic(auto, using(crate::proofs::Given::given_rules))]
+pub fn number_given(words: &[String], name: &str, low: u64, high: u64, default: u64) -> Option<u64>
+    ensures { result ≡ given (number_from low high) default (values_of name.now (written (map string_bytes words.now))) }
 {
-    word.parse::<u64>().ok()
-}
-
-/// The number from `low` to `high` that a word writes so.
-pub fn number_within(word: &str, low: u8, high: u8) -> Option<u8>
-    ensures { MatchOption result ((number : ℕ) → IsNumberWord word.now number → low ≤ number → number ≤ high → ⊥)
-        (λ number. IsNumberWord word.now number × (low ≤ number) × (number ≤ high)) }
-{
-    let number = number_of(word)?;
-    if number < u64::from(low) || number > u64::from(high) {
-        return None;
+    match only_wanted(words, Wanted::Value(name))? {
+        Some(word) => number_from(word, low, high),
+        None => Some(default),
     }
-    Some(number as u8)
 }

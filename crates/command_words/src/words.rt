@@ -1,99 +1,116 @@
 //! The words of the command line.
-ghost use Rattle.std.specs.Prelude.{◌∷◌, MatchOption, IsTrue, ◌↔◌, codes, map};
+ghost use Rattle.std.specs.Prelude.{◌≡◌, IfOk, IsSome, MatchOption, None, OnErr, Some, map};
 ghost use Rattle.std.specs.String.{string_bytes};
 ghost use Rattle.command_words.specs.Asked.{asked};
-ghost use Rattle.command_words.specs.Commands.{Asks, IsFileWord, Command as Plain};
+ghost use Rattle.command_words.specs.Commands.{Asks, Command as Plain, command_for, cosim_in, flat_in, run_in, sim_in, synth_in};
+ghost use Rattle.command_words.specs.Written.{written};
 
 use crate::command::Command;
-use crate::options::options_of;
+use crate::items::{one_plain, takes_all, three_plain, two_plain};
 use crate::synth_options::synth_options_of;
+use crate::trace_options::{order_of, seed_of, trace_options_of};
+use dom_base::OutOfMemory;
 use std::alloc::Global;
 
-/// What the words ask for: the name of a command, its files, then its options.
-pub fn command_of<'a>(alloc: Global, words: &'a [String]) -> Option<Command<'a>>
-    ensures { MatchOption result ((command : Plain) → Asks (map string_bytes words.now) command → ⊥)
-        (λ command. Asks (map string_bytes words.now) (asked command)) }
+/// What the words ask for: the name of a command, then its files, with its options anywhere among them.
+/// Memory is wanted for a command alone: words that ask for none are refused whatever there is of it.
+pub fn command_of<'a>(
+    alloc: Global,
+    words: &'a [String],
+) -> Result<Option<Command<'a>>, OutOfMemory>
+    ensures command { IfOk result (λ found. MatchOption found
+        ((command : Plain) → Asks (map string_bytes words.now) command → ⊥)
+        (λ command. Asks (map string_bytes words.now) (asked command))) }
+    ensures wanted { OnErr result (IsSome (command_for (map string_bytes words.now))) }
 {
     let [name, rest @ ..] = words else {
-        return None
+        return Ok(None)
     };
     match name.as_str() {
-        "synth" => synth_of(rest),
-        "flat" => flat_of(rest),
-        "run" => run_of(rest),
+        "synth" => Ok(synth_of(rest)),
+        "flat" => Ok(flat_of(rest)),
+        "run" => Ok(run_of(rest)),
         "sim" => sim_of(alloc, rest),
-        _ => None,
+        "cosim" => Ok(cosim_of(rest)),
+        _ => Ok(None),
     }
 }
 
-/// The command `synth FILE` with its options by the words behind its name.
+/// The command `synth FILE` with its options.
 fn synth_of<'a>(words: &'a [String]) -> Option<Command<'a>>
-    ensures { MatchOption result ((command : Plain) → Asks (codes "synth" ∷ map string_bytes words.now) command → ⊥)
-        (λ command. Asks (codes "synth" ∷ map string_bytes words.now) (asked command)) }
+    ensures { MatchOption result (synth_in (written (map string_bytes words.now)) ≡ None)
+        (λ command. synth_in (written (map string_bytes words.now)) ≡ Some (asked command)) }
 {
-    let [file, rest @ ..] = words else {
-        return None
-    };
-    let file = file.as_str();
-    if !is_file(file) {
+    if !takes_all(words, &["--width", "--height", "--phases"], &[]) {
         return None;
     }
-    let options = synth_options_of(rest)?;
+    let file = one_plain(words)?;
+    let options = synth_options_of(words)?;
     Some(Command::Synth { file, options })
 }
 
-/// The command `flat FILE` by the words behind its name.
+/// The command `flat FILE`.
 fn flat_of<'a>(words: &'a [String]) -> Option<Command<'a>>
-    ensures { MatchOption result ((command : Plain) → Asks (codes "flat" ∷ map string_bytes words.now) command → ⊥)
-        (λ command. Asks (codes "flat" ∷ map string_bytes words.now) (asked command)) }
+    ensures { MatchOption result (flat_in (written (map string_bytes words.now)) ≡ None)
+        (λ command. flat_in (written (map string_bytes words.now)) ≡ Some (asked command)) }
 {
-    let [file] = words else { return None };
-    let file = file.as_str();
-    if !is_file(file) {
+    if !takes_all(words, &[], &[]) {
         return None;
     }
+    let file = one_plain(words)?;
     Some(Command::Flat { file })
 }
 
-/// The command `run FILE STIM` by the words behind its name.
+/// The command `run FILE STIM`.
 fn run_of<'a>(words: &'a [String]) -> Option<Command<'a>>
-    ensures { MatchOption result ((command : Plain) → Asks (codes "run" ∷ map string_bytes words.now) command → ⊥)
-        (λ command. Asks (codes "run" ∷ map string_bytes words.now) (asked command)) }
+    ensures { MatchOption result (run_in (written (map string_bytes words.now)) ≡ None)
+        (λ command. run_in (written (map string_bytes words.now)) ≡ Some (asked command)) }
 {
-    let [file, stim] = words else { return None };
-    let file = file.as_str();
-    let stim = stim.as_str();
-    if !is_file(file) || !is_file(stim) {
+    if !takes_all(words, &[], &[]) {
         return None;
     }
+    let (file, stim) = two_plain(words)?;
     Some(Command::Run { file, stim })
 }
 
-/// The command `sim DECK STIM` with its options by the words behind its name.
-fn sim_of<'a>(alloc: Global, words: &'a [String]) -> Option<Command<'a>>
-    ensures { MatchOption result ((command : Plain) → Asks (codes "sim" ∷ map string_bytes words.now) command → ⊥)
-        (λ command. Asks (codes "sim" ∷ map string_bytes words.now) (asked command)) }
+/// The command `sim DECK STIM` with its options.
+fn sim_of<'a>(alloc: Global, words: &'a [String]) -> Result<Option<Command<'a>>, OutOfMemory>
+    ensures command { IfOk result (λ found. MatchOption found (sim_in (written (map string_bytes words.now)) ≡ None)
+        (λ command. sim_in (written (map string_bytes words.now)) ≡ Some (asked command))) }
+    ensures wanted { OnErr result (IsSome (sim_in (written (map string_bytes words.now)))) }
 {
-    let [deck, stim, rest @ ..] = words else {
-        return None
-    };
-    let deck = deck.as_str();
-    let stim = stim.as_str();
-    if !is_file(deck) || !is_file(stim) {
-        return None;
+    if !takes_all(words, &["--order", "--seed", "--probe"], &["--events"]) {
+        return Ok(None);
     }
-    let options = options_of(alloc, rest)?;
-    Some(Command::Sim {
+    let Some((deck, stim)) = two_plain(words) else {
+        return Ok(None)
+    };
+    let Some(options) = trace_options_of(alloc, words)? else {
+        return Ok(None)
+    };
+    Ok(Some(Command::Sim {
         deck,
         stim,
         options,
-    })
+    }))
 }
 
-/// Whether a word names a file: it isn't empty, and doesn't begin with `-`.
-fn is_file(word: &str) -> bool
-    ensures { IsTrue result ↔ IsFileWord word.now }
+/// The command `cosim FILE DECK STIM` with its options.
+fn cosim_of<'a>(words: &'a [String]) -> Option<Command<'a>>
+    ensures { MatchOption result (cosim_in (written (map string_bytes words.now)) ≡ None)
+        (λ command. cosim_in (written (map string_bytes words.now)) ≡ Some (asked command)) }
 {
-    let bytes = word.as_bytes();
-    !bytes.is_empty() && bytes[0] != b'-'
+    if !takes_all(words, &["--order", "--seed"], &[]) {
+        return None;
+    }
+    let (file, deck, stim) = three_plain(words)?;
+    let order = order_of(words)?;
+    let seed = seed_of(words)?;
+    Some(Command::Cosim {
+        file,
+        deck,
+        stim,
+        order,
+        seed,
+    })
 }
