@@ -1,6 +1,6 @@
 -- Why a command fails, by what its files have: bytes or none, a deck or none, a network or none, a run or none, a trace or none.
-use Rattle.std.proofs.Common.{◌≡◌, ◌≤◌, ℕ, Bool, true, List, length, inl, inr, ap, sym, subst, arith}
-use Rattle.std.specs.Prelude.{if◌then◌else◌}
+use Rattle.std.proofs.Common.{◌≡◌, ◌∙◌, ◌≤◌, ℕ, Bool, true, List, [], ◌∷◌, length, inl, inr, ap, sym, subst, arith}
+use Rattle.std.specs.Prelude.{Some, if◌then◌else◌}
 use Rattle.blif_ast.specs.Printed.{printed}
 use Rattle.dom_io.specs.Held.{file_limit}
 use Rattle.net_flatten.specs.NetworkData.{NetworkData}
@@ -8,15 +8,36 @@ use Rattle.net_flatten.specs.OneModel.{file_of}
 use Rattle.domsyn.specs.declared.failure.Failure.{Failure}
 use Rattle.domsyn.specs.declared.failure.Failure.TheVariants as failure
 use Rattle.domsyn.specs.declared.refusal.Refusal.{Refusal}
-use Rattle.domsyn.specs.declared.refusal.Refusal.TheVariants.{TooLong, Blif, Flat, TooMany, Deck, Ports, Stim}
-use Rattle.command_words.specs.Commands.{Synth, Flat as flat, Run as run, Sim}
+use Rattle.domsyn.specs.declared.refusal.Refusal.TheVariants.{TooLong, Blif, Flat, TooMany, Deck, Ports, NoNet, Stim}
+use Rattle.command_words.specs.Commands.{Synth, Flat as flat, Run as run, Sim, Cosim}
 use Rattle.synth_flow.specs.declared.options.SynthOptions.{SynthOptions}
 use Rattle.domsyn.specs.Decks.{IsDeckFor, bounds_of}
-use Rattle.domsyn.specs.Outcomes.{Files, IsDeck, IsFile, IsFlat, IsPrintedRun, IsSimRefusal}
-use Rattle.domsyn.specs.Networks.{HasNetwork, IsNotRunFor, IsRunOf, about}
-use Rattle.domsyn.specs.Refusals.{HasNoNetworkFor}
-use Rattle.domsyn.specs.Failures.{HasNoNetwork, IsFailureOf, IsUnfetched, IsUnrun, IsUnsimulated, IsUntraced, ReadFile}
+use Rattle.domsyn.specs.Outcomes.{Files, IsComparison, IsDeck, IsFile, IsFlat, IsPrintedRun, is_same}
+use Rattle.domsyn.specs.Networks.{HasNetwork, IsNotRunFor, IsRunOf}
+use Rattle.domsyn.specs.Refusals.{HasNoNetworkFor, IsFaulty, about, refusal_of}
+use Rattle.domsyn.specs.Failures.{AreUnfetched, HasNoNetwork, IsFailureFor, IsFailureOf, IsUnfetched, IsUnrun, IsUntraced, ReadFile}
+use Rattle.trace_tool.specs.CosimRefusals.{IsCosimRefused}
+use Rattle.trace_tool.specs.Refusals.{IsRefused}
 use Rattle.trace_tool.specs.TraceData.{TraceOptionsData}
+use Rattle.trace_tool.specs.VerdictLines.{verdict_line}
+use Rattle.trace_tool.specs.Verdicts.{IsVerdictOf}
+use Rattle.trace_tool.specs.declared.fault.TraceFault.{TraceFault}
+use Rattle.trace_tool.specs.declared.options.Order.{Order}
+use Rattle.trace_tool.specs.declared.options.ProbeWord.{ProbeWord}
+use Rattle.trace_tool.specs.declared.verdict.Verdict.{Verdict}
+
+-- the first of some files has no bytes
+pub first_unfetched : (files : Files) (file : List ℕ) (more : List (List ℕ)) (Rises : Type 0) (s : Failure) → IsUnfetched files file Rises s → AreUnfetched files (file ∷ more) Rises s
+first_unfetched files file more Rises (failure.Refused name why) is = (is.1, inl (is.0, is.2))
+first_unfetched files file more Rises (failure.Unread name) is = (inl is.0, is.1)
+first_unfetched files file more Rises failure.Memory is = tt
+
+-- a later one has none, where the shelf's count rises by this or a later fetch
+pub later_unfetched : (files : Files) (file bytes : List ℕ) (more : List (List ℕ)) (Rises RisesHere : Type 0) (s : Failure) → (RisesHere → Rises) → IsFile files file bytes
+    → AreUnfetched files more RisesHere s → AreUnfetched files (file ∷ more) Rises s
+later_unfetched files file bytes more Rises RisesHere (failure.Refused name why) rises fetched is = (is.0, inr (bytes, fetched, is.1))
+later_unfetched files file bytes more Rises RisesHere (failure.Unread name) rises fetched is = (inr (bytes, fetched, is.0), rises is.1)
+later_unfetched files file bytes more Rises RisesHere failure.Memory rises fetched is = tt
 
 -- the file of a deck to be built has no bytes
 pub synth_unfetched : (files : Files) (file : List ℕ) (options : SynthOptions) (Rises : Type 0) (s : Failure) → IsUnfetched files file Rises s → IsFailureOf files (Synth file options) Rises s
@@ -27,7 +48,7 @@ synth_unfetched files file options Rises (failure.Refused name why) is =
       refused = subst (HasNoNetworkFor is.2.bytes) (sym is.1) is.2.long;
       name_is = is.0;
     }
-synth_unfetched files file options Rises (failure.Unread name) is = is
+synth_unfetched files file options Rises (failure.Unread name) is = (inl is.0, is.1)
 synth_unfetched files file options Rises failure.Memory is = tt
 
 -- its bytes have this deck
@@ -42,40 +63,69 @@ synth_unbuilt files file bytes options Rises (failure.Refused name why) fetched 
 synth_unbuilt files file bytes options Rises (failure.Unread name) fetched is = absurd is
 synth_unbuilt files file bytes options Rises failure.Memory fetched is = tt
 
--- the file of a deck to be simulated has no bytes
-pub deck_unfetched : (files : Files) (deck stim : List ℕ) (options : TraceOptionsData) (Rises : Type 0) (s : Failure)
-    → IsUnfetched files deck Rises s → IsFailureOf files (Sim deck stim options) Rises s
-deck_unfetched files deck stim options Rises (failure.Refused name why) is = subst (IsSimRefusal files deck stim name.now) (sym is.1) (inl (is.0, is.2))
-deck_unfetched files deck stim options Rises (failure.Unread name) is = (inl is.0, is.1)
-deck_unfetched files deck stim options Rises failure.Memory is = tt
-
--- the file of its stimulus has none, where the shelf's count rises by this or a later fetch
-pub stim_unfetched : (files : Files) (deck stim bytes : List ℕ) (options : TraceOptionsData) (Rises RisesHere : Type 0) (s : Failure) → (RisesHere → Rises)
-    → IsFile files deck bytes → IsUnfetched files stim RisesHere s → IsFailureOf files (Sim deck stim options) Rises s
-stim_unfetched files deck stim bytes options Rises RisesHere (failure.Refused name why) rises fetched is =
-    subst (IsSimRefusal files deck stim name.now) (sym is.1) (inr (bytes, is.0, fetched, is.2))
-stim_unfetched files deck stim bytes options Rises RisesHere (failure.Unread name) rises fetched is = (inr (bytes, is.0, fetched), rises is.1)
-stim_unfetched files deck stim bytes options Rises RisesHere failure.Memory rises fetched is = tt
+-- not all files of a simulation have bytes
+pub sim_unfetched : (files : Files) (deck stim : List ℕ) (options : TraceOptionsData) (Rises : Type 0) (s : Failure)
+    → AreUnfetched files (deck ∷ stim ∷ []) Rises s → IsFailureOf files (Sim deck stim options) Rises s
+sim_unfetched files deck stim options Rises (failure.Refused name why) is = inl is
+sim_unfetched files deck stim options Rises (failure.Unread name) is = is
+sim_unfetched files deck stim options Rises failure.Memory is = tt
 
 -- the bytes of both have no trace
-unsimulated : (files : Files) (deck stim : ReadFile) (name : List ℕ) (why : Refusal) → IsFile files deck.name deck.bytes → IsFile files stim.name stim.bytes
-    → IsUnsimulated deck stim name why → IsSimRefusal files deck.name stim.name name why
-unsimulated files deck stim name TooLong a b is = absurd is
-unsimulated files deck stim name (Blif line kind) a b is = absurd is
-unsimulated files deck stim name (Flat line kind any) a b is = absurd is
-unsimulated files deck stim name (TooMany limit count) a b is = absurd is
-unsimulated files deck stim name (Deck line kind) a b is =
-    (is.0, record { deck_bytes = deck.bytes; stim_bytes = stim.bytes; is_deck = a; is_stim = b; refused = is.1 })
-unsimulated files deck stim name (Ports place) a b is =
-    (is.0, record { deck_bytes = deck.bytes; stim_bytes = stim.bytes; is_deck = a; is_stim = b; refused = is.1 })
-unsimulated files deck stim name (Stim line kind) a b is =
-    (is.0, record { deck_bytes = deck.bytes; stim_bytes = stim.bytes; is_deck = a; is_stim = b; refused = is.1 })
+pub untraced : (deck stim : ReadFile) (probes : List ProbeWord) (fault : TraceFault) (s : Failure) → IsRefused deck.bytes stim.bytes probes fault → IsFailureFor deck.name deck.name stim.name fault s
+    → IsUntraced deck stim probes s
+untraced deck stim probes fault (failure.Refused name why) refused is =
+    record { fault = fault; refuses = refused; cause = is.0; name_is = is.1 }
+untraced deck stim probes fault (failure.Unread name) refused is = is
+untraced deck stim probes fault failure.Memory refused is = tt
 
 pub sim_untraced : (files : Files) (deck stim : ReadFile) (options : TraceOptionsData) (Rises : Type 0) (s : Failure)
-    → IsFile files deck.name deck.bytes → IsFile files stim.name stim.bytes → IsUntraced deck stim s → IsFailureOf files (Sim deck.name stim.name options) Rises s
-sim_untraced files deck stim options Rises (failure.Refused name why) a b is = unsimulated files deck stim name.now why a b is
+    → IsFile files deck.name deck.bytes → IsFile files stim.name stim.bytes → IsUntraced deck stim options.probes s → IsFailureOf files (Sim deck.name stim.name options) Rises s
+sim_untraced files deck stim options Rises (failure.Refused name why) a b is =
+    inr (record { deck_bytes = deck.bytes; stim_bytes = stim.bytes; is_deck = a; is_stim = b; faulty = is })
 sim_untraced files deck stim options Rises (failure.Unread name) a b is = absurd is
 sim_untraced files deck stim options Rises failure.Memory a b is = tt
+
+-- not all files of a comparison have bytes
+pub cosim_unfetched : (files : Files) (file deck stim : List ℕ) (order : Order) (seed : ℕ) (Rises : Type 0) (s : Failure)
+    → AreUnfetched files (file ∷ deck ∷ stim ∷ []) Rises s → IsFailureOf files (Cosim file deck stim order seed) Rises s
+cosim_unfetched files file deck stim order seed Rises (failure.Refused name why) is = inl is
+cosim_unfetched files file deck stim order seed Rises (failure.Unread name) is = is
+cosim_unfetched files file deck stim order seed Rises failure.Memory is = tt
+
+-- the bytes of all three have a verdict
+pub cosim_printed : (files : Files) (file deck stim : ReadFile) (order : Order) (seed : ℕ) (verdict : Verdict) (text : List ℕ) (settled : Bool)
+    → IsFile files file.name file.bytes → IsFile files deck.name deck.bytes → IsFile files stim.name stim.bytes → IsVerdictOf file.bytes deck.bytes stim.bytes order seed verdict
+    → text ≡ verdict_line verdict → settled ≡ is_same verdict → IsComparison files file.name deck.name stim.name order seed (if settled then 0 else 6) text
+cosim_printed files file deck stim order seed verdict text settled a b c is text_is settled_is =
+    record {
+      bytes = file.bytes;
+      deck_bytes = deck.bytes;
+      stim_bytes = stim.bytes;
+      verdict = verdict;
+      is_file = a;
+      is_deck = b;
+      is_stim = c;
+      is_verdict = is;
+      text_is = text_is;
+      status_is = ap (λ (b : Bool). if b then 0 else 6) settled_is;
+    }
+
+-- they have none
+pub cosim_uncompared : (files : Files) (file deck stim : ReadFile) (order : Order) (seed : ℕ) (Rises : Type 0) (fault : TraceFault) (s : Failure)
+    → IsFile files file.name file.bytes → IsFile files deck.name deck.bytes → IsFile files stim.name stim.bytes → IsCosimRefused file.bytes deck.bytes stim.bytes fault
+    → IsFailureFor file.name deck.name stim.name fault s → IsFailureOf files (Cosim file.name deck.name stim.name order seed) Rises s
+cosim_uncompared files file deck stim order seed Rises fault (failure.Refused name why) a b c refused is =
+    inr (record {
+      bytes = file.bytes;
+      deck_bytes = deck.bytes;
+      stim_bytes = stim.bytes;
+      is_file = a;
+      is_deck = b;
+      is_stim = c;
+      faulty = record { fault = fault; refuses = refused; cause = is.0; name_is = is.1 };
+    })
+cosim_uncompared files file deck stim order seed Rises fault (failure.Unread name) a b c refused is = absurd is
+cosim_uncompared files file deck stim order seed Rises fault failure.Memory a b c refused is = tt
 
 -- the file of a network has no bytes
 pub flat_unfetched : (files : Files) (file : List ℕ) (Rises : Type 0) (s : Failure) → IsUnfetched files file Rises s → IsFailureOf files (flat file) Rises s
@@ -85,7 +135,7 @@ flat_unfetched files file Rises (failure.Refused name why) is = record {
   refused = subst (HasNoNetworkFor is.2.bytes) (sym is.1) is.2.long;
   name_is = is.0;
 }
-flat_unfetched files file Rises (failure.Unread name) is = is
+flat_unfetched files file Rises (failure.Unread name) is = (inl is.0, is.1)
 flat_unfetched files file Rises failure.Memory is = tt
 
 -- its bytes have a network
@@ -109,8 +159,8 @@ run_unfetched files file stim Rises failure.Memory is = tt
 -- the file of its stimulus has none, where the shelf's count rises by this or a later fetch
 pub run_stim_unfetched : (files : Files) (file stim bytes : List ℕ) (Rises RisesHere : Type 0) (s : Failure) → (RisesHere → Rises)
     → IsFile files file bytes → IsUnfetched files stim RisesHere s → IsFailureOf files (run file stim) Rises s
-run_stim_unfetched files file stim bytes Rises RisesHere (failure.Refused name why) rises fetched is = inl (is.1, inr (bytes, is.0, fetched, is.2))
-run_stim_unfetched files file stim bytes Rises RisesHere (failure.Unread name) rises fetched is = (inr (bytes, is.0, fetched), rises is.1)
+run_stim_unfetched files file stim bytes Rises RisesHere (failure.Refused name why) rises fetched is = inl (is.1, inr (bytes, fetched, inl (is.0, is.2)))
+run_stim_unfetched files file stim bytes Rises RisesHere (failure.Unread name) rises fetched is = (inr (bytes, fetched, inl is.0), rises is.1)
 run_stim_unfetched files file stim bytes Rises RisesHere failure.Memory rises fetched is = tt
 
 -- the bytes of both have a run
@@ -131,13 +181,14 @@ run_unmade files file stim Rises failure.Memory a b is = tt
 pub unrun_network : (file stim : ReadFile) (s : Failure) → length file.bytes ≤ file_limit → HasNoNetwork file.name file.bytes s → IsUnrun file stim s
 unrun_network file stim (failure.Refused name why) within is = by why is
   where
-    by : (why : Refusal) → (name.now ≡ file.name) × HasNoNetworkFor file.bytes why → (name.now ≡ about file.name stim.name why) × IsNotRunFor file.bytes stim.bytes why
+    by : (why : Refusal) → (name.now ≡ file.name) × HasNoNetworkFor file.bytes why → (name.now ≡ about file.name file.name stim.name why) × IsNotRunFor file.bytes stim.bytes why
     by TooLong is = absurd (omega (arith, within, is.1))
     by (Blif line kind) is = is
     by (Flat line kind any) is = is
     by (TooMany limit count) is = is
     by (Deck line kind) is = absurd is.1
     by (Ports place) is = absurd is.1
+    by (NoNet any) is = absurd is.1
     by (Stim line kind) is = absurd is.1
 unrun_network file stim (failure.Unread name) within is = is
 unrun_network file stim failure.Memory within is = is

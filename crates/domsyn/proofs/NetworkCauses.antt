@@ -20,7 +20,7 @@ use Rattle.stim_text.specs.Stimuli.{IsStimFaultAt, IsStimulusOf}
 use Rattle.stim_text.specs.declared.fault.StimKind.{StimKind}
 use Rattle.stim_text.proofs.OneAnswer.{one_answer as stim_answer}
 use Rattle.domsyn.specs.declared.refusal.Refusal.{Refusal}
-use Rattle.domsyn.specs.declared.refusal.Refusal.TheVariants.{TooLong, Blif, Flat, TooMany, Deck, Ports, Stim}
+use Rattle.domsyn.specs.declared.refusal.Refusal.TheVariants.{TooLong, Blif, Flat, TooMany, Deck, Ports, NoNet, Stim}
 use Rattle.domsyn.specs.Networks.{HasNetwork, IsNotRunFor, IsRunOf, IsRunText, IsStimRefused, run_lines}
 use Rattle.domsyn.specs.Refusals.{HasNoNetworkFor, IsHierarchyRefused}
 
@@ -55,6 +55,7 @@ network_or_cause bytes n (Flat line kind name) x y = not_refused bytes n (hierar
 network_or_cause bytes n (TooMany limit count) x y = not_refused bytes n (hierarchy.TooMany limit count) x y
 network_or_cause bytes n (Deck line kind) x y = y
 network_or_cause bytes n (Ports place) x y = y
+network_or_cause bytes n (NoNet name) x y = y
 network_or_cause bytes n (Stim line kind) x y = y
 
 -- the causes of bytes are one
@@ -65,6 +66,7 @@ network_causes_alike bytes TooLong (Flat line kind name) x y = absurd (omega (ar
 network_causes_alike bytes TooLong (TooMany limit count) x y = absurd (omega (arith, x, y.within))
 network_causes_alike bytes TooLong (Deck line kind) x y = absurd y
 network_causes_alike bytes TooLong (Ports place) x y = absurd y
+network_causes_alike bytes TooLong (NoNet net) x y = absurd y
 network_causes_alike bytes TooLong (Stim line kind) x y = absurd y
 network_causes_alike bytes (Blif line kind) TooLong x y = absurd (omega (arith, y, x.within))
 network_causes_alike bytes (Blif line kind) (Blif other any) x y = let same = faults_alike bytes line other kind any x.fault y.fault in λ i. Blif (same.0 i) (same.1 i)
@@ -72,6 +74,7 @@ network_causes_alike bytes (Blif line kind) (Flat other any name) x y = absurd (
 network_causes_alike bytes (Blif line kind) (TooMany limit count) x y = absurd (y.accepted.no_fault line kind x.fault.fault)
 network_causes_alike bytes (Blif line kind) (Deck other any) x y = absurd y
 network_causes_alike bytes (Blif line kind) (Ports place) x y = absurd y
+network_causes_alike bytes (Blif line kind) (NoNet net) x y = absurd y
 network_causes_alike bytes (Blif line kind) (Stim other any) x y = absurd y
 network_causes_alike bytes (Flat line kind name) TooLong x y = absurd (omega (arith, y, x.within))
 network_causes_alike bytes (Flat line kind name) (Blif other any) x y = absurd (x.accepted.no_fault other any y.fault.fault)
@@ -85,6 +88,7 @@ network_causes_alike bytes (Flat line kind name) (TooMany limit count) x y =
     let same = hierarchies_alike bytes (hierarchy.At kind line name) (hierarchy.TooMany limit count) x y in absurd cc
 network_causes_alike bytes (Flat line kind name) (Deck other any) x y = absurd y
 network_causes_alike bytes (Flat line kind name) (Ports place) x y = absurd y
+network_causes_alike bytes (Flat line kind name) (NoNet net) x y = absurd y
 network_causes_alike bytes (Flat line kind name) (Stim other any) x y = absurd y
 network_causes_alike bytes (TooMany limit count) TooLong x y = absurd (omega (arith, y, x.within))
 network_causes_alike bytes (TooMany limit count) (Blif other any) x y = absurd (x.accepted.no_fault other any y.fault.fault)
@@ -97,9 +101,11 @@ network_causes_alike bytes (TooMany limit count) (TooMany most number) x y =
     λ i. TooMany (limits i) (counts i)
 network_causes_alike bytes (TooMany limit count) (Deck other any) x y = absurd y
 network_causes_alike bytes (TooMany limit count) (Ports place) x y = absurd y
+network_causes_alike bytes (TooMany limit count) (NoNet net) x y = absurd y
 network_causes_alike bytes (TooMany limit count) (Stim other any) x y = absurd y
 network_causes_alike bytes (Deck line kind) b x y = absurd x
 network_causes_alike bytes (Ports place) b x y = absurd x
+network_causes_alike bytes (NoNet name) b x y = absurd x
 network_causes_alike bytes (Stim line kind) b x y = absurd x
 
 -- bytes have one run over a stimulus
@@ -128,6 +134,7 @@ cause_of bytes stim (Flat line kind name) x = inl x
 cause_of bytes stim (TooMany limit count) x = inl x
 cause_of bytes stim (Deck line kind) x = absurd x
 cause_of bytes stim (Ports place) x = absurd x
+cause_of bytes stim (NoNet name) x = absurd x
 cause_of bytes stim (Stim line kind) x = inr (line, (kind, x, refl))
 
 -- and none where there is a cause

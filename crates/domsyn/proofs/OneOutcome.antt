@@ -1,27 +1,34 @@
 -- Over files that are known, a command has one outcome.
-use Rattle.std.proofs.Common.{◌≡◌, ◌≢◌, ◌<◌, ◌∙◌, ◌⊎◌, inl, inr, ℕ, List, length, Some, refl, sym, ap, subst, arith}
+use Rattle.std.proofs.Common.{◌≡◌, ◌≢◌, ◌<◌, ◌∙◌, ◌⊎◌, inl, inr, ℕ, List, [], ◌∷◌, length, None, Some, refl, sym, ap, subst, arith}
 use Rattle.std.specs.Prelude.{if◌then◌else◌}
 use Rattle.std.proofs.lemmas.Option.{same_Some}
 use Rattle.blif_ast.specs.Printed.{printed}
 use Rattle.dom_io.specs.Held.{file_limit, held}
 use Rattle.net_flatten.specs.OneModel.{file_of}
 use Rattle.domsyn.specs.declared.refusal.Refusal.{Refusal}
-use Rattle.domsyn.specs.declared.refusal.Refusal.TheVariants.{TooLong, Blif, Flat, TooMany, Deck, Ports, Stim}
-use Rattle.command_words.specs.Commands.{Command, Synth, Flat as flat, Run as run, Sim}
+use Rattle.domsyn.specs.declared.refusal.Refusal.TheVariants.{TooLong}
+use Rattle.command_words.specs.Commands.{Command, Synth, Flat as flat, Run as run, Sim, Cosim}
 use Rattle.plan_law.proofs.OneDeck.{synth_texts_one}
 use Rattle.synth_flow.specs.DeckTexts.{IsSynthText}
 use Rattle.synth_flow.specs.declared.options.SynthOptions.{SynthOptions}
 use Rattle.domsyn.specs.Decks.{IsDeckFor, bounds_of}
-use Rattle.domsyn.specs.Outcomes.{IsDeck, IsFile, IsFirstTooLong, IsFlat, HasNone, IsNoRun, IsNoTrace, IsOutcome, IsPrintedRun, IsRunRefusal, IsSimRefusal, IsTooLong, IsTrace, Outcome, Printed, Refused}
-use Rattle.domsyn.specs.Networks.{HasNetwork, IsNotRunFor, IsRunOf, about as about_run}
-use Rattle.domsyn.specs.Refusals.{HasNoNetworkFor}
+use Rattle.domsyn.specs.Outcomes.{IsComparison, IsDeck, IsFile, IsFirstTooLong, IsFlat, HasNone, IsNoComparison, IsNoRun, IsNoTrace, IsOutcome, IsPrintedRun, IsTooLong, IsTrace, Outcome, Printed, Refused, is_same}
+use Rattle.domsyn.specs.Networks.{HasNetwork, IsNotRunFor, IsRunOf}
+use Rattle.domsyn.specs.Refusals.{HasNoNetworkFor, IsFaulty, about, refusal_of}
 use Rattle.domsyn.proofs.NetworkCauses.{network_causes_alike, network_kept, network_or_cause, networks_alike, run_causes_alike, run_or_cause, runs_alike}
 use Rattle.trace_tool.specs.Refusals.{IsRefused}
 use Rattle.trace_tool.specs.TraceData.{TraceData, TraceOptionsData}
 use Rattle.trace_tool.specs.Traces.{IsTraceOf}
+use Rattle.trace_tool.specs.CosimRefusals.{IsCosimRefused}
+use Rattle.trace_tool.specs.VerdictLines.{verdict_line}
+use Rattle.trace_tool.specs.Verdicts.{IsVerdictOf}
 use Rattle.trace_tool.specs.declared.fault.TraceFault.{TraceFault}
-use Rattle.trace_tool.specs.declared.fault.TraceFault.TheVariants.{Deck as deck_fault, Ports as port_fault, Stim as stim_fault, Memory}
+use Rattle.trace_tool.specs.declared.fault.TraceFault.TheVariants.{Memory}
+use Rattle.trace_tool.specs.declared.options.Order.{Order}
+use Rattle.trace_tool.specs.declared.options.ProbeWord.{ProbeWord}
+use Rattle.trace_tool.specs.declared.verdict.Verdict.{Verdict}
 use Rattle.trace_tool.proofs.OneAnswer.{answer_is_one}
+use Rattle.trace_tool.proofs.OneVerdictOrCause.{verdict_is_one}
 
 abbrev pub Pairs : Type 0
 Pairs = List (List ℕ × List ℕ)
@@ -57,76 +64,111 @@ sim_printed known deck stim options s s' t t' x y =
     let same : first ≡ second = answer_is_one.trace x.deck_bytes x.stim_bytes options first second x.trace moved in
     printed_alike s s' t t' (x.status_is ∙ (ap (λ (trace : TraceData). if trace.settled then 0 else 6) same ∙ sym y.status_is)) (ap (λ (trace : TraceData). trace.text) same)
 
--- the file that a fault of a simulation tells of, and its cause
-about : List ℕ → List ℕ → TraceFault → List ℕ
-about deck stim (deck_fault line kind) = deck
-about deck stim (port_fault place) = deck
-about deck stim (stim_fault line kind) = stim
-about deck stim Memory = deck
+-- a fault that is reported as a cause isn't that it is out of memory
+pub reported_fault : (fault : TraceFault) (why : Refusal) → refusal_of fault ≡ Some why → fault ≢ Memory
+reported_fault fault why is = λ e. let none : None ≡ Some why = sym (ap refusal_of e) ∙ is in absurd cc
 
-cause_of : TraceFault → Refusal
-cause_of (deck_fault line kind) = Deck line kind
-cause_of (port_fault place) = Ports place
-cause_of (stim_fault line kind) = Stim line kind
-cause_of Memory = TooLong
+-- where files are refused for one fault, what is reported of it is one
+pub faulty_alike : (Refuses : TraceFault → Type 0) (file deck stim f f' : List ℕ) (w w' : Refusal)
+    → ((a b : TraceFault) → a ≢ Memory → b ≢ Memory → Refuses a → Refuses b → a ≡ b) → IsFaulty Refuses file deck stim f w → IsFaulty Refuses file deck stim f' w' → Refused f w ≡ Refused f' w'
+faulty_alike Refuses file deck stim f f' w w' one x y =
+    let same = one x.fault y.fault (reported_fault x.fault w x.cause) (reported_fault y.fault w' y.cause) x.refuses y.refuses in
+    let causes = same_Some w w' (sym x.cause ∙ ap refusal_of same ∙ y.cause) in
+    refused_alike f f' w w' (x.name_is ∙ ap (about file deck stim) causes ∙ sym y.name_is) causes
 
--- a deck and a stimulus that were read are refused for a fault
-record IsFaulty (known : Pairs) (deck stim name : List ℕ) (why : Refusal) : Type 0 where
-  pub fault : TraceFault
-  pub is_cause : fault ≢ Memory
-  pub no_trace : IsNoTrace (Some known) deck stim fault
-  pub name_is : name ≡ about deck stim fault
-  pub why_is : why ≡ cause_of fault
+-- files that were read: none is too long
+one_long : (known : Pairs) (file name bytes : List ℕ) → IsFile (Some known) file bytes → IsFirstTooLong (Some known) (file ∷ []) name → ⊥
+one_long known file name bytes a (inl long) = not_too_long known file bytes a long.1
+one_long known file name bytes a (inr more) = more.2
 
-record IsLong (known : Pairs) (deck stim name : List ℕ) (why : Refusal) : Type 0 where
-  pub first : IsFirstTooLong (Some known) deck stim name
-  pub why_is : why ≡ TooLong
-
-sim_cause : (known : Pairs) (deck stim name : List ℕ) (why : Refusal) → IsSimRefusal (Some known) deck stim name why → IsLong known deck stim name why ⊎ IsFaulty known deck stim name why
-unfolding about cause_of
-sim_cause known deck stim name TooLong is = inl (record { first = is; why_is = refl })
-sim_cause known deck stim name (Deck line kind) is = inr (record { fault = deck_fault line kind; is_cause = λ e. cc; no_trace = is.1; name_is = is.0; why_is = refl })
-sim_cause known deck stim name (Ports place) is = inr (record { fault = port_fault place; is_cause = λ e. cc; no_trace = is.1; name_is = is.0; why_is = refl })
-sim_cause known deck stim name (Stim line kind) is = inr (record { fault = stim_fault line kind; is_cause = λ e. cc; no_trace = is.1; name_is = is.0; why_is = refl })
-sim_cause known deck stim name (Blif line kind) is = absurd is
-sim_cause known deck stim name (Flat line kind any) is = absurd is
-sim_cause known deck stim name (TooMany limit count) is = absurd is
-
--- where both files were read, neither is too long
-pub no_long : (known : Pairs) (deck stim name deck_bytes stim_bytes : List ℕ) → IsFile (Some known) deck deck_bytes → IsFile (Some known) stim stim_bytes → IsFirstTooLong (Some known) deck stim name → ⊥
+pub no_long : (known : Pairs) (deck stim name deck_bytes stim_bytes : List ℕ) → IsFile (Some known) deck deck_bytes → IsFile (Some known) stim stim_bytes
+    → IsFirstTooLong (Some known) (deck ∷ stim ∷ []) name → ⊥
 no_long known deck stim name deck_bytes stim_bytes a b (inl long) = not_too_long known deck deck_bytes a long.1
-no_long known deck stim name deck_bytes stim_bytes a b (inr long) = not_too_long known stim stim_bytes b long.3
+no_long known deck stim name deck_bytes stim_bytes a b (inr more) = one_long known stim name stim_bytes b more.2
 
-pub first_alike : (known : Pairs) (deck stim f f' : List ℕ) → IsFirstTooLong (Some known) deck stim f → IsFirstTooLong (Some known) deck stim f' → f ≡ f'
-first_alike known deck stim f f' (inl x) (inl y) = x.0 ∙ sym y.0
-first_alike known deck stim f f' (inl x) (inr y) = absurd (not_too_long known deck y.0 y.2 x.1)
-first_alike known deck stim f f' (inr x) (inl y) = absurd (not_too_long known deck x.0 x.2 y.1)
-first_alike known deck stim f f' (inr x) (inr y) = x.1 ∙ sym y.1
+pub none_long : (known : Pairs) (file deck stim name bytes deck_bytes stim_bytes : List ℕ) → IsFile (Some known) file bytes → IsFile (Some known) deck deck_bytes → IsFile (Some known) stim stim_bytes
+    → IsFirstTooLong (Some known) (file ∷ deck ∷ stim ∷ []) name → ⊥
+none_long known file deck stim name bytes deck_bytes stim_bytes a b c (inl long) = not_too_long known file bytes a long.1
+none_long known file deck stim name bytes deck_bytes stim_bytes a b c (inr more) = no_long known deck stim name deck_bytes stim_bytes b c more.2
 
-refused_here : (known : Pairs) (deck stim deck_bytes stim_bytes : List ℕ) (fault : TraceFault) → IsFile (Some known) deck deck_bytes → IsFile (Some known) stim stim_bytes
-    → IsNoTrace (Some known) deck stim fault → IsRefused deck_bytes stim_bytes fault
-refused_here known deck stim deck_bytes stim_bytes fault a b x =
+-- the first file that is too long is one
+pub first_alike : (known : Pairs) (names : List (List ℕ)) (f f' : List ℕ) → IsFirstTooLong (Some known) names f → IsFirstTooLong (Some known) names f' → f ≡ f'
+first_alike known [] f f' x y = absurd x
+first_alike known (file ∷ more) f f' (inl x) (inl y) = x.0 ∙ sym y.0
+first_alike known (file ∷ more) f f' (inl x) (inr y) = absurd (not_too_long known file y.0 y.1 x.1)
+first_alike known (file ∷ more) f f' (inr x) (inl y) = absurd (not_too_long known file x.0 x.1 y.1)
+first_alike known (file ∷ more) f f' (inr x) (inr y) = first_alike known more f f' x.2 y.2
+
+-- the cause for which a deck and a stimulus have no trace
+sim_refused_here : (known : Pairs) (deck stim deck_bytes stim_bytes name : List ℕ) (probes : List ProbeWord) (why : Refusal) → IsFile (Some known) deck deck_bytes → IsFile (Some known) stim stim_bytes
+    → IsNoTrace (Some known) deck stim probes name why → IsFaulty (IsRefused deck_bytes stim_bytes probes) deck deck stim name why
+sim_refused_here known deck stim deck_bytes stim_bytes name probes why a b x =
     let decks = bytes_alike known deck x.deck_bytes deck_bytes x.is_deck.holds a.holds in
     let stims = bytes_alike known stim x.stim_bytes stim_bytes x.is_stim.holds b.holds in
-    subst (λ (bytes : List ℕ). IsRefused bytes stim_bytes fault) decks (subst (λ (bytes : List ℕ). IsRefused x.deck_bytes bytes fault) stims x.refused)
+    subst (λ (bytes : List ℕ). IsFaulty (IsRefused bytes stim_bytes probes) deck deck stim name why) decks
+    (subst (λ (bytes : List ℕ). IsFaulty (IsRefused x.deck_bytes bytes probes) deck deck stim name why) stims x.faulty)
 
-sim_refused : (known : Pairs) (deck stim f f' : List ℕ) (w w' : Refusal) → IsLong known deck stim f w ⊎ IsFaulty known deck stim f w → IsLong known deck stim f' w' ⊎ IsFaulty known deck stim f' w'
+-- the file that is refused, of a deck and a stimulus, and the cause
+abbrev IsSimRefusal : Pairs → List ℕ → List ℕ → List ProbeWord → List ℕ → Refusal → Type 0
+IsSimRefusal known deck stim probes name why = ((why ≡ TooLong) × IsFirstTooLong (Some known) (deck ∷ stim ∷ []) name) ⊎ IsNoTrace (Some known) deck stim probes name why
+
+sim_refused : (known : Pairs) (deck stim f f' : List ℕ) (probes : List ProbeWord) (w w' : Refusal) → IsSimRefusal known deck stim probes f w → IsSimRefusal known deck stim probes f' w'
     → Refused f w ≡ Refused f' w'
-sim_refused known deck stim f f' w w' (inl x) (inl y) = refused_alike f f' w w' (first_alike known deck stim f f' x.first y.first) (x.why_is ∙ sym y.why_is)
-sim_refused known deck stim f f' w w' (inl x) (inr y) = absurd (no_long known deck stim f y.no_trace.deck_bytes y.no_trace.stim_bytes y.no_trace.is_deck y.no_trace.is_stim x.first)
-sim_refused known deck stim f f' w w' (inr x) (inl y) = absurd (no_long known deck stim f' x.no_trace.deck_bytes x.no_trace.stim_bytes x.no_trace.is_deck x.no_trace.is_stim y.first)
-sim_refused known deck stim f f' w w' (inr x) (inr y) =
-    let n = x.no_trace in
-    let same : x.fault ≡ y.fault =
-    answer_is_one.cause n.deck_bytes n.stim_bytes x.fault y.fault x.is_cause y.is_cause n.refused (refused_here known deck stim n.deck_bytes n.stim_bytes y.fault n.is_deck n.is_stim y.no_trace) in
-    refused_alike f f' w w' (x.name_is ∙ (ap (about deck stim) same ∙ sym y.name_is)) (x.why_is ∙ (ap cause_of same ∙ sym y.why_is))
+sim_refused known deck stim f f' probes w w' (inl x) (inl y) = refused_alike f f' w w' (first_alike known (deck ∷ stim ∷ []) f f' x.1 y.1) (x.0 ∙ sym y.0)
+sim_refused known deck stim f f' probes w w' (inl x) (inr y) = absurd (no_long known deck stim f y.deck_bytes y.stim_bytes y.is_deck y.is_stim x.1)
+sim_refused known deck stim f f' probes w w' (inr x) (inl y) = absurd (no_long known deck stim f' x.deck_bytes x.stim_bytes x.is_deck x.is_stim y.1)
+sim_refused known deck stim f f' probes w w' (inr x) (inr y) =
+    faulty_alike (IsRefused x.deck_bytes x.stim_bytes probes) deck deck stim f f' w w' (answer_is_one.cause x.deck_bytes x.stim_bytes probes) x.faulty
+    (sim_refused_here known deck stim x.deck_bytes x.stim_bytes f' probes w' x.is_deck x.is_stim y)
 
 sim_apart : (known : Pairs) (deck stim f : List ℕ) (options : TraceOptionsData) (s : ℕ) (t : List ℕ) (w : Refusal)
-    → IsTrace (Some known) deck stim options s t → IsLong known deck stim f w ⊎ IsFaulty known deck stim f w → ⊥
-sim_apart known deck stim f options s t w x (inl y) = no_long known deck stim f x.deck_bytes x.stim_bytes x.is_deck x.is_stim y.first
+    → IsTrace (Some known) deck stim options s t → IsSimRefusal known deck stim options.probes f w → ⊥
+sim_apart known deck stim f options s t w x (inl y) = no_long known deck stim f x.deck_bytes x.stim_bytes x.is_deck x.is_stim y.1
 sim_apart known deck stim f options s t w x (inr y) =
-    answer_is_one.apart x.deck_bytes x.stim_bytes options (record { text = t; settled = x.settled }) y.fault y.is_cause x.trace
-    (refused_here known deck stim x.deck_bytes x.stim_bytes y.fault x.is_deck x.is_stim y.no_trace)
+    let faulty = sim_refused_here known deck stim x.deck_bytes x.stim_bytes f options.probes w x.is_deck x.is_stim y in
+    answer_is_one.apart x.deck_bytes x.stim_bytes options (record { text = t; settled = x.settled }) faulty.fault (reported_fault faulty.fault w faulty.cause) x.trace faulty.refuses
+
+-- the verdict of a deck beside a file over a stimulus
+module _ (known : Pairs) (file deck stim : List ℕ) (order : Order) (seed : ℕ) where
+  cosim_printed : (s s' : ℕ) (t t' : List ℕ) → IsComparison (Some known) file deck stim order seed s t → IsComparison (Some known) file deck stim order seed s' t' → Printed s t ≡ Printed s' t'
+  cosim_printed s s' t t' x y =
+      let files = bytes_alike known file y.bytes x.bytes y.is_file.holds x.is_file.holds in
+      let decks = bytes_alike known deck y.deck_bytes x.deck_bytes y.is_deck.holds x.is_deck.holds in
+      let stims = bytes_alike known stim y.stim_bytes x.stim_bytes y.is_stim.holds x.is_stim.holds in
+      let moved : IsVerdictOf x.bytes x.deck_bytes x.stim_bytes order seed y.verdict =
+      subst (λ (b : List ℕ). IsVerdictOf b x.deck_bytes x.stim_bytes order seed y.verdict) files
+      (subst (λ (b : List ℕ). IsVerdictOf y.bytes b x.stim_bytes order seed y.verdict) decks
+      (subst (λ (b : List ℕ). IsVerdictOf y.bytes y.deck_bytes b order seed y.verdict) stims y.is_verdict)) in
+      let same = verdict_is_one.verdict x.bytes x.deck_bytes x.stim_bytes order seed x.verdict y.verdict x.is_verdict moved in
+      printed_alike s s' t t' (x.status_is ∙ ap (λ (verdict : Verdict). if is_same verdict then 0 else 6) same ∙ sym y.status_is) (x.text_is ∙ ap verdict_line same ∙ sym y.text_is)
+
+  cosim_refused_here : (bytes deck_bytes stim_bytes name : List ℕ) (why : Refusal) → IsFile (Some known) file bytes → IsFile (Some known) deck deck_bytes → IsFile (Some known) stim stim_bytes
+      → IsNoComparison (Some known) file deck stim name why → IsFaulty (IsCosimRefused bytes deck_bytes stim_bytes) file deck stim name why
+  cosim_refused_here bytes deck_bytes stim_bytes name why a b c x =
+      let files = bytes_alike known file x.bytes bytes x.is_file.holds a.holds in
+      let decks = bytes_alike known deck x.deck_bytes deck_bytes x.is_deck.holds b.holds in
+      let stims = bytes_alike known stim x.stim_bytes stim_bytes x.is_stim.holds c.holds in
+      subst (λ (b : List ℕ). IsFaulty (IsCosimRefused b deck_bytes stim_bytes) file deck stim name why) files
+      (subst (λ (b : List ℕ). IsFaulty (IsCosimRefused x.bytes b stim_bytes) file deck stim name why) decks
+      (subst (λ (b : List ℕ). IsFaulty (IsCosimRefused x.bytes x.deck_bytes b) file deck stim name why) stims x.faulty))
+
+  -- the file that is refused, and the cause
+  abbrev IsCosimRefusal : List ℕ → Refusal → Type 0
+  IsCosimRefusal name why = ((why ≡ TooLong) × IsFirstTooLong (Some known) (file ∷ deck ∷ stim ∷ []) name) ⊎ IsNoComparison (Some known) file deck stim name why
+
+  cosim_refused : (f f' : List ℕ) (w w' : Refusal) → IsCosimRefusal f w → IsCosimRefusal f' w' → Refused f w ≡ Refused f' w'
+  cosim_refused f f' w w' (inl x) (inl y) = refused_alike f f' w w' (first_alike known (file ∷ deck ∷ stim ∷ []) f f' x.1 y.1) (x.0 ∙ sym y.0)
+  cosim_refused f f' w w' (inl x) (inr y) = absurd (none_long known file deck stim f y.bytes y.deck_bytes y.stim_bytes y.is_file y.is_deck y.is_stim x.1)
+  cosim_refused f f' w w' (inr x) (inl y) = absurd (none_long known file deck stim f' x.bytes x.deck_bytes x.stim_bytes x.is_file x.is_deck x.is_stim y.1)
+  cosim_refused f f' w w' (inr x) (inr y) =
+      faulty_alike (IsCosimRefused x.bytes x.deck_bytes x.stim_bytes) file deck stim f f' w w' (verdict_is_one.cause x.bytes x.deck_bytes x.stim_bytes) x.faulty
+      (cosim_refused_here x.bytes x.deck_bytes x.stim_bytes f' w' x.is_file x.is_deck x.is_stim y)
+
+  cosim_apart : (f : List ℕ) (s : ℕ) (t : List ℕ) (w : Refusal) → IsComparison (Some known) file deck stim order seed s t → IsCosimRefusal f w → ⊥
+  cosim_apart f s t w x (inl y) = none_long known file deck stim f x.bytes x.deck_bytes x.stim_bytes x.is_file x.is_deck x.is_stim y.1
+  cosim_apart f s t w x (inr y) =
+      let faulty = cosim_refused_here x.bytes x.deck_bytes x.stim_bytes f w x.is_file x.is_deck x.is_stim y in
+      verdict_is_one.apart x.bytes x.deck_bytes x.stim_bytes order seed x.verdict faulty.fault (reported_fault faulty.fault w faulty.cause) x.is_verdict faulty.refuses
 
 -- the network of a file
 flat_printed : (known : Pairs) (file : List ℕ) (s s' : ℕ) (t t' : List ℕ) → IsFlat (Some known) file s t → IsFlat (Some known) file s' t' → Printed s t ≡ Printed s' t'
@@ -176,15 +218,19 @@ module _ (known : Pairs) (file stim : List ℕ) where
       let stims = bytes_alike known stim x.stim_bytes stim_bytes x.is_stim.holds b.holds in
       subst (λ b. IsNotRunFor b stim_bytes w) files (subst (λ b. IsNotRunFor x.bytes b w) stims x.refused)
 
-  run_refused : (f f' : List ℕ) (w w' : Refusal) → IsRunRefusal (Some known) file stim f w → IsRunRefusal (Some known) file stim f' w' → Refused f w ≡ Refused f' w'
-  run_refused f f' w w' (inl x) (inl y) = refused_alike f f' w w' (first_alike known file stim f f' x.1 y.1) (x.0 ∙ sym y.0)
+  -- the file that is refused, and the cause
+  abbrev IsRunRefusal : List ℕ → Refusal → Type 0
+  IsRunRefusal name why = ((why ≡ TooLong) × IsFirstTooLong (Some known) (file ∷ stim ∷ []) name) ⊎ IsNoRun (Some known) file stim name why
+
+  run_refused : (f f' : List ℕ) (w w' : Refusal) → IsRunRefusal f w → IsRunRefusal f' w' → Refused f w ≡ Refused f' w'
+  run_refused f f' w w' (inl x) (inl y) = refused_alike f f' w w' (first_alike known (file ∷ stim ∷ []) f f' x.1 y.1) (x.0 ∙ sym y.0)
   run_refused f f' w w' (inl x) (inr y) = absurd (no_long known file stim f y.bytes y.stim_bytes y.is_file y.is_stim x.1)
   run_refused f f' w w' (inr x) (inl y) = absurd (no_long known file stim f' x.bytes x.stim_bytes x.is_file x.is_stim y.1)
   run_refused f f' w w' (inr x) (inr y) =
       let same = run_causes_alike x.bytes x.stim_bytes w w' x.refused (not_run_here x.bytes x.stim_bytes f' w' x.is_file x.is_stim y) in
-      refused_alike f f' w w' (x.name_is ∙ ap (about_run file stim) same ∙ sym y.name_is) same
+      refused_alike f f' w w' (x.name_is ∙ ap (about file file stim) same ∙ sym y.name_is) same
 
-  run_apart : (f : List ℕ) (s : ℕ) (t : List ℕ) (w : Refusal) → IsPrintedRun (Some known) file stim s t → IsRunRefusal (Some known) file stim f w → ⊥
+  run_apart : (f : List ℕ) (s : ℕ) (t : List ℕ) (w : Refusal) → IsPrintedRun (Some known) file stim s t → IsRunRefusal f w → ⊥
   run_apart f s t w x (inl y) = no_long known file stim f x.bytes x.stim_bytes x.is_file x.is_stim y.1
   run_apart f s t w x (inr y) = run_or_cause x.bytes x.stim_bytes t w x.run_is (not_run_here x.bytes x.stim_bytes f w x.is_file x.is_stim y)
 
@@ -202,6 +248,10 @@ one_outcome known (run file stim) (Printed s t) (Refused f w) x y = absurd (run_
 one_outcome known (run file stim) (Refused f w) (Printed s t) x y = absurd (run_apart known file stim f s t w y x)
 one_outcome known (run file stim) (Refused f w) (Refused f' w') x y = run_refused known file stim f f' w w' x y
 one_outcome known (Sim deck stim options) (Printed s t) (Printed s' t') x y = sim_printed known deck stim options s s' t t' x y
-one_outcome known (Sim deck stim options) (Printed s t) (Refused f w) x y = absurd (sim_apart known deck stim f options s t w x (sim_cause known deck stim f w y))
-one_outcome known (Sim deck stim options) (Refused f w) (Printed s t) x y = absurd (sim_apart known deck stim f options s t w y (sim_cause known deck stim f w x))
-one_outcome known (Sim deck stim options) (Refused f w) (Refused f' w') x y = sim_refused known deck stim f f' w w' (sim_cause known deck stim f w x) (sim_cause known deck stim f' w' y)
+one_outcome known (Sim deck stim options) (Printed s t) (Refused f w) x y = absurd (sim_apart known deck stim f options s t w x y)
+one_outcome known (Sim deck stim options) (Refused f w) (Printed s t) x y = absurd (sim_apart known deck stim f options s t w y x)
+one_outcome known (Sim deck stim options) (Refused f w) (Refused f' w') x y = sim_refused known deck stim f f' options.probes w w' x y
+one_outcome known (Cosim file deck stim order seed) (Printed s t) (Printed s' t') x y = cosim_printed known file deck stim order seed s s' t t' x y
+one_outcome known (Cosim file deck stim order seed) (Printed s t) (Refused f w) x y = absurd (cosim_apart known file deck stim order seed f s t w x y)
+one_outcome known (Cosim file deck stim order seed) (Refused f w) (Printed s t) x y = absurd (cosim_apart known file deck stim order seed f s t w y x)
+one_outcome known (Cosim file deck stim order seed) (Refused f w) (Refused f' w') x y = cosim_refused known file deck stim order seed f f' w w' x y

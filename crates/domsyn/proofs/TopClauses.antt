@@ -1,15 +1,29 @@
 -- The clauses of `top`: what the words ask for has one outcome, and what the status says of it.
-use Rattle.std.proofs.Common.{◌≡◌, ◌⊎◌, ℕ, List, None, Some, inl, inr, subst}
-use Rattle.std.specs.Prelude.{IfSome}
+use Rattle.std.proofs.Common.{◌≡◌, ◌⊎◌, ℕ, List, None, Some, inl, inr, refl, rules, subst}
+use Rattle.std.specs.Prelude.{IfSome, IsSome, MatchOption, Option}
 use Rattle.domsyn.specs.declared.refusal.Refusal.{Refusal}
-use Rattle.command_words.specs.Commands.{Asks, Command, Synth}
-use Rattle.synth_flow.specs.declared.options.SynthOptions.{SynthOptions}
+use Rattle.command_words.specs.Asked.{asked}
+use Rattle.command_words.specs.Commands.{Asks, Command, command_for}
+use Rattle.command_words.specs.declared.command.Command.{Command as Read}
 use Rattle.domsyn.specs.Outcomes.{Files, IsOutcome, Outcome, Refused, Printed, status_of}
 use Rattle.domsyn.specs.Refusals.{refusal_line}
-use Rattle.domsyn.specs.Headline.{IsRightDeckOfFile, IsRightFor}
 use Rattle.domsyn.specs.Top.{HasOutcome}
 use Rattle.command_words.proofs.AskedOnce.{asks_one}
 use Rattle.domsyn.proofs.OneOutcome.{one_outcome}
+
+-- words ask for the command that was found
+pub asks_found : (words : List (List ℕ)) (found : Option Read) (command : Read) → found ≡ Some command
+    → MatchOption found ((command : Command) → Asks words command → ⊥) (λ command. Asks words (asked command)) → Asks words (asked command)
+asks_found words found command is asks =
+    subst (λ (found : Option Read). MatchOption found ((command : Command) → Asks words command → ⊥) (λ command. Asks words (asked command))) is asks
+
+-- words that ask for something ask for a command
+pub asks_some : (words : List (List ℕ)) → IsSome (command_for words) → ((command : Command) → Asks words command → ⊥) → ⊥
+asks_some words some none = by (command_for words) refl some
+  where
+    by : (o : Option Command) → command_for words ≡ o → IsSome o → ⊥
+    by None e is = search rules
+    by (Some command) e is = none command e
 
 -- over files that are known the words have one outcome
 outcome_once : (known : List (List ℕ × List ℕ)) (words : List (List ℕ)) (a b : Outcome) → HasOutcome (Some known) words a → HasOutcome (Some known) words b → a ≡ b
@@ -32,11 +46,6 @@ each_refusal (Some known) words file why P comes p = λ name cause is. subst Q (
     Q : Outcome → Type 0
     Q (Printed status text) = Unit {0}
     Q (Refused name cause) = P (refusal_line name cause)
-
--- where the words ask for the deck of a file, a text that is right for what they ask is a right deck of that file
-pub right_deck : (files : Files) (words : List (List ℕ)) (command : Command) (text file : List ℕ) (options : SynthOptions) → Asks words command → Asks words (Synth file options) → IsRightFor files command text
-    → IsRightDeckOfFile files file options.bounds.w options.bounds.h options.phases text
-right_deck files words command text file options asks synth is = subst (λ c. IsRightFor files c text) (asks_one words command (Synth file options) asks synth) is
 
 -- the status of a text that was put out, where no count rose: that of each outcome
 pub finished_complete : {files : Files} {words : List (List ℕ)} {status : ℕ} (text : List ℕ) {result : ℕ} (Rises : Type 0) {Fails : Type 0} → HasOutcome files words (Printed status text) → (result ≡ status) ⊎ (result ≡ 4)

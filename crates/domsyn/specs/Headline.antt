@@ -3,7 +3,7 @@
 -- Integrated Circuits) at switch level (Bryant). `IsRightDeck` says it by the ports of the deck alone (`deck_law/specs/Headline`): for every
 -- input stream and every order of net events.
 use Rattle.std.specs.Prelude.{ℕ, List}
-use Rattle.command_words.specs.Commands.{Asks, Command, Synth, Flat, Run, Sim}
+use Rattle.command_words.specs.Commands.{Asks, Command, Synth, Flat, Run, Sim, Cosim}
 use Rattle.deck_law.specs.Headline.{IsRightDeck}
 use Rattle.synth_flow.specs.declared.options.SynthOptions.{SynthOptions}
 use Rattle.domsyn.specs.Outcomes.{Files, IsFile}
@@ -20,6 +20,7 @@ IsRightFor files (Synth file options) text = IsRightDeckOfFile files file option
 IsRightFor files (Flat file) text = Unit {0}
 IsRightFor files (Run file stim) text = Unit {0}
 IsRightFor files (Sim deck stim options) text = Unit {0}
+IsRightFor files (Cosim file deck stim order seed) text = Unit {0}
 
 -- where the words ask for the deck of a file with options, such a text is put out
 abbrev pub GivesRightDeck : Files → List (List ℕ) → (List ℕ → Type 0) → Type 0

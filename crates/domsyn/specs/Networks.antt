@@ -13,7 +13,7 @@ use Rattle.stim_text.specs.Stimuli.{IsStimFaultAt, IsStimulusOf}
 use Rattle.stim_text.specs.declared.fault.StimKind.{StimKind}
 use Rattle.domsyn.specs.Bits.{tri_of}
 use Rattle.domsyn.specs.declared.refusal.Refusal.{Refusal}
-use Rattle.domsyn.specs.declared.refusal.Refusal.TheVariants.{TooLong, Blif, Flat, TooMany, Deck, Ports, Stim}
+use Rattle.domsyn.specs.declared.refusal.Refusal.TheVariants.{TooLong, Blif, Flat, TooMany, Deck, Ports, NoNet, Stim}
 use Rattle.domsyn.specs.Refusals.{HasNoNetworkFor}
 
 -- no more bytes than a file may have, which are accepted, and the network of their file
@@ -60,14 +60,5 @@ IsNotRunFor bytes stim (Flat line kind name) = HasNoNetworkFor bytes (Flat line 
 IsNotRunFor bytes stim (TooMany limit count) = HasNoNetworkFor bytes (TooMany limit count)
 IsNotRunFor bytes stim (Deck line kind) = ⊥
 IsNotRunFor bytes stim (Ports place) = ⊥
+IsNotRunFor bytes stim (NoNet name) = ⊥
 IsNotRunFor bytes stim (Stim line kind) = IsStimRefused bytes stim line kind
-
--- of a file and a stimulus the one that a cause is about
-abbrev pub about : List ℕ → List ℕ → Refusal → List ℕ
-about file stim (Stim line kind) = stim
-about file stim TooLong = file
-about file stim (Blif line kind) = file
-about file stim (Flat line kind name) = file
-about file stim (TooMany limit count) = file
-about file stim (Deck line kind) = file
-about file stim (Ports place) = file

@@ -1,21 +1,26 @@
 -- The outcome of a command over files: a text with its status, or the file that is refused and the cause.
-use Rattle.std.specs.Prelude.{ℕ, ◌<◌, ◌≤◌, ◌≡◌, ◌⊎◌, Bool, if◌then◌else◌, List, Option, Some, IfSome, length}
+use Rattle.std.specs.Prelude.{ℕ, ◌<◌, ◌≤◌, ◌≡◌, ◌⊎◌, Bool, true, false, if◌then◌else◌, List, [], ◌∷◌, Option, Some, IfSome, length}
 use Rattle.dom_io.specs.Held.{file_limit, held}
 use Rattle.blif_ast.specs.Printed.{printed}
 use Rattle.net_flatten.specs.NetworkData.{NetworkData}
 use Rattle.net_flatten.specs.OneModel.{file_of}
 use Rattle.domsyn.specs.declared.refusal.Refusal.{Refusal}
-use Rattle.domsyn.specs.declared.refusal.Refusal.TheVariants.{TooLong, Blif, Flat, TooMany, Deck, Ports, Stim}
-use Rattle.command_words.specs.Commands.{Command, Synth, Flat as flat, Run as run, Sim}
+use Rattle.domsyn.specs.declared.refusal.Refusal.TheVariants.{TooLong}
+use Rattle.command_words.specs.Commands.{Command, Synth, Flat, Run, Sim, Cosim, files_of}
 use Rattle.synth_flow.specs.declared.options.SynthOptions.{SynthOptions}
 use Rattle.domsyn.specs.Decks.{IsDeckFor, bounds_of}
-use Rattle.domsyn.specs.Networks.{HasNetwork, IsNotRunFor, IsRunOf, about}
-use Rattle.domsyn.specs.Refusals.{HasNoNetworkFor}
+use Rattle.domsyn.specs.Networks.{HasNetwork, IsNotRunFor, IsRunOf}
+use Rattle.domsyn.specs.Refusals.{HasNoNetworkFor, IsFaulty, about}
+use Rattle.trace_tool.specs.CosimRefusals.{IsCosimRefused}
 use Rattle.trace_tool.specs.Refusals.{IsRefused}
 use Rattle.trace_tool.specs.TraceData.{TraceOptionsData}
 use Rattle.trace_tool.specs.Traces.{IsTraceOf}
-use Rattle.trace_tool.specs.declared.fault.TraceFault.{TraceFault}
-use Rattle.trace_tool.specs.declared.fault.TraceFault.TheVariants.{Deck as deck_fault, Ports as port_fault, Stim as stim_fault}
+use Rattle.trace_tool.specs.VerdictLines.{verdict_line}
+use Rattle.trace_tool.specs.Verdicts.{IsVerdictOf}
+use Rattle.trace_tool.specs.declared.options.Order.{Order}
+use Rattle.trace_tool.specs.declared.options.ProbeWord.{ProbeWord}
+use Rattle.trace_tool.specs.declared.verdict.Verdict.{Verdict}
+use Rattle.trace_tool.specs.declared.verdict.Verdict.TheVariants.{Same, Differ, PortsDiffer, Unsettled}
 
 -- names with their bytes, where they are known
 abbrev pub Files : Type 0
@@ -35,6 +40,17 @@ pub record IsTooLong (files : Files) (name : List ℕ) : Type 0 where
   pub bytes : List ℕ
   pub holds : HasBytes files name bytes
   pub long : file_limit < length bytes
+
+-- the first of these files that has too many bytes
+abbrev pub IsFirstTooLong : Files → List (List ℕ) → List ℕ → Type 0
+IsFirstTooLong files [] name = ⊥
+IsFirstTooLong files (file ∷ more) name =
+    ((name ≡ file) × IsTooLong files file) ⊎ ((bytes : List ℕ) × IsFile files file bytes × IsFirstTooLong files more name)
+
+-- one of these files, before which each one was read and isn't too long
+abbrev pub IsUnreadOf : Files → List (List ℕ) → List ℕ → Type 0
+IsUnreadOf files [] name = ⊥
+IsUnreadOf files (file ∷ more) name = (name ≡ file) ⊎ ((bytes : List ℕ) × IsFile files file bytes × IsUnreadOf files more name)
 
 -- the outcome of a command: a text with its status, or the file that is refused and the cause
 pub data Outcome : Type 0 where
@@ -78,12 +94,6 @@ pub record IsTrace (files : Files) (deck stim : List ℕ) (options : TraceOption
   pub trace : IsTraceOf deck_bytes stim_bytes options (record { text = text; settled = settled })
   pub status_is : status ≡ (if settled then 0 else 6)
 
--- the first of two files that has too many bytes
-abbrev pub IsFirstTooLong : Files → List ℕ → List ℕ → List ℕ → Type 0
-IsFirstTooLong files deck stim name =
-    ((name ≡ deck) × IsTooLong files deck)
-    ⊎ ((bytes : List ℕ) × (name ≡ stim) × IsFile files deck bytes × IsTooLong files stim)
-
 -- the run of the network of a file over a stimulus
 pub record IsPrintedRun (files : Files) (file stim : List ℕ) (status : ℕ) (text : List ℕ) : Type 0 where
   pub bytes : List ℕ
@@ -100,44 +110,65 @@ pub record IsNoRun (files : Files) (file stim name : List ℕ) (why : Refusal) :
   pub is_file : IsFile files file bytes
   pub is_stim : IsFile files stim stim_bytes
   pub refused : IsNotRunFor bytes stim_bytes why
-  pub name_is : name ≡ about file stim why
-
--- the file that is refused, of a file and a stimulus for its network, and the cause
-abbrev pub IsRunRefusal : Files → List ℕ → List ℕ → List ℕ → Refusal → Type 0
-IsRunRefusal files file stim name why = ((why ≡ TooLong) × IsFirstTooLong files file stim name) ⊎ IsNoRun files file stim name why
+  pub name_is : name ≡ about file file stim why
 
 -- a deck and a stimulus of files are not simulated for this cause
-pub record IsNoTrace (files : Files) (deck stim : List ℕ) (fault : TraceFault) : Type 0 where
+pub record IsNoTrace (files : Files) (deck stim : List ℕ) (probes : List ProbeWord) (name : List ℕ) (why : Refusal) : Type 0 where
   pub deck_bytes : List ℕ
   pub stim_bytes : List ℕ
   pub is_deck : IsFile files deck deck_bytes
   pub is_stim : IsFile files stim stim_bytes
-  pub refused : IsRefused deck_bytes stim_bytes fault
+  pub faulty : IsFaulty (IsRefused deck_bytes stim_bytes probes) deck deck stim name why
 
--- the file that is refused, of a deck and a stimulus, and the cause
-abbrev pub IsSimRefusal : Files → List ℕ → List ℕ → List ℕ → Refusal → Type 0
-IsSimRefusal files deck stim name TooLong = IsFirstTooLong files deck stim name
-IsSimRefusal files deck stim name (Deck line kind) = (name ≡ deck) × IsNoTrace files deck stim (deck_fault line kind)
-IsSimRefusal files deck stim name (Ports place) = (name ≡ deck) × IsNoTrace files deck stim (port_fault place)
-IsSimRefusal files deck stim name (Stim line kind) = (name ≡ stim) × IsNoTrace files deck stim (stim_fault line kind)
-IsSimRefusal files deck stim name (Blif line kind) = ⊥
-IsSimRefusal files deck stim name (Flat line kind any) = ⊥
-IsSimRefusal files deck stim name (TooMany limit count) = ⊥
+-- the verdict is that all is the same
+abbrev pub is_same : Verdict → Bool
+is_same (Same cycles events) = true
+is_same (Differ cycle pin wanted found) = false
+is_same (PortsDiffer place) = false
+is_same (Unsettled cycle events) = false
+
+-- the verdict of a deck beside a file over a stimulus; the status says whether all is the same
+pub record IsComparison (files : Files) (file deck stim : List ℕ) (order : Order) (seed : ℕ) (status : ℕ) (text : List ℕ) : Type 0 where
+  pub bytes : List ℕ
+  pub deck_bytes : List ℕ
+  pub stim_bytes : List ℕ
+  pub verdict : Verdict
+  pub is_file : IsFile files file bytes
+  pub is_deck : IsFile files deck deck_bytes
+  pub is_stim : IsFile files stim stim_bytes
+  pub is_verdict : IsVerdictOf bytes deck_bytes stim_bytes order seed verdict
+  pub text_is : text ≡ verdict_line verdict
+  pub status_is : status ≡ (if is_same verdict then 0 else 6)
+
+-- a file, a deck and a stimulus of files have no verdict for this cause
+pub record IsNoComparison (files : Files) (file deck stim name : List ℕ) (why : Refusal) : Type 0 where
+  pub bytes : List ℕ
+  pub deck_bytes : List ℕ
+  pub stim_bytes : List ℕ
+  pub is_file : IsFile files file bytes
+  pub is_deck : IsFile files deck deck_bytes
+  pub is_stim : IsFile files stim stim_bytes
+  pub faulty : IsFaulty (IsCosimRefused bytes deck_bytes stim_bytes) file deck stim name why
+
+-- the first of the files is refused that is too long, and else one for this cause
+abbrev pub IsRefusalOf : Files → List (List ℕ) → Type 0 → List ℕ → Refusal → Type 0
+IsRefusalOf files names Refuses name why = ((why ≡ TooLong) × IsFirstTooLong files names name) ⊎ Refuses
 
 -- the command has this outcome over these files
 abbrev pub IsOutcome : Files → Command → Outcome → Type 0
 IsOutcome files (Synth file options) (Printed status text) = IsDeck files file options status text
 IsOutcome files (Synth file options) (Refused name why) = HasNone files file name why
-IsOutcome files (flat file) (Printed status text) = IsFlat files file status text
-IsOutcome files (flat file) (Refused name why) = HasNone files file name why
-IsOutcome files (run file stim) (Printed status text) = IsPrintedRun files file stim status text
-IsOutcome files (run file stim) (Refused name why) = IsRunRefusal files file stim name why
+IsOutcome files (Flat file) (Printed status text) = IsFlat files file status text
+IsOutcome files (Flat file) (Refused name why) = HasNone files file name why
+IsOutcome files (Run file stim) (Printed status text) = IsPrintedRun files file stim status text
+IsOutcome files (Run file stim) (Refused name why) = IsRefusalOf files (file ∷ stim ∷ []) (IsNoRun files file stim name why) name why
 IsOutcome files (Sim deck stim options) (Printed status text) = IsTrace files deck stim options status text
-IsOutcome files (Sim deck stim options) (Refused name why) = IsSimRefusal files deck stim name why
+IsOutcome files (Sim deck stim options) (Refused name why) =
+    IsRefusalOf files (deck ∷ stim ∷ []) (IsNoTrace files deck stim options.probes name why) name why
+IsOutcome files (Cosim file deck stim order seed) (Printed status text) = IsComparison files file deck stim order seed status text
+IsOutcome files (Cosim file deck stim order seed) (Refused name why) =
+    IsRefusalOf files (file ∷ deck ∷ stim ∷ []) (IsNoComparison files file deck stim name why) name why
 
 -- a file of the command, before which each one was read and isn't too long
 abbrev pub IsUnread : Files → Command → List ℕ → Type 0
-IsUnread files (Synth file options) name = name ≡ file
-IsUnread files (flat file) name = name ≡ file
-IsUnread files (run file stim) name = (name ≡ file) ⊎ ((bytes : List ℕ) × (name ≡ stim) × IsFile files file bytes)
-IsUnread files (Sim deck stim options) name = (name ≡ deck) ⊎ ((bytes : List ℕ) × (name ≡ stim) × IsFile files deck bytes)
+IsUnread files command name = IsUnreadOf files (files_of command) name

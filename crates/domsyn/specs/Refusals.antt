@@ -1,5 +1,5 @@
 -- Why a file is refused, and the line that reports it.
-use Rattle.std.specs.Prelude.{ℕ, ◌≤◌, ◌<◌, List, ◌++◌, length, codes}
+use Rattle.std.specs.Prelude.{ℕ, ◌≡◌, ◌≤◌, ◌<◌, List, [], ◌++◌, Option, None, Some, length, codes}
 use Rattle.std.specs.Fmt.{decimal}
 use Rattle.dom_io.specs.Held.{file_limit}
 use Rattle.blif_ast.specs.BlifFileData.{BlifFileData}
@@ -7,6 +7,7 @@ use Rattle.blif_ast.specs.declared.kind.BlifKind.{BlifKind}
 use Rattle.blif_ast.specs.Faults.{blif_kind_number, blif_kind_word}
 use Rattle.blif_ast.specs.Reading.{IsBlifFaultAt, IsFileOf}
 use Rattle.deck.specs.DeckKinds.{deck_kind_number, deck_kind_word}
+use Rattle.net_flatten.specs.declared.fault.FlatFault.TheVariants as flat_fault
 use Rattle.net_flatten.specs.declared.fault.FlatKind.{FlatKind}
 use Rattle.net_flatten.specs.declared.fault.Limit.{Limit}
 use Rattle.net_flatten.specs.Kinds.{flat_kind_number, flat_kind_word, limit_word, too_many_number}
@@ -14,8 +15,10 @@ use Rattle.net_flatten.specs.Refusal.{Refusal as Hierarchy}
 use Rattle.net_flatten.specs.Refusal as hierarchy
 use Rattle.net_flatten.specs.Refusals.{IsRefusal}
 use Rattle.domsyn.specs.declared.refusal.Refusal.{Refusal}
-use Rattle.domsyn.specs.declared.refusal.Refusal.TheVariants.{TooLong, Blif, Flat, TooMany, Deck, Ports, Stim}
+use Rattle.domsyn.specs.declared.refusal.Refusal.TheVariants.{TooLong, Blif, Flat, TooMany, Deck, Ports, NoNet, Stim}
 use Rattle.stim_text.specs.Stimuli.{stim_kind_word}
+use Rattle.trace_tool.specs.declared.fault.TraceFault.{TraceFault}
+use Rattle.trace_tool.specs.declared.fault.TraceFault.TheVariants as trace_fault
 
 -- no more bytes than a file may have, with a fault of this kind at this line: the first line with a fault, and its smallest kind
 pub record IsFaultyAt (bytes : List ℕ) (line : ℕ) (kind : BlifKind) : Type 0 where
@@ -37,6 +40,7 @@ HasNoNetworkFor bytes (Flat line kind name) = IsHierarchyRefused bytes (hierarch
 HasNoNetworkFor bytes (TooMany limit count) = IsHierarchyRefused bytes (hierarchy.TooMany limit count)
 HasNoNetworkFor bytes (Deck line kind) = ⊥
 HasNoNetworkFor bytes (Ports place) = ⊥
+HasNoNetworkFor bytes (NoNet name) = ⊥
 HasNoNetworkFor bytes (Stim line kind) = ⊥
 
 -- the text of a kind of a hierarchy with its line and name, and of too many of something
@@ -49,7 +53,37 @@ abbrev pub count_text : Limit → ℕ → List ℕ
 count_text limit count =
     codes ": blif " ++ decimal too_many_number ++ codes " TooMany " ++ limit_word limit ++ codes " " ++ decimal count ++ codes "\n"
 
--- what the line for a cause says behind the file's name
+-- of a file, a deck and a stimulus the one that a cause is about
+abbrev pub about : (file deck stim : List ℕ) → Refusal → List ℕ
+about file deck stim TooLong = file
+about file deck stim (Blif line kind) = file
+about file deck stim (Flat line kind name) = file
+about file deck stim (TooMany limit count) = file
+about file deck stim (Deck line kind) = deck
+about file deck stim (Ports place) = deck
+about file deck stim (NoNet name) = deck
+about file deck stim (Stim line kind) = stim
+
+-- the cause that is reported of a fault of a simulation; none where it is out of memory
+abbrev pub refusal_of : TraceFault → Option Refusal
+refusal_of (trace_fault.Blif line kind) = Some (Blif line kind)
+refusal_of (trace_fault.Flat (flat_fault.At line kind name)) = Some (Flat line kind name)
+refusal_of (trace_fault.Flat (flat_fault.TooMany limit count)) = Some (TooMany limit count)
+refusal_of (trace_fault.Flat flat_fault.Memory) = None
+refusal_of (trace_fault.Deck line kind) = Some (Deck line kind)
+refusal_of (trace_fault.Ports place) = Some (Ports place)
+refusal_of (trace_fault.NoNet name) = Some (NoNet name)
+refusal_of (trace_fault.Stim line kind) = Some (Stim line kind)
+refusal_of trace_fault.Memory = None
+
+-- a file, a deck and a stimulus are refused for a fault, which is reported as this cause, of the one that the cause is about
+pub record IsFaulty (Refuses : TraceFault → Type 0) (file deck stim name : List ℕ) (why : Refusal) : Type 0 where
+  pub fault : TraceFault
+  pub refuses : Refuses fault
+  pub cause : refusal_of fault ≡ Some why
+  pub name_is : name ≡ about file deck stim why
+
+-- what the line for a cause says behind its subject
 abbrev pub refusal_text : Refusal → List ℕ
 refusal_text TooLong = codes ": too long\n"
 refusal_text (Blif line kind) =
@@ -59,8 +93,20 @@ refusal_text (TooMany limit count) = count_text limit count
 refusal_text (Deck line kind) =
     codes ":" ++ decimal line ++ codes ": deck " ++ decimal (deck_kind_number kind) ++ codes " " ++ deck_kind_word kind ++ codes "\n"
 refusal_text (Ports place) = codes ": deck port " ++ decimal place ++ codes "\n"
+refusal_text (NoNet name) = codes "no net " ++ name ++ codes "\n"
 refusal_text (Stim line kind) = codes ":" ++ decimal line ++ codes ": stim " ++ stim_kind_word kind ++ codes "\n"
+
+-- the subject of the line: the file's name; the line of a net that the deck doesn't have names no file
+abbrev pub subject : List ℕ → Refusal → List ℕ
+subject file TooLong = file
+subject file (Blif line kind) = file
+subject file (Flat line kind name) = file
+subject file (TooMany limit count) = file
+subject file (Deck line kind) = file
+subject file (Ports place) = file
+subject file (NoNet name) = []
+subject file (Stim line kind) = file
 
 -- the line on `err` for a file that is refused
 abbrev pub refusal_line : List ℕ → Refusal → List ℕ
-refusal_line file why = codes "domsyn: " ++ file ++ refusal_text why
+refusal_line file why = codes "domsyn: " ++ subject file why ++ refusal_text why

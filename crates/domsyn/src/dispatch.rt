@@ -2,13 +2,14 @@
 ghost use Rattle.std.specs.Prelude.{◌≡◌, ◌≤◌, ◌↔◌, ℕ, List, All, IfOk, IsErrOf, if◌then◌else◌};
 ghost use Rattle.dom_io.specs.Faults.{Rose};
 ghost use Rattle.command_words.specs.Asked.{asked};
-ghost use Rattle.command_words.specs.Commands.{HasGoodOptions, HasNoProbe, files_of};
+ghost use Rattle.command_words.specs.Commands.{HasGoodOptions, files_of};
 ghost use Rattle.domsyn.specs.declared.failure.Failure.{Failure as Failed};
 ghost use Rattle.domsyn.specs.Failures.{IsFailureOf};
 ghost use Rattle.domsyn.specs.Headline.{IsRightFor};
 ghost use Rattle.domsyn.specs.Outcomes.{IsOutcome, Printed};
 
 use crate::answer::Answer;
+use crate::cosim::cosim;
 use crate::failure::Failure;
 use crate::flat::flat;
 use crate::run::run;
@@ -25,7 +26,6 @@ pub fn outcome_of<'a, S: Shelf>(
     shelf: &mut S,
 ) -> Result<Answer, Failure<'a>>
     requires names { All (S.may_ask shelf.old) (files_of (asked command.now)) }
-    requires no_probe { HasNoProbe (asked command.now) }
     requires good_options { HasGoodOptions (asked command.now) }
     ensures text { IfOk result (λ answer.
         IsOutcome (S.files shelf.old) (asked command.now) (Printed (if answer.settled then 0 else 6) answer.text.items)) }
@@ -45,5 +45,12 @@ pub fn outcome_of<'a, S: Shelf>(
             stim,
             options,
         } => sim(alloc, shelf, deck, stim, options),
+        Command::Cosim {
+            file,
+            deck,
+            stim,
+            order,
+            seed,
+        } => cosim(alloc, shelf, file, deck, stim, *order, *seed),
     }
 }

@@ -15,9 +15,8 @@ use crate::answer::Answer;
 use crate::failure::Failure;
 use crate::fetch::fetch;
 use crate::network::network_of;
-use blif_ast::print;
 use dom_io::Shelf;
-use net_flatten::to_file;
+use net_flatten::print_network;
 use std::alloc::Global;
 
 /// The outcome of `flat FILE` over the files of a shelf.
@@ -36,19 +35,18 @@ pub fn flat<'a, S: Shelf>(
     ensures later { S.faults shelf.old ≤ S.faults shelf.new }
 {
     let bytes = fetch(alloc, shelf, file)?;
-    flat_text(alloc, file, &bytes)
+    flat_text(alloc, file, bytes)
 }
 
 /// The network of these bytes, which are those of a file, as one model.
-fn flat_text<'a>(alloc: Global, file: &'a str, bytes: &[u8]) -> Result<Answer, Failure<'a>>
-    requires within { length bytes.now ≤ file_limit }
-    ensures text { IfOk result (λ answer. (network : NetworkData) × HasNetwork bytes.now network
+fn flat_text<'a>(alloc: Global, file: &'a str, bytes: Vec<u8>) -> Result<Answer, Failure<'a>>
+    requires within { length bytes.items ≤ file_limit }
+    ensures text { IfOk result (λ answer. (network : NetworkData) × HasNetwork bytes.items network
         × (answer.text.items ≡ printed (file_of network)) × (answer.settled ≡ true)) }
-    ensures failed { (failure : Failed) → IsErrOf result failure → HasNoNetwork file.now bytes.now failure }
+    ensures failed { (failure : Failed) → IsErrOf result failure → HasNoNetwork file.now bytes.items failure }
 {
     let network = network_of(alloc, file, bytes)?;
-    let model = to_file(alloc, &network)?;
-    let text = print(alloc, &model)?;
+    let text = print_network(alloc, &network)?;
     Ok(Answer {
         text,
         settled: true,

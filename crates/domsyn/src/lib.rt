@@ -2,6 +2,7 @@
 #![tactic(auto)]
 
 mod answer;
+mod cosim;
 mod dispatch;
 mod failure;
 mod fetch;
@@ -15,6 +16,7 @@ mod run;
 mod sim;
 mod status;
 mod synth;
+mod trace_failure;
 
 pub use command_words::{asked_is_in_range, asked_is_one};
 pub use laws::{outcome_is_one, outcome_is_there};

@@ -12,7 +12,7 @@ ghost use Rattle.domsyn.specs.Refusals.{refusal_line};
 ghost use Rattle.domsyn.specs.Top.{HasOutcome, HasRoomFor, IsRefusalLine, IsText, MeetsUnread, Reports, line_of, unread_line};
 
 use crate::dispatch::outcome_of;
-use crate::report::{finish, report, report_failure};
+use crate::report::{finish, report, report_failure, report_memory};
 use crate::status::USAGE;
 use command_words::command_of;
 use dom_io::{Shelf, Sink};
@@ -23,7 +23,7 @@ const USAGE_LINE: &[u8] =
 
 /// Does all that the program does, and gives its status: 0 done, 1 a file is refused, 2 the words ask
 /// for nothing, 3 a file can't be read, 4 the output can't be written, 5 out of memory, 6 a settling
-/// of a simulation doesn't end. `words` are those of the command line without the program's name. The text goes
+/// of a simulation doesn't end, or a deck does something else than its file. `words` are those of the command line without the program's name. The text goes
 /// to `out`, and a line to `err` at every status but 0 and 6.
 pub fn top<S: Shelf, K: Sink, E: Sink>(
     alloc: Global,
@@ -83,9 +83,13 @@ pub fn top<S: Shelf, K: Sink, E: Sink>(
     ensures later { (S.faults shelf.old ≤ S.faults shelf.new) × (K.faults out.old ≤ K.faults out.new)
         × (E.faults err.old ≤ E.faults err.new) }
 {
-    let Some(command) = command_of(alloc, words) else {
-        report(err, USAGE_LINE);
-        return USAGE;
+    let command = match command_of(alloc, words) {
+        Ok(Some(command)) => command,
+        Ok(None) => {
+            report(err, USAGE_LINE);
+            return USAGE;
+        }
+        Err(_) => return report_memory(err),
     };
     match outcome_of(alloc, &command, shelf) {
         Ok(answer) => finish(&answer, out, err),

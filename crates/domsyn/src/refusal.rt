@@ -1,12 +1,12 @@
 //! Files that are refused.
 ghost use Rattle.std.specs.Prelude.{ℕ, ◌≡◌, ◌++◌, IfOk, OnOk, codes};
 ghost use Rattle.std.specs.Fmt.{decimal};
-ghost use Rattle.domsyn.specs.Refusals.{count_text, named_text, refusal_text};
+ghost use Rattle.domsyn.specs.Refusals.{count_text, named_text, refusal_text, subject};
 ghost use Rattle.stim_text.specs.Stimuli.{stim_kind_word};
 
 use blif_read::BlifKind;
 use deck::DeckKind;
-use dom_base::{Name, OutOfMemory, append, append_number};
+use dom_base::{Name, NetName, OutOfMemory, append, append_number};
 use net_flatten::{FlatKind, Limit};
 use std::alloc::Global;
 use stim_text::StimKind;
@@ -41,6 +41,10 @@ pub enum Refusal {
     Ports {
         place: u32,
     },
+    /// Its deck has no net of this name, which is that of the first such probe word.
+    NoNet {
+        name: NetName,
+    },
     /// Its text, read as a stimulus, has this fault at this line, from 1.
     Stim {
         line: u64,
@@ -49,7 +53,17 @@ pub enum Refusal {
 }
 
 impl Refusal {
-    /// What the line about the file says behind the file's name.
+    /// The subject of the line: the file's name, but where the line names a net.
+    pub fn subject<'a>(&self, file: &'a str) -> &'a str
+        ensures { result.now ≡ subject file.now self.now }
+    {
+        match self {
+            Refusal::NoNet { .. } => "",
+            _ => file,
+        }
+    }
+
+    /// What the line says behind its subject.
     pub fn text(&self, alloc: Global) -> Result<Vec<u8>, OutOfMemory>
         ensures { IfOk result (λ text. text.items ≡ refusal_text self.now) }
     {
@@ -72,6 +86,7 @@ impl Refusal {
                 put_fault(text, *line, b": deck ", kind.number(), kind.word())
             }
             Refusal::Ports { place } => put_port(text, *place),
+            Refusal::NoNet { name } => put_net(text, name.as_bytes()),
             Refusal::Stim { line, kind } => put_stim(text, *line, *kind),
         }
     }
@@ -131,6 +146,15 @@ fn put_port(text: &mut Vec<u8>, place: u32) -> Result<(), OutOfMemory>
 {
     append(text, b": deck port ")?;
     append_number(text, place as u64)?;
+    append(text, b"\n")
+}
+
+/// Appends the name of a net that there is none of.
+fn put_net(text: &mut Vec<u8>, net: &[u8]) -> Result<(), OutOfMemory>
+    ensures { OnOk result (text.new.items ≡ text.old.items ++ codes "no net " ++ net.now ++ codes "\n") }
+{
+    append(text, b"no net ")?;
+    append(text, net)?;
     append(text, b"\n")
 }
 

@@ -65,7 +65,7 @@ fn report_refusal<E: Sink>(alloc: Global, file: &str, why: &Refusal, err: &mut E
 {
     match why.text(alloc) {
         Ok(text) => {
-            report_about(err, file, &text);
+            report_about(err, why.subject(file), &text);
             REFUSED
         }
         Err(_) => report_memory(err),
@@ -73,7 +73,7 @@ fn report_refusal<E: Sink>(alloc: Global, file: &str, why: &Refusal, err: &mut E
 }
 
 /// Reports that memory did not suffice, and gives the status.
-fn report_memory<E: Sink>(err: &mut E) -> u8
+pub fn report_memory<E: Sink>(err: &mut E) -> u8
     requires { (status : ℕ) → E.has_room err.old (length (line_of status)) }
     ensures status { result ≡ 5 }
     ensures reported { Reports (E.taken err.old) (E.taken err.new) (E.faults err.old) (E.faults err.new) (line_of 5) }
@@ -92,28 +92,28 @@ pub fn report<E: Sink>(err: &mut E, line: &[u8])
     let _ = put_all(err, line);
 }
 
-/// Puts a line about a file on the sink: `domsyn: `, the file's name and what there is to say.
-fn report_about<E: Sink>(err: &mut E, file: &str, what: &[u8])
-    requires { E.has_room err.old (length (codes "domsyn: " ++ file.now ++ what.now)) }
+/// Puts a line about a subject on the sink: `domsyn: `, the subject and what there is to say.
+fn report_about<E: Sink>(err: &mut E, subject: &str, what: &[u8])
+    requires { E.has_room err.old (length (codes "domsyn: " ++ subject.now ++ what.now)) }
     ensures reported { Reports (E.taken err.old) (E.taken err.new) (E.faults err.old) (E.faults err.new)
-        (codes "domsyn: " ++ file.now ++ what.now) }
+        (codes "domsyn: " ++ subject.now ++ what.now) }
     ensures later { E.faults err.old ≤ E.faults err.new }
 {
-    let _ = put_about(err, file, what);
+    let _ = put_about(err, subject, what);
 }
 
 #[tactic(auto, using(dom_io::proofs::PieceLemmas::put_twice))]
-fn put_about<E: Sink>(err: &mut E, file: &str, what: &[u8]) -> Result<(), SinkFault>
-    requires { E.has_room err.old (length (codes "domsyn: " ++ file.now ++ what.now)) }
-    ensures ok { OnOk result (Appends (E.taken err.old) (E.taken err.new) (codes "domsyn: " ++ file.now ++ what.now)) }
-    ensures err { OnErr result (AppendsPrefix (E.taken err.old) (E.taken err.new) (codes "domsyn: " ++ file.now ++ what.now)) }
+fn put_about<E: Sink>(err: &mut E, subject: &str, what: &[u8]) -> Result<(), SinkFault>
+    requires { E.has_room err.old (length (codes "domsyn: " ++ subject.now ++ what.now)) }
+    ensures ok { OnOk result (Appends (E.taken err.old) (E.taken err.new) (codes "domsyn: " ++ subject.now ++ what.now)) }
+    ensures err { OnErr result (AppendsPrefix (E.taken err.old) (E.taken err.new) (codes "domsyn: " ++ subject.now ++ what.now)) }
     ensures later { E.faults err.old ≤ E.faults err.new }
     ensures failed { OnErr result (Rose (E.faults err.old) (E.faults err.new)) }
 {
     if let Err(fault) = put_all(err, b"domsyn: ") {
         return Err(fault);
     }
-    if let Err(fault) = put_all(err, file.as_bytes()) {
+    if let Err(fault) = put_all(err, subject.as_bytes()) {
         return Err(fault);
     }
     put_all(err, what)

@@ -1,5 +1,5 @@
 //! The command `run FILE STIM`: the run of the network of a file over a stimulus.
-ghost use Rattle.std.specs.Prelude.{◌≡◌, ◌≤◌, ◌++◌, ◌↔◌, ℕ, List, All, IfOk, IsErrOf, OnOk, if◌then◌else◌, length, map, true};
+ghost use Rattle.std.specs.Prelude.{◌≡◌, ◌≤◌, ◌++◌, ◌↔◌, ℕ, List, All, IfOk, IsErrOf, None, OnOk, if◌then◌else◌, length, map, true};
 ghost use Rattle.dom_io.specs.Faults.{Rose};
 ghost use Rattle.dom_io.specs.Held.{file_limit};
 ghost use Rattle.command_words.specs.Commands.{Run};
@@ -44,7 +44,7 @@ pub fn run<'a, S: Shelf>(
 {
     let bytes = fetch(alloc, shelf, file)?;
     let stim_bytes = fetch(alloc, shelf, stim)?;
-    run_of(alloc, file, stim, &bytes, &stim_bytes)
+    run_of(alloc, file, stim, bytes, stim_bytes)
 }
 
 /// The run of the network of these bytes of a file over those of a stimulus.
@@ -52,16 +52,16 @@ fn run_of<'a>(
     alloc: Global,
     file: &'a str,
     stim: &'a str,
-    bytes: &[u8],
-    stim_bytes: &[u8],
+    bytes: Vec<u8>,
+    stim_bytes: Vec<u8>,
 ) -> Result<Answer, Failure<'a>>
-    requires within { length bytes.now ≤ file_limit }
-    ensures text { IfOk result (λ answer. IsRunOf bytes.now stim_bytes.now answer.text.items × (answer.settled ≡ true)) }
+    requires within { length bytes.items ≤ file_limit }
+    ensures text { IfOk result (λ answer. IsRunOf bytes.items stim_bytes.items answer.text.items × (answer.settled ≡ true)) }
     ensures failed { (failure : Failed) → IsErrOf result failure
-        → IsUnrun (record { name = file.now; bytes = bytes.now }) (record { name = stim.now; bytes = stim_bytes.now }) failure }
+        → IsUnrun (record { name = file.now; bytes = bytes.items }) (record { name = stim.now; bytes = stim_bytes.items }) failure }
 {
     let network = network_of(alloc, file, bytes)?;
-    let cycles = match read_stim(alloc, stim_bytes, network.inputs) {
+    let cycles = match read_stim(alloc, &stim_bytes, network.inputs) {
         Ok(cycles) => cycles,
         Err(StimFault::At { line, kind }) => {
             let why = Refusal::Stim { line, kind };
@@ -69,6 +69,7 @@ fn run_of<'a>(
         }
         Err(StimFault::Memory) => return Err(Failure::Memory),
     };
+    drop(stim_bytes);
     let text = run_text(alloc, &network, &cycles)?;
     Ok(Answer {
         text,
@@ -83,12 +84,17 @@ fn run_text(alloc: Global, network: &Network, cycles: &[Pins]) -> Result<Vec<u8>
 {
     let mut runner = Runner::new(alloc, network)?;
     let line = AROUND + network.inputs as usize + network.outputs.len();
-    let mut text = Vec::new(alloc);
-    text.reserve(line.saturating_mul(cycles.len()))?;
+    let mut text = Vec::with_capacity(alloc, line.saturating_mul(cycles.len()))?;
+    let mut row = CycleRow {
+        cycle: 0,
+        pins: Vec::new(alloc),
+        outs: Vec::new(alloc),
+        events: None,
+    };
     for k in 0..cycles.len() {
         put_cycle(
-            alloc,
             &mut text,
+            &mut row,
             &mut runner,
             k as u64,
             cycles[k].as_slice(),
@@ -97,10 +103,10 @@ fn run_text(alloc: Global, network: &Network, cycles: &[Pins]) -> Result<Vec<u8>
     Ok(text)
 }
 
-/// Runs a cycle and appends its line.
+/// Runs a cycle and appends its line. What stands in `row` is overwritten.
 fn put_cycle(
-    alloc: Global,
     text: &mut Vec<u8>,
+    row: &mut CycleRow,
     runner: &mut Runner,
     number: u64,
     pins: &[bool],
@@ -108,24 +114,28 @@ fn put_cycle(
     requires { length pins.now ≡ runner.old.inputs }
     ensures { OnOk result (PutsCycle number pins.now runner.old runner.new text.old.items text.new.items) }
 {
-    let outs = values_of(alloc, runner.cycle(pins))?;
-    let row = CycleRow {
-        cycle: number,
-        pins: pins.to_vec(alloc)?,
-        outs,
-        events: None,
-    };
-    write_cycle(text, &row)
+    set_row(row, number, pins, runner.cycle(pins))?;
+    write_cycle(text, row)
 }
 
-/// The values of bits.
-fn values_of(alloc: Global, bits: &[bool]) -> Result<Vec<Tri>, OutOfMemory>
-    ensures { IfOk result (λ values. values.items ≡ map tri_of bits.now) }
+/// Makes a row that of a cycle, with these bits as the values of its outputs.
+fn set_row(row: &mut CycleRow, number: u64, pins: &[bool], outs: &[bool]) -> Result<(), OutOfMemory>
+    ensures { OnOk result (row.new ≡ record { cycle = number; pins = pins.now; outs = map tri_of outs.now; events = None }) }
 {
-    let mut values = Vec::new(alloc);
-    values.reserve(bits.len())?;
+    row.cycle = number;
+    row.events = None;
+    row.pins.clear();
+    row.pins.extend_from_slice(pins)?;
+    row.outs.clear();
+    put_values(&mut row.outs, outs)
+}
+
+/// Appends the values of bits.
+fn put_values(values: &mut Vec<Tri>, bits: &[bool]) -> Result<(), OutOfMemory>
+    ensures { OnOk result (values.new.items ≡ values.old.items ++ map tri_of bits.now) }
+{
     for bit in bits {
         values.push(if *bit { Tri::One } else { Tri::Zero })?;
     }
-    Ok(values)
+    Ok(())
 }

@@ -1,5 +1,5 @@
 //! The command `sim DECK STIM`: the trace of a deck over a stimulus.
-ghost use Rattle.std.specs.Prelude.{◌≡◌, ◌≤◌, ◌↔◌, ℕ, List, [], IfOk, IsErrOf, if◌then◌else◌};
+ghost use Rattle.std.specs.Prelude.{◌≡◌, ◌≤◌, ◌↔◌, ℕ, List, IfOk, IsErrOf, if◌then◌else◌};
 ghost use Rattle.dom_io.specs.Faults.{Rose};
 ghost use Rattle.command_words.specs.Commands.{Sim};
 ghost use Rattle.domsyn.specs.declared.failure.Failure.{Failure as Failed};
@@ -10,10 +10,10 @@ ghost use Rattle.trace_tool.specs.Traces.{IsTraceOf};
 use crate::answer::Answer;
 use crate::failure::Failure;
 use crate::fetch::fetch;
-use crate::refusal::Refusal;
+use crate::trace_failure::failure_of;
 use dom_io::Shelf;
 use std::alloc::Global;
-use trace_tool::{TraceFault, TraceOptions};
+use trace_tool::TraceOptions;
 
 /// The outcome of `sim DECK STIM` over the files of a shelf.
 pub fn sim<'a, S: Shelf>(
@@ -25,7 +25,6 @@ pub fn sim<'a, S: Shelf>(
 ) -> Result<Answer, Failure<'a>>
     requires deck_name { S.may_ask shelf.old deck.now }
     requires stim_name { S.may_ask shelf.old stim.now }
-    requires no_probe { options.now.probes ≡ [] }
     ensures text { IfOk result (λ answer.
         IsOutcome (S.files shelf.old) (Sim deck.now stim.now options.now) (Printed (if answer.settled then 0 else 6) answer.text.items)) }
     ensures failed { (failure : Failed) → IsErrOf result failure
@@ -48,29 +47,17 @@ fn trace_of<'a>(
     stim_bytes: &[u8],
     options: &TraceOptions,
 ) -> Result<Answer, Failure<'a>>
-    requires no_probe { options.now.probes ≡ [] }
     ensures trace { IfOk result (λ answer.
         IsTraceOf deck_bytes.now stim_bytes.now options.now (record { text = answer.text.items; settled = answer.settled })) }
     ensures failed { (failure : Failed) → IsErrOf result failure
-        → IsUntraced (record { name = deck.now; bytes = deck_bytes.now }) (record { name = stim.now; bytes = stim_bytes.now }) failure }
+        → IsUntraced (record { name = deck.now; bytes = deck_bytes.now }) (record { name = stim.now; bytes = stim_bytes.now })
+        options.now.probes failure }
 {
     match trace_tool::sim(alloc, deck_bytes, stim_bytes, options) {
         Ok(trace) => Ok(Answer {
             text: trace.text,
             settled: trace.settled,
         }),
-        Err(TraceFault::Deck { line, kind }) => {
-            let why = Refusal::Deck { line, kind };
-            Err(Failure::Refused { file: deck, why })
-        }
-        Err(TraceFault::Ports { place }) => {
-            let why = Refusal::Ports { place };
-            Err(Failure::Refused { file: deck, why })
-        }
-        Err(TraceFault::Stim { line, kind }) => {
-            let why = Refusal::Stim { line, kind };
-            Err(Failure::Refused { file: stim, why })
-        }
-        Err(TraceFault::Memory) => Err(Failure::Memory),
+        Err(fault) => Err(failure_of(fault, deck, deck, stim)),
     }
 }

@@ -40,7 +40,7 @@ pub fn synth<'a, S: Shelf>(
     ensures later { S.faults shelf.old ≤ S.faults shelf.new }
 {
     let bytes = fetch(alloc, shelf, file)?;
-    deck_of(alloc, file, options, &bytes)
+    deck_of(alloc, file, options, bytes)
 }
 
 /// The deck of the network of these bytes, which are those of a file, with options.
@@ -48,18 +48,19 @@ fn deck_of<'a>(
     alloc: Global,
     file: &'a str,
     options: SynthOptions,
-    bytes: &[u8],
+    bytes: Vec<u8>,
 ) -> Result<Answer, Failure<'a>>
-    requires within { length bytes.now ≤ file_limit }
+    requires within { length bytes.items ≤ file_limit }
     requires good_options { AreGoodOptions options }
     ensures deck { IfOk result (λ answer.
-        IsDeckFor bytes.now (bounds_of options) options.phases answer.text.items × (answer.settled ≡ true)) }
+        IsDeckFor bytes.items (bounds_of options) options.phases answer.text.items × (answer.settled ≡ true)) }
     ensures right { IfOk result (λ answer.
-        IsRightDeck bytes.now options.bounds.w options.bounds.h options.phases answer.text.items) }
-    ensures failed { (failure : Failed) → IsErrOf result failure → HasNoNetwork file.now bytes.now failure }
+        IsRightDeck bytes.items options.bounds.w options.bounds.h options.phases answer.text.items) }
+    ensures failed { (failure : Failed) → IsErrOf result failure → HasNoNetwork file.now bytes.items failure }
 {
     let network = network_of(alloc, file, bytes)?;
     let circuit = deck_circuit(alloc, &network, options)?;
+    drop(network);
     circuit.whole();
     let text = write(alloc, &circuit)?;
     Ok(Answer {

@@ -1,8 +1,5 @@
-use Rattle.std.proofs.Common.{ℕ, List, sym, subst}
 use Rattle.std.proofs.lemmas.Result.{err_from_is_err_and, IfOk-weaker}
 use Rattle.dom_io.specs.Faults.{Rose}
-use Rattle.domsyn.specs.Failures.{HasNoNetwork}
-use Rattle.domsyn.specs.Outcomes.{IsFile}
 use Rattle.domsyn.proofs.CommandFailures.{flat_printed, flat_unfetched, flat_unmade}
 use Rattle.domsyn.proofs.flat.flat.Goals as goal
 
@@ -18,13 +15,10 @@ pub returns-clause-text : goal.returns-clause-text
 returns-clause-text g c =
     IfOk-weaker c.flat_text.result _ _
     (λ answer is.
-    flat_printed (g.S.Shelf.files c.args.shelf.now) c.args.file.now c.deref.result.now answer.text.items answer.settled
-    (subst (IsFile (g.S.Shelf.files c.args.shelf.now) c.args.file.now) (sym c.deref.ensures.value) c.in_ok-bytes.ensures.bytes) is)
+    flat_printed (g.S.Shelf.files c.args.shelf.now) c.args.file.now c.in_ok-bytes.bytes.items answer.text.items answer.settled c.in_ok-bytes.ensures.bytes is)
     c.flat_text.ensures.text
 
 pub returns-clause-failed : goal.returns-clause-failed
 returns-clause-failed g c failure is =
     let Rises = Rose (g.S.Shelf.faults c.args.shelf.now) (g.S.Shelf.faults c.fetch.new.shelf) in
-    let unmade : HasNoNetwork c.args.file.now c.in_ok-bytes.bytes.items failure =
-    subst (λ (bytes : List ℕ). HasNoNetwork c.args.file.now bytes failure) c.deref.ensures.value (c.flat_text.ensures.failed failure is) in
-    flat_unmade (g.S.Shelf.files c.args.shelf.now) c.args.file.now c.in_ok-bytes.bytes.items Rises failure c.in_ok-bytes.ensures.bytes unmade
+    flat_unmade (g.S.Shelf.files c.args.shelf.now) c.args.file.now c.in_ok-bytes.bytes.items Rises failure c.in_ok-bytes.ensures.bytes (c.flat_text.ensures.failed failure is)

@@ -1,4 +1,4 @@
-use Rattle.std.proofs.Common.{sym, subst, arith}
+use Rattle.std.proofs.Common.{subst, arith}
 use Rattle.std.proofs.lemmas.Result.{err_from_is_err_and, IfOk-weaker}
 use Rattle.dom_io.specs.Faults.{Rose}
 use Rattle.domsyn.specs.Failures.{IsUnfetched}
@@ -31,21 +31,17 @@ returns-in_err-stim_bytes-clause-failed g c failure is =
 pub returns-clause-text : goal.returns-clause-text
 returns-clause-text g c =
     let files = g.S.Shelf.files c.args.shelf.now in
-    let is_file = subst (IsFile files c.args.file.now) (sym c.deref.ensures.value) c.in_ok-bytes.ensures.bytes in
     let is_stim = subst (λ (files : Files). IsFile files c.args.stim.now c.in_ok-stim_bytes.stim_bytes.items) c.in_ok-bytes.ensures.same_files c.in_ok-stim_bytes.ensures.bytes in
-    let is_stim_here = subst (IsFile files c.args.stim.now) (sym c.deref-2.ensures.value) is_stim in
     IfOk-weaker c.run_of.result _ _
     (λ answer is.
-    run_printed files (record { name = c.args.file.now; bytes = c.deref.result.now }) (record { name = c.args.stim.now; bytes = c.deref-2.result.now })
-    answer.text.items answer.settled is_file is_stim_here is)
+    run_printed files (record { name = c.args.file.now; bytes = c.in_ok-bytes.bytes.items }) (record { name = c.args.stim.now; bytes = c.in_ok-stim_bytes.stim_bytes.items })
+    answer.text.items answer.settled c.in_ok-bytes.ensures.bytes is_stim is)
     c.run_of.ensures.text
 
 pub returns-clause-failed : goal.returns-clause-failed
 returns-clause-failed g c failure is =
     let files = g.S.Shelf.files c.args.shelf.now in
     let Rises = Rose (g.S.Shelf.faults c.args.shelf.now) (g.S.Shelf.faults c.fetch-2.new.shelf) in
-    let is_file = subst (IsFile files c.args.file.now) (sym c.deref.ensures.value) c.in_ok-bytes.ensures.bytes in
     let is_stim = subst (λ (files : Files). IsFile files c.args.stim.now c.in_ok-stim_bytes.stim_bytes.items) c.in_ok-bytes.ensures.same_files c.in_ok-stim_bytes.ensures.bytes in
-    let is_stim_here = subst (IsFile files c.args.stim.now) (sym c.deref-2.ensures.value) is_stim in
-    run_unmade files (record { name = c.args.file.now; bytes = c.deref.result.now }) (record { name = c.args.stim.now; bytes = c.deref-2.result.now })
-    Rises failure is_file is_stim_here (c.run_of.ensures.failed failure is)
+    run_unmade files (record { name = c.args.file.now; bytes = c.in_ok-bytes.bytes.items }) (record { name = c.args.stim.now; bytes = c.in_ok-stim_bytes.stim_bytes.items })
+    Rises failure c.in_ok-bytes.ensures.bytes is_stim (c.run_of.ensures.failed failure is)

@@ -1,9 +1,9 @@
-use Rattle.std.proofs.Common.{sym, subst, arith}
+use Rattle.std.proofs.Common.{[], ◌∷◌, sym, subst, arith}
 use Rattle.std.proofs.lemmas.Result.{err_from_is_err_and}
 use Rattle.dom_io.specs.Faults.{Rose}
 use Rattle.domsyn.specs.Failures.{IsUnfetched}
 use Rattle.domsyn.specs.Outcomes.{Files, IsFile}
-use Rattle.domsyn.proofs.CommandFailures.{deck_unfetched, sim_untraced, stim_unfetched}
+use Rattle.domsyn.proofs.CommandFailures.{first_unfetched, later_unfetched, sim_unfetched, sim_untraced}
 use Rattle.domsyn.proofs.sim.sim.Goals as goal
 
 pub returns-in_err-deck_bytes-clause-failed : goal.returns-in_err-deck_bytes-clause-failed
@@ -12,7 +12,9 @@ returns-in_err-deck_bytes-clause-failed g c failure is =
     let a = p.1 in
     let b = p.2 in
     let Rises = Rose (g.S.Shelf.faults c.args.shelf.now) (g.S.Shelf.faults c.fetch.new.shelf) in
-    deck_unfetched (g.S.Shelf.files c.args.shelf.now) c.args.deck.now c.args.stim.now c.args.options.now Rises failure (c.in_err-deck_bytes.ensures.failed failure (cc))
+    let files = g.S.Shelf.files c.args.shelf.now in
+    sim_unfetched files c.args.deck.now c.args.stim.now c.args.options.now Rises failure
+    (first_unfetched files c.args.deck.now (c.args.stim.now ∷ []) Rises failure (c.in_err-deck_bytes.ensures.failed failure (cc)))
 
 pub returns-in_err-stim_bytes-clause-failed : goal.returns-in_err-stim_bytes-clause-failed
 returns-in_err-stim_bytes-clause-failed g c failure is =
@@ -25,8 +27,9 @@ returns-in_err-stim_bytes-clause-failed g c failure is =
     let later = c.in_ok-deck_bytes.ensures.later in
     let unfetched : IsUnfetched files c.args.stim.now RisesHere failure =
     subst (λ (files : Files). IsUnfetched files c.args.stim.now RisesHere failure) c.in_ok-deck_bytes.ensures.same_files (c.in_err-stim_bytes.ensures.failed failure (cc)) in
-    stim_unfetched files c.args.deck.now c.args.stim.now c.in_ok-deck_bytes.deck_bytes.items c.args.options.now Rises RisesHere failure
-    (λ rose. omega (arith, later, rose)) c.in_ok-deck_bytes.ensures.bytes unfetched
+    sim_unfetched files c.args.deck.now c.args.stim.now c.args.options.now Rises failure
+    (later_unfetched files c.args.deck.now c.in_ok-deck_bytes.deck_bytes.items (c.args.stim.now ∷ []) Rises RisesHere failure (λ rose. omega (arith, later, rose))
+    c.in_ok-deck_bytes.ensures.bytes (first_unfetched files c.args.stim.now [] RisesHere failure unfetched))
 
 pub returns-clause-failed : goal.returns-clause-failed
 returns-clause-failed g c failure is =

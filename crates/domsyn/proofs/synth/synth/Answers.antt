@@ -1,8 +1,5 @@
-use Rattle.std.proofs.Common.{ℕ, List, sym, subst}
 use Rattle.std.proofs.lemmas.Result.{err_from_is_err_and, IfOk-weaker}
 use Rattle.dom_io.specs.Faults.{Rose}
-use Rattle.domsyn.specs.Failures.{HasNoNetwork}
-use Rattle.domsyn.specs.Outcomes.{IsFile}
 use Rattle.domsyn.proofs.CommandFailures.{synth_printed, synth_unbuilt, synth_unfetched}
 use Rattle.domsyn.proofs.synth.synth.Goals as goal
 
@@ -18,23 +15,16 @@ pub returns-clause-text : goal.returns-clause-text
 returns-clause-text g c =
     IfOk-weaker c.deck_of.result _ _
     (λ answer is.
-    synth_printed (g.S.Shelf.files c.args.shelf.now) c.args.file.now c.deref.result.now answer.text.items c.args.options answer.settled
-    (subst (IsFile (g.S.Shelf.files c.args.shelf.now) c.args.file.now) (sym c.deref.ensures.value) c.in_ok-bytes.ensures.bytes) is.0 is.1)
+    synth_printed (g.S.Shelf.files c.args.shelf.now) c.args.file.now c.in_ok-bytes.bytes.items answer.text.items c.args.options answer.settled c.in_ok-bytes.ensures.bytes is.0 is.1)
     c.deck_of.ensures.deck
 
 pub returns-clause-right : goal.returns-clause-right
 returns-clause-right g c =
     IfOk-weaker c.deck_of.result _ _
-    (λ answer is. record {
-      bytes = c.deref.result.now;
-      is_file = subst (IsFile (g.S.Shelf.files c.args.shelf.now) c.args.file.now) (sym c.deref.ensures.value) c.in_ok-bytes.ensures.bytes;
-      is_right = is;
-    })
+    (λ answer is. record { bytes = c.in_ok-bytes.bytes.items; is_file = c.in_ok-bytes.ensures.bytes; is_right = is })
     c.deck_of.ensures.right
 
 pub returns-clause-failed : goal.returns-clause-failed
 returns-clause-failed g c failure is =
     let Rises = Rose (g.S.Shelf.faults c.args.shelf.now) (g.S.Shelf.faults c.fetch.new.shelf) in
-    let unbuilt : HasNoNetwork c.args.file.now c.in_ok-bytes.bytes.items failure =
-    subst (λ (bytes : List ℕ). HasNoNetwork c.args.file.now bytes failure) c.deref.ensures.value (c.deck_of.ensures.failed failure is) in
-    synth_unbuilt (g.S.Shelf.files c.args.shelf.now) c.args.file.now c.in_ok-bytes.bytes.items c.args.options Rises failure c.in_ok-bytes.ensures.bytes unbuilt
+    synth_unbuilt (g.S.Shelf.files c.args.shelf.now) c.args.file.now c.in_ok-bytes.bytes.items c.args.options Rises failure c.in_ok-bytes.ensures.bytes (c.deck_of.ensures.failed failure is)
