@@ -12,6 +12,8 @@ mod outside;
 #[cfg(test)]
 mod ports;
 #[cfg(test)]
+mod probes;
+#[cfg(test)]
 mod read_blif;
 #[cfg(test)]
 mod read_decks;

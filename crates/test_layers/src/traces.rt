@@ -87,13 +87,12 @@ fn refusal(alloc: Global, deck: &[u8], stim: &str) -> Option<TraceFault> {
 #[test]
 fn first_fault_is_reported(rt: HostRuntime) {
     let alloc = rt.alloc();
-    let line = 1;
+    let card = refusal(alloc, b"r0 a b\n", "x\n");
     let kind = DeckKind::UnknownCard;
-    assert!(rt; refusal(alloc, b"r0 a b\n", "x\n") == Some(TraceFault::Deck { line, kind }));
-    let place = 1;
-    assert!(rt;
-        refusal(alloc, b".subckt a vdd b\n.ends\n", "x\n") == Some(TraceFault::Ports { place })
-    );
+    assert!(rt; matches!(card, Some(TraceFault::Deck { line: 1, kind: found }) if found == kind));
+    let port = refusal(alloc, b".subckt a vdd b\n.ends\n", "x\n");
+    assert!(rt; matches!(port, Some(TraceFault::Ports { place: 1 })));
+    let letter = refusal(alloc, RING, "x\n");
     let kind = StimKind::BadLetter;
-    assert!(rt; refusal(alloc, RING, "x\n") == Some(TraceFault::Stim { line, kind }));
+    assert!(rt; matches!(letter, Some(TraceFault::Stim { line: 1, kind: found }) if found == kind));
 }

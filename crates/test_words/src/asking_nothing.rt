@@ -19,7 +19,6 @@ const SYNTH_WORDS: &[(&str, &[&[&str]])] = &[
             &["synth", "--"],
             &["synth", "-x"],
             &["synth", "--width", "4"],
-            &["synth", "--width", "4", "a"],
             &["synth", "a", "a", "--width", "4"],
             &["synth", "a", "--width", "4", "a"],
         ],
@@ -80,6 +79,22 @@ const SYNTH_VALUES: &[(&str, &[&[&str]])] = &[
             &["synth", "a", "--phases", "first"],
         ],
     ),
+    (
+        "synth: values behind = are missing, wrong or twice",
+        &[
+            &["synth", "a", "--width="],
+            &["synth", "a", "--width=1"],
+            &["synth", "a", "--width=9"],
+            &["synth", "a", "--height==4"],
+            &["synth", "a", "--width=4", "--width", "4"],
+            &["synth", "a", "--phases=1", "--phases=1"],
+            &["synth", "--width=4"],
+            &["synth", "a", "--widths=4"],
+            &["synth", "a", "--=4"],
+            &["synth", "a", "-=4"],
+            &["synth", "a", "--width=4", "="],
+        ],
+    ),
 ];
 
 /// Lists of words for `flat` and `run`, and for no command.
@@ -121,7 +136,6 @@ const OTHER_WORDS: &[(&str, &[&[&str]])] = &[
             &["synth ", "a"],
             &["", "a"],
             &["report", "a"],
-            &["cosim", "a", "a", "a"],
             &["bench", "1", "0"],
         ],
     ),
@@ -141,8 +155,6 @@ const SIM_WORDS: &[(&str, &[&[&str]])] = &[
             &["sim", "d", "--"],
             &["sim", "-d", "s"],
             &["sim", "d", "--events"],
-            &["sim", "--events", "d", "s"],
-            &["sim", "d", "--events", "s"],
             &["sim", "d", "s", ""],
             &["sim", "d", "s", "-"],
         ],
@@ -155,9 +167,7 @@ const SIM_WORDS: &[(&str, &[&[&str]])] = &[
             &["sim", "d", "s", "--events", "--events"],
             &["sim", "d", "s", "--events", "1"],
             &["sim", "d", "s", "--events=1"],
-            &["sim", "d", "s", "--order=first"],
             &["sim", "d", "s", "--width", "4"],
-            &["sim", "d", "s", "--probe", "d0"],
             &["sim", "d", "s", "--order", "first", "--order", "first"],
             &[
                 "sim", "d", "s", "--seed", "1", "--order", "seed", "--seed", "1",
@@ -196,6 +206,76 @@ const SIM_WORDS: &[(&str, &[&[&str]])] = &[
     ),
 ];
 
+/// Lists of words for `sim` and `cosim`.
+const COSIM_WORDS: &[(&str, &[&[&str]])] = &[
+    (
+        "sim: values behind = are missing, wrong or twice",
+        &[
+            &["sim", "d", "s", "--events="],
+            &["sim", "d", "s", "--events=--events"],
+            &["sim", "d", "s", "--order="],
+            &["sim", "d", "s", "--order=Last"],
+            &["sim", "d", "s", "--order=first", "--order", "first"],
+            &["sim", "d", "s", "--seed="],
+            &["sim", "d", "s", "--seed=+"],
+            &["sim", "d", "s", "--seed==1"],
+            &["sim", "--seed=1"],
+            &["sim", "--events", "d"],
+        ],
+    ),
+    (
+        "sim: probe words are missing or wrong",
+        &[
+            &["sim", "d", "s", "--probe"],
+            &["sim", "d", "s", "--probe", ""],
+            &["sim", "d", "s", "--probe="],
+            &["sim", "d", "s", "--probe", "+"],
+            &["sim", "d", "s", "--probe", "-"],
+            &["sim", "d", "s", "--probe=-"],
+            &["sim", "d", "s", "--probe", "-d0"],
+            &["sim", "d", "s", "--probe", ","],
+            &["sim", "d", "s", "--probe", "d0,"],
+            &["sim", "d", "s", "--probe", ",d0"],
+            &["sim", "d", "s", "--probe", "d0,,z0"],
+            &["sim", "d", "s", "--probe", "d0,+,z0"],
+            &["sim", "d", "s", "--probe", "d0 +"],
+            &["sim", "d", "s", "--probe", "d0, z0"],
+            &["sim", "d", "s", "--probe", "d\t0"],
+            &["sim", "d", "s", "--probe", "d0\u{7f}"],
+            &["sim", "d", "s", "--probe", "d0", "--probe", "z0"],
+            &["sim", "d", "s", "--probe=d0", "--probe", "d0"],
+        ],
+    ),
+    (
+        "cosim: files are missing or too many",
+        &[
+            &["cosim"],
+            &["cosim", "a"],
+            &["cosim", "a", "d"],
+            &["cosim", "a", "d", "s", "s"],
+            &["cosim", "", "d", "s"],
+            &["cosim", "a", "-", "s"],
+            &["cosim", "a", "d", "--"],
+            &["cosim", "a", "d", "--order", "first"],
+            &["cosim", "a", "d", "--order", "s"],
+        ],
+    ),
+    (
+        "cosim: options are unknown or twice, or their values wrong",
+        &[
+            &["cosim", "a", "d", "s", "--events"],
+            &["cosim", "a", "d", "s", "--probe", "d0"],
+            &["cosim", "a", "d", "s", "--width", "4"],
+            &["cosim", "a", "d", "s", "--order"],
+            &["cosim", "a", "d", "s", "--order", "--seed"],
+            &["cosim", "a", "d", "s", "--order=First"],
+            &["cosim", "a", "d", "s", "--order", "last", "--order=last"],
+            &["cosim", "a", "d", "s", "--seed", "18446744073709551616"],
+            &["cosim", "a", "d", "s", "--seed=1", "--seed", "1"],
+        ],
+    ),
+];
+
 /// Asserts that each list asks for nothing.
 fn ask_for_nothing(rt: &impl Abort, alloc: Global, all: &[(&str, &[&[&str]])]) -> Result<(), Fail> {
     let files = [("a", AND), ("d", AND_DECK), ("s", b"11\n".as_slice())];
@@ -226,8 +306,13 @@ fn words_of_sim(rt: HostRuntime) -> Result<(), Fail> {
 }
 
 #[test]
+fn words_of_cosim(rt: HostRuntime) -> Result<(), Fail> {
+    ask_for_nothing(&rt, rt.alloc(), COSIM_WORDS)
+}
+
+#[test]
 fn limits_of_options_are_taken(rt: HostRuntime) -> Result<(), Fail> {
-    let files = [("a", AND)];
+    let files = [("a", AND), ("d", AND_DECK), ("s", b"11\n".as_slice())];
     let lists: &[&[&str]] = &[
         &["synth", "a"],
         &["synth", "a", "--width", "2"],
@@ -241,6 +326,17 @@ fn limits_of_options_are_taken(rt: HostRuntime) -> Result<(), Fail> {
         &[
             "synth", "a", "--phases", "+01", "--height", "03", "--width", "4",
         ],
+        // Options stand anywhere among the files, in both forms.
+        &["synth", "--width", "4", "a"],
+        &["synth", "--width=8", "a", "--height=+06"],
+        &["sim", "--events", "d", "s"],
+        &["sim", "d", "--events", "s"],
+        &["sim", "--order=last", "d", "--seed", "7", "s", "--events"],
+        &["sim", "d", "s", "--seed=18446744073709551615"],
+        &["sim", "--probe", "d0", "d", "s"],
+        &["sim", "d", "--probe=-x-,d0+,a=b", "s"],
+        &["cosim", "a", "d", "s"],
+        &["cosim", "--order", "seed", "a", "d", "--seed=7", "s"],
     ];
     for words in lists {
         assert_eq!(rt; asking(rt.alloc(), &files, &[words])?, Some(0));
