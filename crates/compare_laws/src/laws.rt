@@ -1,7 +1,7 @@
 //! The comparison of runs of decks with the laws of every order of events.
 use crate::cases::drawn_case;
-use crate::trouble::Trouble;
 use crate::wrong::Wrong;
+use comparison::Trouble;
 use plain_texts::Draws;
 use std::alloc::Global;
 

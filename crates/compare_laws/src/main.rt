@@ -2,29 +2,15 @@
 //! moment, and holds each state against the laws; and runs decks that are changed so that they break one.
 #![tactic(auto)]
 
-mod breach;
 mod cases;
-mod honest;
-mod joins;
 mod laws;
-mod nets;
-mod state;
-mod trouble;
-mod walk;
 mod wrong;
 
+use comparison::{Trouble, ended, printed};
 use laws::{Kept, found, laws_kept};
 use std::alloc::Global;
-use std::io;
 use std::process::ExitCode;
-use trouble::Trouble;
 use wrong::Wrong;
-
-/// The status where a law is broken, or where a changed deck keeps all.
-const DIFFERS: u8 = 1;
-
-/// The status where a deck isn't read, memory doesn't suffice or a line isn't printed.
-const NOT_COMPARED: u8 = 2;
 
 /// How many decks are run.
 const DECKS: u64 = 200;
@@ -54,14 +40,6 @@ fn changes_are_found(rt: &impl Print, alloc: Global, wrong: Wrong) -> Result<boo
     Ok(broken > 0)
 }
 
-/// Whether a line was printed.
-fn printed(line: io::Result<()>) -> Result<(), Trouble> {
-    match line {
-        Ok(()) => Ok(()),
-        Err(_) => Err(Trouble::NotPrinted),
-    }
-}
-
 fn all_alike(rt: &impl Print, alloc: Global) -> Result<bool, Trouble> {
     let mut alike = decks_keep_laws(rt, alloc)?;
     for wrong in [
@@ -77,9 +55,5 @@ fn all_alike(rt: &impl Print, alloc: Global) -> Result<bool, Trouble> {
 }
 
 fn main(rt: HostRuntime) -> ExitCode {
-    match all_alike(&rt, rt.alloc()) {
-        Ok(true) => ExitCode::from(0),
-        Ok(false) => ExitCode::from(DIFFERS),
-        Err(_) => ExitCode::from(NOT_COMPARED),
-    }
+    ended(all_alike(&rt, rt.alloc()))
 }

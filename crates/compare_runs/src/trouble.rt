@@ -50,9 +50,7 @@ impl From<TraceFault> for Trouble {
     fn from(fault: TraceFault) -> Self {
         match fault {
             TraceFault::Memory => Trouble::Memory,
-            TraceFault::Deck { .. } | TraceFault::Ports { .. } | TraceFault::Stim { .. } => {
-                Trouble::Refused
-            }
+            _ => Trouble::Refused,
         }
     }
 }

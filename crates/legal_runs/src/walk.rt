@@ -5,7 +5,7 @@ use crate::honest::{Moment, Place, is_honest};
 use crate::joins::Valued;
 use crate::nets::{NetKinds, is_marked};
 use crate::state::State;
-use crate::trouble::Trouble;
+use comparison::Trouble;
 use dom_base::Tri;
 use plain_networks::PlainCycle;
 use plain_texts::{Draws, PlainDeck};

@@ -1,7 +1,7 @@
 //! The values of the nets of a circuit, one of which takes its target at a time.
 ghost use Rattle.std.specs.Prelude.{◌≡◌, length};
 
-use crate::trouble::Trouble;
+use comparison::Trouble;
 use deck::{Circuit, roles};
 use dom_base::Tri;
 use std::alloc::Global;

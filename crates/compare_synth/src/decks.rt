@@ -1,0 +1,115 @@
+//! Decks, made twice.
+use crate::files::drawn_text;
+use crate::product::{OPTIONS, deck_text, options_at};
+use crate::tally::DeckTally;
+use comparison::{Trouble, network_of};
+use net_flatten::Network;
+use plain_hierarchies::refusal;
+use plain_networks::{PlainNetwork, Sizes};
+use plain_synthesis::{
+    PlainBounds, PlainOptions, Synthesis, cards_of, cells_of, chosen_plan, chosen_signs,
+    cover_tables, deck_of, forest_of, gates_of,
+};
+use plain_texts::{Draws, PlainDeck, write_deck};
+use std::alloc::Global;
+use synth_flow::SynthOptions;
+
+const SIZES: Sizes = Sizes {
+    inputs: 6,
+    latches: 4,
+    tables: 14,
+    outputs: 8,
+};
+
+/// How many files have to be compared for each of all options once.
+const STEP: u64 = 2;
+
+fn plain_options(options: SynthOptions) -> PlainOptions {
+    PlainOptions {
+        bounds: PlainBounds {
+            width: options.bounds.w as usize,
+            height: options.bounds.h as usize,
+        },
+        clocks: options.phases as usize,
+    }
+}
+
+/// What the decks of a network have in common by all options: its signs and its forest.
+fn in_common(alloc: Global, network: &PlainNetwork) -> Result<Synthesis, Trouble> {
+    let gates = gates_of(alloc, network)?;
+    let signs = chosen_signs(alloc, &gates)?;
+    Ok(Synthesis {
+        forest: forest_of(alloc, &gates, &signs)?,
+        signs,
+        kept: Vec::new(alloc),
+        cells: Vec::new(alloc),
+    })
+}
+
+/// The deck of a network by some options, of its signs and its forest.
+fn plain_deck(
+    alloc: Global,
+    network: &PlainNetwork,
+    synthesis: &mut Synthesis,
+    options: PlainOptions,
+) -> Result<PlainDeck, Trouble> {
+    let tables = cover_tables(alloc, &synthesis.forest, options.bounds)?;
+    let Some(kept) = chosen_plan(alloc, &synthesis.forest, &tables)? else {
+        return Err(Trouble::Refused);
+    };
+    synthesis.cells = cells_of(alloc, &synthesis.forest, &kept, options.clocks)?;
+    synthesis.kept = kept;
+    let cards = cards_of(alloc, network, synthesis)?;
+    Ok(deck_of(alloc, network, &synthesis.signs, options.clocks, &cards)?)
+}
+
+/// Compares decks of a network by the options whose numbers have this rest. It answers whether they are alike.
+fn compare_network(
+    alloc: Global,
+    tally: &mut DeckTally,
+    network: &Network,
+    plain: &PlainNetwork,
+    rest: u64,
+) -> Result<bool, Trouble> {
+    let mut synthesis = in_common(alloc, plain)?;
+    for number in 0..OPTIONS {
+        if number as u64 % STEP == rest {
+            let options = plain_options(options_at(number));
+            let deck = plain_deck(alloc, plain, &mut synthesis, options)?;
+            let wanted = write_deck(alloc, &deck)?;
+            let found = deck_text(alloc, network, number)?;
+            if found.as_slice() != wanted.as_slice() {
+                return Ok(false);
+            }
+            tally.add_deck(deck.devices.len());
+        }
+    }
+    tally.networks = tally.networks.saturating_add(1);
+    Ok(true)
+}
+
+/// Compares the decks of so many generated files, and whether they are refused.
+pub fn compare_decks(alloc: Global, files: u64) -> Result<DeckTally, Trouble> {
+    let mut tally = DeckTally::new();
+    for case in 0..files {
+        let drawn = drawn_text(alloc, &mut Draws::of_case(case), SIZES)?;
+        let is_refused = refusal(alloc, &drawn.file)?.is_some();
+        let alike = match network_of(alloc, drawn.text.as_bytes()) {
+            Ok(network) if !is_refused => {
+                let plain = drawn.network(alloc)?;
+                compare_network(alloc, &mut tally, &network, &plain, case % STEP)?
+            }
+            Err(Trouble::Refused) if is_refused => {
+                tally.add_refused();
+                true
+            }
+            Ok(_) | Err(Trouble::Refused) => false,
+            Err(other) => return Err(other),
+        };
+        if !alike {
+            tally.differs = Some(case);
+            return Ok(tally);
+        }
+    }
+    Ok(tally)
+}

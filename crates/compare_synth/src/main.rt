@@ -1,0 +1,64 @@
+//! Compares the decks of generated files, of all options, with those of plain and slow functions that were
+//! written from the rules alone, byte for byte; and runs decks, as they are read back, in random legal orders of
+//! events beside the runs of the networks. The files are the same each time.
+#![tactic(auto)]
+
+mod decks;
+mod divided;
+mod files;
+mod orders;
+mod product;
+mod tally;
+
+use comparison::{Trouble, ended, printed};
+use decks::compare_decks;
+use orders::compare_orders;
+use std::alloc::Global;
+use std::process::ExitCode;
+
+/// How many files have their decks compared.
+const FILES: u64 = 600;
+
+/// How many files have a deck that is run.
+const RUNS: u64 = 1_000;
+
+/// Compares decks and prints what came of it. It answers whether all are alike.
+fn decks_are_alike(rt: &impl Print, alloc: Global) -> Result<bool, Trouble> {
+    let tally = compare_decks(alloc, FILES)?;
+    if let Some(case) = tally.differs {
+        printed(println!(rt; "decks differ at case {case}"))?;
+        return Ok(false);
+    }
+    let (networks, refused, decks, devices) = (
+        tally.networks,
+        tally.refused,
+        tally.decks,
+        tally.devices,
+    );
+    printed(println!(rt;
+        "decks {FILES} files, {refused} refused, {networks} networks, {decks} decks, {devices} devices, all alike"
+    ))?;
+    Ok(true)
+}
+
+/// Runs decks and prints what came of it. It answers whether all are as their networks.
+fn orders_are_alike(rt: &impl Print, alloc: Global) -> Result<bool, Trouble> {
+    let tally = compare_orders(alloc, RUNS)?;
+    if let Some(case) = tally.differs {
+        printed(println!(rt; "orders differ at case {case}"))?;
+        return Ok(false);
+    }
+    let (decks, cycles, events) = (tally.decks, tally.cycles, tally.events);
+    printed(println!(rt; "orders {decks} decks, {cycles} cycles, {events} events, all alike"))?;
+    Ok(true)
+}
+
+fn all_alike(rt: &impl Print, alloc: Global) -> Result<bool, Trouble> {
+    let decks = decks_are_alike(rt, alloc)?;
+    let orders = orders_are_alike(rt, alloc)?;
+    Ok(decks && orders)
+}
+
+fn main(rt: HostRuntime) -> ExitCode {
+    ended(all_alike(&rt, rt.alloc()))
+}

@@ -1,0 +1,36 @@
+//! The decks of the product.
+ghost use Rattle.std.specs.Prelude.{◌≤◌};
+
+use comparison::Trouble;
+use net_flatten::Network;
+use spice_text::write;
+use std::alloc::Global;
+use synth_flow::{SynthOptions, synth};
+use tree_map::Bounds;
+
+/// How many options there are: widths from 2 to 8, heights from 2 to 6, and 1 to 4 clocks.
+pub const OPTIONS: u32 = 7 * 5 * 4;
+
+/// The options of this number: the clocks change first, then the heights.
+pub fn options_at(number: u32) -> SynthOptions
+    ensures some_width { 2 ≤ result.bounds.w }
+    ensures few_wide { result.bounds.w ≤ 8 }
+    ensures some_height { 2 ≤ result.bounds.h }
+    ensures few_high { result.bounds.h ≤ 6 }
+    ensures some_phase { 1 ≤ result.phases }
+    ensures few_phases { result.phases ≤ 4 }
+{
+    SynthOptions {
+        bounds: Bounds {
+            w: 2 + number / 20 % 7,
+            h: 2 + number / 4 % 5,
+        },
+        phases: 1 + (number % 4) as u8,
+    }
+}
+
+/// The text of the deck of a network, by the options of this number.
+pub fn deck_text(alloc: Global, network: &Network, number: u32) -> Result<Vec<u8>, Trouble> {
+    let circuit = synth(alloc, network, options_at(number))?;
+    Ok(write(alloc, &circuit)?)
+}
