@@ -48,7 +48,7 @@ impl Model for ComponentSearch {
 /// The number of the strongly connected component of each node: two nodes have the same exactly where they
 /// are one or each leads to the other. It takes a time that is linear in the graph, and fails only for want
 /// of memory.
-pub fn component_numbers(alloc: Global, nodes: &[Node]) -> Result<Vec<usize>, OutOfMemory>
+pub fn component_numbers(alloc: Global, nodes: &[Node<'_>]) -> Result<Vec<usize>, OutOfMemory>
     requires graph { IsGraph nodes.now }
     ensures { IfOk result (λ numbers. AreComponents nodes.now numbers.items) }
 {
@@ -68,7 +68,7 @@ pub fn component_numbers(alloc: Global, nodes: &[Node]) -> Result<Vec<usize>, Ou
 
 /// Whether each node leads back to itself. It takes a time that is linear in the graph, and fails only for
 /// want of memory.
-pub fn circle_marks(alloc: Global, nodes: &[Node]) -> Result<Vec<bool>, OutOfMemory>
+pub fn circle_marks(alloc: Global, nodes: &[Node<'_>]) -> Result<Vec<bool>, OutOfMemory>
     requires graph { IsGraph nodes.now }
     ensures { IfOk result (λ marks. AreCircleMarks nodes.now marks.items) }
 {
@@ -76,7 +76,7 @@ pub fn circle_marks(alloc: Global, nodes: &[Node]) -> Result<Vec<bool>, OutOfMem
     let mut marks = Vec::with_capacity(alloc, nodes.len())?;
     for k in 0..nodes.len() {
         let node = &nodes[k];
-        marks.push(has_one_of(&numbers, numbers[k], &node.next))?;
+        marks.push(has_one_of(&numbers, numbers[k], node.next()))?;
     }
     Ok(marks)
 }
@@ -112,7 +112,7 @@ impl ComponentSearch {
     }
 
     /// Finds the components of a node and of all that it leads to. The one error is want of memory.
-    fn visit(&mut self, nodes: &[Node], node: usize) -> Result<(), OutOfMemory>
+    fn visit(&mut self, nodes: &[Node<'_>], node: usize) -> Result<(), OutOfMemory>
         requires graph { IsGraph nodes.now }
         requires within { node < length nodes.now }
         requires met { HasMetBelow nodes.now node self.old }
@@ -128,7 +128,7 @@ impl ComponentSearch {
     }
 
     /// Looks at the next node that a stop leads to, which was taken from the stops, or is done with it.
-    fn advance(&mut self, nodes: &[Node], stop: Stop) -> Result<(), OutOfMemory>
+    fn advance(&mut self, nodes: &[Node<'_>], stop: Stop) -> Result<(), OutOfMemory>
         requires graph { IsGraph nodes.now }
         requires sound { IsSoundPath nodes.now (with_stop self.old stop) }
         ensures { OnOk result (HasGoneOn nodes.now (with_stop self.old stop) self.new) }
@@ -227,12 +227,12 @@ fn put_within(places: &mut [Place], nodes: &[usize], first: usize)
 }
 
 /// The next node that the node of a stop leads to.
-fn next_of(nodes: &[Node], stop: Stop) -> Option<usize>
+fn next_of(nodes: &[Node<'_>], stop: Stop) -> Option<usize>
     requires within { stop.node < length nodes.now }
     ensures next { result ≡ slice_get (successors nodes.now stop.node) stop.next }
     ensures few { OnSome result (stop.next + 1 < 2 ^ 64) }
 {
     let node = &nodes[stop.node];
-    let next = node.next.get(stop.next)?;
+    let next = node.next().get(stop.next)?;
     Some(*next as usize)
 }

@@ -1,5 +1,5 @@
 //! An order in which each node stands behind those that it leads to.
-ghost use Rattle.std.specs.Prelude.{◌<◌, ◌^◌, IfOk, length};
+ghost use Rattle.std.specs.Prelude.{◌≡◌, ◌<◌, ◌^◌, IfOk, length};
 ghost use Rattle.graph_order.specs.Orders.{IsAnswer, IsGraph};
 
 use crate::traversal::Traversal;
@@ -7,18 +7,56 @@ use dom_base::OutOfMemory;
 use std::alloc::Global;
 use std::marker::Model;
 
-/// A node: the numbers of the nodes that it leads to.
+/// The numbers of some nodes: a list of its own, or one that stands elsewhere.
 #[derive(Drop)]
-pub struct Node {
-    pub next: Vec<u32>,
+pub enum Numbers<'a> {
+    Own(Vec<u32>),
+    Lent(&'a [u32]),
 }
 
-impl Model for Node {
+/// A node: the numbers of the nodes that it leads to.
+#[derive(Drop)]
+pub struct Node<'a> {
+    numbers: Numbers<'a>,
+}
+
+impl<'a> Model for Node<'a> {
     ghost use Rattle.std.specs.Prelude.{List, ℕ};
+    ghost use Rattle.graph_order.specs.Numbers.{numbers_of};
 
     ghost Value = { List ℕ };
 
-    ghost view = { λ n. n.next.items };
+    ghost view = { λ n. numbers_of n.numbers };
+}
+
+impl<'a> Node<'a> {
+    /// A node that leads to these.
+    pub fn owning(next: Vec<u32>) -> Node<'a>
+        ensures { result ≡ next.items }
+    {
+        Node {
+            numbers: Numbers::Own(next),
+        }
+    }
+
+    /// A node that leads to these, which stand elsewhere.
+    pub fn lending(next: &'a [u32]) -> Node<'a>
+        ensures { result ≡ next.now }
+    {
+        Node {
+            numbers: Numbers::Lent(next),
+        }
+    }
+
+    /// The numbers of the nodes that it leads to.
+    pub fn next(&self) -> &[u32]
+        ensures { result.now ≡ self.now }
+    {
+        match &self.numbers {
+            Numbers::Own(numbers) => numbers.as_slice(),
+            Numbers::Lent(numbers) => numbers,
+        }
+    }
 }
 
 /// The nodes in order, or that some node leads back to itself.
@@ -29,7 +67,7 @@ pub enum Order {
 }
 
 /// Puts the nodes of a graph in order, each behind those that it leads to.
-pub fn put_in_order(alloc: Global, nodes: &[Node]) -> Result<Order, OutOfMemory>
+pub fn put_in_order(alloc: Global, nodes: &[Node<'_>]) -> Result<Order, OutOfMemory>
     requires graph { IsGraph nodes.now }
     requires few { length nodes.now < 2 ^ 32 }
     ensures { IfOk result (IsAnswer nodes.now) }

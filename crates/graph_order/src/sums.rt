@@ -13,7 +13,7 @@ use std::alloc::Global;
 /// memory.
 pub fn walk_sums(
     alloc: Global,
-    nodes: &[Node],
+    nodes: &[Node<'_>],
     order: &[u32],
     weights: &[u64],
 ) -> Result<Vec<u64>, OutOfMemory>
@@ -38,7 +38,7 @@ pub fn walk_sums(
 }
 
 /// A node's weight and the sums of the nodes that it leads to; or 2^64 - 1 where that is larger.
-fn sum_at(nodes: &[Node], sums: &[u64], weights: &[u64], node: u32) -> u64
+fn sum_at(nodes: &[Node<'_>], sums: &[u64], weights: &[u64], node: u32) -> u64
     requires graph { IsGraph nodes.now }
     requires within { node < length nodes.now }
     requires sums { length sums.now ≡ length nodes.now }
@@ -48,7 +48,7 @@ fn sum_at(nodes: &[Node], sums: &[u64], weights: &[u64], node: u32) -> u64
 {
     let mut total = weights[node as usize];
     let node = &nodes[node as usize];
-    let next = node.next.as_slice();
+    let next = node.next();
     for k in next {
         total = total.saturating_add(sums[*k as usize]);
     }

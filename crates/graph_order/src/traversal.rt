@@ -57,7 +57,7 @@ impl Traversal {
 
     /// Visits all nodes that a node leads to, and then the node itself. It answers whether a node
     /// was met that leads back to itself. The one error is want of memory.
-    pub fn visit(&mut self, nodes: &[Node], node: u32) -> Result<bool, OutOfMemory>
+    pub fn visit(&mut self, nodes: &[Node<'_>], node: u32) -> Result<bool, OutOfMemory>
         requires graph { IsGraph nodes.now }
         requires within { node < length nodes.now }
         requires sound { IsSound nodes.now self.old }
@@ -97,7 +97,7 @@ impl Traversal {
 
     /// Looks at the next node that the top one leads to, which was taken from the stack, or is done
     /// with it. It answers whether a node was met that leads back to itself.
-    fn advance(&mut self, nodes: &[Node], frame: Frame) -> Result<bool, OutOfMemory>
+    fn advance(&mut self, nodes: &[Node<'_>], frame: Frame) -> Result<bool, OutOfMemory>
         requires graph { IsGraph nodes.now }
         requires sound { IsSound nodes.now (with_frame self.old frame) }
         ensures { IfOk result (IsAdvance nodes.now (with_frame self.old frame) self.new) }
@@ -139,11 +139,11 @@ impl Traversal {
 }
 
 /// The next node that the node of a frame leads to.
-fn next_of(nodes: &[Node], frame: Frame) -> Option<u32>
+fn next_of(nodes: &[Node<'_>], frame: Frame) -> Option<u32>
     requires within { frame.node < length nodes.now }
     ensures next { result ≡ slice_get (successors nodes.now frame.node) frame.next }
     ensures few { OnSome result (frame.next + 1 < 2 ^ 64) }
 {
     let node = &nodes[frame.node as usize];
-    node.next.get(frame.next).copied()
+    node.next().get(frame.next).copied()
 }

@@ -44,7 +44,7 @@ fn main_name(file: &BlifFile) -> Result<Name, OutOfMemory>
 pub fn network_of(
     alloc: Global,
     file: &BlifFile,
-    numbered: &NumberedFile,
+    numbered: &NumberedFile<'_>,
     levels: &[usize],
 ) -> Result<Network, OutOfMemory>
     requires good { IsGoodFile file.now }

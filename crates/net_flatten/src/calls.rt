@@ -12,7 +12,7 @@ use std::alloc::Global;
 /// The numbers of the models that some instances name, or the first instance that names no model.
 #[derive(Drop)]
 pub enum Callees {
-    Known(Node),
+    Known(Node<'static>),
     Unknown(Report),
 }
 
@@ -20,7 +20,7 @@ pub enum Callees {
 /// no model.
 #[derive(Drop)]
 pub enum CallGraph {
-    Known(Vec<Node>),
+    Known(Vec<Node<'static>>),
     Unknown(Report),
 }
 
@@ -77,5 +77,5 @@ fn find_callees(
         };
         next.push(number as u32)?;
     }
-    Ok(Callees::Known(Node { next }))
+    Ok(Callees::Known(Node::owning(next)))
 }

@@ -11,7 +11,7 @@ use crate::part_cards::{fault_at_control, fault_at_main_control, fault_at_output
 use blif_ast::BlifFile;
 
 /// Looks for the first latch with an edge or a signal that is another than an earlier latch's.
-pub fn check_clocks(file: &BlifFile, numbered: &NumberedFile) -> Result<(), FlatFault>
+pub fn check_clocks(file: &BlifFile, numbered: &NumberedFile<'_>) -> Result<(), FlatFault>
     requires numbers { HasNumbers file.now numbered.now }
     ensures check { IsCheckOf file.now TwoControls result }
 {
@@ -23,7 +23,7 @@ pub fn check_clocks(file: &BlifFile, numbered: &NumberedFile) -> Result<(), Flat
 
 /// Looks for the first reader or driver, main outputs being last, of the signal that controls the
 /// latches. A main input is no such driver.
-pub fn check_control(file: &BlifFile, numbered: &NumberedFile) -> Result<(), FlatFault>
+pub fn check_control(file: &BlifFile, numbered: &NumberedFile<'_>) -> Result<(), FlatFault>
     requires some { file.now.models ≢ [] }
     requires numbers { HasNumbers file.now numbered.now }
     ensures check { IsCheckOf file.now ControlUsed result }

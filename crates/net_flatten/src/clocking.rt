@@ -53,7 +53,7 @@ impl Clock {
 }
 
 /// The index of the first latch with a type that is clocked otherwise than one before it.
-pub fn find_other_clock(file: &BlifFile, numbered: &NumberedFile) -> Option<usize>
+pub fn find_other_clock(file: &BlifFile, numbered: &NumberedFile<'_>) -> Option<usize>
     requires numbers { HasNumbers file.now numbered.now }
     ensures { IsOtherClockFound file.now numbered.now.parts result }
 {

@@ -32,7 +32,7 @@ pub enum Levelled {
 /// graph and the parts. The one error is want of memory.
 fn find_loop(
     alloc: Global,
-    nodes: &[Node],
+    nodes: &[Node<'_>],
     parts: &[NumberedPart],
 ) -> Result<Option<usize>, OutOfMemory>
     requires graph { IsGraph nodes.now }
@@ -80,7 +80,7 @@ fn find_levelled(
 pub fn check_cycles(
     alloc: Global,
     file: &BlifFile,
-    numbered: &NumberedFile,
+    numbered: &NumberedFile<'_>,
 ) -> Result<Vec<usize>, FlatFault>
     requires numbers { HasNumbers file.now numbered.now }
     requires once { (line : ℕ) (name : List ℕ) → IsOfKind file.now DrivenTwice line name → ⊥ }

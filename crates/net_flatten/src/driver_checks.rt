@@ -19,7 +19,7 @@ use std::alloc::Global;
 pub fn check_drivers(
     alloc: Global,
     file: &BlifFile,
-    numbered: &NumberedFile,
+    numbered: &NumberedFile<'_>,
 ) -> Result<NumberSet, FlatFault>
     requires numbers { HasNumbers file.now numbered.now }
     ensures check { IsCheckOf file.now DrivenTwice result }
@@ -34,7 +34,7 @@ pub fn check_drivers(
 /// Looks for the first reader of a signal that isn't driven, main outputs being last.
 pub fn check_readers(
     file: &BlifFile,
-    numbered: &NumberedFile,
+    numbered: &NumberedFile<'_>,
     driven: &NumberSet,
 ) -> Result<(), FlatFault>
     requires numbers { HasNumbers file.now numbered.now }

@@ -163,7 +163,7 @@ pub fn number_file<'a>(
     first: Vec<NameTable<'a>>,
     plans: &[Plan],
     depth: usize,
-) -> Result<NumberedFile, OutOfMemory>
+) -> Result<NumberedFile<'a>, OutOfMemory>
     requires good { IsGoodFile file.now }
     requires first { AreFirstNames file.now.models first.items }
     requires planned { IsPlanned file.now plans.now }
@@ -191,7 +191,7 @@ pub fn number_planned_file<'a>(
     file: &'a BlifFile,
     calls: &ModelCalls,
     first: Vec<NameTable<'a>>,
-) -> Result<NumberedFile, OutOfMemory>
+) -> Result<NumberedFile<'a>, OutOfMemory>
     requires good { IsGoodFile file.now }
     requires calls { AreModelCalls file.now calls.now }
     requires first { AreFirstNames file.now.models first.items }

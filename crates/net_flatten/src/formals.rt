@@ -27,7 +27,7 @@ const FEW: usize = 8;
 pub fn bad_formal(
     alloc: Global,
     models: &[BlifModel],
-    nodes: &[Node],
+    nodes: &[Node<'_>],
 ) -> Result<Option<Report>, OutOfMemory>
     requires apart { NoneHolds IsDuplicateModel models.now }
     requires calls { AreCalls (names_of_models models.now) models.now nodes.now }
@@ -94,7 +94,7 @@ fn bad_in_model<'a>(
     models: &'a [BlifModel],
     tables: &mut IndexMap<usize, Names<'a>>,
     instances: &[Instance],
-    node: &Node,
+    node: &Node<'_>,
 ) -> Result<Option<Report>, OutOfMemory>
     requires apart { NoneHolds IsDuplicateModel models.now }
     requires callees { AreCallees (names_of_models models.now) instances.now node.now }
@@ -114,12 +114,12 @@ fn bad_in_model<'a>(
     Ok(None)
 }
 
-fn callee(node: &Node, index: usize) -> usize
+fn callee(node: &Node<'_>, index: usize) -> usize
     requires within { index < length node.now }
     ensures there { slice_get node.now index ≡ Some result }
     ensures small { result < 2 ^ 32 }
 {
-    node.next[index] as usize
+    node.next()[index] as usize
 }
 
 fn bad_in_instance(

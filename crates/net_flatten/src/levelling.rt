@@ -58,7 +58,7 @@ fn find_tables(
 
 /// Sets the levels of what tables drive, in an order in which each signal stands behind those that it
 /// depends on.
-fn set_levels(levels: &mut Vec<usize>, tables: &NumberSet, nodes: &[Node], order: &[u32])
+fn set_levels(levels: &mut Vec<usize>, tables: &NumberSet, nodes: &[Node<'_>], order: &[u32])
     requires start { AreLevelsSoFar nodes.now order.now tables.now (length nodes.now) 0 levels.old.items }
     requires order { IsOrder nodes.now order.now }
     requires graph { IsGraph nodes.now }
@@ -72,7 +72,7 @@ fn set_levels(levels: &mut Vec<usize>, tables: &NumberSet, nodes: &[Node], order
         }
         if tables.contains(number) {
             let node = &nodes[number as usize];
-            let level = 1 + greatest(levels.as_slice(), node.next.as_slice());
+            let level = 1 + greatest(levels.as_slice(), node.next());
             levels[number as usize] = level;
         }
     }
@@ -84,7 +84,7 @@ pub fn find_levels(
     alloc: Global,
     signals: u32,
     parts: &[NumberedPart],
-    nodes: &[Node],
+    nodes: &[Node<'_>],
     order: &[u32],
 ) -> Result<Vec<usize>, OutOfMemory>
     requires parts { All (IsPartWithin signals) parts.now }

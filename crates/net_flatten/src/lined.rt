@@ -20,7 +20,7 @@ pub struct LinedCard {
 
 /// The cards of a model in order of their lines, where its instances name the models of these numbers.
 /// It fails only for want of memory.
-pub fn plan_model(alloc: Global, model: &BlifModel, node: &Node) -> Result<Plan, OutOfMemory>
+pub fn plan_model(alloc: Global, model: &BlifModel, node: &Node<'_>) -> Result<Plan, OutOfMemory>
     requires tables { length model.now.tables ≤ 2 ^ 32 }
     requires latches { length model.now.latches ≤ 2 ^ 32 }
     requires instances { length model.now.instances ≤ 2 ^ 32 }
@@ -66,7 +66,7 @@ fn add_latches(lined: &mut Vec<LinedCard>, latches: &[Latch]) -> Result<(), OutO
 fn add_instances(
     lined: &mut Vec<LinedCard>,
     instances: &[Instance],
-    node: &Node,
+    node: &Node<'_>,
 ) -> Result<(), OutOfMemory>
     requires few { length instances.now ≤ 2 ^ 32 }
     requires callees { length node.now ≡ length instances.now }
@@ -83,11 +83,11 @@ fn add_instances(
     Ok(())
 }
 
-fn unit_at(node: &Node, index: usize) -> u32
+fn unit_at(node: &Node<'_>, index: usize) -> u32
     requires within { index < length node.now }
     ensures { slice_get node.now index ≡ Some result }
 {
-    node.next[index]
+    node.next()[index]
 }
 
 /// Sorts cards by their lines; those of one line stay in order.

@@ -33,7 +33,7 @@ const MOST: usize = 1 << 32;
 /// models, each behind those.
 #[derive(Drop)]
 pub struct ModelCalls {
-    pub nodes: Vec<Node>,
+    pub nodes: Vec<Node<'static>>,
     pub order: Vec<u32>,
 }
 
@@ -105,7 +105,7 @@ pub fn find_plans(alloc: Global, models: &[BlifModel]) -> Result<Planning, OutOf
 fn plan_calls(
     alloc: Global,
     models: &[BlifModel],
-    nodes: Vec<Node>,
+    nodes: Vec<Node<'static>>,
 ) -> Result<Planning, OutOfMemory>
     requires good { IsGoodFile (record { models = models.now }) }
     requires few { length models.now < 2 ^ 32 }
@@ -131,7 +131,7 @@ fn plan_calls(
 fn find_recursion(
     alloc: Global,
     models: &[BlifModel],
-    nodes: &[Node],
+    nodes: &[Node<'_>],
 ) -> Result<Planning, OutOfMemory>
     requires circle { HasCircle nodes.now }
     requires graph { IsGraph nodes.now }
@@ -151,7 +151,7 @@ fn find_recursion(
 pub fn plan_all(
     alloc: Global,
     models: &[BlifModel],
-    nodes: &[Node],
+    nodes: &[Node<'_>],
 ) -> Result<Vec<Plan>, OutOfMemory>
     requires calls { AreCalls (names_of_models models.now) models.now nodes.now }
     ensures { IfOk result (λ plans. HavePlans models.now nodes.now plans.items) }

@@ -81,12 +81,12 @@ impl<'a> NameTable<'a> {
     }
 
     /// The names, in order of their numbers.
-    pub fn names(&self, alloc: Global) -> Result<Vec<Name>, OutOfMemory>
-        ensures { IfOk result (λ names. names.items ≡ self.now) }
+    pub fn names(&self, alloc: Global) -> Result<Vec<&'a Name>, OutOfMemory>
+        ensures { IfOk result (λ names. map (λ k. k.now) names.items ≡ self.now) }
     {
         let mut names = Vec::with_capacity(alloc, self.len())?;
         for index in 0..self.len() {
-            put_clone(&mut names, self.name(index))?;
+            names.push(self.name(index))?;
         }
         Ok(names)
     }
@@ -104,13 +104,6 @@ impl<'a> NameTable<'a> {
     {
         self.names.get_index_of(&name)
     }
-}
-
-fn put_clone(names: &mut Vec<Name>, name: &Name) -> Result<(), OutOfMemory>
-    ensures { OnOk result (names.new.items ≡ names.old.items ++ name.now ∷ []) }
-{
-    names.push(name.clone()?)?;
-    Ok(())
 }
 
 /// The name at this index from the last one on.

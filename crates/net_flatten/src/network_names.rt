@@ -1,5 +1,5 @@
 //! The names of a network's signals: those of the main model, and for the other signals a prefix and a number.
-ghost use Rattle.std.specs.Prelude.{ℕ, ◌≡◌, ◌≢◌, ◌≤◌, ◌<◌, ◌++◌, ◌==◌, All, IfOk, MatchOption, Some, length, not, position, slice_get, true};
+ghost use Rattle.std.specs.Prelude.{ℕ, ◌≡◌, ◌≢◌, ◌≤◌, ◌<◌, ◌++◌, ◌==◌, All, IfOk, MatchOption, Some, length, map, not, position, slice_get, true};
 ghost use Rattle.std.specs.Char.{is_ascii_digit};
 ghost use Rattle.std.specs.Fmt.{decimal};
 ghost use Rattle.std.specs.List.{list_all};
@@ -35,24 +35,32 @@ fn taken_width(name: &[u8]) -> Option<usize>
     }
 }
 
+/// The name at this index.
+fn name_at<'a>(names: &[&'a Name], index: usize) -> &'a Name
+    requires { index < length names.now }
+    ensures { slice_get (map (λ k. k.now) names.now) index ≡ Some result.now }
+{
+    names[index]
+}
+
 /// The length of the longest name.
-fn longest(names: &[Name]) -> usize
-    ensures { All (λ name. length name ≤ result) names.now }
+fn longest(names: &[&Name]) -> usize
+    ensures { All (λ name. length name ≤ result) (map (λ k. k.now) names.now) }
 {
     let mut longest = 0;
-    for name in names {
-        longest = longest.max(name.as_bytes().len());
+    for index in 0..names.len() {
+        longest = longest.max(name_at(names, index).as_bytes().len());
     }
     longest
 }
 
 /// A mark for each width that a name takes.
-fn taken_widths(alloc: Global, names: &[Name]) -> Result<Vec<bool>, OutOfMemory>
-    ensures { IfOk result (λ marks. MarksTaken names.now marks.items) }
+fn taken_widths(alloc: Global, names: &[&Name]) -> Result<Vec<bool>, OutOfMemory>
+    ensures { IfOk result (λ marks. MarksTaken (map (λ k. k.now) names.now) marks.items) }
 {
     let mut marks = vec![in alloc; false; longest(names)]?;
-    for name in names {
-        if let Some(width) = taken_width(name.as_bytes()) {
+    for index in 0..names.len() {
+        if let Some(width) = taken_width(name_at(names, index).as_bytes()) {
             marks[width] = true;
         }
     }
@@ -74,8 +82,8 @@ fn first_free(marks: &[bool]) -> usize
 
 /// The least number of letters `w`, at least one, such that no name is so many of them followed by digits only. The one
 /// error is want of memory.
-pub fn least_prefix(alloc: Global, names: &[Name]) -> Result<usize, OutOfMemory>
-    ensures { IfOk result (λ width. IsLeastPrefixAmong names.now width) }
+pub fn least_prefix(alloc: Global, names: &[&Name]) -> Result<usize, OutOfMemory>
+    ensures { IfOk result (λ width. IsLeastPrefixAmong (map (λ k. k.now) names.now) width) }
 {
     let marks = taken_widths(alloc, names)?;
     Ok(first_free(&marks))
@@ -93,15 +101,15 @@ fn prefixed_number(alloc: Global, width: usize, number: usize) -> Result<Name, O
 /// The name at an index of a network of the signal of this number in the file.
 fn signal_name(
     alloc: Global,
-    main_names: &[Name],
+    main_names: &[&Name],
     width: usize,
     index: usize,
     number: u32,
 ) -> Result<Name, OutOfMemory>
-    ensures { IfOk result (λ name. name ≡ network_name main_names.now (letters_w width) index number) }
+    ensures { IfOk result (λ name. name ≡ network_name (map (λ k. k.now) main_names.now) (letters_w width) index number) }
 {
     match main_names.get(number as usize) {
-        Some(name) => Ok(name.clone()?),
+        Some(name) => Ok((*name).clone()?),
         None => prefixed_number(alloc, width, index),
     }
 }
@@ -110,10 +118,10 @@ fn signal_name(
 /// a name of the main model stays, and any other is the prefix and the signal's index. The one error is want of memory.
 pub fn names_of_network(
     alloc: Global,
-    main_names: &[Name],
+    main_names: &[&Name],
     numbers: &[u32],
 ) -> Result<Vec<Name>, OutOfMemory>
-    ensures { IfOk result (λ names. AreNetworkNames main_names.now numbers.now names.items) }
+    ensures { IfOk result (λ names. AreNetworkNames (map (λ k. k.now) main_names.now) numbers.now names.items) }
 {
     let width = least_prefix(alloc, main_names)?;
     let mut names = Vec::with_capacity(alloc, numbers.len())?;

@@ -1,5 +1,5 @@
 //! Files by numbers: the expanded list of a file, with a number in place of each signal.
-ghost use Rattle.std.specs.Prelude.{◌≡◌};
+ghost use Rattle.std.specs.Prelude.{◌≡◌, map};
 
 use dom_base::Name;
 use std::marker::Model;
@@ -35,23 +35,24 @@ impl Model for NumberedPart {
 /// of the main model, which have the first numbers, the parts in order, and the numbers of the
 /// signals at the main model's inputs and outputs.
 #[derive(Drop)]
-pub struct NumberedFile {
+pub struct NumberedFile<'a> {
     pub signals: u32,
-    pub names: Vec<Name>,
+    pub names: Vec<&'a Name>,
     pub parts: Vec<NumberedPart>,
     pub inputs: Vec<u32>,
     pub outputs: Vec<u32>,
 }
 
-impl Model for NumberedFile {
+impl<'a> Model for NumberedFile<'a> {
+    ghost use Rattle.std.specs.Prelude.{map};
     ghost use Rattle.net_flatten.specs.NumberedFiles.{NumberedFileData};
 
     ghost Value = { NumberedFileData };
 
-    ghost view = { λ n. record { signals = n.signals; names = n.names.items; parts = n.parts.items; inputs = n.inputs.items; outputs = n.outputs.items } };
+    ghost view = { λ n. record { signals = n.signals; names = map (λ k. k.now) n.names.items; parts = n.parts.items; inputs = n.inputs.items; outputs = n.outputs.items } };
 }
 
-impl NumberedFile {
+impl<'a> NumberedFile<'a> {
     /// The tables and latches in order.
     pub fn parts(&self) -> &[NumberedPart]
         ensures { result.now ≡ self.now.parts }
@@ -74,8 +75,8 @@ impl NumberedFile {
     }
 
     /// The names of the main model, which have the first numbers.
-    pub fn names(&self) -> &[Name]
-        ensures { result.now ≡ self.now.names }
+    pub fn names(&self) -> &[&'a Name]
+        ensures { map (λ k. k.now) result.now ≡ self.now.names }
     {
         self.names.as_slice()
     }

@@ -120,7 +120,7 @@ pub fn fault_at(kind: FlatKind, line: u64, name: &Name) -> FlatFault
 pub fn fault_at_output(
     kind: FlatKind,
     file: &BlifFile,
-    numbered: &NumberedFile,
+    numbered: &NumberedFile<'_>,
     index: usize,
 ) -> FlatFault
     requires numbers { HasNumbers file.now numbered.now }
@@ -135,7 +135,7 @@ pub fn fault_at_output(
 pub fn fault_at_input(
     kind: FlatKind,
     file: &BlifFile,
-    numbered: &NumberedFile,
+    numbered: &NumberedFile<'_>,
     index: usize,
     read: usize,
 ) -> FlatFault
@@ -161,7 +161,7 @@ pub fn fault_at_main_output(kind: FlatKind, file: &BlifFile, index: usize) -> Fl
 pub fn fault_at_control(
     kind: FlatKind,
     file: &BlifFile,
-    numbered: &NumberedFile,
+    numbered: &NumberedFile<'_>,
     index: usize,
     latch: usize,
 ) -> FlatFault
@@ -179,7 +179,7 @@ pub fn fault_at_control(
 pub fn fault_at_main_control(
     kind: FlatKind,
     file: &BlifFile,
-    numbered: &NumberedFile,
+    numbered: &NumberedFile<'_>,
     latch: usize,
 ) -> FlatFault
     requires some { file.now.models ≢ [] }

@@ -20,7 +20,7 @@ use std::alloc::Global;
 pub fn recursion(
     alloc: Global,
     models: &[BlifModel],
-    nodes: &[Node],
+    nodes: &[Node<'_>],
 ) -> Result<Option<Report>, OutOfMemory>
     requires apart { NoneHolds IsDuplicateModel models.now }
     requires calls { AreCalls (names_of_models models.now) models.now nodes.now }
@@ -51,7 +51,7 @@ fn report_instance(instances: &[Instance], at: usize) -> Result<Report, OutOfMem
 
 /// The index of the first instance of a model that leads back to it, if there is one, by the numbers of
 /// the components.
-fn first_back(numbers: &[usize], nodes: &[Node], model: u32) -> Option<usize>
+fn first_back(numbers: &[usize], nodes: &[Node<'_>], model: u32) -> Option<usize>
     requires graph { IsGraph nodes.now }
     requires components { AreComponents nodes.now numbers.now }
     requires within { model < length nodes.now }
@@ -69,11 +69,11 @@ fn first_back(numbers: &[usize], nodes: &[Node], model: u32) -> Option<usize>
 }
 
 /// The number of the model that an instance of a model names, by its index.
-fn callee(nodes: &[Node], model: u32, index: usize) -> Option<u32>
+fn callee(nodes: &[Node<'_>], model: u32, index: usize) -> Option<u32>
     requires within { model < length nodes.now }
     ensures unit { result ≡ slice_get (successors nodes.now model) index }
     ensures few { OnSome result (index + 1 < 2 ^ 64) }
 {
     let node = &nodes[model as usize];
-    node.next.get(index).copied()
+    node.next().get(index).copied()
 }

@@ -21,7 +21,7 @@ use std::alloc::Global;
 pub fn check_signals(
     alloc: Global,
     file: &BlifFile,
-    numbered: &NumberedFile,
+    numbered: &NumberedFile<'_>,
 ) -> Result<Vec<usize>, FlatFault>
     requires some { file.now.models ≢ [] }
     requires numbers { HasNumbers file.now numbered.now }

@@ -18,8 +18,8 @@ loop-k-preserved c =
     (slice_get-get_or c.in_ok-numbers.numbers.items c.loop-k.k c.index.result.now within ∙ ap Some (sym c.index.ensures)) in
     let node : slice_get c.args.nodes.now c.loop-k.k ≡ Some c.index-nodes-k.result =
     slice_get-get_or c.args.nodes.now c.loop-k.k c.index-nodes-k.result c.loop-k-test.true ∙ ap Some (sym c.index-nodes-k.is) in
-    let next : c.deref-in-loop-k.result.now ≡ successors c.args.nodes.now c.loop-k.k =
-    c.deref-in-loop-k.ensures.value ∙ c.node.view_is
+    let next : c.next.result.now ≡ successors c.args.nodes.now c.loop-k.k =
+    c.next.ensures
     ∙ sym (get_or_from_slice_get c.args.nodes.now c.loop-k.k c.index-nodes-k.result [] node) in
     let circle = on_circle c.args.nodes.now c.deref.result.now c.index.result.now c.loop-k.k c.requires.graph are at in
     let has = subst (λ l. IsTrue c.has_one_of.result ↔ HasOneOf c.deref.result.now c.index.result.now l) next c.has_one_of.ensures in

@@ -94,7 +94,7 @@ invariant_of-result c =
       places_are = subst (λ m. IsRenumbering m c.deref-2.result.now c.in_ok-places.places.items) signals c.in_ok-places.ensures;
       name_is = c.in_ok-main_name.ensures;
       names_are = subst (λ l. AreNetworkNames l c.deref-2.result.now network.names) c.names.ensures
-          (subst (λ l. AreNetworkNames c.names.result.now l network.names) (c.deref-3.ensures.value ∙ sym c.deref-2.ensures.value)
+          (subst (λ l. AreNetworkNames (map (λ k. k.now) c.names.result.now) l network.names) (c.deref-3.ensures.value ∙ sym c.deref-2.ensures.value)
           c.in_ok-names_of_network.ensures);
       inputs_are = count ∙ ap length pins;
       outputs_are = c.in_ok-places_of.ensures ∙ ap (λ l. map (network_place l) c.outputs.result.now) c.deref-4.ensures.value;
@@ -131,7 +131,7 @@ returns c =
       places_are = subst (λ m. IsRenumbering m c.deref-2.result.now c.in_ok-places.places.items) signals c.in_ok-places.ensures;
       name_is = c.in_ok-main_name.ensures;
       names_are = subst (λ l. AreNetworkNames l c.deref-2.result.now network.names) c.names.ensures
-          (subst (λ l. AreNetworkNames c.names.result.now l network.names) (c.deref-3.ensures.value ∙ sym c.deref-2.ensures.value)
+          (subst (λ l. AreNetworkNames (map (λ k. k.now) c.names.result.now) l network.names) (c.deref-3.ensures.value ∙ sym c.deref-2.ensures.value)
           c.in_ok-names_of_network.ensures);
       inputs_are = count ∙ ap length pins;
       outputs_are = c.in_ok-places_of.ensures ∙ ap (λ l. map (network_place l) c.outputs.result.now) c.deref-4.ensures.value;

@@ -5,7 +5,7 @@ use Rattle.net_flatten.specs.NumberedFaults.{IsPartWithin}
 use Rattle.net_flatten.specs.NumberedFiles.{NumberedPartData}
 use Rattle.net_flatten.proofs.Dependences.{dependences_at_latch, dependences_at_table}
 use Rattle.net_flatten.proofs.dependence.dependences.Goals as goal
-use Rattle.net_flatten.proofs.dependence.dependences.Goals.{in-Table+in_ok-next, in_default}
+use Rattle.net_flatten.proofs.dependence.dependences.Goals.{in-Table, in_default}
 use Rattle.dom_base.proofs.Lists.{All-at}
 
 pub loop-index-preserved : goal.loop-index-preserved
@@ -15,10 +15,10 @@ loop-index-preserved c =
     let drives : c.part.inside.drives ≡ c.index-parts-index.result.drives = ap (λ (p : NumberedPartData). p.drives) c.part.view_is in
     let reads : c.part.inside.reads.items ≡ c.index-parts-index.result.reads = ap (λ (p : NumberedPartData). p.reads) c.part.view_is in
     elim c.match-part.branch [
-      | in-Table+in_ok-next w ↦
+      | in-Table w ↦
           subst (AreDependences c.args.signals (take (c.loop-index.index + 1) c.args.parts.now))
-          (ap (set c.loop-index.nodes.items c.index-parts-index.result.drives) (sym reads ∙ sym w.as_slice.ensures.value ∙ sym (w.in_ok-next.ensures {u = tt}))
-          ∙ ap (λ k. set c.loop-index.nodes.items k w.in_ok-next.next.items) (sym drives) ∙ sym w.set_next.ensures ∙ ap (λ v. v.items) (sym w.nodes-is))
+          (ap (set c.loop-index.nodes.items c.index-parts-index.result.drives) (sym reads ∙ sym w.as_slice.ensures.value)
+          ∙ ap (λ k. set c.loop-index.nodes.items k w.as_slice.result.now) (sym drives) ∙ sym w.set_next.ensures ∙ ap (λ v. v.items) (sym w.nodes-is))
           (dependences_at_table c.args.parts.now c.loop-index.index c.index-parts-index.result at c.args.signals c.loop-index.nodes.items c.loop-index.invariant
           (ap is_table (sym card ∙ w.in-Table.is)) (All-at (IsPartWithin c.args.signals) c.args.parts.now c.loop-index.index c.index-parts-index.result c.requires.parts at).drives c.requires.once)
       | in_default w ↦

@@ -17,8 +17,8 @@ pub overflow_add-level : goal.overflow_add-level
 overflow_add-level c =
     let b : ℕ = slice_index_or c.args.order.now c.loop-index.index 0 in
     let within : b < length c.args.nodes.now = omega arith in
-    let level = level_worked_out c.args.nodes.now b c.loop-index.levels.items c.as_slice.result.now c.as_slice-then-contains.result.now c.index-nodes-number.result c.greatest-level.result
-    c.as_slice.ensures.value (c.as_slice-then-contains.ensures.value ∙ c.node.view_is) within c.index-nodes-number.is c.greatest-level.ensures in
+    let level = level_worked_out c.args.nodes.now b c.loop-index.levels.items c.as_slice.result.now c.next.result.now c.index-nodes-number.result c.greatest-level.result
+    c.as_slice.ensures.value (c.next.ensures) within c.index-nodes-number.is c.greatest-level.ensures in
     let low = next_low c.args.nodes.now c.args.order.now c.args.tables.now (length c.args.nodes.now) c.loop-index.index c.loop-index.levels.items c.loop-index.invariant b in
     let small : 1 + c.greatest-level.result ≤ c.loop-index.index + 1 = omega (arith, level, low) in
     search (rules, small)
@@ -31,8 +31,8 @@ loop-index-preserved c =
     elim c.if-contains.branch [
       | then-contains w ↦
           subst (AreLevelsSoFar c.args.nodes.now c.args.order.now c.args.tables.now (length c.args.nodes.now) (c.loop-index.index + 1))
-          (ap (set c.loop-index.levels.items b) (sym (level_worked_out c.args.nodes.now b c.loop-index.levels.items w.as_slice.result.now w.as_slice-then-contains.result.now w.index-nodes-number.result w.greatest-level.result
-          w.as_slice.ensures.value (w.as_slice-then-contains.ensures.value ∙ w.node.view_is) within w.index-nodes-number.is w.greatest-level.ensures)) ∙ ap (λ v. v.items) (sym w.levels-is))
+          (ap (set c.loop-index.levels.items b) (sym (level_worked_out c.args.nodes.now b c.loop-index.levels.items w.as_slice.result.now w.next.result.now w.index-nodes-number.result w.greatest-level.result
+          w.as_slice.ensures.value (w.next.ensures) within w.index-nodes-number.is w.greatest-level.ensures)) ∙ ap (λ v. v.items) (sym w.levels-is))
           (levels_at_table c.args.nodes.now c.args.order.now c.args.tables.now (length c.args.nodes.now) c.loop-index.index c.loop-index.levels.items c.loop-index.invariant b at c.requires.order within w.if-contains.ensures)
       | else-contains w ↦
           subst (AreLevelsSoFar c.args.nodes.now c.args.order.now c.args.tables.now (length c.args.nodes.now) (c.loop-index.index + 1)) (ap (λ v. v.items) (sym w.levels-is))

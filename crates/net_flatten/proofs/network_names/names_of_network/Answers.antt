@@ -1,4 +1,4 @@
-use Rattle.std.proofs.Common.{ℕ, ◌∙◌, ap₂, sym, List, [], ◌∷◌, ◌++◌}
+use Rattle.std.proofs.Common.{ℕ, ◌∙◌, ap₂, sym, List, map, [], ◌∷◌, ◌++◌}
 use Rattle.std.specs.Prelude.{slice_index_or}
 use Rattle.std.proofs.lemmas.Option.{slice_get-get_or}
 use Rattle.net_flatten.specs.Numbering.{letters_w}
@@ -11,4 +11,4 @@ loop-index-preserved c =
     let at = slice_get-get_or c.args.numbers.now c.loop-index.index 0 c.loop-index-test.true in
     c.in_ok-push.ensures.items
     ∙ ap₂ (λ (names : List (List ℕ)) (name : List ℕ). names ++ name ∷ []) c.loop-index.invariant (c.in_ok-signal_name.ensures {u = tt})
-    ∙ sym (next_name c.args.main_names.now (letters_w c.in_ok-width.width) c.args.numbers.now c.loop-index.index number at)
+    ∙ sym (next_name (map (λ k. k.now) c.args.main_names.now) (letters_w c.in_ok-width.width) c.args.numbers.now c.loop-index.index number at)

@@ -1,5 +1,5 @@
-use Rattle.std.proofs.Common.{◌≡◌, take}
+use Rattle.std.proofs.Common.{◌≡◌, map, take}
 use Rattle.net_flatten.proofs.name_table.NameTable.names.Given as goal
 
 abbrev pub invariant-loop-index : goal.invariant-loop-index
-invariant-loop-index l = l.names.items ≡ take l.index l.self
+invariant-loop-index l = map (λ k. k.now) l.names.items ≡ take l.index l.self
