@@ -35,7 +35,7 @@ world_after roles move w = record (after_move move w) { values = set_all w.value
 
 -- A run may go on by the event of each pending net, at any moment; by each move of the environment at the rest of the place before
 -- it, capture with all clocks risen; and in evaluation by the rise of the next clock, at rest or not.
-pub record GoesOn (c : CircuitData) (roles : Roles) (steps : List Step) (w : World) : Type 0 where
+pub record MayGoOn (c : CircuitData) (roles : Roles) (steps : List Step) (w : World) : Type 0 where
   pub event : (n : ℕ) (values : List Tri) → EventAt c.devices (is_first (source_count roles)) n w.values values
       → Runs c roles (steps ++ Happens n ∷ []) (record w { values = values })
   pub released : w.place ≡ Reset → Rests c roles w
@@ -59,7 +59,7 @@ pub record GoesOn (c : CircuitData) (roles : Roles) (steps : List Step) (w : Wor
 
 -- each legal run does, so that what is said of every legal run is said of every order of events and of clocks
 abbrev pub RunsGoOn : Type 0
-RunsGoOn = (c : CircuitData) (roles : Roles) (steps : List Step) (w : World) → Runs c roles steps w → GoesOn c roles steps w
+RunsGoOn = (c : CircuitData) (roles : Roles) (steps : List Step) (w : World) → Runs c roles steps w → MayGoOn c roles steps w
 
 -- an evaluation period begins where a legal run opens evaluation, and lasts at each step but the opening of precharge
 pub record LastsToPrecharge (c : CircuitData) (roles : Roles) (w w' : World) : Type 0 where

@@ -9,14 +9,13 @@ use Rattle.deck.specs.Switches.{IsOn, IsNotOff, value_of}
 use Rattle.deck.proofs.Reach.{strong_each, strong_from_each}
 use Rattle.dom_base.proofs.Lists.{AllByRecursion-both, AllByRecursion-weaker}
 use Rattle.switch_model.specs.declared.drive.Drive.{Drive}
-use Rattle.switch_model.specs.declared.drive.Drive.TheVariants.{Nothing, Only, Mixed}
 use Rattle.switch_model.specs.SourceDrives.{IsDrive, pull_of}
 use Rattle.switch_model.specs.Targets.{Pulls, Disputes, Else, Holds, IsTarget}
 use Rattle.dom_base.proofs.Decided.{dec_keeper}
 use Rattle.switch_model.proofs.Rules.{none_pulls, rules-none, rules-some}
 use Rattle.switch_model.proofs.Targets.{definite-possible_strong, definite-possible_weak}
-use Rattle.switch_model.specs.Drives.{IsEndOf, first_of, target_by, TargetsByDrives}
-use Rattle.switch_model.specs.Walks.{Passes}
+use Rattle.switch_model.specs.Drives.{IsEndOf, first_value, target_by, TargetsByDrives}
+use Rattle.switch_model.specs.Walks.{PassesSort}
 use Rattle.switch_model.proofs.Walking.{drive_same}
 
 weak_or_strong : (p : List Device) → IsWeak p ⊎ IsStrong p
@@ -64,7 +63,7 @@ module _ (devices : List Device) (is_source : ℕ → Bool) (values : List Tri) 
     -- where no strong path leads to a source, all paths to sources are weak
     dw_to : (s : ℕ) → End true true s → Source DW s
     dw_to s ((p, path, c, f), e) =
-        let on = AllByRecursion-weaker (Passes (record { definite = true; keepers = true }) values) (IsOn values) (λ d h. h.0) p f in
+        let on = AllByRecursion-weaker (PassesSort (record { definite = true; keepers = true }) values) (IsOn values) (λ d h. h.0) p f in
         elim (weak_or_strong p) [
           | inl w ↦ ((p, path, c, on, w), e)
           | inr st ↦ absurd (none s (definite-possible_strong devices is_source values net s (p, path, c, on, st)) e)
@@ -75,7 +74,7 @@ module _ (devices : List Device) (is_source : ℕ → Bool) (values : List Tri) 
 
     pw_to : (s : ℕ) → End false true s → Source PW s
     pw_to s ((p, path, c, f), e) =
-        let on = AllByRecursion-weaker (Passes (record { definite = false; keepers = true }) values) (IsNotOff values) (λ d h. h.0) p f in
+        let on = AllByRecursion-weaker (PassesSort (record { definite = false; keepers = true }) values) (IsNotOff values) (λ d h. h.0) p f in
         elim (weak_or_strong p) [
           | inl w ↦ ((p, path, c, on, w), e)
           | inr st ↦ absurd (none s (p, path, c, on, st) e)
@@ -98,7 +97,7 @@ module _ (devices : List Device) (is_source : ℕ → Bool) (values : List Tri) 
     sp_is : IsDrive (Source PS) values sp
     sp_is = drive_same _ _ values sp ps_to ps_from hsp
 
-    by_pulls : (s w : Option Tri) → pull_of sd sp ≡ s → pull_of d p ≡ w → IsTarget devices is_source values net (first_of s (first_of w (if alike then (value_of values net) else Unknown)))
+    by_pulls : (s w : Option Tri) → pull_of sd sp ≡ s → pull_of d p ≡ w → IsTarget devices is_source values net (first_value s (first_value w (if alike then (value_of values net) else Unknown)))
     by_pulls (Some v) w es ew = rules-some DS PS is_source values (definite-possible_strong devices is_source values net) sd sp sd_is sp_is v es by_weak
     by_pulls None w es ew = rules-none DS PS is_source values (definite-possible_strong devices is_source values net) sd sp sp_is es by_weak _ (weak w ew)
       where
@@ -122,7 +121,7 @@ module _ (devices : List Device) (is_source : ℕ → Bool) (values : List Tri) 
             ]
         charge en false e = inr ((λ w h. never (sym (ha.1 (λ n q f. h.0 n q)) ∙ e)), refl)
 
-        weak : (w : Option Tri) → pull_of d p ≡ w → by_weak (first_of w (if alike then (value_of values net) else Unknown))
+        weak : (w : Option Tri) → pull_of d p ≡ w → by_weak (first_value w (if alike then (value_of values net) else Unknown))
         weak (Some v) e = rules-some DW PW is_source values (definite-possible_weak devices is_source values net) d p d_is p_is v e by_charge
         weak None e = rules-none DW PW is_source values (definite-possible_weak devices is_source values net) d p p_is e by_charge _ (charge e alike refl)
 

@@ -12,14 +12,14 @@ use Rattle.switch_model.specs.SourceDrives.{IsDrive}
 use Rattle.switch_model.specs.declared.drive.Drive.{Drive}
 use Rattle.switch_model.proofs.Joined.{Joined, Joined-trans, Joined-edge, Reaches, joined_reaches, reaches_leads}
 use Rattle.switch_model.proofs.Searches.{ends_at}
-use Rattle.switch_model.specs.Components.{IsClosed}
+use Rattle.switch_model.specs.Components.{IsClosedPart}
 use Rattle.switch_model.specs.Drives.{IsClass, IsEndOf}
 use Rattle.switch_model.specs.Joins.{AreJoined, top_of}
-use Rattle.switch_model.specs.Walks.{AreAt, IsLed, Linked, Passes}
+use Rattle.switch_model.specs.Walks.{AreAt, IsLed, Linked, PassesSort}
 use Rattle.switch_model.specs.declared.sort.Sort.{Sort}
 use Rattle.switch_model.proofs.Walking.{drive_same}
 
-module _ (devices : List Device) (is_source : ℕ → Bool) (nets places : List ℕ) (closed : IsClosed devices is_source nets places)
+module _ (devices : List Device) (is_source : ℕ → Bool) (nets places : List ℕ) (closed : IsClosedPart devices is_source nets places)
     (Q : Device → Type 0) (old new : List ℕ) (alone : (n : ℕ) → Contains nets n → top_of old n ≡ n)
     (ds : List Device) (at : AreAt devices places ds) (joined : (x y : ℕ) → AreJoined new x y ↔ Linked (AreJoined old) Q is_source ds x y) where
   -- what devices join to nets of a closed part, each used at most once
@@ -112,29 +112,29 @@ module _ (devices : List Device) (is_source : ℕ → Bool) (nets places : List 
       ]
 
 -- the drive of a net's top is that of the sources at the ends of its paths
-pub class_drive : (devices : List Device) (is_source : ℕ → Bool) (nets places : List ℕ) → IsClosed devices is_source nets places → (sort : Sort) (values : List Tri) (old new : List ℕ)
+pub class_drive : (devices : List Device) (is_source : ℕ → Bool) (nets places : List ℕ) → IsClosedPart devices is_source nets places → (sort : Sort) (values : List Tri) (old new : List ℕ)
     → ((n : ℕ) → Contains nets n → top_of old n ≡ n) → (ds : List Device) → AreAt devices places ds
-    → ((x y : ℕ) → AreJoined new x y ↔ Linked (AreJoined old) (Passes sort values) is_source ds x y)
+    → ((x y : ℕ) → AreJoined new x y ↔ Linked (AreJoined old) (PassesSort sort values) is_source ds x y)
     → (es : List Device) → AreAt devices places es → (net : ℕ) → Contains nets net → (drive : Drive)
-    → IsDrive (IsLed new (Passes sort values) is_source es (top_of new net)) values drive
+    → IsDrive (IsLed new (PassesSort sort values) is_source es (top_of new net)) values drive
     → IsDrive (IsEndOf devices is_source values sort net) values drive
 class_drive devices is_source nets places closed sort values old new alone ds at joined es also net member drive h =
     drive_same _ _ values drive
-    (λ s l. let z = led_end devices is_source nets places closed (Passes sort values) old new alone ds at joined es also net member s l in
+    (λ s l. let z = led_end devices is_source nets places closed (PassesSort sort values) old new alone ds at joined es also net member s l in
     let w = path_from_Reach _ is_source z.0 in
     ((w.0, w.1, AllByRecursion-weaker _ _ (λ d x. x.0) w.0 w.2, AllByRecursion-weaker _ _ (λ d x. x.1) w.0 w.2), z.1))
-    (λ s l. end_led devices is_source nets places closed (Passes sort values) old new alone ds at joined es also net member s
+    (λ s l. end_led devices is_source nets places closed (PassesSort sort values) old new alone ds at joined es also net member s
     (Reach-from_path _ is_source l.0.1 (AllByRecursion-both _ _ l.0.0 l.0.2 l.0.3)) l.1)
     h
 
 -- nets with one top are joined by a path, and the nets that paths lead to have the top
-pub class_joined : (devices : List Device) (is_source : ℕ → Bool) (nets places : List ℕ) → IsClosed devices is_source nets places → (sort : Sort) (values : List Tri) (old new : List ℕ)
+pub class_joined : (devices : List Device) (is_source : ℕ → Bool) (nets places : List ℕ) → IsClosedPart devices is_source nets places → (sort : Sort) (values : List Tri) (old new : List ℕ)
     → ((n : ℕ) → Contains nets n → top_of old n ≡ n) → (ds : List Device) → AreAt devices places ds
-    → ((x y : ℕ) → AreJoined new x y ↔ Linked (AreJoined old) (Passes sort values) is_source ds x y) → IsClass devices is_source values sort nets new
+    → ((x y : ℕ) → AreJoined new x y ↔ Linked (AreJoined old) (PassesSort sort values) is_source ds x y) → IsClass devices is_source values sort nets new
 class_joined devices is_source nets places closed sort values old new alone ds at joined = record {
-  to = λ x y hx hy e. elim (joined_path devices is_source nets places closed (Passes sort values) old new alone ds at joined x y hx hy e) [
+  to = λ x y hx hy e. elim (joined_path devices is_source nets places closed (PassesSort sort values) old new alone ds at joined x y hx hy e) [
     | inl z ↦ inl z
     | inr r ↦ let w = path_from_Reach _ is_source r in inr (w.0, w.1, AllByRecursion-weaker _ _ (λ d x. x.0) w.0 w.2, AllByRecursion-weaker _ _ (λ d x. x.1) w.0 w.2)
   ];
-  from = λ x y hx l f. path_joined devices is_source nets places closed (Passes sort values) old new alone ds at joined x y hx (Reach-from_path _ is_source l.1 (AllByRecursion-both _ _ l.0 l.2 l.3)) f;
+  from = λ x y hx l f. path_joined devices is_source nets places closed (PassesSort sort values) old new alone ds at joined x y hx (Reach-from_path _ is_source l.1 (AllByRecursion-both _ _ l.0 l.2 l.3)) f;
 }

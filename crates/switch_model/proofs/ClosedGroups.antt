@@ -1,13 +1,13 @@
 -- The nets and the devices of one component are closed.
-use Rattle.std.proofs.Common.{◌≡◌, ℕ, ◌<◌, ◌^◌, Bool, true, false, List, length, get_or, refl, sym, ap, subst, ◌∙◌, inl, inr, arith}
+use Rattle.std.proofs.Common.{◌≡◌, ℕ, ◌<◌, Bool, true, false, List, length, get_or, sym, ap, subst, ◌∙◌, inl, inr, arith}
 use Rattle.std.specs.Prelude.{All, Contains, Some, slice_get}
 use Rattle.std.proofs.lemmas.List.Elements.{Contains-get_or}
 use Rattle.std.proofs.lemmas.Option.{slice_get_within}
 use Rattle.dom_base.proofs.Lists.{All-at, Contains-slice_get, slice_get-contained}
 use Rattle.deck.specs.Nets.{IsInRange}
 use Rattle.deck.specs.declared.device.Device.{Device}
-use Rattle.switch_model.specs.ComponentLists.{AreComponents, has_end_in, is_of, list_at, number_in}
-use Rattle.switch_model.specs.Components.{IsClosed}
+use Rattle.switch_model.specs.ComponentLists.{AreComponentLists, is_of, list_at, number_in}
+use Rattle.switch_model.specs.Components.{IsClosedPart}
 use Rattle.switch_model.specs.Laws.{EndsAt}
 use Rattle.switch_model.specs.declared.components.Components.{Components}
 use Rattle.switch_model.proofs.Connections.{end_of, has_end, in_listed, listed_in, one_number}
@@ -17,7 +17,7 @@ pub end_below : (nets : ℕ) (d : Device) (n : ℕ) → IsInRange nets d → End
 end_below nets d n r (inl e) = omega (arith, e, r.drain)
 end_below nets d n r (inr e) = omega (arith, e, r.source)
 
-module _ (devices : List Device) (is_source : ℕ → Bool) (nets : ℕ) (c : Components) (h : AreComponents devices is_source nets c) (range : All (IsInRange nets) devices) where
+module _ (devices : List Device) (is_source : ℕ → Bool) (nets : ℕ) (c : Components) (h : AreComponentLists devices is_source nets c) (range : All (IsInRange nets) devices) where
   pub group_nets : (k : ℕ) → All (λ n. n < nets) (list_at c.nets k)
   group_nets k i d lt = ((h.nets_are k (get_or (list_at c.nets k) i d)).0 (Contains-get_or (list_at c.nets k) i d lt)).0
 
@@ -39,7 +39,7 @@ module _ (devices : List Device) (is_source : ℕ → Bool) (nets : ℕ) (c : Co
     pub end_at : (d : Device) (place : ℕ) → Contains (list_at c.places k) place → slice_get devices place ≡ Some d → (n : ℕ) × EndsAt d n × (is_source n ≡ false) × (number_in c n ≡ k)
     end_at d place m is = end_of (number_in c) is_source k d (sym (ap (is_of (number_in c) is_source k) is) ∙ (placed place m).1)
 
-    pub group_closed : IsClosed devices is_source (list_at c.nets k) (list_at c.places k)
+    pub group_closed : IsClosedPart devices is_source (list_at c.nets k) (list_at c.places k)
     group_closed = record {
       free = λ n m. ((h.nets_are k n).0 m).1;
       all = λ d n member m e.

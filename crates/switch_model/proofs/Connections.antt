@@ -1,14 +1,15 @@
 -- Nets that devices connect, and the numbers of their components.
-use Rattle.std.proofs.Common.{◌≡◌, ◌≢◌, ℕ, zero, suc, ◌+◌, ◌<◌, ◌≤◌, Bool, true, false, List, [], ◌∷◌, ◌++◌, ◌⊎◌, inl, inr, length, get_or, refl, sym, ap, subst, ◌∙◌, arith}
-use Rattle.std.specs.Prelude.{◌↔◌, ◌&&◌, ◌||◌, not, nat_eq, Contains, Some, None, slice_get}
+use Rattle.std.proofs.Common.{◌≡◌, ℕ, zero, suc, ◌+◌, ◌<◌, Bool, true, false, List, [], ◌∷◌, ◌++◌, ◌⊎◌, inl, inr, get_or, refl, sym, ap, subst, ◌∙◌, arith}
+use Rattle.std.specs.Prelude.{◌&&◌, not, Contains}
 use Rattle.std.proofs.lemmas.List.{append-nil}
 use Rattle.std.proofs.lemmas.List.Elements.{Contains-append_cases, Contains-append_left, Contains-append_right, Contains-get_or}
-use Rattle.std.proofs.lemmas.Bool.{eq-eqb, eqb-true}
+use Rattle.std.proofs.lemmas.Bool.{eq-eqb, eqb-true, or_left, or_right}
+use Rattle.dom_base.proofs.Bools.{or_one}
 use Rattle.dom_base.proofs.Decided.{dec_nat}
 use Rattle.deck.specs.Paths.{Ends, one}
 use Rattle.deck.specs.declared.device.Device.{Device}
 use Rattle.dom_base.proofs.Lists.{AllByRecursion-append}
-use Rattle.switch_model.specs.ComponentLists.{IsNumbering, has_end_in, is_of, RisesTo, listed_below, one_where}
+use Rattle.switch_model.specs.ComponentLists.{IsNumbering, has_end_in, RisesTo, listed_below, one_where}
 use Rattle.switch_model.specs.Components.{AreConnected}
 use Rattle.switch_model.specs.Laws.{EndsAt}
 use Rattle.switch_model.proofs.ComponentLists.{rises-later, rises-push}
@@ -40,18 +41,6 @@ module _ (devices : List Device) (is_source : ℕ → Bool) where
 never : true ≡ false → ⊥
 never e = cc
 
-either-left : (a b : Bool) → a ≡ true → (a || b) ≡ true
-either-left true b e = refl
-either-left false b e = absurd (never (sym e))
-
-either-right : (a b : Bool) → b ≡ true → (a || b) ≡ true
-either-right true b e = refl
-either-right false b e = e
-
-either-cases : (a b : Bool) → (a || b) ≡ true → (a ≡ true) ⊎ (b ≡ true)
-either-cases true b e = inl refl
-either-cases false b e = inr e
-
 free-both : (s e : Bool) → s ≡ false → e ≡ true → (not s && e) ≡ true
 free-both false e f g = g
 free-both true e f g = absurd (never f)
@@ -62,11 +51,11 @@ both-free true e h = absurd (never (sym h))
 
 module _ (number : ℕ → ℕ) (is_source : ℕ → Bool) (k : ℕ) (d : Device) where
   pub has_end : (n : ℕ) → EndsAt d n → is_source n ≡ false → number n ≡ k → has_end_in number is_source k d ≡ true
-  has_end n (inl e) f at = either-left _ _ (free-both (is_source d.drain) _ (ap is_source e ∙ f) (eq-eqb (number d.drain) k (ap number e ∙ at)))
-  has_end n (inr e) f at = either-right _ _ (free-both (is_source d.source) _ (ap is_source e ∙ f) (eq-eqb (number d.source) k (ap number e ∙ at)))
+  has_end n (inl e) f at = or_left _ _ (free-both (is_source d.drain) _ (ap is_source e ∙ f) (eq-eqb (number d.drain) k (ap number e ∙ at)))
+  has_end n (inr e) f at = or_right _ _ (free-both (is_source d.source) _ (ap is_source e ∙ f) (eq-eqb (number d.source) k (ap number e ∙ at)))
 
   pub end_of : has_end_in number is_source k d ≡ true → (n : ℕ) × EndsAt d n × (is_source n ≡ false) × (number n ≡ k)
-  end_of h = elim (either-cases _ _ h) [
+  end_of h = elim (or_one _ _ h) [
     | inl a ↦ let z = both-free (is_source d.drain) _ a in (d.drain, inl refl, z.0, eqb-true (number d.drain) k z.1)
     | inr a ↦ let z = both-free (is_source d.source) _ a in (d.source, inr refl, z.0, eqb-true (number d.source) k z.1)
   ]
@@ -87,11 +76,6 @@ listed-yes test n e = listed-more test n ∙ ap (λ b. listed_below test n ++ on
 
 pub listed-no : (test : ℕ → Bool) (n : ℕ) → test n ≡ false → listed_below test (n + 1) ≡ listed_below test n
 listed-no test n e = listed-more test n ∙ ap (λ b. listed_below test n ++ one_where b n) e ∙ append-nil (listed_below test n)
-
--- a test that is true just where a fact holds
-pub tells : (b : Bool) → (b ≡ true → ⊥) → b ≡ false
-tells true h = absurd (h refl)
-tells false h = refl
 
 module _ (test : ℕ → Bool) where
   one_in : (b : Bool) (n p : ℕ) → Contains (one_where b n) p → (n ≡ p) × (b ≡ true)

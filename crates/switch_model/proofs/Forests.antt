@@ -3,14 +3,14 @@ use Rattle.std.proofs.Common.{◌≡◌, ◌≢◌, ℕ, zero, suc, ◌<◌, ◌
 use Rattle.std.specs.Prelude.{◌⊎◌}
 use Rattle.std.proofs.lemmas.Bool.{cases_eq, cases_lt}
 use Rattle.std.proofs.lemmas.List.{get_or-set_same, get_or-set_other, get_or_past}
-use Rattle.switch_model.specs.Joins.{above, climb, top_of, IsForest, AreJoined}
+use Rattle.switch_model.specs.Joins.{above, climb, top_of, IsJoinForest, AreJoined}
 
 -- a top stays where it is
 pub climb_top : (times : ℕ) (parents : List ℕ) (net : ℕ) → above parents net ≡ net → climb times parents net ≡ net
 climb_top zero parents net e = refl
 climb_top (suc times) parents net e = ap (climb times parents) e ∙ climb_top times parents net e
 
-module _ (parents : List ℕ) (forest : IsForest parents) where
+module _ (parents : List ℕ) (forest : IsJoinForest parents) where
   -- as many times up as the number says lead to a top, and more to the same
   climbed : (times net : ℕ) → net ≤ times → above parents (climb times parents net) ≡ climb times parents net
   climbed zero net le = omega (arith, forest net, le, climb_zero net le)
@@ -57,7 +57,7 @@ module _ (parents : List ℕ) (forest : IsForest parents) where
   top_low net = top_low_by (length parents) net
 
 -- the top gone goes below the top keep
-module _ (parents : List ℕ) (forest : IsForest parents) (keep gone : ℕ) (le : keep ≤ gone) (lt : gone < length parents) (top_keep : above parents keep ≡ keep) where
+module _ (parents : List ℕ) (forest : IsJoinForest parents) (keep gone : ℕ) (le : keep ≤ gone) (lt : gone < length parents) (top_keep : above parents keep ≡ keep) where
   abbrev pub moved : List ℕ
   moved = set parents gone keep
 
@@ -67,7 +67,7 @@ module _ (parents : List ℕ) (forest : IsForest parents) (keep gone : ℕ) (le 
   here : above moved gone ≡ keep
   here = get_or-set_same parents gone keep gone lt
 
-  pub moved_forest : IsForest moved
+  pub moved_forest : IsJoinForest moved
   moved_forest net = elim (cases_eq net gone) [
     | inl e ↦ rw e (omega (arith, here, le))
     | inr ne ↦ omega (arith, other net ne, forest net)
@@ -136,7 +136,7 @@ module _ (parents : List ℕ) (forest : IsForest parents) (keep gone : ℕ) (le 
       joined_from x y (inr (inr z)) = top_changed x (z.0 ∙ at_b) ∙ sym (top_kept y (sym z.1 ∙ at_a))
 
 -- a net comes to stand below the one that is twice above it: all tops stay
-module _ (parents : List ℕ) (forest : IsForest parents) (at : ℕ) (lt : at < length parents) where
+module _ (parents : List ℕ) (forest : IsJoinForest parents) (at : ℕ) (lt : at < length parents) where
   abbrev pub up_twice : ℕ
   up_twice = above parents (above parents at)
 
@@ -149,7 +149,7 @@ module _ (parents : List ℕ) (forest : IsForest parents) (at : ℕ) (lt : at < 
   pub halved_here : above halved at ≡ up_twice
   halved_here = get_or-set_same parents at up_twice at lt
 
-  pub halved_forest : IsForest halved
+  pub halved_forest : IsJoinForest halved
   halved_forest net = elim (cases_eq net at) [
     | inl e ↦ rw e (omega (arith, halved_here, forest at, forest (above parents at)))
     | inr ne ↦ omega (arith, halved_other net ne, forest net)

@@ -7,6 +7,7 @@ pub mod Forests
 pub mod Joined
 pub mod Locality
 pub mod Nearness
+pub mod Pieces
 pub mod Refreshed
 pub mod RisingLists
 pub mod Rules

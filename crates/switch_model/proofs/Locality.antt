@@ -1,14 +1,13 @@
 -- One changed net changes no targets but its own and those in the components that it touches.
 use Rattle.std.proofs.Common.{◌≡◌, ℕ, Bool, false, List, [], ◌∷◌, refl, sym, ◌∙◌, inl, inr}
-use Rattle.std.specs.Prelude.{◌⊎◌, ◌↔◌, ◌≢◌, Contains}
+use Rattle.std.specs.Prelude.{◌↔◌, ◌≢◌, Contains}
 use Rattle.std.specs.List.{AllByRecursion}
 use Rattle.dom_base.specs.declared.tri.Tri.{Tri}
 use Rattle.deck.specs.declared.device.Device.{Device}
-use Rattle.deck.specs.Paths.{Path, one, more, Ends, Possible}
+use Rattle.deck.specs.Paths.{Path, one, more, Possible}
 use Rattle.deck.specs.Switches.{value_of}
-use Rattle.switch_model.specs.Laws.{AgreeAround, EndsAt, IsNear}
+use Rattle.switch_model.specs.Laws.{AgreeAround, IsNear}
 use Rattle.switch_model.specs.Targets.{IsPending, IsTarget}
-use Rattle.dom_base.proofs.Decided.{dec_nat}
 use Rattle.switch_model.proofs.Nearness.{near-same}
 use Rattle.switch_model.proofs.Searches.{ends_at, other_at}
 use Rattle.switch_model.specs.Components.{IsNetOf, AreConnected, Touches}

@@ -1,16 +1,13 @@
 -- The pending nets after the components that a changed net touches are refreshed.
-use Rattle.std.proofs.Common.{◌≡◌, ◌≢◌, ℕ, zero, ◌<◌, ◌≤◌, Bool, true, false, List, [], ◌∷◌, ◌⊎◌, length, get_or, set, length-set, refl, sym, ap, subst, ◌∙◌, inl, inr, arith}
+use Rattle.std.proofs.Common.{◌≡◌, ℕ, ◌<◌, ◌≤◌, Bool, true, false, List, ◌⊎◌, length, set, refl, sym, subst, inl, inr, arith}
 use Rattle.std.specs.Prelude.{◌↔◌, All, Contains}
 use Rattle.std.proofs.lemmas.List.{get_or-set_other}
 use Rattle.dom_base.specs.Decided.{Decided}
-use Rattle.dom_base.proofs.Decided.{dec_any, dec_bool, dec_map, dec_nat, lt_or_ge}
+use Rattle.dom_base.proofs.Decided.{dec_any, dec_map, dec_nat, lt_or_ge}
 use Rattle.dom_base.specs.declared.tri.Tri.{Tri}
 use Rattle.dom_base.specs.declared.tri.Tri.TheVariants.{Unknown}
 use Rattle.deck.specs.Nets.{IsInRange}
-use Rattle.deck.specs.Switches.{value_of}
-use Rattle.deck.specs.declared.device.Device.{Device}
-use Rattle.switch_model.specs.ComponentLists.{AreComponents, list_at, number_in}
-use Rattle.switch_model.specs.Components.{Touches}
+use Rattle.switch_model.specs.ComponentLists.{AreComponentLists, list_at, number_in}
 use Rattle.switch_model.specs.LinksData.{LinksData, is_first}
 use Rattle.switch_model.specs.Locality.{DifferAt}
 use Rattle.switch_model.specs.Pending.{ArePending, IsPendingNet}
@@ -23,7 +20,7 @@ use Rattle.switch_model.proofs.Touching.{own-number, touches-number}
 dec_contains : (xs : List ℕ) (n : ℕ) → Decided (Contains xs n)
 dec_contains xs n = dec_map (λ z. subst (Contains xs) z.2 z.1) (λ m. (n, m, refl)) (dec_any (λ k. k ≡ n) (λ k. dec_nat k n) xs)
 
-module _ (links : LinksData) (c : Components) (h : AreComponents links.devices (is_first links.sources) links.nets c) (range : All (IsInRange links.nets) links.devices) (values : List Tri)
+module _ (links : LinksData) (c : Components) (h : AreComponentLists links.devices (is_first links.sources) links.nets c) (range : All (IsInRange links.nets) links.devices) (values : List Tri)
     (whole : length values ≡ links.nets) (numbers : List ℕ) (before after : List ℕ)
     (here : (n k : ℕ) → Contains numbers k → Contains (list_at c.nets k) n → Contains after n ↔ ((v : Tri) × IsPending links.devices (is_first links.sources) values n v))
     (others : (n : ℕ) → ((k : ℕ) → Contains numbers k → Contains (list_at c.nets k) n → ⊥) → Contains after n ↔ Contains before n) where
@@ -75,7 +72,7 @@ module _ (values : List Tri) (x : ℕ) (before : Tri) where
   pub differ : DifferAt x (set values x before) values
   differ n ne = sym (get_or-set_other values x n before Unknown ne)
 
-module _ (links : LinksData) (c : Components) (h : AreComponents links.devices (is_first links.sources) links.nets c) (range : All (IsInRange links.nets) links.devices) (values : List Tri) (x : ℕ) (lt : x < links.nets) (before : Tri) where
+module _ (links : LinksData) (c : Components) (h : AreComponentLists links.devices (is_first links.sources) links.nets c) (range : All (IsInRange links.nets) links.devices) (values : List Tri) (x : ℕ) (lt : x < links.nets) (before : Tri) where
   -- a net, no source, of a component that the changed net does not touch stays as it was
   pub kept_apart : (n : ℕ) (v : Tri) → n < links.nets → is_first links.sources n ≡ false → (Contains (list_at c.touched x) (number_in c n) → ⊥)
       → IsPending links.devices (is_first links.sources) (set values x before) n v ↔ IsPending links.devices (is_first links.sources) values n v
@@ -85,7 +82,7 @@ module _ (links : LinksData) (c : Components) (h : AreComponents links.devices (
       (λ g t. none (touches-number links.devices (is_first links.sources) links.nets c h range x n few f t))
 
 -- where all components are refreshed and no net was listed before
-module _ (links : LinksData) (c : Components) (h : AreComponents links.devices (is_first links.sources) links.nets c) (range : All (IsInRange links.nets) links.devices) (values : List Tri)
+module _ (links : LinksData) (c : Components) (h : AreComponentLists links.devices (is_first links.sources) links.nets c) (range : All (IsInRange links.nets) links.devices) (values : List Tri)
     (whole : length values ≡ links.nets) (numbers : List ℕ) (before after : List ℕ)
     (here : (n k : ℕ) → Contains numbers k → Contains (list_at c.nets k) n → Contains after n ↔ ((v : Tri) × IsPending links.devices (is_first links.sources) values n v))
     (others : (n : ℕ) → ((k : ℕ) → Contains numbers k → Contains (list_at c.nets k) n → ⊥) → Contains after n ↔ Contains before n)

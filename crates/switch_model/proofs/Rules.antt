@@ -3,7 +3,6 @@ use Rattle.std.proofs.Common.{◌≡◌, ℕ, Bool, true, List, refl, sym, subst
 use Rattle.std.specs.Prelude.{Some, None}
 use Rattle.dom_base.specs.declared.tri.Tri.{Tri}
 use Rattle.dom_base.specs.declared.tri.Tri.TheVariants.{Unknown}
-use Rattle.deck.specs.Switches.{value_of}
 use Rattle.switch_model.specs.SourceDrives.{IsDrive, pull_of}
 use Rattle.switch_model.specs.Targets.{Pulls, Disputes, Else}
 use Rattle.switch_model.specs.declared.drive.Drive.{Drive}

@@ -1,8 +1,8 @@
 -- The sources of a circuit with roles.
-use Rattle.std.proofs.Common.{◌≡◌, ℕ, zero, suc, ◌+◌, ◌-◌, ◌<◌, ◌≤◌, Bool, true, false, List, [], ◌∷◌, ◌++◌, All, codes, length, take, get_or, nat_eq, nat_lt, refl, sym, subst, ap, ◌∙◌, inl, inr, arith, length-append, length-take}
+use Rattle.std.proofs.Common.{◌≡◌, ℕ, ◌+◌, ◌-◌, ◌<◌, ◌≤◌, Bool, true, false, List, [], ◌++◌, All, codes, length, take, get_or, nat_eq, nat_lt, refl, sym, subst, ap, ◌∙◌, inl, inr, arith}
 use Rattle.std.specs.Prelude.{◌⊎◌, ◌↔◌}
 use Rattle.dom_base.specs.declared.tri.Tri.{Tri}
-use Rattle.std.specs.List.{AllByRecursion, starts_with}
+use Rattle.std.specs.List.{starts_with}
 use Rattle.std.proofs.lemmas.Bool.Decides.{nat_tests}
 use Rattle.std.proofs.lemmas.List.{get_or-append_right, get_or-take, get_or_append_left}
 use Rattle.std.proofs.lemmas.List.Elements.{All-from_recursion}

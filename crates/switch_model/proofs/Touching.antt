@@ -1,5 +1,5 @@
 -- The components that a net touches, by number, and the places of their devices.
-use Rattle.std.proofs.Common.{◌≡◌, ℕ, zero, suc, ◌+◌, ◌<◌, ◌≤◌, Bool, true, false, ◌||◌, List, [], ◌∷◌, ◌++◌, ◌⊎◌, length, length-append, refl, sym, ap, subst, ◌∙◌, inl, inr, arith}
+use Rattle.std.proofs.Common.{◌≡◌, ℕ, zero, suc, ◌+◌, ◌<◌, ◌≤◌, Bool, true, false, ◌||◌, List, [], ◌∷◌, length, length-append, refl, sym, ap, subst, ◌∙◌, inl, inr, arith}
 use Rattle.std.specs.Prelude.{All, Contains, Option, Some, None, slice_get}
 use Rattle.std.specs.List.{AllByRecursion, list_any, sum_by}
 use Rattle.std.proofs.lemmas.List.Sums.{get_or-le-sum_by, sum_by-cons}
@@ -8,7 +8,7 @@ use Rattle.dom_base.proofs.Lists.{All-at, Contains-slice_get, slice_get-containe
 use Rattle.deck.specs.Nets.{IsInRange}
 use Rattle.deck.specs.Paths.{Ends, Path, one, more}
 use Rattle.deck.specs.declared.device.Device.{Device}
-use Rattle.switch_model.specs.ComponentLists.{AreComponents, IsTouchedBy, has_end_in, is_of, list_at, listed_below, number_in, one_where}
+use Rattle.switch_model.specs.ComponentLists.{AreComponentLists, IsTouchedBy, has_end_in, is_of, list_at, listed_below, number_in, one_where}
 use Rattle.switch_model.specs.Components.{AreTouched, IsNetOf, IsTouchedPlace, Touches}
 use Rattle.switch_model.specs.Laws.{EndsAt}
 use Rattle.switch_model.specs.declared.components.Components.{Components}
@@ -59,7 +59,7 @@ listed-none : (n : ℕ) → length (listed_below (λ p. false) n) ≡ 0
 listed-none zero = refl
 listed-none (suc n) = omega (arith, length-append (listed_below (λ p. false) n) [], listed-none n)
 
-module _ (devices : List Device) (is_source : ℕ → Bool) (nets : ℕ) (c : Components) (h : AreComponents devices is_source nets c) (range : All (IsInRange nets) devices) where
+module _ (devices : List Device) (is_source : ℕ → Bool) (nets : ℕ) (c : Components) (h : AreComponentLists devices is_source nets c) (range : All (IsInRange nets) devices) where
   ends_number : (d : Device) (a b : ℕ) → Ends d a b → Contains devices d → is_source a ≡ false → is_source b ≡ false → number_in c a ≡ number_in c b
   ends_number d a b e m f g = one_number devices is_source (number_in c) h.numbering d a b m (ends_at d a b e) f (other_at d a b e) g
 

@@ -29,7 +29,7 @@ first_or_later d ds e (k, lt, at) = by k lt at
 pub walked-none : (devices : List Device) (places : List ℕ) → AreWalked devices places 0 []
 walked-none devices places d = (λ c. absurd (omega (arith, c.1)), λ z. absurd (omega (arith, z.1)))
 
-the_same : (d e : Device) → Some d ≡ Some e → d ≡ e
+pub the_same : (d e : Device) → Some d ≡ Some e → d ≡ e
 the_same d e h = cc
 
 pub walked-more : (devices : List Device) (places : List ℕ) (count : ℕ) (ds : List Device) (d : Device) → AreWalked devices places count ds

@@ -4,7 +4,7 @@ use Rattle.std.specs.List.Sorted.{IsStrictlyIncreasing}
 use Rattle.deck.specs.Nets.{IsInRange}
 use Rattle.deck.specs.declared.device.Device.{Device}
 use Rattle.switch_model.specs.Components.{AreConnected, IsAt}
-use Rattle.switch_model.specs.Joins.{IsForest, top_of}
+use Rattle.switch_model.specs.Joins.{IsJoinForest, top_of}
 use Rattle.switch_model.specs.LinksData.{is_first}
 use Rattle.switch_model.specs.Sweeps.{AreRooms}
 use Rattle.switch_model.specs.declared.components.Components.{Components}
@@ -62,8 +62,8 @@ abbrev pub number_in : Components → ℕ → ℕ
 number_in c net = top_of c.parents.items net
 
 -- the lists of a circuit with so many nets
-pub record AreComponents (devices : List Device) (is_source : ℕ → Bool) (nets : ℕ) (c : Components) : Type 0 where
-  pub forest : IsForest c.parents.items
+pub record AreComponentLists (devices : List Device) (is_source : ℕ → Bool) (nets : ℕ) (c : Components) : Type 0 where
+  pub forest : IsJoinForest c.parents.items
   pub numbering : IsNumbering devices is_source (number_in c)
   pub parents_long : length c.parents.items ≡ nets
   pub nets_long : length c.nets ≡ nets
@@ -80,5 +80,5 @@ pub record AreComponents (devices : List Device) (is_source : ℕ → Bool) (net
 pub record AreLinks (sources : ℕ) (devices : List Device) (components : Components) (rooms : Rooms) : Type 0 where
   pub few : length components.nets ≤ 2 ^ 26
   pub in_range : All (IsInRange (length components.nets)) devices
-  pub components_are : AreComponents devices (is_first sources) (length components.nets) components
+  pub components_are : AreComponentLists devices (is_first sources) (length components.nets) components
   pub rooms_are : AreRooms (length components.nets) rooms

@@ -1,5 +1,5 @@
 -- Components: the nets that devices join, whatever their gates (Bryant, A switch-level model and simulator for MOS digital systems, 1984).
-use Rattle.std.specs.Prelude.{◌≡◌, ◌<◌, ℕ, Bool, false, List, ◌⊎◌, ◌↔◌, Some, slice_get, Contains}
+use Rattle.std.specs.Prelude.{◌≡◌, ℕ, Bool, false, List, ◌⊎◌, ◌↔◌, Some, slice_get, Contains}
 use Rattle.std.specs.List.{AllByRecursion}
 use Rattle.std.specs.List.Sorted.{IsStrictlyIncreasing}
 use Rattle.deck.specs.declared.device.Device.{Device}
@@ -38,7 +38,7 @@ pub record AreTouched (devices : List Device) (is_source : ℕ → Bool) (x : �
   pub exact : (place : ℕ) → Contains places place ↔ IsTouchedPlace devices is_source x place
 
 -- nets that devices join to no others but sources, and the places of the devices that end at them
-pub record IsClosed (devices : List Device) (is_source : ℕ → Bool) (nets places : List ℕ) : Type 0 where
+pub record IsClosedPart (devices : List Device) (is_source : ℕ → Bool) (nets places : List ℕ) : Type 0 where
   pub free : (n : ℕ) → Contains nets n → is_source n ≡ false
   -- each device that ends at one of the nets stands at one of the places
   pub all : (d : Device) (n : ℕ) → Contains devices d → Contains nets n → EndsAt d n

@@ -11,18 +11,18 @@ use Rattle.switch_model.specs.SourceDrives.{IsDrive, pull_of}
 use Rattle.switch_model.specs.Targets.{IsTarget}
 use Rattle.switch_model.specs.declared.sort.Sort.{Sort}
 use Rattle.switch_model.specs.Joins.{AreJoined}
-use Rattle.switch_model.specs.Walks.{Passes}
+use Rattle.switch_model.specs.Walks.{PassesSort}
 
 -- a source at the end of a path of this sort
 abbrev pub IsEndOf : List Device → (ℕ → Bool) → List Tri → Sort → ℕ → ℕ → Type 0
 IsEndOf devices is_source values sort net s =
-    ((p : List Device) × Path is_source net p s × AllByRecursion (Contains devices) p × AllByRecursion (Passes sort values) p)
+    ((p : List Device) × Path is_source net p s × AllByRecursion (Contains devices) p × AllByRecursion (PassesSort sort values) p)
     × (is_source s ≡ true)
 
 -- paths of this sort join two nets
 abbrev pub JoinsBy : List Device → (ℕ → Bool) → List Tri → Sort → ℕ → ℕ → Type 0
 JoinsBy devices is_source values sort a b =
-    (p : List Device) × Path is_source a p b × AllByRecursion (Contains devices) p × AllByRecursion (Passes sort values) p
+    (p : List Device) × Path is_source a p b × AllByRecursion (Contains devices) p × AllByRecursion (PassesSort sort values) p
 
 -- of some nets those have one top that paths of this sort join
 pub record IsClass (devices : List Device) (is_source : ℕ → Bool) (values : List Tri) (sort : Sort) (nets parents : List ℕ) : Type 0 where
@@ -31,14 +31,14 @@ pub record IsClass (devices : List Device) (is_source : ℕ → Bool) (values : 
       → Contains nets y × AreJoined parents x y
 
 -- the value that pulls, where one does, else the other
-abbrev pub first_of : Option Tri → Tri → Tri
-first_of (Some v) other = v
-first_of None other = other
+abbrev pub first_value : Option Tri → Tri → Tri
+first_value (Some v) other = v
+first_value None other = other
 
 -- what strong paths pull to, else what paths of all devices pull to, else the own value where all joined nets have it
 abbrev pub target_by : Drive → Drive → Drive → Drive → Bool → Tri → Tri
 target_by strong_definite strong_possible definite possible alike own =
-    first_of (pull_of strong_definite strong_possible) (first_of (pull_of definite possible) (if alike then own else Unknown))
+    first_value (pull_of strong_definite strong_possible) (first_value (pull_of definite possible) (if alike then own else Unknown))
 
 -- the target by the drives of four sorts of paths: weak paths need no sort of their own, since they count only
 -- where no strong one leads to a source

@@ -15,8 +15,8 @@ abbrev pub top_of : List ℕ → ℕ → ℕ
 top_of parents net = climb (length parents) parents net
 
 -- each net stands above itself or has one of a smaller number above it
-abbrev pub IsForest : List ℕ → Type 0
-IsForest parents = (net : ℕ) → above parents net ≤ net
+abbrev pub IsJoinForest : List ℕ → Type 0
+IsJoinForest parents = (net : ℕ) → above parents net ≤ net
 
 -- two nets are joined
 abbrev pub AreJoined : List ℕ → ℕ → ℕ → Type 0

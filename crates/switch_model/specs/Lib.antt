@@ -6,6 +6,7 @@ pub mod Laws
 pub mod LinksData
 pub mod Locality
 pub mod Pending
+pub mod Pieces
 pub mod Power
 pub mod SourceDrives
 pub mod Sweeps

@@ -1,5 +1,5 @@
 -- Which targets a changed net leaves alone.
-use Rattle.std.specs.Prelude.{◌≡◌, ◌≢◌, ◌<◌, ℕ, Bool, false, List, ◌⊎◌, ◌↔◌, length, slice_set}
+use Rattle.std.specs.Prelude.{◌≡◌, ◌≢◌, ℕ, Bool, false, List, ◌↔◌}
 use Rattle.dom_base.specs.declared.tri.Tri.{Tri}
 use Rattle.deck.specs.declared.device.Device.{Device}
 use Rattle.deck.specs.Switches.{value_of}

@@ -5,7 +5,7 @@ use Rattle.deck.specs.Switches.{value_of}
 use Rattle.switch_model.specs.declared.drive.Drive.{Drive}
 use Rattle.switch_model.specs.declared.drive.Drive.TheVariants.{Nothing, Only, Mixed}
 use Rattle.switch_model.specs.Drives.{target_by}
-use Rattle.switch_model.specs.Joins.{IsForest, top_of}
+use Rattle.switch_model.specs.Joins.{IsJoinForest, top_of}
 use Rattle.switch_model.specs.Walks.{drive_at}
 use Rattle.switch_model.specs.declared.survey.Survey.{Survey}
 use Rattle.switch_model.specs.declared.sweep.Room.{Room}
@@ -13,7 +13,7 @@ use Rattle.switch_model.specs.declared.sweep.Rooms.{Rooms}
 
 -- room for so many nets
 pub record IsRoom (nets : ℕ) (room : Room) : Type 0 where
-  pub forest : IsForest room.parents.items
+  pub forest : IsJoinForest room.parents.items
   pub parents : length room.parents.items ≡ nets
   pub drives : length room.drives.items ≡ nets
 
@@ -29,10 +29,10 @@ abbrev pub drive_in : Room → ℕ → Drive
 drive_in room net = drive_at room.drives.items (top_of room.parents.items net)
 
 -- no two values differ
-abbrev pub is_one : Drive → Bool
-is_one Nothing = true
-is_one (Only v) = true
-is_one Mixed = false
+abbrev pub has_one_value : Drive → Bool
+has_one_value Nothing = true
+has_one_value (Only v) = true
+has_one_value Mixed = false
 
 -- the room for the classes by a sort of paths
 abbrev pub room_at : Bool → Bool → Rooms → Room
@@ -51,4 +51,4 @@ abbrev pub target_in : Survey → Rooms → List Tri → ℕ → Tri
 target_in survey rooms values net =
     target_by (drive_by survey rooms true false net) (drive_by survey rooms false false net)
     (drive_by survey rooms true true net) (drive_by survey rooms false true net)
-    (is_one (drive_at rooms.charge.items (top_of rooms.possible.parents.items net))) (value_of values net)
+    (has_one_value (drive_at rooms.charge.items (top_of rooms.possible.parents.items net))) (value_of values net)

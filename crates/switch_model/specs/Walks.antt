@@ -18,8 +18,8 @@ Conducts true level = level ≡ One
 Conducts false level = level ≢ Zero
 
 -- paths of a sort go through the device
-abbrev pub Passes : Sort → List Tri → Device → Type 0
-Passes sort values d = Conducts sort.definite (conduction d.kind (value_of values d.gate)) × (sort.keepers ≡ false → d.kind ≢ Keep)
+abbrev pub PassesSort : Sort → List Tri → Device → Type 0
+PassesSort sort values d = Conducts sort.definite (conduction d.kind (value_of values d.gate)) × (sort.keepers ≡ false → d.kind ≢ Keep)
 
 -- and neither end is a source, so that it joins two nets
 abbrev pub IsJoint : (Device → Type 0) → (ℕ → Bool) → Device → Type 0

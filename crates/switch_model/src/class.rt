@@ -5,10 +5,10 @@ ghost use Rattle.switch_model.specs.LinksData.{is_first};
 ghost use Rattle.switch_model.specs.SourceDrives.{IsDrive};
 ghost use Rattle.deck.specs.Nets.{IsInRange};
 ghost use Rattle.switch_model.specs.declared.drive.Drive.TheVariants.{Nothing};
-ghost use Rattle.switch_model.specs.Components.{IsClosed};
+ghost use Rattle.switch_model.specs.Components.{IsClosedPart};
 ghost use Rattle.switch_model.specs.Drives.{IsClass, IsEndOf};
-ghost use Rattle.switch_model.specs.Joins.{AreJoined, IsForest, top_of};
-ghost use Rattle.switch_model.specs.Walks.{AreAt, Linked, Passes, drive_at};
+ghost use Rattle.switch_model.specs.Joins.{AreJoined, IsJoinForest, top_of};
+ghost use Rattle.switch_model.specs.Walks.{AreAt, Linked, PassesSort, drive_at};
 
 use crate::drive::Drive;
 use crate::joins::{flatten, reset, top};
@@ -31,14 +31,14 @@ pub fn classes<L: Ledger>(
     drives: &mut Vec<Drive>,
     steps: &mut Steps<L>,
 )
-    requires forest { IsForest parents.old.items }
+    requires forest { IsJoinForest parents.old.items }
     requires whole { length values.now ≡ length parents.old.items }
     requires room { length drives.old.items ≡ length parents.old.items }
     requires nets { All (λ net. net < length parents.old.items) nets.now }
     requires places { All (λ place. place < length wires.now) places.now }
     requires in_range { All (IsInRange (length parents.old.items)) wires.now }
-    requires closed { IsClosed wires.now (is_first sources) nets.now places.now }
-    ensures forest { IsForest parents.new.items }
+    requires closed { IsClosedPart wires.now (is_first sources) nets.now places.now }
+    ensures forest { IsJoinForest parents.new.items }
     ensures long { length parents.new.items ≡ length parents.old.items }
     ensures room { length drives.new.items ≡ length drives.old.items }
     ensures driven { (net : ℕ) → Contains nets.now net
@@ -73,15 +73,15 @@ fn join_flat<L: Ledger>(
     parents: &mut Vec<u32>,
     steps: &mut Steps<L>,
 )
-    requires forest { IsForest parents.old.items }
+    requires forest { IsJoinForest parents.old.items }
     requires whole { length values.now ≡ length parents.old.items }
     requires nets { All (λ net. net < length parents.old.items) nets.now }
     requires places { All (λ place. place < length wires.now) places.now }
     requires in_range { All (IsInRange (length parents.old.items)) wires.now }
-    ensures forest { IsForest parents.new.items }
+    ensures forest { IsJoinForest parents.new.items }
     ensures long { length parents.new.items ≡ length parents.old.items }
     ensures joined { (ds : List DeviceData) × AreAt wires.now places.now ds × ((x y : ℕ) → AreJoined parents.new.items x y
-        ↔ Linked (AreJoined parents.old.items) (Passes sort values.now) (is_first sources) ds x y) }
+        ↔ Linked (AreJoined parents.old.items) (PassesSort sort values.now) (is_first sources) ds x y) }
     ensures cost { steps.new ≡ steps.old + length places.now }
 {
     join_all(wires, places, sources, sort, values, parents, steps);
@@ -90,7 +90,7 @@ fn join_flat<L: Ledger>(
 
 /// Takes the drives of the tops above some nets away.
 pub fn undrive(drives: &mut Vec<Drive>, parents: &[u32], nets: &[u32])
-    requires forest { IsForest parents.now }
+    requires forest { IsJoinForest parents.now }
     requires room { length drives.old.items ≡ length parents.now }
     requires nets { All (λ net. net < length parents.now) nets.now }
     ensures long { length drives.new.items ≡ length drives.old.items }

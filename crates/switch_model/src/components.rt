@@ -3,14 +3,15 @@ ghost use Rattle.std.specs.Prelude.{◌≡◌, ◌<◌, ◌≤◌, ◌^◌, ◌�
 ghost use Rattle.std.specs.List.Sorted.{IsStrictlyIncreasing};
 ghost use Rattle.deck.specs.Nets.{IsInRange};
 ghost use Rattle.deck.specs.declared.device.Device.{Device as DeviceData};
-ghost use Rattle.switch_model.specs.ComponentLists.{AreComponents, AreRisingTo, IsNumbering, IsTouchedBy, is_of, list_at, listed_below, number_in};
+ghost use Rattle.switch_model.specs.ComponentLists.{AreComponentLists, AreRisingTo, IsNumbering, IsTouchedBy, is_of, list_at, listed_below, number_in};
 ghost use Rattle.switch_model.specs.Components.{IsAt};
-ghost use Rattle.switch_model.specs.Joins.{IsForest, above, top_of};
+ghost use Rattle.switch_model.specs.Joins.{IsJoinForest, above, top_of};
 ghost use Rattle.switch_model.specs.LinksData.{is_first};
 ghost use Rattle.switch_model.specs.Laws.{EndsAt};
 
 use crate::groups::Groups;
 use crate::joins::{flatten_all, join, top};
+use crate::lists::Lists;
 use deck::Device;
 use dom_base::OutOfMemory;
 use std::alloc::Global;
@@ -37,7 +38,7 @@ impl Components {
     ) -> Result<Components, OutOfMemory>
         requires few { length devices.now ≤ 2 ^ 24 }
         requires in_range { All (IsInRange nets) devices.now }
-        ensures { IfOk result (λ c. AreComponents devices.now (is_first sources) nets c) }
+        ensures { IfOk result (λ c. AreComponentLists devices.now (is_first sources) nets c) }
     {
         let mut parents = alone(alloc, nets)?;
         join_ends(&mut parents, devices, sources);
@@ -54,7 +55,7 @@ impl Components {
 
     /// The number of the component of a net. Takes no memory.
     pub fn number(&self, net: u32) -> u32
-        requires forest { IsForest self.now.parents.items }
+        requires forest { IsJoinForest self.now.parents.items }
         requires within { net < length self.now.parents.items }
         ensures { result ≡ number_in self.now net }
     {
@@ -79,7 +80,7 @@ fn join_ends(parents: &mut Vec<u32>, devices: &[Device], sources: u32)
     requires few { length parents.old.items < 2 ^ 32 }
     requires in_range { All (IsInRange (length parents.old.items)) devices.now }
     requires alone { (net : ℕ) → above parents.old.items net ≡ net }
-    ensures forest { IsForest parents.new.items }
+    ensures forest { IsJoinForest parents.new.items }
     ensures long { length parents.new.items ≡ length parents.old.items }
     ensures numbering { IsNumbering devices.now (is_first sources) (top_of parents.new.items) }
 {
@@ -100,17 +101,18 @@ fn joins_nets(device: Device, sources: u32) -> bool
 
 /// Lists the nets, no sources, below each top.
 fn list_nets(alloc: Global, parents: &[u32], sources: u32) -> Result<Groups, OutOfMemory>
-    requires forest { IsForest parents.now }
+    requires forest { IsJoinForest parents.now }
     requires few { length parents.now < 2 ^ 32 }
     ensures long { IfOk result (λ lists. length lists ≡ length parents.now) }
     ensures nets { IfOk result (λ lists. (k n : ℕ) → Contains (list_at lists k) n
         ↔ ((n < length parents.now) × (is_first sources n ≡ false) × (top_of parents.now n ≡ k))) }
 {
-    let mut nets = Groups::new(alloc, parents.len())?;
+    let mut nets = Lists::new(alloc, parents.len())?;
     for net in sources..parents.len() as u32 {
         nets.add(top(parents, net), net)?;
     }
-    Ok(nets)
+    let groups = Groups::new(alloc, &nets)?;
+    Ok(groups)
 }
 
 /// Lists the places of the devices that end at nets, no sources, below each top.
@@ -120,7 +122,7 @@ fn list_places(
     devices: &[Device],
     sources: u32,
 ) -> Result<Groups, OutOfMemory>
-    requires forest { IsForest parents.now }
+    requires forest { IsJoinForest parents.now }
     requires few { length devices.now ≤ 2 ^ 24 }
     requires in_range { All (IsInRange (length parents.now)) devices.now }
     requires numbering { IsNumbering devices.now (is_first sources) (top_of parents.now) }
@@ -128,13 +130,14 @@ fn list_places(
     ensures places { IfOk result (λ lists. (k : ℕ) → k < length parents.now → list_at lists k
         ≡ listed_below (λ place. is_of (top_of parents.now) (is_first sources) k (slice_get devices.now place)) (length devices.now)) }
 {
-    let mut places = Groups::new(alloc, parents.len())?;
+    let mut places = Lists::new(alloc, parents.len())?;
     for (place, device) in devices.iter().enumerate() {
         if let Some(net) = inner_end(*device, sources) {
             places.add(top(parents, net), place as u32)?;
         }
     }
-    Ok(places)
+    let groups = Groups::new(alloc, &places)?;
+    Ok(groups)
 }
 
 /// An end of a device that is no source.
@@ -168,16 +171,17 @@ fn list_touched(
     ensures touched { IfOk result (λ lists. (x k : ℕ) → Contains (list_at lists x) k
         ↔ ((k < length nets.now) × IsTouchedBy devices.now (list_at nets.now k) (list_at places.now k) x)) }
 {
-    let mut touched = Groups::new(alloc, nets.len())?;
+    let mut touched = Lists::new(alloc, nets.len())?;
     for number in 0..nets.len() as u32 {
         touch_nets(&mut touched, nets.at(number), number)?;
         touch_devices(&mut touched, devices, places.at(number), number)?;
     }
-    Ok(touched)
+    let groups = Groups::new(alloc, &touched)?;
+    Ok(groups)
 }
 
 /// Adds the number of a component at each of its nets.
-fn touch_nets(touched: &mut Groups, nets: &[u32], number: u32) -> Result<(), OutOfMemory>
+fn touch_nets(touched: &mut Lists, nets: &[u32], number: u32) -> Result<(), OutOfMemory>
     requires within { (n : ℕ) → Contains nets.now n → n < length touched.old }
     requires rising { AreRisingTo number touched.old }
     ensures long { OnOk result (length touched.new ≡ length touched.old) }
@@ -193,7 +197,7 @@ fn touch_nets(touched: &mut Groups, nets: &[u32], number: u32) -> Result<(), Out
 
 /// Adds the number of a component at the gate, the drain and the source of each of its devices.
 fn touch_devices(
-    touched: &mut Groups,
+    touched: &mut Lists,
     devices: &[Device],
     places: &[u32],
     number: u32,
@@ -214,7 +218,7 @@ fn touch_devices(
 }
 
 /// Adds the number of a component at the gate, the drain and the source of a device.
-fn touch_device(touched: &mut Groups, device: Device, number: u32) -> Result<(), OutOfMemory>
+fn touch_device(touched: &mut Lists, device: Device, number: u32) -> Result<(), OutOfMemory>
     requires within { IsInRange (length touched.old) device }
     requires rising { AreRisingTo number touched.old }
     ensures long { OnOk result (length touched.new ≡ length touched.old) }
@@ -229,7 +233,7 @@ fn touch_device(touched: &mut Groups, device: Device, number: u32) -> Result<(),
 }
 
 /// Adds a number to the list of a net, unless it is the last there.
-fn touch(touched: &mut Groups, net: u32, number: u32) -> Result<(), OutOfMemory>
+fn touch(touched: &mut Lists, net: u32, number: u32) -> Result<(), OutOfMemory>
     requires within { net < length touched.old }
     requires rising { AreRisingTo number touched.old }
     ensures long { OnOk result (length touched.new ≡ length touched.old) }
@@ -237,7 +241,7 @@ fn touch(touched: &mut Groups, net: u32, number: u32) -> Result<(), OutOfMemory>
     ensures touched { OnOk result ((x k : ℕ) → Contains (list_at touched.new x) k
         ↔ (Contains (list_at touched.old x) k ⊎ ((k ≡ number) × (x ≡ net)))) }
 {
-    if is_last(touched.at(net), number) {
+    if is_last(touched.at(net as usize), number) {
         return Ok(());
     }
     touched.add(net, number)?;

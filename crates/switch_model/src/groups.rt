@@ -1,49 +1,52 @@
-//! Lists of numbers, by number.
-ghost use Rattle.std.specs.Prelude.{◌≡◌, ◌<◌, [], IfOk, OnOk, length, replicate};
-ghost use Rattle.switch_model.specs.ComponentLists.{list_at, with_number};
+//! Lists of numbers, by number, one behind the other.
+ghost use Rattle.std.specs.Prelude.{◌≡◌, ◌<◌, ◌≤◌, IfOk, length};
+ghost use Rattle.std.specs.List.{slice_range};
+ghost use Rattle.switch_model.specs.ComponentLists.{list_at};
 
-use crate::places::Places;
+use crate::lists::Lists;
 use dom_base::OutOfMemory;
 use std::alloc::Global;
 use std::marker::Model;
 
-/// Lists of numbers, each with a number of its own, from 0.
+/// Lists of numbers, each with a number of its own, from 0, one behind the other.
 #[derive(Drop)]
-pub struct Groups(Vec<Places>);
+pub struct Groups {
+    // Where each list begins, and where the last one ends.
+    starts: Vec<usize>,
+    numbers: Vec<u32>,
+}
 
 impl Model for Groups {
-    ghost use Rattle.std.specs.Prelude.{List, ℕ};
+    ghost use Rattle.std.specs.Prelude.{List, length, ℕ};
+    ghost use Rattle.switch_model.specs.Pieces.{RisesUpTo, pieces};
 
     ghost Value = { List (List ℕ) };
 
-    ghost view = { λ g. g.0.items };
+    ghost view = { λ g. pieces g.starts.items g.numbers.items };
+
+    ghost invariant = { λ g. RisesUpTo g.starts.items (length g.numbers.items) };
 }
 
 impl Groups {
-    /// So many empty lists. The one error is out of memory.
-    pub fn new(alloc: Global, count: usize) -> Result<Groups, OutOfMemory>
-        ensures { IfOk result (λ g. g ≡ replicate count []) }
+    /// These lists. The one error is out of memory.
+    pub fn new(alloc: Global, lists: &Lists) -> Result<Groups, OutOfMemory>
+        ensures { IfOk result (λ groups. groups ≡ lists.now) }
     {
-        let mut groups = Vec::with_capacity(alloc, count)?;
-        for _ in 0..count {
-            groups.push(Places::new(alloc))?;
+        let mut starts = Vec::with_capacity(alloc, lists.len())?;
+        let mut numbers = Vec::new(alloc);
+        starts.push(0)?;
+        for list in 0..lists.len() {
+            numbers.extend_from_slice(lists.at(list))?;
+            starts.push(numbers.len())?;
         }
-        Ok(Groups(groups))
+        Ok(Groups { starts, numbers })
     }
 
     /// How many lists there are.
     pub fn len(&self) -> usize
         ensures { result ≡ length self.now }
     {
-        self.0.len()
-    }
-
-    /// Adds a number at the end of a list. The one error is out of memory.
-    pub fn add(&mut self, group: u32, number: u32) -> Result<(), OutOfMemory>
-        requires { group < length self.old }
-        ensures { OnOk result (self.new ≡ with_number self.old group number) }
-    {
-        self.0[group as usize].add(number)
+        self.starts.len() - 1
     }
 
     /// The list with a number.
@@ -51,6 +54,20 @@ impl Groups {
         requires { group < length self.now }
         ensures { result.now ≡ list_at self.now group }
     {
-        self.0[group as usize].as_slice()
+        let group = group as usize;
+        piece(
+            self.numbers.as_slice(),
+            self.starts[group],
+            self.starts[group + 1],
+        )
     }
+}
+
+/// The numbers from a place to another.
+fn piece(numbers: &[u32], start: usize, end: usize) -> &[u32]
+    requires start { start ≤ end }
+    requires end { end ≤ length numbers.now }
+    ensures { result.now ≡ slice_range numbers.now start end }
+{
+    &numbers[start..end]
 }

@@ -1,10 +1,10 @@
 //! Nets that are joined, as a forest: of each net the one above it, of a smaller number, or itself at the top.
 ghost use Rattle.std.specs.Prelude.{◌≡◌, ◌<◌, ◌≤◌, ◌^◌, ◌↔◌, ◌⊎◌, ℕ, length, All, Contains};
-ghost use Rattle.switch_model.specs.Joins.{AreJoined, IsForest, above, top_of};
+ghost use Rattle.switch_model.specs.Joins.{AreJoined, IsJoinForest, above, top_of};
 
 /// The top above a net.
 pub fn top(parents: &[u32], net: u32) -> u32
-    requires forest { IsForest parents.now }
+    requires forest { IsJoinForest parents.now }
     requires within { net < length parents.now }
     ensures { result ≡ top_of parents.now net }
 {
@@ -17,10 +17,10 @@ pub fn top(parents: &[u32], net: u32) -> u32
 
 /// The top above a net. Nets on the way come to stand nearer to it.
 fn lift(parents: &mut Vec<u32>, net: u32) -> u32
-    requires forest { IsForest parents.old.items }
+    requires forest { IsJoinForest parents.old.items }
     requires within { net < length parents.old.items }
     ensures top { result ≡ top_of parents.old.items net }
-    ensures forest { IsForest parents.new.items }
+    ensures forest { IsJoinForest parents.new.items }
     ensures long { length parents.new.items ≡ length parents.old.items }
     ensures tops { (n : ℕ) → top_of parents.new.items n ≡ top_of parents.old.items n }
 {
@@ -34,9 +34,9 @@ fn lift(parents: &mut Vec<u32>, net: u32) -> u32
 
 /// A net comes to stand below the one that is twice above it.
 fn lower(parents: &mut Vec<u32>, net: u32)
-    requires forest { IsForest parents.old.items }
+    requires forest { IsJoinForest parents.old.items }
     requires within { net < length parents.old.items }
-    ensures forest { IsForest parents.new.items }
+    ensures forest { IsJoinForest parents.new.items }
     ensures long { length parents.new.items ≡ length parents.old.items }
     ensures tops { (n : ℕ) → top_of parents.new.items n ≡ top_of parents.old.items n }
     ensures above { above parents.new.items net ≡ above parents.old.items (above parents.old.items net) }
@@ -47,9 +47,9 @@ fn lower(parents: &mut Vec<u32>, net: u32)
 
 /// Nets, by rising number, come to stand right below their tops, where all nets below these are among them.
 pub fn flatten(parents: &mut Vec<u32>, nets: &[u32])
-    requires forest { IsForest parents.old.items }
+    requires forest { IsJoinForest parents.old.items }
     requires within { All (λ net. net < length parents.old.items) nets.now }
-    ensures forest { IsForest parents.new.items }
+    ensures forest { IsJoinForest parents.new.items }
     ensures long { length parents.new.items ≡ length parents.old.items }
     ensures tops { (n : ℕ) → top_of parents.new.items n ≡ top_of parents.old.items n }
 {
@@ -60,9 +60,9 @@ pub fn flatten(parents: &mut Vec<u32>, nets: &[u32])
 
 /// All nets come to stand right below their tops.
 pub fn flatten_all(parents: &mut Vec<u32>)
-    requires forest { IsForest parents.old.items }
+    requires forest { IsJoinForest parents.old.items }
     requires few { length parents.old.items < 2 ^ 32 }
-    ensures forest { IsForest parents.new.items }
+    ensures forest { IsJoinForest parents.new.items }
     ensures long { length parents.new.items ≡ length parents.old.items }
     ensures tops { (n : ℕ) → top_of parents.new.items n ≡ top_of parents.old.items n }
 {
@@ -73,10 +73,10 @@ pub fn flatten_all(parents: &mut Vec<u32>)
 
 /// Joins two nets.
 pub fn join(parents: &mut Vec<u32>, a: u32, b: u32)
-    requires forest { IsForest parents.old.items }
+    requires forest { IsJoinForest parents.old.items }
     requires a { a < length parents.old.items }
     requires b { b < length parents.old.items }
-    ensures forest { IsForest parents.new.items }
+    ensures forest { IsJoinForest parents.new.items }
     ensures long { length parents.new.items ≡ length parents.old.items }
     ensures joined { (x y : ℕ) → AreJoined parents.new.items x y ↔ AreJoined parents.old.items x y
         ⊎ ((AreJoined parents.old.items x a × AreJoined parents.old.items b y)
@@ -93,9 +93,9 @@ pub fn join(parents: &mut Vec<u32>, a: u32, b: u32)
 
 /// Takes some nets out of all joins.
 pub fn reset(parents: &mut Vec<u32>, nets: &[u32])
-    requires forest { IsForest parents.old.items }
+    requires forest { IsJoinForest parents.old.items }
     requires within { All (λ net. net < length parents.old.items) nets.now }
-    ensures forest { IsForest parents.new.items }
+    ensures forest { IsJoinForest parents.new.items }
     ensures long { length parents.new.items ≡ length parents.old.items }
     ensures alone { (net : ℕ) → Contains nets.now net → top_of parents.new.items net ≡ net }
 {

@@ -6,8 +6,8 @@ ghost use Rattle.switch_model.specs.LinksData.{is_first};
 ghost use Rattle.switch_model.specs.SourceDrives.{IsAdded, IsDrive};
 ghost use Rattle.deck.specs.Nets.{IsInRange};
 ghost use Rattle.switch_model.specs.declared.drive.Drive.TheVariants.{Nothing};
-ghost use Rattle.switch_model.specs.Joins.{IsForest};
-ghost use Rattle.switch_model.specs.Walks.{AreAt, IsLed, Passes, drive_at};
+ghost use Rattle.switch_model.specs.Joins.{IsJoinForest};
+ghost use Rattle.switch_model.specs.Walks.{AreAt, IsLed, PassesSort, drive_at};
 
 use crate::drive::Drive;
 use crate::joins::top;
@@ -22,8 +22,8 @@ use std::sync::ledger::Ledger;
 fn lead_of(sort: Sort, device: Device, sources: u32, values: &[Tri]) -> Option<(u32, u32)>
     requires { IsInRange (length values.now) device }
     ensures some { IfSome result (λ p.
-        Passes sort values.now device × Ends device p.0 p.1 × (is_first sources p.0 ≡ false) × (is_first sources p.1 ≡ true)) }
-    ensures only { (m s : ℕ) → Passes sort values.now device → Ends device m s
+        PassesSort sort values.now device × Ends device p.0 p.1 × (is_first sources p.0 ≡ false) × (is_first sources p.1 ≡ true)) }
+    ensures only { (m s : ℕ) → PassesSort sort values.now device → Ends device m s
         → is_first sources m ≡ false → is_first sources s ≡ true → result ≡ Some (m, s) }
 {
     if !sort.passes(device, values) {
@@ -60,7 +60,7 @@ pub fn drive_all<L: Ledger>(
     drives: &mut Vec<Drive>,
     steps: &mut Steps<L>,
 )
-    requires forest { IsForest parents.now }
+    requires forest { IsJoinForest parents.now }
     requires whole { length values.now ≡ length parents.now }
     requires room { length drives.old.items ≡ length parents.now }
     requires places { All (λ place. place < length wires.now) places.now }
@@ -68,7 +68,7 @@ pub fn drive_all<L: Ledger>(
     ensures long { length drives.new.items ≡ length drives.old.items }
     ensures driven { (ds : List DeviceData) × AreAt wires.now places.now ds
         × ((t : ℕ) → drive_at drives.old.items t ≡ Nothing
-        → IsDrive (IsLed parents.now (Passes sort values.now) (is_first sources) ds t) values.now (drive_at drives.new.items t)) }
+        → IsDrive (IsLed parents.now (PassesSort sort values.now) (is_first sources) ds t) values.now (drive_at drives.new.items t)) }
     ensures cost { steps.new ≡ steps.old + length places.now }
 {
     for place in places {

@@ -10,6 +10,7 @@ mod joins;
 mod laws;
 mod lead;
 mod links;
+mod lists;
 mod places;
 mod refresh;
 mod sort;

@@ -3,11 +3,11 @@ ghost use Rattle.std.specs.Prelude.{◌≡◌, ◌≢◌, true, ◌<◌, ◌≤�
 ghost use Rattle.std.specs.List.{sum_by};
 ghost use Rattle.std.specs.List.Sorted.{IsStrictlyIncreasing};
 ghost use Rattle.dom_base.specs.declared.tri.Tri.{Tri as TriData};
-ghost use Rattle.switch_model.specs.ComponentLists.{AreComponents, list_at};
+ghost use Rattle.switch_model.specs.ComponentLists.{AreComponentLists, list_at};
 ghost use Rattle.switch_model.specs.LinksData.{is_first};
 ghost use Rattle.switch_model.specs.Targets.{IsPending};
 ghost use Rattle.deck.specs.Nets.{IsInRange};
-ghost use Rattle.switch_model.specs.Components.{IsClosed};
+ghost use Rattle.switch_model.specs.Components.{IsClosedPart};
 ghost use Rattle.switch_model.specs.Sweeps.{AreRooms};
 
 use crate::components::Components;
@@ -33,7 +33,7 @@ pub fn refresh_component<L: Ledger>(
     requires nets { All (λ net. net < length values.now) nets.now }
     requires places { All (λ place. place < length wires.now) places.now }
     requires in_range { All (IsInRange (length values.now)) wires.now }
-    requires closed { IsClosed wires.now (is_first sources) nets.now places.now }
+    requires closed { IsClosedPart wires.now (is_first sources) nets.now places.now }
     requires whole { pending.old.nets ≡ length values.now }
     ensures rooms { AreRooms (length values.now) rooms.new }
     ensures whole { pending.new.nets ≡ pending.old.nets }
@@ -63,7 +63,7 @@ pub fn refresh_all<L: Ledger>(
 )
     requires rooms { AreRooms (length values.now) rooms.old }
     requires in_range { All (IsInRange (length values.now)) wires.now }
-    requires components { AreComponents wires.now (is_first sources) (length values.now) components.now }
+    requires components { AreComponentLists wires.now (is_first sources) (length values.now) components.now }
     requires numbers { All (λ number. number < length values.now) numbers.now }
     requires whole { pending.old.nets ≡ length values.now }
     ensures rooms { AreRooms (length values.now) rooms.new }

@@ -2,7 +2,7 @@
 ghost use Rattle.std.specs.Prelude.{◌↔◌, ◌<◌, IsTrue, length};
 ghost use Rattle.switch_model.specs.LinksData.{is_first};
 ghost use Rattle.deck.specs.Nets.{IsInRange};
-ghost use Rattle.switch_model.specs.Walks.{IsJoint, Passes};
+ghost use Rattle.switch_model.specs.Walks.{IsJoint, PassesSort};
 
 use crate::{Switch, conducts};
 use deck::Device;
@@ -20,7 +20,7 @@ impl Sort {
     /// Whether such paths go through a device.
     pub fn passes(self, device: Device, values: &[Tri]) -> bool
         requires { IsInRange (length values.now) device }
-        ensures { IsTrue result ↔ Passes self values.now device }
+        ensures { IsTrue result ↔ PassesSort self values.now device }
     {
         if !self.keepers && device.kind == Kind::Keep {
             return false;
@@ -37,7 +37,7 @@ impl Sort {
 /// Whether such paths go through a device from a net that is no source to another.
 pub fn is_joint(sort: Sort, device: Device, sources: u32, values: &[Tri]) -> bool
     requires { IsInRange (length values.now) device }
-    ensures { IsTrue result ↔ IsJoint (Passes sort values.now) (is_first sources) device }
+    ensures { IsTrue result ↔ IsJoint (PassesSort sort values.now) (is_first sources) device }
 {
     device.drain >= sources && device.source >= sources && sort.passes(device, values)
 }

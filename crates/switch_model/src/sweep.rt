@@ -4,11 +4,11 @@ ghost use Rattle.switch_model.specs.LinksData.{is_first};
 ghost use Rattle.switch_model.specs.SourceDrives.{IsDrive};
 ghost use Rattle.deck.specs.Nets.{IsInRange};
 ghost use Rattle.switch_model.specs.declared.drive.Drive.TheVariants.{Nothing};
-ghost use Rattle.switch_model.specs.Components.{IsClosed};
+ghost use Rattle.switch_model.specs.Components.{IsClosedPart};
 ghost use Rattle.switch_model.specs.Drives.{IsEndOf, IsClass, target_by};
-ghost use Rattle.switch_model.specs.Joins.{IsForest, top_of};
+ghost use Rattle.switch_model.specs.Joins.{IsJoinForest, top_of};
 ghost use Rattle.switch_model.specs.Targets.{IsTarget};
-ghost use Rattle.switch_model.specs.Sweeps.{AreRooms, IsRoom, drive_by, drive_in, is_one, target_in};
+ghost use Rattle.switch_model.specs.Sweeps.{AreRooms, IsRoom, drive_by, drive_in, has_one_value, target_in};
 ghost use Rattle.switch_model.specs.Walks.{drive_at};
 
 use crate::class::{classes, undrive};
@@ -25,7 +25,7 @@ use std::sync::ledger::Ledger;
 
 /// Adds to the drive of each top the values of the nets below it.
 fn add_values(charge: &mut Vec<Drive>, parents: &[u32], nets: &[u32], values: &[Tri])
-    requires forest { IsForest parents.now }
+    requires forest { IsJoinForest parents.now }
     requires room { length charge.old.items ≡ length parents.now }
     requires whole { length values.now ≡ length parents.now }
     requires nets { All (λ net. net < length parents.now) nets.now }
@@ -91,7 +91,7 @@ pub fn find_targets<L: Ledger>(
     requires nets { All (λ net. net < length values.now) nets.now }
     requires places { All (λ place. place < length wires.now) places.now }
     requires in_range { All (IsInRange (length values.now)) wires.now }
-    requires closed { IsClosed wires.now (is_first sources) nets.now places.now }
+    requires closed { IsClosedPart wires.now (is_first sources) nets.now places.now }
     ensures rooms { AreRooms (length values.now) rooms.new }
     ensures swept { (net : ℕ) → Contains nets.now net
         → IsTarget wires.now (is_first sources) values.now net (target_in result rooms.new values.now net) }
@@ -163,7 +163,7 @@ fn find_where<L: Ledger>(
     requires nets { All (λ net. net < length values.now) nets.now }
     requires places { All (λ place. place < length wires.now) places.now }
     requires in_range { All (IsInRange (length values.now)) wires.now }
-    requires closed { IsClosed wires.now (is_first sources) nets.now places.now }
+    requires closed { IsClosedPart wires.now (is_first sources) nets.now places.now }
     ensures room { IsRoom (length values.now) room.new }
     ensures driven { needed ≡ true → (net : ℕ) → Contains nets.now net
         → IsDrive (IsEndOf wires.now (is_first sources) values.now sort net) values.now (drive_in room.new net) }
@@ -188,7 +188,7 @@ fn find<L: Ledger>(
     requires nets { All (λ net. net < length values.now) nets.now }
     requires places { All (λ place. place < length wires.now) places.now }
     requires in_range { All (IsInRange (length values.now)) wires.now }
-    requires closed { IsClosed wires.now (is_first sources) nets.now places.now }
+    requires closed { IsClosedPart wires.now (is_first sources) nets.now places.now }
     ensures room { IsRoom (length values.now) room.new }
     ensures driven { (net : ℕ) → Contains nets.now net
         → IsDrive (IsEndOf wires.now (is_first sources) values.now sort net) values.now (drive_in room.new net) }
@@ -253,7 +253,7 @@ impl Rooms {
             self.drive(survey, STRONG_POSSIBLE, net),
             self.drive(survey, DEFINITE, net),
             self.drive(survey, POSSIBLE, net),
-            is_one(self.charge[above as usize]),
+            has_one_value(self.charge[above as usize]),
             values[net as usize],
         )
     }
@@ -286,8 +286,8 @@ fn no_drives(alloc: Global, nets: u32) -> Result<Vec<Drive>, OutOfMemory>
 }
 
 /// Whether no two values differ.
-fn is_one(drive: Drive) -> bool
-    ensures { result ≡ is_one drive }
+fn has_one_value(drive: Drive) -> bool
+    ensures { result ≡ has_one_value drive }
 {
     match drive {
         Drive::Nothing => true,

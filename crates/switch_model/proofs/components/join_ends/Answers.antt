@@ -1,33 +1,28 @@
-use Rattle.std.proofs.Common.{arith, ap, ◌∙◌, ◌≡◌, ◌≤◌, ◌<◌, ◌+◌, ◌⊎◌, inl, inr, refl, sym, subst, length, get_or, List, ℕ, Bool, true, false, Vec, Global}
-use Rattle.std.specs.Prelude.{◌↔◌, Contains, Some, slice_get}
+use Rattle.std.proofs.Common.{arith, ap, ◌∙◌, ◌≡◌, ◌<◌, ◌+◌, ◌⊎◌, inl, inr, refl, sym, subst, length, get_or, List, ℕ, false, Vec, Global}
+use Rattle.std.specs.Prelude.{Some, slice_get}
 use Rattle.std.proofs.lemmas.Option.{slice_get-get_or, slice_get_within}
 use Rattle.dom_base.proofs.Decided.{dec_nat}
 use Rattle.dom_base.proofs.Lists.{Contains-slice_get, slice_get-contained}
 use Rattle.dom_base.specs.declared.kind.Kind.TheVariants.{N as nch}
 use Rattle.deck.specs.declared.device.Device.{Device}
-use Rattle.switch_model.specs.ComponentLists.{IsNumbering}
+use Rattle.dom_base.proofs.Bools.{never}
 use Rattle.switch_model.specs.Components.{AreConnected}
-use Rattle.switch_model.specs.Joins.{AreJoined, IsForest, top_of}
+use Rattle.switch_model.specs.Joins.{AreJoined, IsJoinForest}
 use Rattle.switch_model.specs.LinksData.{is_first}
 use Rattle.switch_model.proofs.Connections.{connected-more}
 use Rattle.switch_model.proofs.Forests.{top_low, top_top}
+use Rattle.switch_model.proofs.Walking.{the_same}
 use Rattle.switch_model.proofs.components.join_ends.Goals as goal
 use Rattle.switch_model.proofs.components.join_ends.Goals.{then-joins_nets, else-joins_nets}
 
 abbrev zero_device : Device
 zero_device = record { kind = nch; drain = 0; gate = 0; source = 0 }
 
-never : {b : Bool} → b ≡ true → b ≡ false → ⊥
-never x y = let e : true ≡ false = sym x ∙ y in cc
-
-the_same : (d e : Device) → Some d ≡ Some e → d ≡ e
-the_same d e h = cc
-
 pub loop-device-init : goal.loop-device-init
 loop-device-init c =
     let parents = c.args.parents.now.items in
     let alone = c.requires.alone in
-    let forest : IsForest parents = λ n. omega (arith, alone n) in
+    let forest : IsJoinForest parents = λ n. omega (arith, alone n) in
     record {
       forest = forest;
       long = refl;
@@ -48,7 +43,7 @@ loop-device-preserved c =
           let e : c.if-joins_nets.parents.items ≡ w.join.new.parents.items = ap (λ (v : Vec ℕ Global). v.items) w.parents-is in
           let both = c.joins_nets.ensures.0 w.if-joins_nets.true in
           record {
-            forest = subst (λ (l : List ℕ). IsForest l) (sym e) w.join.ensures.forest;
+            forest = subst (λ (l : List ℕ). IsJoinForest l) (sym e) w.join.ensures.forest;
             long = ap (λ (l : List ℕ). length l) e ∙ w.join.ensures.long ∙ i.long;
             joint = subst (λ (l : List ℕ). (k : ℕ) (x : Device) → k < at + 1 → slice_get devices k ≡ Some x
                 → free x.drain ≡ false → free x.source ≡ false → AreJoined l x.drain x.source) (sym e)
@@ -65,7 +60,7 @@ loop-device-preserved c =
       | else-joins_nets w ↦
           let e : c.if-joins_nets.parents.items ≡ c.loop-device.parents.items = ap (λ (v : Vec ℕ Global). v.items) w.parents-is in
           record {
-            forest = subst (λ (l : List ℕ). IsForest l) (sym e) i.forest;
+            forest = subst (λ (l : List ℕ). IsJoinForest l) (sym e) i.forest;
             long = ap (λ (l : List ℕ). length l) e ∙ i.long;
             joint = subst (λ (l : List ℕ). (k : ℕ) (x : Device) → k < at + 1 → slice_get devices k ≡ Some x
                 → free x.drain ≡ false → free x.source ≡ false → AreJoined l x.drain x.source) (sym e)

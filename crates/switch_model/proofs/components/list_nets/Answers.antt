@@ -1,4 +1,4 @@
-use Rattle.std.proofs.Common.{arith, ap, ◌∙◌, ◌≡◌, ◌+◌, ◌<◌, ◌≤◌, ◌⊎◌, inl, inr, sym, subst, false, length, length-set, List, ℕ}
+use Rattle.std.proofs.Common.{arith, ap, ◌∙◌, ◌≡◌, ◌+◌, ◌<◌, inl, inr, sym, subst, false, length, length-set, List, ℕ}
 use Rattle.std.specs.Prelude.{◌↔◌, Contains}
 use Rattle.dom_base.proofs.Decided.{dec_nat}
 use Rattle.switch_model.specs.ComponentLists.{list_at, with_number}
@@ -36,8 +36,11 @@ loop-net-preserved c =
     }
 
 pub returns-clause-nets : goal.returns-clause-nets
-returns-clause-nets c = λ k n.
+returns-clause-nets c =
+    let parents = c.args.parents.now in
+    subst (λ (l : List (List ℕ)). (k n : ℕ) → Contains (list_at l k) n ↔ ((n < length parents) × (is_first c.args.sources n ≡ false) × (top_of parents n ≡ k))) (sym c.in_ok-groups.ensures)
+    (λ k n.
     let i = c.loop-net.invariant.so_far k n in (
       λ h. let z = i.0 h in (z.1, z.2, z.3),
       λ z. i.1 (omega (arith, z.0, c.loop-net-test.false), z.0, z.1, z.2),
-    )
+    ))

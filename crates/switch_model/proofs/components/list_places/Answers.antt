@@ -1,17 +1,17 @@
-use Rattle.std.proofs.Common.{arith, ap, ◌∙◌, ◌≡◌, ◌+◌, ◌<◌, ◌≤◌, ◌⊎◌, inl, inr, sym, subst, Bool, true, false, length, length-set, get_or, List, [], ◌∷◌, ◌++◌, ℕ}
+use Rattle.std.proofs.Common.{arith, ap, ◌∙◌, ◌≡◌, ◌<◌, inl, inr, sym, Bool, length, length-set, get_or, List, [], ◌∷◌, ◌++◌, ℕ}
 use Rattle.std.specs.Prelude.{Some, slice_get}
-use Rattle.std.proofs.lemmas.List.{get_or-set_other, get_or-set_same}
 use Rattle.std.proofs.lemmas.Option.{slice_get-get_or}
+use Rattle.dom_base.proofs.Bools.{not_true}
 use Rattle.dom_base.proofs.Decided.{dec_nat}
 use Rattle.dom_base.proofs.Lists.{Contains-slice_get}
 use Rattle.dom_base.specs.declared.kind.Kind.TheVariants.{N as nch}
 use Rattle.deck.specs.declared.device.Device.{Device}
-use Rattle.switch_model.specs.ComponentLists.{is_of, has_end_in, list_at, listed_below, with_number}
+use Rattle.switch_model.specs.ComponentLists.{is_of, has_end_in, list_at, with_number}
 use Rattle.switch_model.specs.Laws.{EndsAt}
 use Rattle.switch_model.specs.Joins.{top_of}
 use Rattle.switch_model.specs.LinksData.{is_first}
 use Rattle.switch_model.proofs.ComponentLists.{at_other, at_same}
-use Rattle.switch_model.proofs.Connections.{end_of, has_end, listed-no, listed-yes, one_number, tells}
+use Rattle.switch_model.proofs.Connections.{end_of, has_end, listed-no, listed-yes, one_number}
 use Rattle.switch_model.proofs.Forests.{top_low}
 use Rattle.switch_model.proofs.components.list_places.Goals as goal
 use Rattle.switch_model.proofs.components.list_places.Goals.{in-Some+in_ok-add, in_default}
@@ -48,7 +48,7 @@ loop-place-preserved c =
                   ∙ sym (listed-yes (test k) at (at_test k ∙ has_end (top_of parents) free k d net inner.0 inner.1 (sym w.top.ensures ∙ sym same)))
               | inr ne ↦
                   at_other c.loop-place.places w.top.result at lt k ne ∙ i.so_far k few
-                  ∙ sym (listed-no (test k) at (at_test k ∙ tells _ (λ h.
+                  ∙ sym (listed-no (test k) at (at_test k ∙ not_true _ (λ h.
                   let z = end_of (top_of parents) free k d h in
                   ne (sym z.3 ∙ one_number devices free (top_of parents) c.requires.numbering d z.0 net (Contains-slice_get devices at d here) z.1 z.2 inner.0 inner.1 ∙ sym w.top.ensures))))
             ]);
@@ -58,7 +58,7 @@ loop-place-preserved c =
             long = ap length w.places-is ∙ i.long;
             so_far = λ k few.
                 ap (λ (l : List (List ℕ)). list_at l k) w.places-is ∙ i.so_far k few
-                ∙ sym (listed-no (test k) at (at_test k ∙ tells _ (λ h.
+                ∙ sym (listed-no (test k) at (at_test k ∙ not_true _ (λ h.
                 let z = end_of (top_of parents) free k d h in
                 w.in_default.ensures.none z.0 z.1 z.2)));
           }

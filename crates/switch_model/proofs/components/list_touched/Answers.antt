@@ -1,10 +1,8 @@
-use Rattle.std.proofs.Common.{arith, ap, ◌∙◌, ◌≡◌, ◌+◌, ◌<◌, ◌⊎◌, inl, inr, refl, sym, subst, All, length, List, ℕ}
-use Rattle.std.specs.Prelude.{◌↔◌, Contains, Some, slice_get}
+use Rattle.std.proofs.Common.{arith, ◌∙◌, ◌≡◌, ◌<◌, ◌⊎◌, inl, inr, sym, subst, length, List, ℕ}
+use Rattle.std.specs.List.Sorted.{IsStrictlyIncreasing}
+use Rattle.std.specs.Prelude.{◌↔◌, Contains}
 use Rattle.dom_base.proofs.Decided.{dec_nat}
-use Rattle.deck.specs.Nets.{IsInRange}
-use Rattle.deck.specs.declared.device.Device.{Device}
 use Rattle.switch_model.specs.ComponentLists.{IsTouchedBy, list_at}
-use Rattle.switch_model.specs.Components.{IsAt}
 use Rattle.switch_model.proofs.ComponentLists.{joins-more, rising-later}
 use Rattle.switch_model.proofs.components.list_touched.Goals as goal
 
@@ -46,11 +44,15 @@ loop-number-preserved c =
     }
 
 pub returns-clause-rising : goal.returns-clause-rising
-returns-clause-rising c = λ x. (c.loop-number.invariant.rising x).rising
+returns-clause-rising c =
+    subst (λ (l : List (List ℕ)). (x : ℕ) → IsStrictlyIncreasing (list_at l x)) (sym c.in_ok-groups.ensures) (λ x. (c.loop-number.invariant.rising x).rising)
 
 pub returns-clause-touched : goal.returns-clause-touched
-returns-clause-touched c = λ x k.
+returns-clause-touched c =
+    let nets = c.args.nets.now in
+    subst (λ (l : List (List ℕ)). (x k : ℕ) → Contains (list_at l x) k ↔ ((k < length nets) × IsTouchedBy c.args.devices.now (list_at nets k) (list_at c.args.places.now k) x)) (sym c.in_ok-groups.ensures)
+    (λ x k.
     let i = c.loop-number.invariant.so_far x k in (
       λ h. let z = i.0 h in (omega (arith, z.0, c.loop-number.auto.number-end, c.len.ensures), z.1),
       λ z. i.1 (omega (arith, z.0, c.loop-number-test.false, c.len.ensures), z.1),
-    )
+    ))

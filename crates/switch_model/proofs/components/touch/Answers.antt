@@ -1,6 +1,6 @@
-use Rattle.std.proofs.Common.{arith, ap, ◌∙◌, ◌≡◌, ◌+◌, sym, subst, length, get_or, List, ℕ}
+use Rattle.std.proofs.Common.{◌≡◌, ◌+◌, sym, subst, length, get_or, List, ℕ}
 use Rattle.std.specs.Prelude.{◌≢◌, ◌⊎◌, ◌↔◌, Contains}
-use Rattle.switch_model.specs.ComponentLists.{AreRisingTo, list_at, with_number}
+use Rattle.switch_model.specs.ComponentLists.{AreRisingTo, list_at}
 use Rattle.switch_model.proofs.ComponentLists.{added, rising-added}
 use Rattle.switch_model.proofs.components.touch.Goals as goal
 

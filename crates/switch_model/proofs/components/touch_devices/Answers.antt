@@ -1,5 +1,5 @@
-use Rattle.std.proofs.Common.{arith, ap, ◌∙◌, ◌≡◌, ◌<◌, ◌⊎◌, inl, inr, sym, subst, length, get_or, List, ℕ}
-use Rattle.std.specs.Prelude.{Contains, Some, slice_get}
+use Rattle.std.proofs.Common.{arith, ap, ◌∙◌, ◌≡◌, inl, inr, sym, subst, get_or, ℕ}
+use Rattle.std.specs.Prelude.{Some, slice_get}
 use Rattle.std.proofs.lemmas.List.{get_or_default}
 use Rattle.std.proofs.lemmas.List.Elements.{Contains-get_or}
 use Rattle.std.proofs.lemmas.Option.{slice_get-get_or}
@@ -8,13 +8,11 @@ use Rattle.deck.specs.Nets.{IsInRange}
 use Rattle.deck.specs.declared.device.Device.{Device}
 use Rattle.switch_model.specs.Components.{IsAt}
 use Rattle.switch_model.proofs.ComponentLists.{below-more, joins-more, more-below}
+use Rattle.switch_model.proofs.Walking.{the_same}
 use Rattle.switch_model.proofs.components.touch_devices.Goals as goal
 
 abbrev zero_device : Device
 zero_device = record { kind = nch; drain = 0; gate = 0; source = 0 }
-
-the_same : (d e : Device) → Some d ≡ Some e → d ≡ e
-the_same d e h = cc
 
 pub bounds-devices-place : goal.bounds-devices-place
 bounds-devices-place c =

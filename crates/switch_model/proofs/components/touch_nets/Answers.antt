@@ -1,5 +1,4 @@
-use Rattle.std.proofs.Common.{arith, ◌∙◌, ◌≡◌, ◌<◌, ◌⊎◌, inl, inr, sym, length, get_or, List, ℕ}
-use Rattle.std.specs.Prelude.{Contains}
+use Rattle.std.proofs.Common.{arith, ◌∙◌, ◌≡◌, ◌<◌, inl, inr, sym, length, get_or, ℕ}
 use Rattle.std.proofs.lemmas.List.{get_or_default}
 use Rattle.std.proofs.lemmas.List.Elements.{Contains-get_or}
 use Rattle.switch_model.proofs.ComponentLists.{below-more, joins-more, more-below}

@@ -1,6 +1,6 @@
-use Rattle.std.proofs.Common.{arith, ap, ◌∙◌, ◌≡◌, ◌<◌, sym, subst, set, length, List, ℕ}
+use Rattle.std.proofs.Common.{arith, ap, ◌∙◌, ◌≡◌, ◌<◌, sym, subst, set, length, ℕ}
 use Rattle.std.proofs.lemmas.List.{get_or_read}
-use Rattle.switch_model.specs.Joins.{IsForest, above, top_of}
+use Rattle.switch_model.specs.Joins.{IsJoinForest, above, top_of}
 use Rattle.switch_model.proofs.Forests.{halved_forest, halved_here, halved_tops, up_twice}
 use Rattle.switch_model.proofs.joins.lower.Goals as goal
 
@@ -18,7 +18,7 @@ returns-clause-forest c =
     let lt : c.index-once.result.now < length p = omega (arith, once, c.requires.forest net, c.requires.within) in
     let twice : c.index.result.now ≡ up_twice p c.requires.forest net c.requires.within =
     get_or_read p c.index-once.result.now c.index.result.now lt c.index.ensures c.index-once.result.now ∙ ap (above p) once in
-    subst (λ (s : ℕ). IsForest (set p net s)) (sym twice) (halved_forest p c.requires.forest net c.requires.within)
+    subst (λ (s : ℕ). IsJoinForest (set p net s)) (sym twice) (halved_forest p c.requires.forest net c.requires.within)
 
 pub returns-clause-tops : goal.returns-clause-tops
 returns-clause-tops c =

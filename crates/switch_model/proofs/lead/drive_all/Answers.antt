@@ -14,7 +14,7 @@ use Rattle.deck.specs.Paths.{Ends}
 use Rattle.deck.specs.Nets.{IsInRange}
 use Rattle.switch_model.proofs.Searches.{read_same, end-in_range}
 use Rattle.switch_model.specs.Joins.{top_of}
-use Rattle.switch_model.specs.Walks.{IsLed, Passes, drive_at}
+use Rattle.switch_model.specs.Walks.{IsLed, PassesSort, drive_at}
 use Rattle.switch_model.proofs.Forests.{top_low}
 use Rattle.switch_model.proofs.Walking.{walked-more, walked-all, drive_skip, drive_more}
 use Rattle.switch_model.proofs.lead.drive_all.Goals as goal
@@ -48,7 +48,7 @@ loop-place-preserved g c =
     let places = c.args.places.now in
     let parents = c.args.parents.now in
     let d = c.wire-device.result in
-    let Q = Passes c.args.sort c.args.values.now in
+    let Q = PassesSort c.args.sort c.args.values.now in
     let free = is_first c.args.sources in
     let at = walked-more devices places c.loop-place.place-index j.0 d j.1 c.wire-device.ensures.device in
     let cost : c.loop-place.steps + 1 ≡ c.args.steps.now + (c.loop-place.place-index + 1) = omega (arith, i.cost) in

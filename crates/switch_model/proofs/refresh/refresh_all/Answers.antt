@@ -1,15 +1,13 @@
-use Rattle.std.proofs.Common.{arith, ap, ◌∙◌, ◌≡◌, ◌≢◌, ◌<◌, ◌+◌, ◌*◌, inl, inr, sym, subst, All, get_or, length, take, take_all, List, ℕ}
+use Rattle.std.proofs.Common.{arith, ap, ◌∙◌, ◌≡◌, ◌<◌, ◌+◌, inl, inr, sym, subst, All, get_or, length, take, List, ℕ}
 use Rattle.std.specs.List.{sum_by}
-use Rattle.std.specs.Prelude.{◌↔◌, Contains}
+use Rattle.std.specs.Prelude.{Contains}
 use Rattle.std.proofs.lemmas.List.{get_or_default}
-use Rattle.std.proofs.lemmas.List.Elements.{All-contains, Contains-get_or}
+use Rattle.std.proofs.lemmas.List.Elements.{Contains-get_or}
 use Rattle.std.proofs.lemmas.List.Sums.{sum_by_more}
 use Rattle.dom_base.proofs.Decided.{dec_nat}
-use Rattle.dom_base.specs.declared.tri.Tri.{Tri}
 use Rattle.switch_model.specs.ComponentLists.{list_at, number_in}
-use Rattle.switch_model.specs.Components.{IsClosed}
+use Rattle.switch_model.specs.Components.{IsClosedPart}
 use Rattle.switch_model.specs.LinksData.{is_first}
-use Rattle.switch_model.specs.Targets.{IsPending}
 use Rattle.switch_model.proofs.ClosedGroups.{group_closed, group_nets, group_places}
 use Rattle.switch_model.proofs.refresh.refresh_all.Goals as goal
 
@@ -31,8 +29,8 @@ refresh_component-requires-clause-closed g c =
     let number = get_or c.args.numbers.now c.loop-number.number-index 0 in
     let few = c.requires.numbers c.loop-number.number-index 0 c.loop-number-test.true in
     let free = is_first c.args.sources in
-    subst (λ (l : List ℕ). IsClosed c.args.wires.now free l c.at-in-loop-number.result.now) (sym c.at.ensures)
-    (subst (λ (l : List ℕ). IsClosed c.args.wires.now free (list_at c.args.components.now.nets number) l) (sym c.at-in-loop-number.ensures)
+    subst (λ (l : List ℕ). IsClosedPart c.args.wires.now free l c.at-in-loop-number.result.now) (sym c.at.ensures)
+    (subst (λ (l : List ℕ). IsClosedPart c.args.wires.now free (list_at c.args.components.now.nets number) l) (sym c.at-in-loop-number.ensures)
     (group_closed c.args.wires.now free (length c.args.values.now) c.args.components.now c.requires.components c.requires.in_range number few))
 
 pub loop-number-preserved : goal.loop-number-preserved

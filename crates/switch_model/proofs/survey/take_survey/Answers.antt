@@ -1,5 +1,5 @@
-use Rattle.std.proofs.Common.{arith, ap, ◌∙◌, ◌≡◌, ◌<◌, ◌+◌, sym, subst, get_or, ℕ, inl, inr}
-use Rattle.std.specs.Prelude.{Contains, Some, slice_get}
+use Rattle.std.proofs.Common.{arith, ap, ◌∙◌, ◌≡◌, sym, subst, get_or, ℕ, inl, inr}
+use Rattle.std.specs.Prelude.{Some, slice_get}
 use Rattle.std.proofs.lemmas.List.{get_or_default}
 use Rattle.dom_base.proofs.Decided.{dec_nat}
 use Rattle.dom_base.specs.Conduction.{conduction}
@@ -7,10 +7,8 @@ use Rattle.dom_base.specs.declared.kind.Kind.TheVariants.{Keep}
 use Rattle.dom_base.specs.declared.tri.Tri.TheVariants.{Unknown, Zero}
 use Rattle.deck.specs.Switches.{value_of}
 use Rattle.deck.specs.declared.device.Device.{Device}
+use Rattle.switch_model.proofs.Walking.{the_same}
 use Rattle.switch_model.proofs.survey.take_survey.Goals as goal
-
-the_same : (d e : Device) → Some d ≡ Some e → d ≡ e
-the_same d e h = cc
 
 pub loop-place-preserved : goal.loop-place-preserved
 loop-place-preserved g c =

@@ -1,10 +1,10 @@
-use Rattle.std.proofs.Common.{◌≡◌, ◌∙◌, sym, subst, Bool, true, false, List, ℕ}
+use Rattle.std.proofs.Common.{◌≡◌, ◌∙◌, subst, Bool, true, false, List, ℕ}
 use Rattle.std.specs.Prelude.{Contains}
 use Rattle.switch_model.specs.Drives.{IsEndOf}
 use Rattle.switch_model.specs.Joins.{top_of}
 use Rattle.switch_model.specs.LinksData.{is_first}
 use Rattle.switch_model.specs.SourceDrives.{IsDrive}
-use Rattle.switch_model.specs.Sweeps.{drive_by, is_one}
+use Rattle.switch_model.specs.Sweeps.{drive_by, has_one_value}
 use Rattle.switch_model.specs.Walks.{drive_at}
 use Rattle.switch_model.specs.declared.sweep.Rooms.{Rooms}
 use Rattle.switch_model.proofs.ByDrives.{by_drives}
@@ -37,5 +37,5 @@ returns-clause-swept g c = λ net member.
     drive_is devices free nets places c.requires.closed values survey rooms c.take_survey-survey.ensures.unknown c.take_survey-survey.ensures.keepers net member
     (c.find.ensures.driven net member) (λ u. c.find_where.ensures.driven u net member) (λ k. c.find_where-2.ensures.driven k net member)
     (λ b. c.find_where-3.ensures.driven (c.both.ensures ∙ b) net member) in
-    by_drives devices free values net _ _ _ _ (is_one charge) (drive true false) (drive false false) (drive true true) (drive false true)
+    by_drives devices free values net _ _ _ _ (has_one_value charge) (drive true false) (drive false false) (drive true true) (drive false true)
     (charged devices free values nets places parents c.requires.closed c.find.ensures.class net member charge held)

@@ -1,14 +1,12 @@
-use Rattle.std.proofs.Common.{arith, ap, ◌∙◌, ◌≡◌, ◌+◌, sym, subst, length, List, ◌∷◌, ℕ, Bool, true, false, Vec, Global}
+use Rattle.std.proofs.Common.{arith, ap, ◌∙◌, ◌≡◌, ◌+◌, sym, subst, length, List, ◌∷◌, ℕ, Vec, Global}
 use Rattle.std.specs.Prelude.{◌↔◌}
+use Rattle.dom_base.proofs.Bools.{never}
 use Rattle.switch_model.specs.LinksData.{is_first}
-use Rattle.switch_model.specs.Joins.{AreJoined, IsForest}
-use Rattle.switch_model.specs.Walks.{Linked, Passes}
+use Rattle.switch_model.specs.Joins.{AreJoined, IsJoinForest}
+use Rattle.switch_model.specs.Walks.{Linked, PassesSort}
 use Rattle.switch_model.proofs.Walking.{walked-more, walked-all, linked-more, linked-skip}
 use Rattle.switch_model.proofs.walk.join_all.Goals as goal
 use Rattle.switch_model.proofs.walk.join_all.Goals.{then-is_joint, else-is_joint}
-
-never : {b : Bool} → b ≡ true → b ≡ false → ⊥
-never x y = let e : true ≡ false = sym x ∙ y in cc
 
 pub loop-place-preserved : goal.loop-place-preserved
 loop-place-preserved g c =
@@ -18,7 +16,7 @@ loop-place-preserved g c =
     let places = c.args.places.now in
     let d = c.wire-device.result in
     let R = AreJoined c.args.parents.now.items in
-    let Q = Passes c.args.sort c.args.values.now in
+    let Q = PassesSort c.args.sort c.args.values.now in
     let free = is_first c.args.sources in
     let at = walked-more devices places c.loop-place.place-index j.0 d j.1 c.wire-device.ensures.device in
     let cost : c.loop-place.steps + 1 ≡ c.args.steps.now + (c.loop-place.place-index + 1) = omega (arith, i.cost) in
@@ -26,7 +24,7 @@ loop-place-preserved g c =
       | then-is_joint w ↦
           let e : c.if-is_joint.parents.items ≡ w.join.new.parents.items = ap (λ (v : Vec ℕ Global). v.items) w.parents-is in
           record {
-            forest = subst (λ (l : List ℕ). IsForest l) (sym e) w.join.ensures.forest;
+            forest = subst (λ (l : List ℕ). IsJoinForest l) (sym e) w.join.ensures.forest;
             long = ap (λ (l : List ℕ). length l) e ∙ w.join.ensures.long ∙ i.long;
             joined = (
               d ∷ j.0,
@@ -39,7 +37,7 @@ loop-place-preserved g c =
       | else-is_joint w ↦
           let e : c.if-is_joint.parents.items ≡ c.loop-place.parents.items = ap (λ (v : Vec ℕ Global). v.items) w.parents-is in
           record {
-            forest = subst (λ (l : List ℕ). IsForest l) (sym e) i.forest;
+            forest = subst (λ (l : List ℕ). IsJoinForest l) (sym e) i.forest;
             long = ap (λ (l : List ℕ). length l) e ∙ i.long;
             joined = (
               d ∷ j.0,

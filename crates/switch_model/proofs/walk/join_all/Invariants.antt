@@ -2,15 +2,15 @@ use Rattle.std.proofs.Common.{◌≡◌, ◌<◌, ◌+◌, ℕ, List, length, ge
 use Rattle.std.specs.Prelude.{◌↔◌, Contains, Some, slice_get}
 use Rattle.deck.specs.declared.device.Device.{Device}
 use Rattle.switch_model.specs.LinksData.{is_first}
-use Rattle.switch_model.specs.Joins.{AreJoined, IsForest}
-use Rattle.switch_model.specs.Walks.{Linked, Passes}
+use Rattle.switch_model.specs.Joins.{AreJoined, IsJoinForest}
+use Rattle.switch_model.specs.Walks.{Linked, PassesSort}
 use Rattle.switch_model.proofs.walk.join_all.Given as goal
 
 abbrev pub invariant-loop-place : goal.invariant-loop-place
 invariant-loop-place g l = record {
-  forest : IsForest l.parents.items;
+  forest : IsJoinForest l.parents.items;
   long : length l.parents.items ≡ length l.fn.parents.items;
   joined : (ds : List Device) × ((d : Device) → Contains ds d ↔ ((k : ℕ) × (k < l.place-index) × (slice_get l.wires (get_or l.places k 0) ≡ Some d)))
-      × ((x y : ℕ) → AreJoined l.parents.items x y ↔ Linked (AreJoined l.fn.parents.items) (Passes l.sort l.values) (is_first l.sources) ds x y);
+      × ((x y : ℕ) → AreJoined l.parents.items x y ↔ Linked (AreJoined l.fn.parents.items) (PassesSort l.sort l.values) (is_first l.sources) ds x y);
   cost : l.steps ≡ l.fn.steps + l.place-index;
 }

@@ -1,4 +1,4 @@
-use Rattle.std.proofs.Common.{arith, ap, ◌∙◌, ◌≡◌, ◌<◌, ◌⊎◌, inl, inr, sym, subst, length, List, ℕ, Bool, [], false}
+use Rattle.std.proofs.Common.{arith, ap, ◌∙◌, ◌≡◌, ◌<◌, inl, inr, subst, length, List, ℕ, [], false}
 use Rattle.std.specs.Prelude.{◌↔◌, Contains, slice_get}
 use Rattle.std.proofs.lemmas.List.{get_or_past}
 use Rattle.dom_base.proofs.Decided.{lt_or_ge}

@@ -5,7 +5,7 @@ use Rattle.deck.specs.PortLayout.{source_count}
 use Rattle.deck.specs.declared.device.Device.{Device}
 use Rattle.deck.proofs.DeviceNumbers.{IsCircuit-in_range}
 use Rattle.deck.proofs.PortLayout.{ports-count}
-use Rattle.switch_model.specs.ComponentLists.{AreComponents}
+use Rattle.switch_model.specs.ComponentLists.{AreComponentLists}
 use Rattle.switch_model.specs.LinksData.{LinksData, is_first}
 use Rattle.switch_model.specs.Sweeps.{AreRooms}
 use Rattle.switch_model.proofs.Searches.{few-nets}
@@ -43,8 +43,8 @@ invariant_of-result c =
     record {
       few = omega (arith, long, c.len-nets.ensures.len, few-nets c.circuit.inside.ports c.circuit.inside.nets.keys c.circuit.inside.devices.items c.circuit.invariant);
       in_range = subst (λ (l : List Device). All (IsInRange (length comps.nets)) l) wires (subst (λ (n : ℕ). All (IsInRange n) c.as_slice-2.result.now) long range);
-      components_are = subst (λ (l : List Device). AreComponents l free (length comps.nets) comps) wires
-          (subst (λ (n : ℕ). AreComponents c.as_slice-2.result.now free n comps) long c.in_ok-components.ensures);
+      components_are = subst (λ (l : List Device). AreComponentLists l free (length comps.nets) comps) wires
+          (subst (λ (n : ℕ). AreComponentLists c.as_slice-2.result.now free n comps) long c.in_ok-components.ensures);
       rooms_are = subst (λ (n : ℕ). AreRooms n c.in_ok-rooms.rooms) long c.in_ok-rooms.ensures;
     }
 

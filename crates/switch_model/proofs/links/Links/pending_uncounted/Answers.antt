@@ -1,10 +1,10 @@
-use Rattle.std.proofs.Common.{arith, ap, ◌∙◌, ◌≡◌, ◌<◌, ◌≤◌, ◌+◌, refl, sym, subst, All, length, get_or, false, List, [], ℕ}
+use Rattle.std.proofs.Common.{arith, ap, ◌∙◌, ◌≡◌, ◌<◌, sym, subst, All, length, get_or, List, [], ℕ}
 use Rattle.std.specs.Prelude.{◌↔◌, Contains}
 use Rattle.std.specs.List.Sorted.{IsStrictlyIncreasing}
 use Rattle.std.proofs.lemmas.List.{get_or_default}
 use Rattle.dom_base.specs.declared.tri.Tri.{Tri}
 use Rattle.pending_nets.specs.PendingData.{PendingData}
-use Rattle.switch_model.specs.ComponentLists.{AreComponents, list_at, number_in}
+use Rattle.switch_model.specs.ComponentLists.{AreComponentLists, list_at}
 use Rattle.switch_model.specs.LinksData.{LinksData, is_first}
 use Rattle.switch_model.specs.Pending.{ArePending}
 use Rattle.switch_model.specs.Targets.{IsPending}
@@ -15,7 +15,7 @@ pub refresh_all-requires-clause-components : goal.refresh_all-requires-clause-co
 refresh_all-requires-clause-components g c =
     let w = c.self.inside in
     let whole : length c.args.values.now ≡ length w.components.nets = c.requires.whole ∙ sym (ap (λ (l : LinksData). l.nets) c.self.view_is) in
-    subst (λ (n : ℕ). AreComponents w.wires (is_first w.sources) n w.components) (sym whole) c.self.invariant.components_are
+    subst (λ (n : ℕ). AreComponentLists w.wires (is_first w.sources) n w.components) (sym whole) c.self.invariant.components_are
 
 pub refresh_all-requires-clause-numbers : goal.refresh_all-requires-clause-numbers
 refresh_all-requires-clause-numbers g c =

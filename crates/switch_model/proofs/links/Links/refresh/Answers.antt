@@ -1,9 +1,9 @@
-use Rattle.std.proofs.Common.{arith, ap, ◌∙◌, ◌≡◌, ◌<◌, ◌≤◌, ◌+◌, ◌*◌, sym, subst, All, length, length-set, set, List, ℕ}
+use Rattle.std.proofs.Common.{arith, ap, ◌∙◌, ◌≡◌, ◌<◌, sym, subst, All, length, length-set, set, List, ℕ}
 use Rattle.std.specs.List.{sum_by}
 use Rattle.std.specs.Prelude.{◌↔◌, Contains}
 use Rattle.std.proofs.lemmas.List.Elements.{Contains-get_or}
 use Rattle.dom_base.specs.declared.tri.Tri.{Tri}
-use Rattle.switch_model.specs.ComponentLists.{AreComponents, list_at}
+use Rattle.switch_model.specs.ComponentLists.{list_at}
 use Rattle.switch_model.specs.Components.{AreTouched}
 use Rattle.switch_model.specs.LinksData.{LinksData, is_first}
 use Rattle.switch_model.specs.Pending.{ArePending}

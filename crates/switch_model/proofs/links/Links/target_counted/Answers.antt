@@ -1,7 +1,7 @@
-use Rattle.std.proofs.Common.{arith, ap, ◌∙◌, ◌≡◌, ◌<◌, ◌≤◌, ◌+◌, ◌*◌, refl, sym, subst, All, length, false, List, ℕ}
+use Rattle.std.proofs.Common.{arith, ap, ◌∙◌, ◌≡◌, ◌<◌, sym, subst, All, length, List, ℕ}
 use Rattle.std.specs.Prelude.{Contains}
 use Rattle.switch_model.specs.ComponentLists.{list_at, number_in}
-use Rattle.switch_model.specs.Components.{AreTouched, IsClosed}
+use Rattle.switch_model.specs.Components.{AreTouched, IsClosedPart}
 use Rattle.switch_model.specs.LinksData.{LinksData, is_first}
 use Rattle.switch_model.specs.Targets.{IsTarget}
 use Rattle.switch_model.proofs.ClosedGroups.{group_closed, group_nets, group_places}
@@ -33,8 +33,8 @@ find_targets-survey-requires-clause-closed g c =
     let i = c.self.invariant in
     let few : c.number-number.result < length w.components.nets =
     omega (arith, c.number-number.ensures, i.components_are.numbering.low c.args.net, c.requires.within, ap (λ (l : LinksData). l.nets) c.self.view_is) in
-    subst (λ (l : List ℕ). IsClosed w.wires (is_first w.sources) l c.at-2.result.now) (sym c.at.ensures)
-    (subst (λ (l : List ℕ). IsClosed w.wires (is_first w.sources) (list_at w.components.nets c.number-number.result) l) (sym c.at-2.ensures)
+    subst (λ (l : List ℕ). IsClosedPart w.wires (is_first w.sources) l c.at-2.result.now) (sym c.at.ensures)
+    (subst (λ (l : List ℕ). IsClosedPart w.wires (is_first w.sources) (list_at w.components.nets c.number-number.result) l) (sym c.at-2.ensures)
     (group_closed w.wires (is_first w.sources) (length w.components.nets) w.components i.components_are i.in_range c.number-number.result few))
 
 pub returns-clause-target : goal.returns-clause-target

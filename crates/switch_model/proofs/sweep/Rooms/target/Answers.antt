@@ -1,10 +1,9 @@
 use Rattle.std.proofs.Common.{arith, ap, ◌∙◌, ◌≡◌, ◌<◌, length, Bool, List, ℕ}
 use Rattle.std.proofs.lemmas.List.{get_or_read}
 use Rattle.dom_base.specs.declared.tri.Tri.{Tri}
-use Rattle.deck.specs.Switches.{value_of}
 use Rattle.switch_model.specs.Drives.{target_by}
 use Rattle.switch_model.specs.Joins.{top_of}
-use Rattle.switch_model.specs.Sweeps.{is_one}
+use Rattle.switch_model.specs.Sweeps.{has_one_value}
 use Rattle.switch_model.specs.Walks.{drive_at}
 use Rattle.switch_model.specs.declared.drive.Drive.{Drive}
 use Rattle.switch_model.specs.declared.drive.Drive.TheVariants.{Nothing}
@@ -31,5 +30,5 @@ returns c =
     let lt : c.top-above.result < length r.charge.items = omega (arith, e, top_low r.possible.parents.items rooms.possible.forest c.args.net, c.requires.within, rooms.charge) in
     let charge : c.index.result.now ≡ drive_at r.charge.items (top_of r.possible.parents.items c.args.net) =
     get_or_read r.charge.items c.top-above.result c.index.result.now lt c.index.ensures Nothing ∙ ap (drive_at r.charge.items) e in
-    c.target_from.ensures ∙ same_target _ _ _ _ _ _ _ _ _ _ _ _ c.drive.ensures c.drive-2.ensures c.drive-3.ensures c.drive-4.ensures (c.is_one.ensures ∙ ap is_one charge)
+    c.target_from.ensures ∙ same_target _ _ _ _ _ _ _ _ _ _ _ _ c.drive.ensures c.drive-2.ensures c.drive-3.ensures c.drive-4.ensures (c.has_one_value.ensures ∙ ap has_one_value charge)
     (read_same c.args.values.now c.args.net _ c.requires.within)
