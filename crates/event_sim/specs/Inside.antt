@@ -1,5 +1,5 @@
 -- The invariant of a simulation.
-use Rattle.std.specs.Prelude.{ℕ, ◌≡◌, ◌≤◌, ◌^◌, List, length}
+use Rattle.std.specs.Prelude.{◌≡◌, ◌≤◌, ◌^◌, List, length}
 use Rattle.dom_base.specs.declared.tri.Tri.{Tri}
 use Rattle.pending_nets.specs.PendingData.{PendingData}
 use Rattle.switch_model.specs.LinksData.{LinksData}

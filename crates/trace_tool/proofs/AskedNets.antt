@@ -1,6 +1,6 @@
 -- The edges that probe words ask for at each net, word by word.
-use Rattle.std.proofs.Common.{◌≡◌, ◌≢◌, ℕ, ◌+◌, ◌<◌, ◌≤◌, Bool, true, false, ◌&&◌, ◌||◌, ◌⊎◌, inl, inr, List, [], ◌∷◌, ◌++◌, All, Contains, drop, length, nat_eq, replicate, slice_index_or, slice_set, take, Some, slice_get, refl, sym, ap, ◌∙◌, subst, arith, rules}
-use Rattle.std.specs.Cmp.Lexicographic.{pointwise, same_text}
+use Rattle.std.proofs.Common.{◌≡◌, ◌≢◌, ℕ, ◌+◌, ◌<◌, Bool, true, false, ◌&&◌, ◌||◌, inl, inr, List, [], ◌∷◌, ◌++◌, Contains, drop, length, nat_eq, replicate, slice_index_or, slice_set, take, Some, slice_get, refl, sym, ap, ◌∙◌, subst, arith}
+use Rattle.std.specs.Cmp.Lexicographic.{bytes_decides, pointwise, same_text}
 use Rattle.std.specs.List.{IsDistinct, list_any}
 use Rattle.std.proofs.lemmas.List.{get_or-replicate, get_or-set_other, get_or-set_same, length-replicate, length-set, take-append-drop, take_more}
 use Rattle.std.proofs.lemmas.List.Elements.{All-append, All-cons, All-nil}
@@ -13,11 +13,10 @@ use Rattle.dom_base.proofs.Decided.{dec_nat, lt_or_ge}
 use Rattle.dom_base.proofs.Lists.{Contains-slice_get}
 use Rattle.event_sim.specs.declared.event.Event.{Event}
 use Rattle.trace_tool.specs.AskedEdges.{AreAsked, hits, unasked}
-use Rattle.trace_tool.specs.Probes.{AreNets, is_edge, tells}
+use Rattle.trace_tool.specs.Probes.{AreNets, has_edge, tells}
 use Rattle.trace_tool.specs.Refusals.{IsFirstNoNet}
 use Rattle.trace_tool.specs.declared.asked.Asked.{Asked}
 use Rattle.trace_tool.specs.declared.options.ProbeWord.{ProbeWord}
-use Rattle.trace_tool.proofs.FirstDifferences.{same_name}
 use Rattle.trace_tool.proofs.TraceRuns.{drop_at}
 
 -- the edges that these words ask for, whose names are nets
@@ -39,7 +38,7 @@ nets_differ : (nets : List (List ℕ)) (i j : ℕ) → IsDistinct (pointwise nat
 nets_differ nets i j apart lt within same =
     let no : pointwise nat_eq (slice_index_or nets i []) (slice_index_or nets i []) ≡ false =
     ap (pointwise nat_eq (slice_index_or nets i [])) same ∙ apart_from_distinct (pointwise nat_eq) nets i j [] apart lt within in
-    let never : true ≡ false = sym (same_name (slice_index_or nets i [])) ∙ no in cc
+    let never : true ≡ false = sym ((bytes_decides (slice_index_or nets i []) (slice_index_or nets i [])).1 refl) ∙ no in cc
 
 not_named : (nets : List (List ℕ)) (net other : ℕ) (b : Bool) → IsDistinct (pointwise nat_eq) nets → net < length nets → other < length nets → net ≢ other
     → pointwise nat_eq (slice_index_or nets net []) (slice_index_or nets other []) ≡ b → b ≡ false
@@ -53,7 +52,7 @@ not_named nets net other true apart lt within differ is =
 
 module _ (nets : List (List ℕ)) (words : List ProbeWord) (asked asked' : List Asked) (word : ProbeWord) (net : ℕ) (more : Asked)
     (apart : IsDistinct (pointwise nat_eq) nets) (to : IsAskedTo nets words asked) (named : slice_get nets net ≡ Some word.name)
-    (hits_more : (before after : Tri) → hits more before after ≡ (hits (slice_index_or asked net unasked) before after || is_edge word.edge before after))
+    (hits_more : (before after : Tri) → hits more before after ≡ (hits (slice_index_or asked net unasked) before after || has_edge word.edge before after))
     (new : asked' ≡ slice_set asked net more) where
   net_within : net < length nets
   net_within = slice_get_within nets net word.name named
@@ -68,9 +67,9 @@ module _ (nets : List (List ℕ)) (words : List ProbeWord) (asked asked' : List 
       (λ i. slice_index_or (new i) (same i) unasked) ∙ get_or-set_same asked net more unasked (omega (arith, net_within, to.many)) in
       let old : hits (slice_index_or asked net unasked) event.before event.after ≡ list_any (tells nets event) words =
       ap (λ (n : ℕ). hits (slice_index_or asked n unasked) event.before event.after) (sym same) ∙ to.asked_is event (omega (arith, net_within, same)) in
-      let own : tells nets event word ≡ is_edge word.edge event.before event.after =
-      ap (λ (l : List ℕ). pointwise nat_eq word.name l && is_edge word.edge event.before event.after) (ap (λ (n : ℕ). slice_index_or nets n []) same ∙ name_is)
-      ∙ ap (λ (b : Bool). b && is_edge word.edge event.before event.after) (same_name word.name) in
+      let own : tells nets event word ≡ has_edge word.edge event.before event.after =
+      ap (λ (l : List ℕ). pointwise nat_eq word.name l && has_edge word.edge event.before event.after) (ap (λ (n : ℕ). slice_index_or nets n []) same ∙ name_is)
+      ∙ ap (λ (b : Bool). b && has_edge word.edge event.before event.after) ((bytes_decides word.name word.name).1 refl) in
       ap (λ (a : Asked). hits a event.before event.after) here
       ∙ hits_more event.before event.after
       ∙ (λ i. old i || sym own i)
@@ -84,7 +83,7 @@ module _ (nets : List (List ℕ)) (words : List ProbeWord) (asked asked' : List 
       let there : slice_index_or asked' event.net unasked ≡ slice_index_or asked event.net unasked =
       ap (λ (l : List Asked). slice_index_or l event.net unasked) new ∙ get_or-set_other asked net event.net more unasked differ in
       let untold : tells nets event word ≡ false =
-      ap (λ (b : Bool). b && is_edge word.edge event.before event.after)
+      ap (λ (b : Bool). b && has_edge word.edge event.before event.after)
       (ap (λ (l : List ℕ). pointwise nat_eq l (slice_index_or nets event.net [])) (sym name_is)
       ∙ not_named nets net event.net _ apart net_within lt (λ same. differ (sym same)) refl) in
       ap (λ (a : Asked). hits a event.before event.after) there

@@ -1,19 +1,17 @@
 -- One cycle of a run beside a network's.
-use Rattle.std.proofs.Common.{◌≡◌, ℕ, ◌⊎◌, inl, inr, Bool, List, length, map, drop, take, Some, None, slice_get, refl, sym, ap, ◌∙◌, subst, Result, Ok, Err, Option}
+use Rattle.std.proofs.Common.{◌≡◌, ℕ, inl, inr, Bool, List, map, drop, take, Some, slice_get, refl, sym, ap, ◌∙◌, subst, Result, Ok, Err, Option}
 use Rattle.std.specs.Result.{IsErrAnd}
 use Rattle.dom_base.specs.declared.tri.Tri.{Tri}
 use Rattle.deck.specs.PortLayout.{first_output}
 use Rattle.deck.specs.Roles.{ports_of}
-use Rattle.event_sim.specs.declared.event.Event.{Event}
 use Rattle.port_runs.specs.Environment.{bit}
-use Rattle.port_runs.specs.Moves.{PortValue}
-use Rattle.trace_tool.specs.Comparisons.{ComparesOutputs, ComparesReading, Decides, IsWrongAt, Passes, StopsAt}
+use Rattle.trace_tool.specs.Comparisons.{ComparesReading, Decides, IsWrongAt, Passes, StopsAt}
 use Rattle.trace_tool.specs.Courses.{Course, IsCourse, Settled, State, Unsettled}
 use Rattle.trace_tool.specs.Moves.{evaluation_moves, latching_moves}
-use Rattle.trace_tool.specs.RunData.{Ran, RunData, Runs}
+use Rattle.trace_tool.specs.RunData.{RunData, Runs}
 use Rattle.trace_tool.specs.SetupData.{SetupData}
 use Rattle.trace_tool.specs.Traces.{outputs}
-use Rattle.trace_tool.specs.Verdicts.{IsAfter, IsCycleVerdict, IsRead}
+use Rattle.trace_tool.specs.Verdicts.{IsAfter, IsCycleVerdict, IsReadingVerdict}
 use Rattle.trace_tool.specs.declared.halt.Halt.{Halt}
 use Rattle.trace_tool.specs.declared.halt.Halt.TheVariants as halts
 use Rattle.trace_tool.specs.declared.verdict.Verdict.{Verdict}
@@ -26,7 +24,7 @@ after_weaker cycle (Settled events) Rest Rest' v f x = f x
 after_weaker cycle (Unsettled events last) Rest Rest' v f x = x
 
 pub read_weaker : (setup : SetupData) (cycle : ℕ) (wanted : List Bool) (read : State) (Rest Rest' : Type 0) (v : Verdict) → (Rest → Rest')
-    → IsRead setup cycle wanted read Rest v → IsRead setup cycle wanted read Rest' v
+    → IsReadingVerdict setup cycle wanted read Rest v → IsReadingVerdict setup cycle wanted read Rest' v
 read_weaker setup cycle wanted read Rest Rest' v f (inl x) = inl x
 read_weaker setup cycle wanted read Rest Rest' v f (inr (same, more)) = inr (same, f more)
 
@@ -42,7 +40,7 @@ cycle_weaker order setup s cycle pins wanted Follows Follows' v f (evaluated, re
   evaluated,
   read,
   is,
-  after_weaker cycle evaluated (IsRead setup cycle wanted read (Latched order setup cycle v Follows read) v) (IsRead setup cycle wanted read (Latched order setup cycle v Follows' read) v) v
+  after_weaker cycle evaluated (IsReadingVerdict setup cycle wanted read (Latched order setup cycle v Follows read) v) (IsReadingVerdict setup cycle wanted read (Latched order setup cycle v Follows' read) v) v
       (read_weaker setup cycle wanted read (Latched order setup cycle v Follows read) (Latched order setup cycle v Follows' read) v
       (λ (latched, last, latches, rest). (latched, last, latches, after_weaker cycle latched (Follows last) (Follows' last) v (f last) rest)))
       more,

@@ -1,13 +1,12 @@
 -- Runs over cycles beside a network's: the invariant of the loop over them, and the verdict at its end.
-use Rattle.std.proofs.Common.{◌≡◌, ℕ, ◌+◌, ◌<◌, ◌≤◌, ◌^◌, Bool, List, [], ◌∷◌, length, drop, map, take, refl, sym, ap, ◌∙◌, subst, arith, length-drop, length-take, Some, None, Option}
-use Rattle.deck.specs.declared.role.Roles.{Roles}
+use Rattle.std.proofs.Common.{◌≡◌, ℕ, ◌+◌, Bool, List, [], ◌∷◌, length, drop, map, refl, sym, ap, ◌∙◌, subst, arith, length-drop, length-take, Some, None}
 use Rattle.net_flatten.specs.declared.network.NetLatch.{NetLatch}
 use Rattle.net_flatten.specs.NetworkData.{NetworkData}
 use Rattle.net_flatten.specs.Networks.{IsNetwork}
 use Rattle.net_run.specs.RunnerData.{RunnerData, RunsNetwork}
 use Rattle.net_run.specs.Runs.{Cycle, IsNetworkCycle, IsNetworkRunFrom, IsValuation, value_at}
 use Rattle.net_run.proofs.Valuations.{one_valuation}
-use Rattle.trace_tool.specs.Comparisons.{ComparesAll, ComparesCycle, Decides, IsBeside, Passes}
+use Rattle.trace_tool.specs.Comparisons.{ComparesAll, ComparesCycle, IsBeside}
 use Rattle.trace_tool.specs.Courses.{State}
 use Rattle.trace_tool.specs.RunData.{RunData}
 use Rattle.trace_tool.specs.SetupData.{SetupData}

@@ -1,5 +1,5 @@
 -- Why a text of BLIF, a deck and a stimulus have no verdict, by what was read.
-use Rattle.std.proofs.Common.{◌≡◌, ℕ, Bool, List, refl, sym, subst}
+use Rattle.std.proofs.Common.{◌≡◌, ℕ, List, refl, sym, subst}
 use Rattle.deck.specs.CircuitData.{CircuitData}
 use Rattle.deck.specs.DeckFaults.{IsDeckFaultAt}
 use Rattle.deck.specs.DeckText.{IsDeckOf}

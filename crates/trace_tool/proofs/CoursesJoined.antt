@@ -8,7 +8,7 @@ use Rattle.event_sim.proofs.EventChains.{length-values_after}
 use Rattle.event_sim.proofs.FollowedOrders.{settling_by}
 use Rattle.trace_tool.specs.Courses.{Course, EndsWithin, IsCourse, LeadsTo, Settled, State, Unsettled, after, moved}
 use Rattle.port_runs.specs.Moves.{PortValue}
-use Rattle.trace_tool.specs.RunData.{events_of}
+use Rattle.trace_tool.specs.RunData.{course_events}
 use Rattle.trace_tool.specs.SetupData.{SetupData}
 use Rattle.port_runs.proofs.RunOrder.{length-set_all}
 use Rattle.trace_tool.proofs.SetupNets.{step_after-fits}
@@ -18,7 +18,7 @@ abbrev pub behind : List Event → Course → Course
 behind first (Settled events) = Settled (first ++ events)
 behind first (Unsettled events last) = Unsettled (first ++ events) last
 
-pub events_of-behind : (first : List Event) (course : Course) → events_of (behind first course) ≡ first ++ events_of course
+pub events_of-behind : (first : List Event) (course : Course) → course_events (behind first course) ≡ first ++ course_events course
 events_of-behind first (Settled events) = refl
 events_of-behind first (Unsettled events last) = refl
 

@@ -1,6 +1,6 @@
 -- Moves in turn of which one ends unsettled, by recursion over the moves.
 use Rattle.std.specs.Prelude.{◌⊎◌}
-use Rattle.std.proofs.Common.{◌≡◌, ℕ, List, [], ◌∷◌, ◌++◌, sym, subst, inl, inr}
+use Rattle.std.proofs.Common.{ℕ, List, [], ◌∷◌, ◌++◌, sym, subst, inl, inr}
 use Rattle.switch_model.specs.LinksData.{LinksData}
 use Rattle.port_runs.specs.Moves.{PortValue}
 use Rattle.event_sim.specs.declared.event.Event.{Event}

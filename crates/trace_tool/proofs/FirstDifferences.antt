@@ -1,7 +1,6 @@
 -- The first index at which two lists differ.
-use Rattle.std.proofs.Common.{◌≡◌, ◌≢◌, ℕ, zero, suc, ◌+◌, ◌<◌, ◌≤◌, ◌⊎◌, inl, inr, Bool, true, false, not, nat_eq, List, [], ◌∷◌, ◌++◌, length, min, take, Some, None, slice_get, slice_index_or, refl, sym, ap, ◌∙◌, arith, rules}
-use Rattle.std.specs.Cmp.Rules.{comparing}
-use Rattle.std.specs.Cmp.Lexicographic.{pointwise}
+use Rattle.std.proofs.Common.{◌≡◌, ◌≢◌, ℕ, zero, suc, ◌+◌, ◌<◌, ◌≤◌, ◌⊎◌, inl, inr, true, false, nat_eq, List, [], ◌∷◌, ◌++◌, length, min, take, Some, slice_get, slice_index_or, refl, sym, ap, ◌∙◌, arith}
+use Rattle.std.specs.Cmp.Lexicographic.{bytes_decides, pointwise}
 use Rattle.std.proofs.lemmas.List.{take_all, take_more}
 use Rattle.std.proofs.lemmas.Option.{slice_get-get_or, slice_get_past}
 use Rattle.dom_base.specs.Decided.{Decided}
@@ -100,13 +99,10 @@ pub same_all : (a b : List (List ℕ)) (m : ℕ) → take m a ≡ take m b → m
 same_all a b m same is even =
     sym (take_all m b (omega (arith, is, even))) ∙ sym same ∙ take_all m a (omega (arith, is, even))
 
-pub same_name : (a : List ℕ) → pointwise nat_eq a a ≡ true
-same_name a = search (comparing, rules)
-
 -- names that a test tells apart, and names that it doesn't
 pub told_apart : (x y : List ℕ) → pointwise nat_eq x y ≡ false → x ≢ y
 told_apart x y test same =
-    let there : true ≡ false = sym (same_name y) ∙ ap (λ (l : List ℕ). pointwise nat_eq l y) (sym same) ∙ test in cc
+    let there : true ≡ false = sym ((bytes_decides y y).1 refl) ∙ ap (λ (l : List ℕ). pointwise nat_eq l y) (sym same) ∙ test in cc
 
 -- lists that are the same up to an index and there
 pub same_more : (a b : List (List ℕ)) (i : ℕ) (x y : List ℕ) → take i a ≡ take i b → i < length a → i < length b
@@ -115,7 +111,3 @@ same_more a b i x y same within within' at at' equal =
     take_more a i x within
     ∙ (λ j. same j ++ (sym at ∙ equal ∙ at') j ∷ [])
     ∙ sym (take_more b i y within')
-
-pub not_false : (b : Bool) → not b ≡ false → b ≡ true
-not_false true e = refl
-not_false false e = absurd cc

@@ -1,6 +1,6 @@
 -- The first probe word whose name is none of the nets.
 use Rattle.std.proofs.Common.{◌≡◌, ℕ, List, [], ◌∷◌, ◌++◌, All, Contains, sym, ◌∙◌, ap, subst}
-use Rattle.std.proofs.lemmas.List.Elements.{All-append, All-head, All-tail}
+use Rattle.std.proofs.lemmas.List.Elements.{All-head, All-tail}
 use Rattle.dom_base.proofs.Lists.{head_same, tail_same}
 use Rattle.trace_tool.specs.declared.options.ProbeWord.{ProbeWord}
 use Rattle.trace_tool.specs.Probes.{AreNets}

@@ -24,6 +24,7 @@ pub mod SettlingRuns
 pub mod SetupNets
 pub mod TraceCauses
 pub mod TraceRuns
+pub mod ToldEdges
 pub mod TraceThere
 pub mod VerdictClauses
 pub mod VerdictThere

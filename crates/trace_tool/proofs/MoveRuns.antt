@@ -5,7 +5,7 @@ use Rattle.event_sim.specs.declared.event.Event.{Event}
 use Rattle.switch_model.specs.LinksData.{links_of}
 use Rattle.trace_tool.specs.Courses.{Course, IsCourse, Settled, State, Unsettled}
 use Rattle.port_runs.specs.Moves.{PortValue}
-use Rattle.trace_tool.specs.RunData.{Ran, RunData, Runs, Settles, events_of, with_moved}
+use Rattle.trace_tool.specs.RunData.{Ran, RunData, Runs, Settles, course_events, with_moved}
 use Rattle.trace_tool.specs.TraceLines.{event_lines}
 use Rattle.trace_tool.specs.declared.halt.Halt.{Halt}
 use Rattle.trace_tool.specs.declared.halt.Halt.TheVariants as halts
@@ -26,8 +26,8 @@ module _ {F : Type 0} (P : F → ℕ → ℕ → ℕ → Type 0) where
   ran-more s t u xs ys d course h k = record {
     course_is = course-after (P s.pick) s.setup s.state t.state u.state xs ys d course h.course_is
         (course-moved s t t.state u.state ys course h.same_pick h.same_setup k.course_is);
-    text_is = text-append s.setup s.text t.text u.text d (events_of course) h.text_is
-        (k.text_is ∙ ap (λ (c : SetupData). t.text ++ event_lines c (events_of course)) h.same_setup)
+    text_is = text-append s.setup s.text t.text u.text d (course_events course) h.text_is
+        (k.text_is ∙ ap (λ (c : SetupData). t.text ++ event_lines c (course_events course)) h.same_setup)
         ∙ ap (λ (e : List Event). s.text ++ event_lines s.setup e) (sym (events_of-behind d course));
     same_setup = k.same_setup ∙ h.same_setup;
     same_pick = k.same_pick ∙ h.same_pick;

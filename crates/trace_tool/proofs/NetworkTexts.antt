@@ -1,5 +1,5 @@
 -- A text of BLIF has one network, or none for one cause.
-use Rattle.std.proofs.Common.{◌≡◌, ◌∙◌, ℕ, List, refl, sym, ap, subst}
+use Rattle.std.proofs.Common.{◌≡◌, ◌∙◌, ℕ, List, sym, subst}
 use Rattle.dom_base.proofs.Faults.{refusal_same}
 use Rattle.blif_ast.specs.BlifFileData.{BlifFileData}
 use Rattle.blif_ast.specs.declared.kind.BlifKind.{BlifKind}
@@ -13,11 +13,10 @@ use Rattle.net_flatten.specs.NetworkData.{NetworkData}
 use Rattle.net_flatten.specs.Networks.{IsNetwork}
 use Rattle.net_flatten.specs.Refusal as refusals
 use Rattle.net_flatten.specs.Refusal.{Refusal}
-use Rattle.net_flatten.specs.Refusals.{IsRefusal}
 use Rattle.net_flatten.proofs.Kept.{network_kept as kept}
 use Rattle.net_flatten.proofs.OneNetwork.{network_once}
 use Rattle.net_flatten.proofs.OneRefusal.{refusal_once}
-use Rattle.trace_tool.specs.CosimRefusals.{HasNetworkOf, HasNoNetwork, IsFlatRefusal}
+use Rattle.trace_tool.specs.CosimRefusals.{HasNetworkOf, HasFlatRefusal, IsFlatRefusal}
 
 -- a text is refused at one line for one kind
 pub blif_fault_same : (text : List ℕ) (m n : ℕ) (a b : BlifKind) → IsBlifFaultAt text m a → IsBlifFaultAt text n b → (m ≡ n) × (a ≡ b)
@@ -41,7 +40,7 @@ no_flat_refusal f n (flat_faults.TooMany limit count) x y = x.accepted (refusals
 no_flat_refusal f n flat_faults.Memory x y = y
 
 -- a text that has a network has no cause for none
-pub no_network_apart : (text : List ℕ) (n : NetworkData) (fault : FlatFault) → HasNetworkOf text n → HasNoNetwork text fault → ⊥
+pub no_network_apart : (text : List ℕ) (n : NetworkData) (fault : FlatFault) → HasNetworkOf text n → HasFlatRefusal text fault → ⊥
 no_network_apart text n fault x y =
     no_flat_refusal y.file n fault (subst (λ f. IsNetworkOf f n) (file_same text x.file y.file x.accepted y.accepted) x.network_is) y.refused
 
@@ -66,5 +65,5 @@ flat_refusal_same f (flat_faults.TooMany limit count) flat_faults.Memory x y = a
 flat_refusal_same f flat_faults.Memory b x y = absurd x
 
 -- the cause is one
-pub no_network_same : (text : List ℕ) (a b : FlatFault) → HasNoNetwork text a → HasNoNetwork text b → a ≡ b
+pub no_network_same : (text : List ℕ) (a b : FlatFault) → HasFlatRefusal text a → HasFlatRefusal text b → a ≡ b
 no_network_same text a b x y = flat_refusal_same x.file a b x.refused (subst (λ f. IsFlatRefusal f b) (file_same text y.file x.file y.accepted x.accepted) y.refused)

@@ -22,7 +22,7 @@ use Rattle.trace_tool.specs.Probes.{AreNets}
 use Rattle.trace_tool.specs.Laws.{AnswerIsOne}
 use Rattle.trace_tool.specs.Refusals.{HasBadPorts, HasBadStimulus, HasNoNet, IsFirstNoNet, IsRefused}
 use Rattle.trace_tool.specs.TraceData.{TraceData, TraceOptionsData}
-use Rattle.trace_tool.specs.Traces.{IsRun, IsTraceOf, order_of, setup_of}
+use Rattle.trace_tool.specs.Traces.{IsRun, IsTraceOf, picked_place, setup_of}
 use Rattle.trace_tool.proofs.FirstNoNet.{first_is_none, first_is_one}
 use Rattle.trace_tool.proofs.OneTrace.{trace_is_one}
 
@@ -60,8 +60,8 @@ trace_same deck stim options a b x y =
     let roles = roles_same deck y.circuit x.circuit y.roles x.roles y.is_deck x.is_deck y.are_roles x.are_roles in
     let cycles = stimulus_same x.roles.pins stim y.cycles x.cycles
     (subst (λ (r : Roles). IsStimulusOf r.pins stim y.cycles) roles y.is_stimulus) x.is_stimulus in
-    let order = By (order_of options.order options.seed) in
-    trace_is_one (order_of options.order options.seed) (setup_of x.circuit x.roles options) x.cycles a b x.is_run
+    let order = By (picked_place options.order options.seed) in
+    trace_is_one (picked_place options.order options.seed) (setup_of x.circuit x.roles options) x.cycles a b x.is_run
     (subst (λ (l : List (List Bool)). IsRun order (setup_of x.circuit x.roles options) l b) cycles
     (subst (λ (r : Roles). IsRun order (setup_of x.circuit r options) y.cycles b) roles
     (subst (λ (c : CircuitData). IsRun order (setup_of c y.roles options) y.cycles b) circuits y.is_run)))

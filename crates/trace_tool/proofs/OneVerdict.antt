@@ -1,6 +1,5 @@
 -- In an order that is a function a circuit has one verdict beside a network.
-use Rattle.std.proofs.Common.{◌≡◌, ℕ, ◌+◌, ◌⊎◌, inl, inr, Bool, List, [], ◌∷◌, drop, length, map, refl, sym, ap, ◌∙◌, subst}
-use Rattle.dom_base.specs.declared.tri.Tri.{Tri}
+use Rattle.std.proofs.Common.{◌≡◌, ℕ, ◌+◌, inl, inr, Bool, List, [], ◌∷◌, drop, sym, ap, ◌∙◌, subst}
 use Rattle.deck.specs.CircuitData.{CircuitData}
 use Rattle.deck.specs.PortLayout.{first_output, first_pin}
 use Rattle.deck.specs.Roles.{ports_of}
@@ -8,12 +7,11 @@ use Rattle.deck.specs.declared.role.Roles.{Roles}
 use Rattle.net_flatten.specs.NetworkData.{NetworkData}
 use Rattle.net_run.specs.Runs.{Cycle}
 use Rattle.event_sim.specs.Orders.{By}
-use Rattle.port_runs.specs.Environment.{bit}
 use Rattle.trace_tool.specs.Courses.{Course, IsCourse, Settled, State, Unsettled}
 use Rattle.trace_tool.specs.Moves.{evaluation_moves, latching_moves, power_moves}
 use Rattle.trace_tool.specs.SetupData.{SetupData, silent}
 use Rattle.trace_tool.specs.Traces.{outputs, power_state}
-use Rattle.trace_tool.specs.Verdicts.{IsAfter, IsCycleVerdict, IsFirstWrong, IsRead, IsRunVerdict, IsVerdict, IsVerdictFrom, network_ports, pins_and_outputs}
+use Rattle.trace_tool.specs.Verdicts.{IsAfter, IsCycleVerdict, IsReadingVerdict, IsRunVerdict, IsVerdict, IsVerdictFrom, network_ports, pins_and_outputs}
 use Rattle.trace_tool.specs.declared.verdict.Verdict.{Verdict}
 use Rattle.trace_tool.specs.declared.verdict.Verdict.TheVariants as verdicts
 use Rattle.trace_tool.proofs.ComparedCycles.{Latched}
@@ -28,7 +26,7 @@ after_same cycle (Unsettled events last) Rest Rest' a b one x y = x ∙ sym y
 
 -- and so has a reading
 read_same : (setup : SetupData) (cycle : ℕ) (wanted : List Bool) (read : State) (Rest Rest' : Type 0) (a b : Verdict) → (Rest → Rest' → a ≡ b)
-    → IsRead setup cycle wanted read Rest a → IsRead setup cycle wanted read Rest' b → a ≡ b
+    → IsReadingVerdict setup cycle wanted read Rest a → IsReadingVerdict setup cycle wanted read Rest' b → a ≡ b
 read_same setup cycle wanted read Rest Rest' a b one (inl (pin, o, v, w, is)) (inl (pin', o', v', w', is')) =
     let same = wrong_is_one (drop (first_output setup.roles) (ports_of setup.circuit)) wanted (outputs setup.roles read.values) pin pin' o o' v v' w w' in
     is ∙ (λ i. verdicts.Differ cycle (same.0 i) (same.1 i) (same.2 i)) ∙ sym is'
@@ -52,7 +50,7 @@ module _ (place : ℕ → ℕ → ℕ) (setup : SetupData) (cycle : ℕ) where
       → ((r : State) → Follows r → Follows' r → a ≡ b)
       → IsCycleVerdict (By place) setup s cycle pins wanted Follows a → IsCycleVerdict (By place) setup s cycle pins wanted Follows' b → a ≡ b
   cycle_same s pins wanted Follows Follows' a b one (c, read, is, x) (d, read', is', y) =
-      course_same s (evaluation_moves setup.roles pins) (λ r. IsRead setup cycle wanted r (Latched (By place) setup cycle a Follows r) a) (λ r. IsRead setup cycle wanted r (Latched (By place) setup cycle b Follows' r) b) a b c d read read'
+      course_same s (evaluation_moves setup.roles pins) (λ r. IsReadingVerdict setup cycle wanted r (Latched (By place) setup cycle a Follows r) a) (λ r. IsReadingVerdict setup cycle wanted r (Latched (By place) setup cycle b Follows' r) b) a b c d read read'
       (λ r p q. read_same setup cycle wanted r (Latched (By place) setup cycle a Follows r) (Latched (By place) setup cycle b Follows' r) a b
       (λ (k, last, k_is, v) (l, last', l_is, w). course_same r (latching_moves setup.roles) Follows Follows' a b k l last last' one k_is v l_is w) p q)
       is x is' y

@@ -1,10 +1,8 @@
 -- In an order of events a text of BLIF, a deck and a stimulus have one verdict, or are refused for one cause.
 use Rattle.std.proofs.Common.{◌≡◌, ◌≢◌, ◌∙◌, ℕ, Bool, List, refl, sym, ap, subst}
 use Rattle.deck.specs.CircuitData.{CircuitData}
-use Rattle.deck.specs.declared.fault.DeckKind.{DeckKind}
 use Rattle.deck.specs.declared.role.Roles.{Roles}
 use Rattle.deck.proofs.DeckUnique.{IsDeckOf-unique}
-use Rattle.blif_ast.specs.declared.kind.BlifKind.{BlifKind}
 use Rattle.net_flatten.specs.NetworkData.{NetworkData}
 use Rattle.net_run.specs.Runs.{Cycle, IsNetworkRun}
 use Rattle.net_run.proofs.OneRun.{one_run}
@@ -12,7 +10,7 @@ use Rattle.event_sim.specs.Orders.{By}
 use Rattle.stim_text.specs.Stimuli.{IsStimFaultAt, IsStimulusOf}
 use Rattle.stim_text.specs.declared.fault.StimKind.{StimKind}
 use Rattle.trace_tool.specs.CosimRefusals.{HasStimFault, IsCosimRefused}
-use Rattle.trace_tool.specs.Traces.{order_of}
+use Rattle.trace_tool.specs.Traces.{picked_place}
 use Rattle.trace_tool.specs.VerdictLaws.{VerdictIsOne}
 use Rattle.trace_tool.specs.Verdicts.{IsVerdict, IsVerdictOf}
 use Rattle.trace_tool.specs.declared.fault.TraceFault.{TraceFault}
@@ -34,8 +32,8 @@ verdict_is_same blif deck stim order seed a b x y =
     let one = one_run x.network x.stream (text_network_kept blif x.network x.has) x.is_stimulus.widths_are in
     let moved = subst (λ (l : List (List Bool)). IsNetworkRun x.network l y.cycles) streams (subst (λ (n : NetworkData). IsNetworkRun n y.stream y.cycles) networks y.is_run) in
     let cycles = one.1.only y.cycles moved ∙ sym (one.1.only x.cycles x.is_run) in
-    let by = By (order_of order seed) in
-    verdict_same (order_of order seed) x.network x.circuit x.roles x.stream x.cycles a b x.is_verdict
+    let by = By (picked_place order seed) in
+    verdict_same (picked_place order seed) x.network x.circuit x.roles x.stream x.cycles a b x.is_verdict
     (subst (λ (l : List Cycle). IsVerdict by x.network x.circuit x.roles x.stream l b) cycles
     (subst (λ (l : List (List Bool)). IsVerdict by x.network x.circuit x.roles l y.cycles b) streams
     (subst (λ (r : Roles). IsVerdict by x.network x.circuit r y.stream y.cycles b) roles

@@ -1,13 +1,12 @@
 -- How many ports there are, and those of a circuit whose ports are a network's.
-use Rattle.std.proofs.Common.{◌≡◌, ℕ, ◌+◌, ◌≤◌, List, [], ◌∷◌, ◌++◌, All, drop, length, map, take, slice_index_or, refl, sym, ap, ◌∙◌, arith, length-drop, length-take}
+use Rattle.std.proofs.Common.{◌≡◌, ℕ, ◌+◌, List, [], ◌∷◌, ◌++◌, All, drop, length, map, take, slice_index_or, refl, sym, ap, ◌∙◌, arith, length-drop, length-take}
 use Rattle.std.proofs.lemmas.List.{drop_at, length-map}
 use Rattle.std.proofs.lemmas.List.Elements.{All-cons, All-nil}
 use Rattle.dom_base.specs.declared.tri.Tri.{Tri}
 use Rattle.deck.specs.CircuitData.{CircuitData}
-use Rattle.deck.specs.Limits.{unclocked_count}
 use Rattle.deck.specs.PortLayout.{first_output, first_pin}
 use Rattle.deck.specs.PortNames.{output_name, pin_name}
-use Rattle.deck.specs.Ports.{IsOutput, IsPin, leading_ports}
+use Rattle.deck.specs.Ports.{IsOutput, leading_ports}
 use Rattle.deck.specs.Roles.{AreRoles, ports_of}
 use Rattle.deck.specs.declared.role.Roles.{Roles}
 use Rattle.deck.proofs.NetNames.{pins_are_pins}

@@ -7,7 +7,7 @@ use Rattle.event_sim.specs.Chains.{IsChain, IsChosen}
 use Rattle.event_sim.specs.Pending.{IsResting}
 use Rattle.event_sim.specs.Settling.{most_events}
 use Rattle.event_sim.proofs.EventChains.{chain-push, step_after-push, values_after-push}
-use Rattle.trace_tool.specs.RunData.{RunData, Settles, Steps, with_events}
+use Rattle.trace_tool.specs.RunData.{RunData, Settles, StepsOnce, with_events}
 use Rattle.trace_tool.specs.TraceLines.{event_lines}
 use Rattle.trace_tool.specs.declared.halt.Halt.TheVariants as halts
 use Rattle.trace_tool.proofs.EventLines.{event_lines-none, text-append}
@@ -46,7 +46,7 @@ module _ {F : Type 0} where
     }
 
     -- one more event
-    pub run-more : (start now new : RunData F) (count : ℕ) → HasRun P start count now → Steps P now true new → HasRun P start (count + 1) new
+    pub run-more : (start now new : RunData F) (count : ℕ) → HasRun P start count now → StepsOnce P now true new → HasRun P start (count + 1) new
     run-more start now new count run (event, at, chosen, is) = record {
       events = run.events ++ event ∷ [];
       number = length_push run.events event ∙ ap (λ (n : ℕ). n + 1) run.number;

@@ -1,8 +1,7 @@
 -- The simulation of a setup's circuit: its nets and its step.
-use Rattle.std.proofs.Common.{◌≡◌, ℕ, ◌+◌, ◌<◌, ◌≤◌, ◌^◌, List, [], ◌∷◌, ◌++◌, length, slice_set, refl, ◌∙◌, arith}
-use Rattle.std.proofs.lemmas.List.{length-append, length-set, length-take}
+use Rattle.std.proofs.Common.{◌≡◌, ℕ, ◌+◌, ◌<◌, ◌≤◌, ◌^◌, List, [], ◌∷◌, length, ◌∙◌, arith}
+use Rattle.std.proofs.lemmas.List.{length-take}
 use Rattle.std.proofs.lemmas.Nat.{mod_below}
-use Rattle.dom_base.specs.declared.tri.Tri.{Tri}
 use Rattle.deck.specs.CircuitData.{CircuitData}
 use Rattle.deck.specs.Ports.{leading_ports}
 use Rattle.deck.specs.Roles.{AreRoles, ports_of}
@@ -16,7 +15,7 @@ use Rattle.event_sim.proofs.EventChains.{length-values_after}
 use Rattle.event_sim.proofs.PowerState.{joined_length}
 use Rattle.port_runs.proofs.RunOrder.{length-set_all}
 use Rattle.trace_tool.specs.RunData.{IsRunning, with_move}
-use Rattle.port_runs.specs.Moves.{PortValue, set_all}
+use Rattle.port_runs.specs.Moves.{PortValue}
 use Rattle.trace_tool.specs.SetupData.{SetupData}
 
 outs_within : (l a b c n p d o : ℕ) → a + (b + c) ≡ l → a ≡ d + 8 → b ≡ p → c ≡ o → l ≤ n → d + 8 + p + o ≤ n

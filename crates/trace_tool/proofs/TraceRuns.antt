@@ -9,7 +9,7 @@ use Rattle.trace_tool.specs.Moves.{cycle_moves, evaluation_moves, power_moves}
 use Rattle.trace_tool.specs.RunData.{HasCycles, IsPrinted, RunData, RunsCycle, RunsPower, power_run}
 use Rattle.trace_tool.specs.TraceData.{TraceData, TraceOptionsData}
 use Rattle.trace_tool.specs.TraceLines.{lines_of, power_line}
-use Rattle.trace_tool.specs.Traces.{AreCycles, IsCycle, IsRun, IsTraceFrom, order_of, power_state, row_line, setup_of}
+use Rattle.trace_tool.specs.Traces.{AreCycles, IsCycle, IsRun, IsTraceFrom, picked_place, power_state, row_line, setup_of}
 use Rattle.trace_tool.specs.SetupData.{SetupData}
 use Rattle.trace_tool.proofs.CoursesJoined.{course-by, course-fits, course-length}
 
@@ -208,8 +208,8 @@ module _ {F : Type 0} (P : F → ℕ → ℕ → ℕ → Type 0) where
 -- a run with the options
 pub run_is : (circuit : CircuitData) (roles : Roles) (read options : TraceOptionsData) (cycles items : List (List Bool)) (trace : TraceData)
     → read ≡ options → cycles ≡ items
-    → IsRun (By (order_of read.order read.seed)) (setup_of circuit roles read) cycles trace
-    → IsRun (By (order_of options.order options.seed)) (setup_of circuit roles options) items trace
+    → IsRun (By (picked_place read.order read.seed)) (setup_of circuit roles read) cycles trace
+    → IsRun (By (picked_place options.order options.seed)) (setup_of circuit roles options) items trace
 run_is circuit roles read options cycles items trace o c run =
-    subst (λ (all : List (List Bool)). IsRun (By (order_of options.order options.seed)) (setup_of circuit roles options) all trace) c
-    (subst (λ (x : TraceOptionsData). IsRun (By (order_of x.order x.seed)) (setup_of circuit roles x) cycles trace) o run)
+    subst (λ (all : List (List Bool)). IsRun (By (picked_place options.order options.seed)) (setup_of circuit roles options) all trace) c
+    (subst (λ (x : TraceOptionsData). IsRun (By (picked_place x.order x.seed)) (setup_of circuit roles x) cycles trace) o run)

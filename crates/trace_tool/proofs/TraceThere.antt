@@ -8,13 +8,13 @@ use Rattle.trace_tool.specs.Laws.{TraceIsThere}
 use Rattle.trace_tool.specs.Moves.{cycle_moves, evaluation_moves, power_moves}
 use Rattle.trace_tool.specs.TraceData.{TraceData}
 use Rattle.trace_tool.specs.TraceLines.{lines_of, power_line}
-use Rattle.trace_tool.specs.Traces.{AreCycles, IsRun, IsTraceFrom, order_of, power_state, row_line, setup_of}
+use Rattle.trace_tool.specs.Traces.{AreCycles, IsRun, IsTraceFrom, picked_place, power_state, row_line, setup_of}
 use Rattle.trace_tool.specs.declared.options.Order.{Order}
 use Rattle.trace_tool.specs.declared.options.Order.TheVariants.{First, Last, Seed}
 use Rattle.trace_tool.specs.SetupData.{SetupData}
 use Rattle.trace_tool.proofs.CourseThere.{course_is_there}
 
-pub order-below : (order : Order) (seed : ℕ) → IsBelow (order_of order seed)
+pub order-below : (order : Order) (seed : ℕ) → IsBelow (picked_place order seed)
 order-below First seed = orders_are_below.first
 order-below Last seed = orders_are_below.last
 order-below Seed seed = orders_are_below.seeded seed
@@ -45,7 +45,7 @@ run-there place setup below cycles =
 
 pub trace_is_there : TraceIsThere
 trace_is_there deck stim options circuit roles cycles is_deck are_roles are_nets is_stimulus =
-    let run = run-there (order_of options.order options.seed) (setup_of circuit roles options)
+    let run = run-there (picked_place options.order options.seed) (setup_of circuit roles options)
     (order-below options.order options.seed) cycles in (
       run.0,
       record {

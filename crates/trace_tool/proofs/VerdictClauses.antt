@@ -2,7 +2,6 @@
 use Rattle.std.proofs.Common.{ℕ, inl, inr, Bool, List, Some, None}
 use Rattle.deck.specs.CircuitData.{CircuitData}
 use Rattle.deck.specs.DeckText.{IsDeckOf}
-use Rattle.deck.specs.PortLayout.{first_pin}
 use Rattle.deck.specs.Roles.{AreRoles, ports_of}
 use Rattle.deck.specs.declared.role.Roles.{Roles}
 use Rattle.net_flatten.specs.NetworkData.{NetworkData}
@@ -13,7 +12,7 @@ use Rattle.stim_text.specs.Stimuli.{IsStimulusOf}
 use Rattle.trace_tool.specs.CosimRefusals.{HasNetworkOf}
 use Rattle.trace_tool.specs.PortDifferences.{ComparesPorts}
 use Rattle.trace_tool.specs.SetupData.{silent}
-use Rattle.trace_tool.specs.Traces.{order_of}
+use Rattle.trace_tool.specs.Traces.{picked_place}
 use Rattle.trace_tool.specs.Verdicts.{IsRunVerdict, IsVerdict, IsVerdictOf}
 use Rattle.trace_tool.specs.declared.options.Order.{Order}
 use Rattle.trace_tool.specs.declared.verdict.Verdict.{Verdict}
@@ -22,7 +21,7 @@ use Rattle.trace_tool.proofs.NetworkTexts.{text_network_kept}
 
 module _ (blif deck stim : List ℕ) (order : Order) (seed : ℕ) (n : NetworkData) (c : CircuitData) (roles : Roles) (stream : List (List Bool))
     (has : HasNetworkOf blif n) (is_deck : IsDeckOf deck c) (are : AreRoles (ports_of c) roles) (is_stimulus : IsStimulusOf n.inputs stim stream) where
-  verdict_of : (v : Verdict) → ((cycles : List Cycle) → IsNetworkRun n stream cycles → IsVerdict (By (order_of order seed)) n c roles stream cycles v)
+  verdict_of : (v : Verdict) → ((cycles : List Cycle) → IsNetworkRun n stream cycles → IsVerdict (By (picked_place order seed)) n c roles stream cycles v)
       → IsVerdictOf blif deck stim order seed v
   verdict_of v is =
       let run = one_run n stream (text_network_kept blif n has) is_stimulus.widths_are in
@@ -47,6 +46,6 @@ module _ (blif deck stim : List ℕ) (order : Order) (seed : ℕ) (n : NetworkDa
 
   -- none differs, and then the run has a verdict
   pub verdict_of_run : (v : Verdict) → ComparesPorts n c roles None
-      → ((cycles : List Cycle) → IsNetworkRun n stream cycles → IsRunVerdict (By (order_of order seed)) (silent c roles) stream cycles v)
+      → ((cycles : List Cycle) → IsNetworkRun n stream cycles → IsRunVerdict (By (picked_place order seed)) (silent c roles) stream cycles v)
       → IsVerdictOf blif deck stim order seed v
   verdict_of_run v same is = verdict_of v (λ cycles run. inr (same, is cycles run))

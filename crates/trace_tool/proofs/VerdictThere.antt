@@ -1,5 +1,5 @@
 -- A text of BLIF that has a network, a deck whose ports are in order, and a stimulus for the network's inputs have a verdict.
-use Rattle.std.proofs.Common.{◌≡◌, ℕ, ◌+◌, ◌⊎◌, inl, inr, Bool, List, [], ◌∷◌, drop, length, map, refl, sym, ap, ◌∙◌}
+use Rattle.std.proofs.Common.{◌≡◌, ℕ, ◌+◌, inl, inr, Bool, List, [], ◌∷◌, drop, length, refl, sym, ap, ◌∙◌}
 use Rattle.std.proofs.lemmas.List.{length-map}
 use Rattle.deck.specs.CircuitData.{CircuitData}
 use Rattle.deck.specs.PortLayout.{first_output, first_pin}
@@ -13,10 +13,10 @@ use Rattle.event_sim.specs.Orders.{By}
 use Rattle.event_sim.proofs.PowerState.{power-length, sources_within}
 use Rattle.trace_tool.specs.Courses.{Course, IsCourse, Settled, State, Unsettled}
 use Rattle.trace_tool.specs.Moves.{evaluation_moves, latching_moves, power_moves}
-use Rattle.trace_tool.specs.SetupData.{SetupData, silent}
-use Rattle.trace_tool.specs.Traces.{order_of, outputs, power_state}
+use Rattle.trace_tool.specs.SetupData.{silent}
+use Rattle.trace_tool.specs.Traces.{picked_place, outputs, power_state}
 use Rattle.trace_tool.specs.VerdictLaws.{VerdictIsThere}
-use Rattle.trace_tool.specs.Verdicts.{IsAfter, IsCycleVerdict, IsRead, IsRunVerdict, IsVerdict, IsVerdictFrom, network_ports, pins_and_outputs}
+use Rattle.trace_tool.specs.Verdicts.{IsAfter, IsReadingVerdict, IsRunVerdict, IsVerdict, IsVerdictFrom, network_ports, pins_and_outputs}
 use Rattle.trace_tool.specs.declared.verdict.Verdict.{Verdict}
 use Rattle.trace_tool.specs.declared.verdict.Verdict.TheVariants as verdicts
 use Rattle.trace_tool.proofs.CourseThere.{course_is_there}
@@ -35,7 +35,7 @@ after_there cycle (Unsettled events last) Rest more = (verdicts.Unsettled cycle 
 
 module _ (place : ℕ → ℕ → ℕ) (below : IsBelow place) (c : CircuitData) (roles : Roles) (are : AreRoles (ports_of c) roles) where
   read_there : (cycle : ℕ) (wanted : List Bool) (read : State) (Rest : Verdict → Type 0) → length wanted ≡ roles.outs → length read.values ≡ length c.nets
-      → (verdict : Verdict) × Rest verdict → (verdict : Verdict) × IsRead (silent c roles) cycle wanted read (Rest verdict) verdict
+      → (verdict : Verdict) × Rest verdict → (verdict : Verdict) × IsReadingVerdict (silent c roles) cycle wanted read (Rest verdict) verdict
   read_there cycle wanted read Rest count whole more =
       elim (wrong_there (drop (first_output roles) (ports_of c)) wanted (outputs roles read.values) (names_count c roles are ∙ sym count) (outputs_count c roles read.values are whole ∙ sym count)) [
         | inl w ↦ (verdicts.Differ cycle w.0 w.1 w.2, inl (w.0, w.1, w.2, w.3, refl))
@@ -62,7 +62,7 @@ module _ (place : ℕ → ℕ → ℕ) (below : IsBelow place) (c : CircuitData)
       (λ v. (k : Course) × (t : State) × IsCourse (By place) setup read (latching_moves roles) k t × IsAfter cycle k (IsVerdictFrom (By place) setup t (cycle + 1) ps ds v) v)
       wide read_whole (behind.0, (latched.0, last, latched.2, behind.1)) in
       let all = after_there cycle evaluated.0
-      (λ v. IsRead setup cycle d.outputs read ((k : Course) × (t : State) × IsCourse (By place) setup read (latching_moves roles) k t × IsAfter cycle k (IsVerdictFrom (By place) setup t (cycle + 1) ps ds v) v) v)
+      (λ v. IsReadingVerdict setup cycle d.outputs read ((k : Course) × (t : State) × IsCourse (By place) setup read (latching_moves roles) k t × IsAfter cycle k (IsVerdictFrom (By place) setup t (cycle + 1) ps ds v) v) v)
       reading in
       (all.0, (evaluated.0, read, evaluated.2, all.1))
 
@@ -75,7 +75,7 @@ module _ (place : ℕ → ℕ → ℕ) (below : IsBelow place) (c : CircuitData)
       let all = after_there 0 power.0 (λ v. IsVerdictFrom (By place) setup power.1 0 stream cycles v) (from_there n power.1 0 state stream cycles count whole run) in
       (all.0, (power.0, power.1, power.2, all.1))
 
-verdict_there : (place : ℕ → ℕ → ℕ) → IsBelow place → (n : NetworkData) (c : CircuitData) (roles : Roles) (stream : List (List Bool)) (cycles : List Cycle)
+pub verdict_there : (place : ℕ → ℕ → ℕ) → IsBelow place → (n : NetworkData) (c : CircuitData) (roles : Roles) (stream : List (List Bool)) (cycles : List Cycle)
     → AreRoles (ports_of c) roles → (pins_and_outputs c roles ≡ network_ports n → length n.outputs ≡ roles.outs) → IsNetworkRunFrom n (start n) stream cycles
     → (verdict : Verdict) × IsVerdict (By place) n c roles stream cycles verdict
 verdict_there place below n c roles stream cycles are counts run = elim (difference_there (network_ports n) (pins_and_outputs c roles)) [
@@ -89,7 +89,7 @@ pub verdict_is_there : VerdictIsThere
 verdict_is_there blif deck stim order seed n c roles stream has is_deck are is_stimulus =
     let kept = text_network_kept blif n has in
     let run = one_run n stream kept is_stimulus.widths_are in
-    let v = verdict_there (order_of order seed) (order-below order seed) n c roles stream run.0 are (λ same. (counts_agree c roles n are kept same).1) run.1.is_run in (
+    let v = verdict_there (picked_place order seed) (order-below order seed) n c roles stream run.0 are (λ same. (counts_agree c roles n are kept same).1) run.1.is_run in (
       v.0,
       record {
         network = n;

@@ -1,5 +1,5 @@
 -- The verdict of a run in an order that follows a function is the verdict in the order of the function.
-use Rattle.std.proofs.Common.{◌≡◌, ℕ, ◌+◌, ◌≤◌, ◌^◌, Bool, List, [], ◌∷◌, inl, inr, length, refl, sym, ap, ◌∙◌, subst, arith, Ok, Err}
+use Rattle.std.proofs.Common.{◌≡◌, ℕ, ◌+◌, ◌≤◌, ◌^◌, Bool, List, [], ◌∷◌, length, sym, ap, ◌∙◌, subst, arith, Ok, Err}
 use Rattle.event_sim.specs.Orders.{By, Follows}
 use Rattle.net_flatten.specs.NetworkData.{NetworkData}
 use Rattle.net_run.specs.RunnerData.{RunnerData, RunsNetwork}
@@ -11,7 +11,7 @@ use Rattle.trace_tool.specs.Moves.{evaluation_moves, latching_moves, power_moves
 use Rattle.trace_tool.specs.RunData.{RunData, Runs, power_run}
 use Rattle.trace_tool.specs.SetupData.{SetupData}
 use Rattle.trace_tool.specs.Traces.{power_state}
-use Rattle.trace_tool.specs.Verdicts.{IsAfter, IsCycleVerdict, IsRead, IsRunVerdict, IsVerdictFrom}
+use Rattle.trace_tool.specs.Verdicts.{IsCycleVerdict, IsReadingVerdict, IsRunVerdict, IsVerdictFrom}
 use Rattle.trace_tool.specs.declared.halt.Halt.{Halt}
 use Rattle.trace_tool.specs.declared.halt.Halt.TheVariants as halts
 use Rattle.trace_tool.specs.declared.verdict.Verdict.{Verdict}
@@ -38,7 +38,7 @@ module _ (place : ℕ → ℕ → ℕ) (order : ℕ → ℕ → ℕ → Type 0) 
         evaluated,
         read,
         by_course s read (evaluation_moves setup.roles pins) evaluated short is,
-        after_weaker cycle evaluated (IsRead setup cycle wanted read (Latched order setup cycle v Rest read) v) (IsRead setup cycle wanted read (Latched (By place) setup cycle v Rest' read) v) v
+        after_weaker cycle evaluated (IsReadingVerdict setup cycle wanted read (Latched order setup cycle v Rest read) v) (IsReadingVerdict setup cycle wanted read (Latched (By place) setup cycle v Rest' read) v) v
             (read_weaker setup cycle wanted read (Latched order setup cycle v Rest read) (Latched (By place) setup cycle v Rest' read) v
             (λ (latched, last, latches, rest). (
               latched,

@@ -4,7 +4,7 @@ use Rattle.std.specs.List.{list_any}
 use Rattle.event_sim.specs.declared.event.Edge.TheVariants.{Any, Fall, Rise}
 use Rattle.event_sim.specs.declared.event.Event.{Event}
 use Rattle.dom_base.specs.declared.tri.Tri.{Tri}
-use Rattle.trace_tool.specs.Probes.{is_edge, tells}
+use Rattle.trace_tool.specs.Probes.{has_edge, tells}
 use Rattle.trace_tool.specs.declared.asked.Asked.{Asked}
 use Rattle.trace_tool.specs.declared.options.ProbeWord.{ProbeWord}
 
@@ -14,7 +14,8 @@ unasked = record { any = false; rise = false; fall = false }
 
 -- some of the edges holds of an old and a new value
 abbrev pub hits : Asked → Tri → Tri → Bool
-hits a before after = (a.any && is_edge Any before after) || (a.rise && is_edge Rise before after) || (a.fall && is_edge Fall before after)
+hits a before after =
+    (a.any && has_edge Any before after) || (a.rise && has_edge Rise before after) || (a.fall && has_edge Fall before after)
 
 -- at each net the edges are those that the words with its name ask for
 abbrev pub AreAsked : List ProbeWord → List (List ℕ) → List Asked → Type 0

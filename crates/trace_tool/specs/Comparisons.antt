@@ -6,7 +6,6 @@ use Rattle.net_flatten.specs.NetworkData.{NetworkData}
 use Rattle.net_run.specs.RunnerData.{RunnerData, RunsNetwork}
 use Rattle.net_run.specs.Runs.{Cycle, IsNetworkCycle, IsNetworkRunFrom}
 use Rattle.port_runs.specs.Environment.{bit}
-use Rattle.trace_tool.specs.Courses.{State}
 use Rattle.trace_tool.specs.RunData.{RunData}
 use Rattle.trace_tool.specs.Verdicts.{IsCycleVerdict, IsVerdictFrom}
 use Rattle.trace_tool.specs.declared.halt.Halt.{Halt}

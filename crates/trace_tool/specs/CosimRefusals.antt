@@ -35,7 +35,7 @@ IsFlatRefusal file (flat_faults.TooMany limit count) = IsRefusal file (refusals.
 IsFlatRefusal file flat_faults.Memory = ⊥
 
 -- a text that is accepted, and whose file has no network for this cause
-pub record HasNoNetwork (blif : List ℕ) (fault : FlatFault) : Type 0 where
+pub record HasFlatRefusal (blif : List ℕ) (fault : FlatFault) : Type 0 where
   pub file : BlifFileData
   pub accepted : IsFileOf blif file
   pub refused : IsFlatRefusal file fault
@@ -43,7 +43,7 @@ pub record HasNoNetwork (blif : List ℕ) (fault : FlatFault) : Type 0 where
 -- why a text has no network: a fault, a refusal of its file, or out of memory
 abbrev pub IsUnflattened : List ℕ → TraceFault → Type 0
 IsUnflattened blif (Blif line kind) = IsBlifFaultAt blif line kind
-IsUnflattened blif (Flat fault) = HasNoNetwork blif fault
+IsUnflattened blif (Flat fault) = HasFlatRefusal blif fault
 IsUnflattened blif (Deck line kind) = ⊥
 IsUnflattened blif (Ports place) = ⊥
 IsUnflattened blif (NoNet name) = ⊥
@@ -75,7 +75,7 @@ pub record HasStimFault (blif deck stim : List ℕ) (line : ℕ) (kind : StimKin
 -- a text, a deck and a stimulus are refused for this cause; out of memory comes for any
 abbrev pub IsCosimRefused : (blif deck stim : List ℕ) → TraceFault → Type 0
 IsCosimRefused blif deck stim (Blif line kind) = IsBlifFaultAt blif line kind
-IsCosimRefused blif deck stim (Flat fault) = HasNoNetwork blif fault
+IsCosimRefused blif deck stim (Flat fault) = HasFlatRefusal blif fault
 IsCosimRefused blif deck stim (Deck line kind) = HasDeckFault blif deck line kind
 IsCosimRefused blif deck stim (Ports place) = HasPortFault blif deck place
 IsCosimRefused blif deck stim (NoNet name) = ⊥

@@ -1,15 +1,18 @@
 -- What holds of each deck and stimulus with options and their trace.
-use Rattle.std.specs.Prelude.{◌≡◌, ◌≢◌, ℕ, Bool, List}
+use Rattle.std.specs.Prelude.{◌≡◌, ◌≢◌, ◌↔◌, ℕ, Bool, IsTrue, List}
 use Rattle.deck.specs.CircuitData.{CircuitData}
 use Rattle.deck.specs.DeckText.{IsDeckOf}
 use Rattle.deck.specs.Roles.{AreRoles, ports_of}
 use Rattle.deck.specs.declared.role.Roles.{Roles}
 use Rattle.event_sim.specs.Orders.{By}
+use Rattle.event_sim.specs.Probes.{IsEdge}
+use Rattle.event_sim.specs.declared.event.Edge.{Edge}
+use Rattle.dom_base.specs.declared.tri.Tri.{Tri}
 use Rattle.stim_text.specs.Stimuli.{IsStimulusOf}
 use Rattle.trace_tool.specs.declared.fault.TraceFault.{TraceFault}
 use Rattle.trace_tool.specs.declared.fault.TraceFault.TheVariants.{Memory}
 use Rattle.trace_tool.specs.declared.options.ProbeWord.{ProbeWord}
-use Rattle.trace_tool.specs.Probes.{AreNets}
+use Rattle.trace_tool.specs.Probes.{AreNets, has_edge}
 use Rattle.trace_tool.specs.Refusals.{IsRefused}
 use Rattle.trace_tool.specs.TraceData.{TraceData, TraceOptionsData}
 use Rattle.trace_tool.specs.Traces.{IsRun, IsTraceOf}
@@ -35,3 +38,7 @@ TraceIsThere = (deck stim : List ℕ) (options : TraceOptionsData) (circuit : Ci
     → IsDeckOf deck circuit → AreRoles (ports_of circuit) roles → AreNets circuit.nets options.probes
     → IsStimulusOf roles.pins stim cycles
     → (trace : TraceData) × IsTraceOf deck stim options trace
+
+-- a probe word tells an event of its net exactly where the relation of the word's edge holds of the old and the new value
+abbrev pub EdgesAreTold : Type 0
+EdgesAreTold = (edge : Edge) (before after : Tri) → IsTrue (has_edge edge before after) ↔ IsEdge edge before after

@@ -16,19 +16,19 @@ abbrev pub AreNets : List (List ℕ) → List ProbeWord → Type 0
 AreNets nets words = All (λ word. Contains nets word.name) words
 
 -- two values are the same
-abbrev pub is_value : Tri → Tri → Bool
-is_value a b = letter_of a == letter_of b
+abbrev pub same_value : Tri → Tri → Bool
+same_value a b = letter_of a == letter_of b
 
 -- the edge's relation holds of an old and a new value: any change, a change to One, or a change to Zero
-abbrev pub is_edge : Edge → Tri → Tri → Bool
-is_edge Any before after = not (is_value before after)
-is_edge Rise before after = is_value after One && not (is_value before One)
-is_edge Fall before after = is_value after Zero && not (is_value before Zero)
+abbrev pub has_edge : Edge → Tri → Tri → Bool
+has_edge Any before after = not (same_value before after)
+has_edge Rise before after = same_value after One && not (same_value before One)
+has_edge Fall before after = same_value after Zero && not (same_value before Zero)
 
 -- a word has the name of an event's net, and its edge's relation holds of the old and the new value
 abbrev pub tells : List (List ℕ) → Event → ProbeWord → Bool
 tells nets event word =
-    pointwise nat_eq word.name (slice_index_or nets event.net []) && is_edge word.edge event.before event.after
+    pointwise nat_eq word.name (slice_index_or nets event.net []) && has_edge word.edge event.before event.after
 
 -- an event is told where every event is, or a probe word tells it
 abbrev pub is_told : SetupData → Event → Bool

@@ -35,9 +35,9 @@ pub record RunData (F : Type 0) : Type 0 where
   pub text : List ℕ
 
 -- the events of a course
-abbrev pub events_of : Course → List Event
-events_of (Settled events) = events
-events_of (Unsettled events last) = events
+abbrev pub course_events : Course → List Event
+course_events (Settled events) = events
+course_events (Unsettled events last) = events
 
 -- whether all moves of a course settled
 abbrev pub is_settled : Course → Bool
@@ -73,17 +73,17 @@ module _ {F : Type 0} where
       record { setup = r.setup; pick = r.pick; state = after r.state events; text = r.text ++ event_lines r.setup events }
 
   -- one event, the chosen one; or there is rest
-  abbrev pub Steps : (F → ℕ → ℕ → ℕ → Type 0) → RunData F → Bool → RunData F → Type 0
-  Steps P before true now =
+  abbrev pub StepsOnce : (F → ℕ → ℕ → ℕ → Type 0) → RunData F → Bool → RunData F → Type 0
+  StepsOnce P before true now =
       (event : Event) × (event.step ≡ before.state.step)
       × IsChosen (P before.pick) (links_of before.setup.circuit before.setup.roles) before.state.values event
       × (now ≡ with_events before (event ∷ []))
-  Steps P before false now = IsResting (links_of before.setup.circuit before.setup.roles) before.state.values × (now ≡ before)
+  StepsOnce P before false now = IsResting (links_of before.setup.circuit before.setup.roles) before.state.values × (now ≡ before)
 
   -- moves had this course in a run, whose text has the lines of the events
   pub record Ran (P : F → ℕ → ℕ → ℕ → Type 0) (moves : List (List PortValue)) (course : Course) (before now : RunData F) : Type 0 where
     pub course_is : IsCourse (P before.pick) before.setup before.state moves course now.state
-    pub text_is : now.text ≡ before.text ++ event_lines before.setup (events_of course)
+    pub text_is : now.text ≡ before.text ++ event_lines before.setup (course_events course)
     pub same_setup : now.setup ≡ before.setup
     pub same_pick : now.pick ≡ before.pick
 

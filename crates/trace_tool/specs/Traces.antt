@@ -62,10 +62,10 @@ IsRun order setup cycles trace =
     × IsTraceFrom setup 0 power_line course (AreCycles order setup start 0 cycles) trace
 
 -- the place in the list of pending nets that an order picks, at a step and for a number of them
-abbrev pub order_of : Order → ℕ → ℕ → ℕ → ℕ
-order_of First seed = first_place
-order_of Last seed = last_place
-order_of Seed seed = seeded_place seed
+abbrev pub picked_place : Order → ℕ → ℕ → ℕ → ℕ
+picked_place First seed = first_place
+picked_place Last seed = last_place
+picked_place Seed seed = seeded_place seed
 
 -- the setup of a circuit in which the events are told that the options ask for
 abbrev pub setup_of : CircuitData → Roles → TraceOptionsData → SetupData
@@ -82,4 +82,4 @@ pub record IsTraceOf (deck stim : List ℕ) (options : TraceOptionsData) (trace 
   pub are_roles : AreRoles (ports_of circuit) roles
   pub are_nets : AreNets circuit.nets options.probes
   pub is_stimulus : IsStimulusOf roles.pins stim cycles
-  pub is_run : IsRun (By (order_of options.order options.seed)) (setup_of circuit roles options) cycles trace
+  pub is_run : IsRun (By (picked_place options.order options.seed)) (setup_of circuit roles options) cycles trace

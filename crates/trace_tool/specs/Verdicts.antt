@@ -18,7 +18,7 @@ use Rattle.trace_tool.specs.CosimRefusals.{HasNetworkOf}
 use Rattle.trace_tool.specs.Courses.{Course, IsCourse, Settled, State, Unsettled}
 use Rattle.trace_tool.specs.Moves.{evaluation_moves, latching_moves, power_moves}
 use Rattle.trace_tool.specs.SetupData.{SetupData, silent}
-use Rattle.trace_tool.specs.Traces.{order_of, outputs, power_state}
+use Rattle.trace_tool.specs.Traces.{picked_place, outputs, power_state}
 use Rattle.trace_tool.specs.declared.options.Order.{Order}
 use Rattle.trace_tool.specs.declared.verdict.Verdict.{Verdict}
 use Rattle.trace_tool.specs.declared.verdict.Verdict.TheVariants as verdicts
@@ -55,8 +55,8 @@ IsAfter cycle (Unsettled events last) Follows verdict = verdict ≡ verdicts.Uns
 
 -- the reading of a cycle in which the network has these outputs: where some output differs the verdict says the first, and
 -- else it is what follows
-abbrev pub IsRead : SetupData → ℕ → List Bool → State → Type 0 → Verdict → Type 0
-IsRead setup cycle wanted read Follows verdict =
+abbrev pub IsReadingVerdict : SetupData → ℕ → List Bool → State → Type 0 → Verdict → Type 0
+IsReadingVerdict setup cycle wanted read Follows verdict =
     ((pin : List ℕ) × (one : Bool) × (value : Tri)
     × IsFirstWrong (drop (first_output setup.roles) (ports_of setup.circuit)) wanted (outputs setup.roles read.values) pin one value
     × (verdict ≡ verdicts.Differ cycle pin one value))
@@ -68,7 +68,7 @@ IsRead setup cycle wanted read Follows verdict =
 abbrev pub IsCycleVerdict : (ℕ → ℕ → ℕ → Type 0) → SetupData → State → ℕ → List Bool → List Bool → (State → Type 0) → Verdict → Type 0
 IsCycleVerdict order setup s cycle pins wanted Follows verdict =
     (evaluated : Course) × (read : State) × IsCourse order setup s (evaluation_moves setup.roles pins) evaluated read
-    × IsAfter cycle evaluated (IsRead setup cycle wanted read
+    × IsAfter cycle evaluated (IsReadingVerdict setup cycle wanted read
     ((latched : Course) × (last : State) × IsCourse order setup read (latching_moves setup.roles) latched last
     × IsAfter cycle latched (Follows last) verdict) verdict) verdict
 
@@ -105,4 +105,4 @@ pub record IsVerdictOf (blif deck stim : List ℕ) (order : Order) (seed : ℕ) 
   pub is_stimulus : IsStimulusOf network.inputs stim stream
   pub cycles : List Cycle
   pub is_run : IsNetworkRun network stream cycles
-  pub is_verdict : IsVerdict (By (order_of order seed)) network circuit roles stream cycles verdict
+  pub is_verdict : IsVerdict (By (picked_place order seed)) network circuit roles stream cycles verdict

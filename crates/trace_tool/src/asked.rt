@@ -1,7 +1,7 @@
 //! Probe words by nets: the edges that are asked for at each net.
 ghost use Rattle.std.specs.Prelude.{◌≡◌, ◌||◌, Contains, IfOk, IsErrOf, MatchOption, Some, slice_get};
 ghost use Rattle.trace_tool.specs.AskedEdges.{AreAsked, hits, unasked};
-ghost use Rattle.trace_tool.specs.Probes.{AreNets, is_edge};
+ghost use Rattle.trace_tool.specs.Probes.{AreNets, has_edge};
 ghost use Rattle.trace_tool.specs.Refusals.{IsUnnamed};
 ghost use Rattle.trace_tool.specs.declared.fault.TraceFault.{TraceFault as Fault};
 ghost use Rattle.dom_base.specs.declared.tri.Tri.{Tri as Value};
@@ -35,7 +35,7 @@ impl Asked {
 
     /// These and one more edge.
     fn with(self, edge: Edge) -> Asked
-        ensures { (before after : Value) → hits result before after ≡ (hits self before after || is_edge edge before after) }
+        ensures { (before after : Value) → hits result before after ≡ (hits self before after || has_edge edge before after) }
     {
         match edge {
             Edge::Any => Asked { any: true, ..self },

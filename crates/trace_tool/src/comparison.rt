@@ -20,26 +20,31 @@ use event_sim::Chooser;
 use net_flatten::Network;
 use net_run::Runner;
 use std::alloc::Global;
+use std::sync::ledger::{Blank, Ledger};
 use stim_text::Pins;
 
 /// The verdict of power and of these cycles, beside those of a network with as many inputs and outputs.
-pub fn compared<F: Fn(u64, u64) -> u64>(
+pub fn compared<F: Fn(u64, u64) -> u64, L: Ledger>(
     alloc: Global,
     setup: Setup<'_>,
     network: &Network,
     cycles: &[Pins],
     chooser: Chooser<F>,
+    blank: Blank,
 ) -> Result<Verdict, OutOfMemory>
     requires chooses { Chooses (F.pre chooser.pick) (F.post chooser.pick) }
     requires roles { AreRoles (ports_of setup.circuit) setup.roles }
     requires inputs { network.now.inputs ≡ setup.roles.pins }
     requires outputs { length network.now.outputs ≡ setup.roles.outs }
     requires widths { All (λ pins. length pins ≡ setup.roles.pins) cycles.now }
+    requires name { blank.name ≡ L.name }
+    requires parts { blank.parts ≡ L.parts }
+    requires some { 0 < L.parts }
     ensures { IfOk result (λ verdict. (order : ℕ → ℕ → ℕ) (wanted : List Cycle) → Follows order (F.post chooser.pick)
         → IsNetworkRun network.now cycles.now wanted → IsRunVerdict (By order) setup.entry cycles.now wanted verdict) }
 {
     let mut runner = Runner::new(alloc, network)?;
-    let mut run = Run::new(alloc, setup, chooser)?;
+    let mut run = Run::<F, L>::new(alloc, setup, chooser, blank)?;
     match run.power_up() {
         Ok(_) => run.compare_cycles(&mut runner, cycles),
         Err(halt) => stopped(0, halt),
@@ -56,7 +61,7 @@ fn stopped(cycle: u64, halt: Halt) -> Result<Verdict, OutOfMemory>
     }
 }
 
-impl<'a, F: Fn(u64, u64) -> u64> Run<'a, F> {
+impl<'a, F: Fn(u64, u64) -> u64, L: Ledger> Run<'a, F, L> {
     /// The verdict of the cycles in turn, beside those of a runner.
     fn compare_cycles(
         &mut self,

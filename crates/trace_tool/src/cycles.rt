@@ -1,5 +1,5 @@
 //! The run of a circuit over its cycles.
-ghost use Rattle.std.specs.Prelude.{ℕ, ◌≡◌, All, IfOk, length};
+ghost use Rattle.std.specs.Prelude.{ℕ, ◌≡◌, ◌<◌, All, IfOk, length};
 ghost use Rattle.deck.specs.Roles.{AreRoles, ports_of};
 ghost use Rattle.event_sim.specs.Choices.{Chooses};
 ghost use Rattle.event_sim.specs.Orders.{By, Follows};
@@ -13,22 +13,27 @@ use crate::setup::Setup;
 use dom_base::OutOfMemory;
 use event_sim::Chooser;
 use std::alloc::Global;
+use std::sync::ledger::{Blank, Ledger};
 use stim_text::{CycleRow, Pins};
 
 /// The trace of power and of these cycles.
-pub fn traced<F: Fn(u64, u64) -> u64>(
+pub fn traced<F: Fn(u64, u64) -> u64, L: Ledger>(
     alloc: Global,
     setup: Setup<'_>,
     cycles: &[Pins],
     chooser: Chooser<F>,
+    blank: Blank,
 ) -> Result<Trace, OutOfMemory>
     requires chooses { Chooses (F.pre chooser.pick) (F.post chooser.pick) }
     requires roles { AreRoles (ports_of setup.circuit) setup.roles }
     requires widths { All (λ pins. length pins ≡ setup.roles.pins) cycles.now }
+    requires name { blank.name ≡ L.name }
+    requires parts { blank.parts ≡ L.parts }
+    requires some { 0 < L.parts }
     ensures { IfOk result (λ trace. (order : ℕ → ℕ → ℕ) → Follows order (F.post chooser.pick)
         → IsRun (By order) setup.entry cycles.now trace) }
 {
-    let mut run = Run::new(alloc, setup, chooser)?;
+    let mut run = Run::<F, L>::new(alloc, setup, chooser, blank)?;
     if run.power()? {
         let settled = run.cycles(alloc, cycles)?;
         Ok(run.trace(settled))
@@ -37,7 +42,7 @@ pub fn traced<F: Fn(u64, u64) -> u64>(
     }
 }
 
-impl<'a, F: Fn(u64, u64) -> u64> Run<'a, F> {
+impl<'a, F: Fn(u64, u64) -> u64, L: Ledger> Run<'a, F, L> {
     /// Power, with its lines. It answers whether it settled.
     fn power(&mut self) -> Result<bool, OutOfMemory>
         requires { Chooses (F.pre self.old.pick) (F.post self.old.pick) }

@@ -1,5 +1,5 @@
 //! What holds of each deck and stimulus, of their trace and of their verdict.
-ghost use Rattle.trace_tool.specs.Laws.{AnswerIsOne, TraceIsOne, TraceIsThere};
+ghost use Rattle.trace_tool.specs.Laws.{AnswerIsOne, EdgesAreTold, TraceIsOne, TraceIsThere};
 ghost use Rattle.trace_tool.specs.VerdictLaws.{VerdictIsOne, VerdictIsThere};
 
 /// Over the same cycles a circuit has at most one trace in each order.
@@ -29,4 +29,10 @@ pub fn verdict_is_one()
 /// the network's inputs have a verdict in each order of events.
 pub fn verdict_is_there()
     ensures { VerdictIsThere }
+{}
+
+/// A probe word tells an event of its net exactly where its edge's relation, as probes have it, holds of
+/// the old and the new value.
+pub fn edges_are_told()
+    ensures { EdgesAreTold }
 {}

@@ -23,7 +23,9 @@ mod verdict;
 
 pub use cosimulation::cosim;
 pub use fault::TraceFault;
-pub use laws::{answer_is_one, trace_is_one, trace_is_there, verdict_is_one, verdict_is_there};
+pub use laws::{
+    answer_is_one, edges_are_told, trace_is_one, trace_is_there, verdict_is_one, verdict_is_there,
+};
 pub use options::{Order, ProbeWord, TraceOptions};
 pub use simulation::sim;
 pub use trace::Trace;

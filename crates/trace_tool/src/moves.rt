@@ -7,6 +7,7 @@ ghost use Rattle.trace_tool.specs.RunData.{Runs, rises};
 
 use crate::halt::Halt;
 use crate::run::Run;
+use std::sync::ledger::Ledger;
 
 /// The bits of a pair that is open, and of one that is closed.
 const OPEN: [bool; 2] = [true, false];
@@ -16,7 +17,7 @@ const CLOSED: [bool; 2] = [false, true];
 /// The bits of clocks that have fallen.
 const FALLEN: [bool; 4] = [false, false, false, false];
 
-impl<'a, F: Fn(u64, u64) -> u64> Run<'a, F> {
+impl<'a, F: Fn(u64, u64) -> u64, L: Ledger> Run<'a, F, L> {
     /// Power: settles, then the reset ends.
     pub fn power_up(&mut self) -> Result<u64, Halt>
         requires { Chooses (F.pre self.old.pick) (F.post self.old.pick) }

@@ -7,16 +7,23 @@ ghost use Rattle.trace_tool.specs.RunData.{values_from, with_move};
 use dom_base::{OutOfMemory, Tri};
 use event_sim::Sim;
 use std::alloc::Global;
+use std::sync::ledger::Ledger;
+use switch_model::Steps;
 
 /// Gives the ports from one on the values of these bits, one each, with no event between them.
-pub fn set_ports<F: Fn(u64, u64) -> u64>(sim: &mut Sim<F>, port: u32, bits: &[bool])
+pub fn set_ports<F: Fn(u64, u64) -> u64, L: Ledger>(
+    sim: &mut Sim<F>,
+    port: u32,
+    bits: &[bool],
+    steps: &mut Steps<L>,
+)
     requires no_supply { 2 ≤ port }
     requires sources { port + length bits.now ≤ sim.old.links.sources }
     requires few { port + length bits.now < 2 ^ 32 }
     ensures set { sim.new ≡ with_move sim.old (set_bits port bits.now) }
 {
     for (number, on) in bits.iter().enumerate() {
-        sim.set_pin(port + number as u32, value_of(*on));
+        sim.set_pin_counted(port + number as u32, value_of(*on), steps);
     }
 }
 

@@ -8,7 +8,7 @@ ghost use Rattle.stim_text.specs.CycleLines.{cycle_line};
 ghost use Rattle.deck.specs.PortLayout.{first_output, source_count};
 ghost use Rattle.switch_model.specs.LinksData.{links_of};
 ghost use Rattle.trace_tool.specs.Moves.{set_bits};
-ghost use Rattle.trace_tool.specs.RunData.{Runs, Settles, Steps, IsHalted, power_run, with_line, with_moved};
+ghost use Rattle.trace_tool.specs.RunData.{Runs, Settles, StepsOnce, IsHalted, power_run, with_line, with_moved};
 ghost use Rattle.trace_tool.specs.TraceLines.{power_line};
 ghost use Rattle.trace_tool.specs.Traces.{outputs as outputs_of};
 
@@ -23,17 +23,21 @@ use dom_base::{NetName, OutOfMemory, Tri};
 use event_sim::{Chooser, Sim};
 use std::alloc::Global;
 use std::marker::Model;
+use std::sync::ledger::{Blank, Ledger};
 use stim_text::{CycleRow, write_cycle};
+use switch_model::Steps;
 
-/// A simulation of the setup's circuit, and the text of its trace so far.
+/// A simulation of the setup's circuit, the text of its trace so far, and the count of the steps that
+/// it took.
 #[derive(Drop)]
-pub struct Run<'a, F: Fn(u64, u64) -> u64> {
+pub struct Run<'a, F: Fn(u64, u64) -> u64, L: Ledger> {
     setup: Setup<'a>,
     sim: Sim<F>,
     text: Vec<u8>,
+    steps: Steps<L>,
 }
 
-impl<'a, F: Fn(u64, u64) -> u64> Model for Run<'a, F> {
+impl<'a, F: Fn(u64, u64) -> u64, L: Ledger> Model for Run<'a, F, L> {
     ghost use Rattle.trace_tool.specs.RunData.{IsRunning, RunData};
 
     ghost Value = { RunData F };
@@ -48,14 +52,18 @@ impl<'a, F: Fn(u64, u64) -> u64> Model for Run<'a, F> {
     ghost invariant = { λ r. IsRunning r.setup r.sim };
 }
 
-impl<'a, F: Fn(u64, u64) -> u64> Run<'a, F> {
-    /// The power state, with an empty text.
+impl<'a, F: Fn(u64, u64) -> u64, L: Ledger> Run<'a, F, L> {
+    /// The power state, with an empty text and no step yet.
     pub fn new(
         alloc: Global,
         setup: Setup<'a>,
         chooser: Chooser<F>,
-    ) -> Result<Run<'a, F>, OutOfMemory>
-        requires { AreRoles (ports_of setup.circuit) setup.roles }
+        blank: Blank,
+    ) -> Result<Run<'a, F, L>, OutOfMemory>
+        requires roles { AreRoles (ports_of setup.circuit) setup.roles }
+        requires name { blank.name ≡ L.name }
+        requires parts { blank.parts ≡ L.parts }
+        requires some { 0 < L.parts }
         ensures power { IfOk result (λ run. run ≡ power_run chooser.pick setup.entry) }
         ensures few { IfOk result (λ run. length run.state.values ≤ 2 ^ 26) }
     {
@@ -64,6 +72,7 @@ impl<'a, F: Fn(u64, u64) -> u64> Run<'a, F> {
             setup,
             sim,
             text: Vec::new(alloc),
+            steps: Steps::new(blank),
         })
     }
 
@@ -81,15 +90,15 @@ impl<'a, F: Fn(u64, u64) -> u64> Run<'a, F> {
         requires sources { port + length bits.now ≤ source_count self.old.setup.roles }
         ensures { self.new ≡ with_moved self.old (set_bits port bits.now) }
     {
-        set_ports(&mut self.sim, port, bits);
+        set_ports(&mut self.sim, port, bits, &mut self.steps);
     }
 
     /// One event, with its line where it is told; `false` comes at rest.
     fn step(&mut self) -> Result<bool, OutOfMemory>
         requires { Chooses (F.pre self.old.pick) (F.post self.old.pick) }
-        ensures { IfOk result (λ some. Steps F.post self.old some self.new) }
+        ensures { IfOk result (λ some. StepsOnce F.post self.old some self.new) }
     {
-        match self.sim.step() {
+        match self.sim.step_counted(&mut self.steps) {
             Some(event) => {
                 append_event(&mut self.text, &self.setup, event)?;
                 Ok(true)

@@ -24,7 +24,7 @@ use Rattle.port_runs.specs.PortRuns.{Runs}
 use Rattle.port_runs.specs.Readings.{IsReading}
 use Rattle.port_runs.proofs.RunOrder.{runs_stand_in_order}
 use Rattle.trace_tool.specs.CosimRefusals.{HasNetworkOf, IsCosimRefused}
-use Rattle.trace_tool.specs.Traces.{order_of}
+use Rattle.trace_tool.specs.Traces.{picked_place}
 use Rattle.trace_tool.specs.Verdicts.{IsVerdict, IsVerdictOf, network_ports, pins_and_outputs}
 use Rattle.trace_tool.specs.declared.fault.TraceFault.{TraceFault}
 use Rattle.trace_tool.specs.declared.fault.TraceFault.TheVariants.{Blif, Flat, Deck, Ports, NoNet, Stim, Memory}
@@ -112,13 +112,13 @@ module _ (blif deck : List ℕ) (w h phases : ℕ) (right : IsRightDeck blif w h
 
   right_same : (stim : List ℕ) (order : Order) (seed : ℕ) (verdict : Verdict) → (v : IsVerdictOf blif deck stim order seed verdict) → IsSame verdict (length v.stream)
   right_same stim order seed verdict v =
-      realised_is_same (order_of order seed) network circuit (roles_of network phases) v.stream v.cycles verdict is_network are ports_are
+      realised_is_same (picked_place order seed) network circuit (roles_of network phases) v.stream v.cycles verdict is_network are ports_are
       (realises network circuit (roles_of network phases) are right.right)
       (subst (λ (n : NetworkData). All (λ pins. length pins ≡ n.inputs) v.stream) networks (v.is_stimulus).widths_are)
       (subst (λ (n : NetworkData). IsNetworkRun n v.stream v.cycles) networks v.is_run)
-      (subst (λ (r : Roles). IsVerdict (By (order_of order seed)) network circuit r v.stream v.cycles verdict) roles
-      (subst (λ (c : CircuitData). IsVerdict (By (order_of order seed)) network c v.roles v.stream v.cycles verdict) circuits
-      (subst (λ (n : NetworkData). IsVerdict (By (order_of order seed)) n v.circuit v.roles v.stream v.cycles verdict) networks v.is_verdict)))
+      (subst (λ (r : Roles). IsVerdict (By (picked_place order seed)) network circuit r v.stream v.cycles verdict) roles
+      (subst (λ (c : CircuitData). IsVerdict (By (picked_place order seed)) network c v.roles v.stream v.cycles verdict) circuits
+      (subst (λ (n : NetworkData). IsVerdict (By (picked_place order seed)) n v.circuit v.roles v.stream v.cycles verdict) networks v.is_verdict)))
     where
       networks : v.network ≡ network
       networks = network_same blif v.network network v.has has

@@ -21,7 +21,7 @@ use Rattle.trace_tool.specs.Courses.{Course, IsCourse, Settled, State, Unsettled
 use Rattle.trace_tool.specs.Moves.{evaluation_moves, latching_moves, power_moves}
 use Rattle.trace_tool.specs.SetupData.{SetupData, silent}
 use Rattle.trace_tool.specs.Traces.{outputs, power_state}
-use Rattle.trace_tool.specs.Verdicts.{DifferFirstAt, IsAfter, IsFirstWrong, IsRead, IsRunVerdict, IsVerdictFrom}
+use Rattle.trace_tool.specs.Verdicts.{DifferFirstAt, IsAfter, IsFirstWrong, IsReadingVerdict, IsRunVerdict, IsVerdictFrom}
 use Rattle.trace_tool.specs.declared.verdict.Verdict.{Verdict}
 use Rattle.trace_tool.specs.declared.verdict.Verdict.TheVariants.{Same}
 use Rattle.trace_tool.proofs.FailedCourses.{Fails, fails}
@@ -122,7 +122,7 @@ module _ (order : ℕ → ℕ → ℕ) (network : NetworkData) (c : CircuitData)
           absurd (latches_never c roles (By order) realises.few_events (done ++ pins ∷ []) read.values read.step at (fails (By order) (links_of c roles) read (latching_moves roles) events unrest last course))
 
       reading : RestIsSame stream cycles (done ++ pins ∷ []) (number + 1) → (read : State) → IsReadAt c roles (By order) (done ++ pins ∷ []) read.values
-          → IsRead (silent c roles) number wanted.outputs read
+          → IsReadingVerdict (silent c roles) number wanted.outputs read
           ((course : Course) × (last : State) × IsCourse (By order) (silent c roles) read (latching_moves roles) course last
           × IsAfter number course (IsVerdictFrom (By order) (silent c roles) last (number + 1) stream cycles verdict) verdict) verdict
           → (events : ℕ) × (verdict ≡ Same (number + length (pins ∷ stream)) events)
@@ -131,7 +131,7 @@ module _ (order : ℕ → ℕ → ℕ) (network : NetworkData) (c : CircuitData)
       reading next read at (inr right) = latched next read at (right.1).0 (right.1).1 (right.1).2 (right.1).3
 
       evaluated : RestIsSame stream cycles (done ++ pins ∷ []) (number + 1) → (course : Course) (read : State) → IsCourse (By order) (silent c roles) s (evaluation_moves roles pins) course read
-          → IsAfter number course (IsRead (silent c roles) number wanted.outputs read
+          → IsAfter number course (IsReadingVerdict (silent c roles) number wanted.outputs read
           ((course : Course) × (last : State) × IsCourse (By order) (silent c roles) read (latching_moves roles) course last
           × IsAfter number course (IsVerdictFrom (By order) (silent c roles) last (number + 1) stream cycles verdict) verdict) verdict) verdict
           → (events : ℕ) × (verdict ≡ Same (number + length (pins ∷ stream)) events)

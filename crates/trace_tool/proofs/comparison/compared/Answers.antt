@@ -1,7 +1,19 @@
-use Rattle.std.proofs.Common.{rules}
+use Rattle.std.proofs.Common.{◌≡◌, All, Bool, List, length, sym, ap, subst, ◌∙◌}
 use Rattle.dom_base.proofs.Options.{if_ok-weaker}
+use Rattle.trace_tool.specs.Moves.{power_moves}
+use Rattle.trace_tool.specs.RunData.{RunData}
+use Rattle.trace_tool.specs.SetupData.{SetupData}
+use Rattle.trace_tool.proofs.MoveRuns.{runs-setup}
 use Rattle.trace_tool.proofs.VerdictsBy.{compared-stopped, compared-through}
 use Rattle.trace_tool.proofs.comparison.compared.Goals as goal
+
+pub compare_cycles-requires-clause-widths : goal.compare_cycles-requires-clause-widths
+compare_cycles-requires-clause-widths g c =
+    let setup : c.power_up.new.self.setup ≡ c.args.setup =
+    runs-setup (λ pick step count place. g.F.Fn.post pick (step, (count, tt)) place) c.in_ok-run.run' c.power_up.new.self
+    (power_moves c.in_ok-run.run'.setup.roles) c.in-Ok.field-0 c.in-Ok.ensures
+    ∙ ap (λ (r : RunData g.row.F.Denot). r.setup) c.in_ok-run.ensures.power in
+    subst (λ (s : SetupData). All (λ (pins : List Bool). length pins ≡ s.roles.pins) c.args.cycles.now) (sym setup) c.requires.widths
 
 pub returns-in-Ok : goal.returns-in-Ok
 returns-in-Ok g c =

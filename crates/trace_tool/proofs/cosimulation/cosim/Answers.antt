@@ -7,7 +7,7 @@ use Rattle.stim_text.specs.Stimuli.{IsStimFaultAt, IsStimulusOf}
 use Rattle.trace_tool.specs.PortDifferences.{ComparesPorts}
 use Rattle.trace_tool.specs.Refusals.{of_deck, of_stim}
 use Rattle.trace_tool.specs.SetupData.{silent}
-use Rattle.trace_tool.specs.Traces.{order_of}
+use Rattle.trace_tool.specs.Traces.{picked_place}
 use Rattle.trace_tool.specs.Verdicts.{IsRunVerdict}
 use Rattle.trace_tool.proofs.CosimCauses.{deck_refused, stim_refused, unflattened_refused}
 use Rattle.trace_tool.proofs.NetworkTexts.{text_network_kept}
@@ -79,5 +79,5 @@ returns-clause-verdict c =
     (subst (ComparesPorts c.in_ok-network.network c.in_ok-circuit.circuit c.in_ok-roles.roles) c.in_default.is c.in_ok-place.ensures)
     (subst
     (λ (l : List (List Bool)). (cycles : List Cycle) → IsNetworkRun c.in_ok-network.network l cycles
-    → IsRunVerdict (By (order_of c.args.order c.args.seed)) (silent c.in_ok-circuit.circuit c.in_ok-roles.roles) l cycles c.in_ok-verdict.verdict)
+    → IsRunVerdict (By (picked_place c.args.order c.args.seed)) (silent c.in_ok-circuit.circuit c.in_ok-roles.roles) l cycles c.in_ok-verdict.verdict)
     c.deref.ensures.value c.in_ok-verdict.ensures)

@@ -1,5 +1,4 @@
-use Rattle.std.proofs.Common.{◌≡◌, ℕ, ◌+◌, List, drop, length, ap, sym, subst, ◌∙◌, arith}
-use Rattle.deck.specs.PortLayout.{first_pin}
+use Rattle.std.proofs.Common.{◌≡◌, ℕ, ◌+◌, List, drop, ap, sym, subst, ◌∙◌, arith}
 use Rattle.deck.specs.Roles.{ports_of}
 use Rattle.trace_tool.specs.Verdicts.{DifferFirstAt, network_ports, pins_and_outputs}
 use Rattle.trace_tool.proofs.PortCounts.{ports_count}

@@ -1,4 +1,4 @@
-use Rattle.std.proofs.Common.{◌≡◌, ◌≤◌, length, length-take, length-drop, take, arith, ap, sym}
+use Rattle.std.proofs.Common.{length, arith, ap, sym}
 use Rattle.std.proofs.lemmas.List.{length-take-le}
 use Rattle.deck.proofs.DeviceNumbers.{IsCircuit-ports}
 use Rattle.trace_tool.proofs.port_names.ports_from.Goals as goal

@@ -1,10 +1,10 @@
-use Rattle.std.proofs.Common.{◌≡◌, ℕ, Bool, List, ap, sym, subst}
+use Rattle.std.proofs.Common.{◌≡◌, List, subst}
 use Rattle.std.proofs.lemmas.Result.{err_from_is_err_and}
 use Rattle.event_sim.specs.Orders.{By}
 use Rattle.trace_tool.specs.Probes.{AreNets}
 use Rattle.trace_tool.specs.Refusals.{IsRefused, IsUnnamed, of_stim}
 use Rattle.trace_tool.specs.TraceData.{TraceOptionsData}
-use Rattle.trace_tool.specs.Traces.{IsRun, order_of}
+use Rattle.trace_tool.specs.Traces.{IsRun, picked_place}
 use Rattle.trace_tool.specs.declared.options.ProbeWord.{ProbeWord}
 use Rattle.trace_tool.proofs.TraceCauses.{stimulus_refused, unnamed_refused}
 use Rattle.trace_tool.proofs.TraceRuns.{run_is}
@@ -45,7 +45,7 @@ returns-clause-trace c =
       is_run = run_is c.in_ok-circuit.circuit c.in_ok-roles.roles read c.args.options.now c.deref-2.result.now c.in_ok-cycles.cycles.items c.in_ok-trace.trace
           c.options.view_is c.deref-2.ensures.value
           (subst
-          (λ (l : List ProbeWord). IsRun (By (order_of c.options.inside.order c.options.inside.seed))
+          (λ (l : List ProbeWord). IsRun (By (picked_place c.options.inside.order c.options.inside.seed))
           (record { circuit = c.in_ok-circuit.circuit; roles = c.in_ok-roles.roles; events = c.options.inside.events; probes = l }) c.deref-2.result.now c.in_ok-trace.trace)
           c.as_slice.ensures.value c.in_ok-trace.ensures);
     }

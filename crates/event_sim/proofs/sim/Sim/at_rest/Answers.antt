@@ -1,7 +1,6 @@
-use Rattle.std.proofs.Common.{◌≡◌, ◌<◌, length, arith, ◌∙◌}
+use Rattle.std.proofs.Common.{arith, ◌∙◌}
 use Rattle.std.proofs.lemmas.Bool.{eq-eqb, eqb-true}
-use Rattle.dom_base.proofs.Decided.{lt_or_ge}
-use Rattle.event_sim.proofs.StepFacts.{links_same, moves_where_some, none_where_rests, pending_moved, rests_where_none, values_same}
+use Rattle.event_sim.proofs.StepFacts.{links_same, none_where_rests, pending_moved, rests_where_none, values_same}
 use Rattle.event_sim.proofs.sim.Sim.at_rest.Goals as goal
 
 pub returns-clause-rest : goal.returns-clause-rest

@@ -1,4 +1,4 @@
-use Rattle.std.proofs.Common.{◌≡◌, ℕ, Bool, true, false, refl, sym, ◌∙◌, arith}
+use Rattle.std.proofs.Common.{ℕ, refl, arith}
 use Rattle.event_sim.specs.declared.event.Settled.TheVariants.{Rest, Unsettled}
 use Rattle.event_sim.proofs.EventChains.{has_run-more, ran_whole, settles-rest, settles-unrest}
 use Rattle.dom_base.proofs.Bools.{never}

@@ -7,9 +7,6 @@ use Rattle.deck.specs.Roles.{AreRoles, ports_of}
 use Rattle.deck.specs.PortLayout.{source_count}
 use Rattle.switch_model.specs.LinksData.{LinksData, links_of}
 use Rattle.switch_model.specs.Power.{source_values}
-use Rattle.deck.specs.declared.role.Roles.{Roles}
-use Rattle.deck.proofs.PortLayout.{AreRoles-same}
-use Rattle.event_sim.specs.SimData.{power_sim}
 use Rattle.event_sim.proofs.StepFacts.{pending_moved}
 use Rattle.event_sim.proofs.PowerState.{few_nets, power-length, sources_within}
 use Rattle.event_sim.proofs.sim.Sim.with_roles.Goals as goal

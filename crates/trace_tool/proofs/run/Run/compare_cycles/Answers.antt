@@ -1,4 +1,4 @@
-use Rattle.std.proofs.Common.{◌≡◌, ◌+◌, ◌∷◌, Bool, List, Option, drop, sym, ap, subst, ◌∙◌, arith}
+use Rattle.std.proofs.Common.{◌+◌, ◌∷◌, Bool, List, Option, drop, sym, ap, subst, ◌∙◌, arith}
 use Rattle.trace_tool.specs.Comparisons.{ComparesCycle}
 use Rattle.trace_tool.specs.declared.verdict.Verdict.{Verdict}
 use Rattle.trace_tool.proofs.ComparedRuns.{compared_decided, compared_more}

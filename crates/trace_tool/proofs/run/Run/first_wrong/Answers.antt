@@ -1,4 +1,4 @@
-use Rattle.std.proofs.Common.{◌≡◌, Some, false, slice_get, slice_index_or, arith, rules, ◌∙◌}
+use Rattle.std.proofs.Common.{◌≡◌, false, slice_index_or, arith, rules, ◌∙◌}
 use Rattle.std.proofs.lemmas.Option.{slice_get-get_or}
 use Rattle.trace_tool.specs.Traces.{outputs}
 use Rattle.trace_tool.proofs.WrongOutputs.{bits_more}

@@ -1,4 +1,4 @@
-use Rattle.std.proofs.Common.{◌≡◌, ap, subst, length}
+use Rattle.std.proofs.Common.{◌≡◌, subst, length}
 use Rattle.trace_tool.specs.RunData.{RunData}
 use Rattle.trace_tool.specs.Traces.{outputs}
 use Rattle.trace_tool.proofs.PortCounts.{outputs_count}

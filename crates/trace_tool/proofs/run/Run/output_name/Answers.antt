@@ -1,4 +1,4 @@
-use Rattle.std.proofs.Common.{◌≡◌, ℕ, ◌+◌, List, [], Some, drop, slice_get, slice_index_or, ap, subst, sym, ◌∙◌, arith, rules}
+use Rattle.std.proofs.Common.{◌≡◌, ℕ, ◌+◌, [], Some, drop, slice_get, slice_index_or, ap, subst, ◌∙◌, arith}
 use Rattle.dom_base.proofs.Options.{if_ok-weaker}
 use Rattle.deck.specs.PortLayout.{first_output}
 use Rattle.deck.specs.Roles.{ports_of}

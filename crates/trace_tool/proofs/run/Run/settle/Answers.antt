@@ -1,5 +1,5 @@
-use Rattle.std.proofs.Common.{◌≡◌, ℕ, Bool, true, false, sym, ◌∙◌, subst, arith}
-use Rattle.trace_tool.specs.RunData.{Steps}
+use Rattle.std.proofs.Common.{ℕ, Bool, subst, arith}
+use Rattle.trace_tool.specs.RunData.{StepsOnce}
 use Rattle.trace_tool.proofs.SettlingRuns.{run-more, settles-rest, settles-unrest}
 use Rattle.dom_base.proofs.Bools.{never}
 use Rattle.trace_tool.proofs.run.Run.settle.Goals as goal
@@ -8,13 +8,13 @@ pub events-preserved : goal.events-preserved
 events-preserved g c =
     record {
       run = run-more (λ pick step count place. g.F.Fn.post pick (step, (count, tt)) place) c.args.self.now c.events.self c.step.new.self c.events.count c.events.invariant.run
-          (subst (λ (b : Bool). Steps (λ (pick : g.row.F.Denot) (step count place : ℕ). g.F.Fn.post pick (step, (count, tt)) place) c.events.self b c.step.new.self) c.if-branch.true c.in_ok-step.ensures);
+          (subst (λ (b : Bool). StepsOnce (λ (pick : g.row.F.Denot) (step count place : ℕ). g.F.Fn.post pick (step, (count, tt)) place) c.events.self b c.step.new.self) c.if-branch.true c.in_ok-step.ensures);
       within = omega (arith, c.events-test.true);
     }
 
 pub returns-else-branch : goal.returns-else-branch
 returns-else-branch g c =
-    let rests = subst (λ (b : Bool). Steps (λ (pick : g.row.F.Denot) (step count place : ℕ). g.F.Fn.post pick (step, (count, tt)) place) c.events.self b c.step.new.self) c.if-branch.false c.in_ok-step.ensures in
+    let rests = subst (λ (b : Bool). StepsOnce (λ (pick : g.row.F.Denot) (step count place : ℕ). g.F.Fn.post pick (step, (count, tt)) place) c.events.self b c.step.new.self) c.if-branch.false c.in_ok-step.ensures in
     settles-rest (λ pick step count place. g.F.Fn.post pick (step, (count, tt)) place) c.args.self.now c.events.self c.step.new.self c.events.count c.most_events-most.result c.events.invariant.run
     c.most_events-most.ensures.most c.most_events-most.ensures.few c.events.invariant.within rests.0 rests.1
 
