@@ -6,6 +6,7 @@ pub mod Cells
 pub mod KnownNumbers
 pub mod NamedCells
 pub mod NetNames
+pub mod NetsAt
 pub mod Paths
 pub mod PushedCells
 pub mod PushedGates

@@ -4,6 +4,7 @@ pub mod HeldNames
 pub mod Laws
 pub mod NamedCell
 pub mod NamedTrees
+pub mod NetsAt
 pub mod PushedNames
 pub mod PushedPaths
 pub mod Spelling

@@ -15,4 +15,4 @@ pub use laws::{cell_pulls_down, tree_joins_foot};
 pub use names::CellNames;
 pub use net_at::{NetAt, push_at, reserve_nets};
 pub use numbers::{number_of, set_number};
-pub use push::{push_domino, push_named_domino, push_static};
+pub use push::{push_domino, push_numbered_domino, push_static};

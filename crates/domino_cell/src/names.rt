@@ -7,6 +7,9 @@ ghost use Rattle.domino_cell.specs.HeldNames.{AreNamesOfCell, AreNamesOfGate};
 use dom_base::{NetName, OutOfMemory, append, append_number};
 use std::alloc::Global;
 
+/// How many decimal digits a number has at most that names have.
+const MOST_DIGITS: usize = 10;
+
 /// The nets of a domino cell, and how its inner nets begin.
 #[derive(Drop)]
 pub struct CellNames {
@@ -36,21 +39,22 @@ impl CellNames {
         })
     }
 
-    /// The nets of cell `k` on the clock of this number, with the supplies of this other cell.
-    pub fn next(self, alloc: Global, clock: u8, k: u32) -> Result<CellNames, OutOfMemory>
+    /// The nets of cell `k` on the clock of this number, with the supplies of this other cell, in the room of
+    /// its names.
+    pub fn next(self, clock: u8, k: u32) -> Result<CellNames, OutOfMemory>
         requires vdd { self.vdd ≡ codes "vdd" }
         requires vss { self.vss ≡ codes "vss" }
         ensures { IfOk result (AreNamesOfCell clock k) }
     {
-        let tree = numbered_name(alloc, b"t", k)?;
+        let tree = renumbered(self.front, b"t", k)?;
         Ok(CellNames {
             vdd: self.vdd,
             vss: self.vss,
-            clock: numbered_name(alloc, b"ck", u32::from(clock))?,
-            dynamic: numbered_name(alloc, b"d", k)?,
-            output: numbered_name(alloc, b"z", k)?,
-            foot: numbered_name(alloc, b"f", k)?,
-            front: joined_name(alloc, tree.as_bytes(), b"_")?,
+            clock: renumbered(self.clock, b"ck", u32::from(clock))?,
+            dynamic: renumbered(self.dynamic, b"d", k)?,
+            output: renumbered(self.output, b"z", k)?,
+            foot: renumbered(self.foot, b"f", k)?,
+            front: longer_name(tree, b"_")?,
         })
     }
 }
@@ -84,7 +88,7 @@ pub fn numbered_name(alloc: Global, front: &[u8], number: u32) -> Result<NetName
     requires { All IsNetByte front.now }
     ensures { IfOk result (λ name. name ≡ front.now ++ decimal number) }
 {
-    let mut bytes = Vec::new(alloc);
+    let mut bytes = Vec::with_capacity(alloc, front.len().saturating_add(MOST_DIGITS))?;
     append(&mut bytes, front)?;
     append_number(&mut bytes, u64::from(number))?;
     Ok(NetName(bytes))
@@ -97,8 +101,33 @@ fn joined_name(alloc: Global, front: &[u8], rest: &[u8]) -> Result<NetName, OutO
     requires rest { All IsNetByte rest.now }
     ensures { IfOk result (λ name. name ≡ front.now ++ rest.now) }
 {
-    let mut bytes = Vec::new(alloc);
+    let mut bytes = Vec::with_capacity(alloc, front.len().saturating_add(rest.len()))?;
     append(&mut bytes, front)?;
+    append(&mut bytes, rest)?;
+    Ok(NetName(bytes))
+}
+
+/// The name of a front and a number in decimal digits, in the room of another name.
+#[tactic(auto, using(crate::proofs::NetNames::joined_names))]
+fn renumbered(name: NetName, front: &[u8], number: u32) -> Result<NetName, OutOfMemory>
+    requires { All IsNetByte front.now }
+    ensures { IfOk result (λ name. name ≡ front.now ++ decimal number) }
+{
+    let mut bytes = name.0;
+    bytes.clear();
+    append(&mut bytes, front)?;
+    append_number(&mut bytes, u64::from(number))?;
+    Ok(NetName(bytes))
+}
+
+/// A name with more bytes behind it.
+#[tactic(auto, using(crate::proofs::NetNames::joined_names))]
+fn longer_name(name: NetName, rest: &[u8]) -> Result<NetName, OutOfMemory>
+    requires { All IsNetByte rest.now }
+    ensures { IfOk result (λ longer. longer ≡ name ++ rest.now) }
+{
+    name.as_bytes();
+    let mut bytes = name.0;
     append(&mut bytes, rest)?;
     Ok(NetName(bytes))
 }

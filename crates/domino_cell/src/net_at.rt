@@ -1,12 +1,12 @@
 //! Devices between nets whose numbers may be known.
-ghost use Rattle.std.specs.Prelude.{◌≡◌, ◌<◌, ◌+◌, ◌-◌, ◌++◌, ◌∷◌, ◌^◌, [], IfOk, IfSome, OnErr, OnOk, Some, if◌then◌else◌, is_ok, length, nat_eq, option_map, slice_get, take};
+ghost use Rattle.std.specs.Prelude.{◌≡◌, ◌<◌, ◌+◌, ◌-◌, ◌++◌, ◌∷◌, ◌^◌, [], IfOk, OnErr, OnOk, Some, if◌then◌else◌, is_ok, length, nat_eq, take};
 ghost use Rattle.std.specs.Cmp.Lexicographic.{pointwise};
 ghost use Rattle.std.specs.List.{IsDistinct};
-ghost use Rattle.deck.specs.declared.device.Device.{Device as DeviceData};
 ghost use Rattle.deck.specs.Limits.{most_devices};
 ghost use Rattle.deck.specs.Nets.{net_number, with_net, with_nets};
 ghost use Rattle.deck.specs.Numbers.{AreNumbersOf};
 ghost use Rattle.deck.specs.Pushes.{added_device, pushed};
+ghost use Rattle.domino_cell.specs.NetsAt.{HasEnds, StandsAt};
 
 use deck::{Circuit, Device};
 use dom_base::{Kind, NetName, OutOfMemory};
@@ -20,15 +20,15 @@ pub struct NetAt<'a> {
     pub number: Option<u32>,
 }
 
-/// The number of the source of the last device, if there is one.
-pub fn last_source(circuit: &Circuit) -> Option<u32>
-    ensures { result ≡ option_map (λ (device : DeviceData). device.source) (slice_get circuit.now.devices (length circuit.now.devices - 1)) }
+/// This number, where the net of this name stands at it.
+pub fn known_at(circuit: &Circuit, name: &NetName, number: u32) -> Option<u32>
+    ensures { StandsAt circuit.now.nets result name.now }
 {
-    let last = circuit.devices.len().saturating_sub(1);
-    match circuit.devices.get(last) {
-        Some(device) => Some(device.source),
-        None => None,
-    }
+    let net = NetAt {
+        name,
+        number: Some(number),
+    };
+    known_number(circuit.nets.as_slice(), net)
 }
 
 /// Makes room for so many nets more, where memory suffices. The circuit stays as it is.
@@ -54,6 +54,41 @@ pub fn push_at(
     requires { length circuit.old.devices < most_devices }
     ensures ok { OnOk result (circuit.new ≡ pushed circuit.old kind drain.entry.name.now gate.entry.name.now source.entry.name.now) }
     ensures device { IfOk result (λ device. device ≡ added_device circuit.old.nets kind drain.entry.name.now gate.entry.name.now source.entry.name.now) }
+    ensures err { OnErr result (circuit.new ≡ circuit.old) }
+{
+    let nets = circuit.nets.as_slice();
+    let drain = NetAt {
+        name: drain.name,
+        number: known_number(nets, drain),
+    };
+    let gate = NetAt {
+        name: gate.name,
+        number: known_number(nets, gate),
+    };
+    let source = NetAt {
+        name: source.name,
+        number: known_number(nets, source),
+    };
+    push_held(circuit, kind, drain, gate, source)
+}
+
+/// Adds a device between these nets at the end, and gives it, where each net stands at the number that is held
+/// for it. A net that is new takes the next number, drain before gate before source. The one error is out of
+/// memory, and it leaves the circuit as it was.
+pub fn push_held(
+    circuit: &mut Circuit,
+    kind: Kind,
+    drain: NetAt<'_>,
+    gate: NetAt<'_>,
+    source: NetAt<'_>,
+) -> Result<Device, OutOfMemory>
+    requires room { length circuit.old.devices < most_devices }
+    requires drain { StandsAt circuit.old.nets drain.number drain.name.now }
+    requires gate { StandsAt circuit.old.nets gate.number gate.name.now }
+    requires source { StandsAt circuit.old.nets source.number source.name.now }
+    ensures ok { OnOk result (circuit.new ≡ pushed circuit.old kind drain.entry.name.now gate.entry.name.now source.entry.name.now) }
+    ensures device { IfOk result (λ device. device ≡ added_device circuit.old.nets kind drain.entry.name.now gate.entry.name.now source.entry.name.now) }
+    ensures ends { IfOk result (HasEnds circuit.new.nets drain.entry.name.now gate.entry.name.now source.entry.name.now) }
     ensures err { OnErr result (circuit.new ≡ circuit.old) }
 {
     let before = circuit.nets.len();
@@ -84,6 +119,9 @@ fn push_device(
     source: NetAt<'_>,
 ) -> Result<Device, OutOfMemory>
     requires few { length nets.old.keys + 3 < 2 ^ 32 }
+    requires drain { StandsAt nets.old.keys drain.number drain.name.now }
+    requires gate { StandsAt nets.old.keys gate.number gate.name.now }
+    requires source { StandsAt nets.old.keys source.number source.name.now }
     requires distinct { IsDistinct (pointwise nat_eq) nets.old.keys }
     ensures nets { OnOk result (nets.new.keys ≡ with_nets nets.old.keys drain.entry.name.now gate.entry.name.now source.entry.name.now) }
     ensures devices { OnOk result (devices.new.items
@@ -110,7 +148,10 @@ fn number_ends(
     gate: NetAt<'_>,
     source: NetAt<'_>,
 ) -> Result<(usize, usize, usize), OutOfMemory>
-    requires { IsDistinct (pointwise nat_eq) nets.old.keys }
+    requires drain { StandsAt nets.old.keys drain.number drain.name.now }
+    requires gate { StandsAt nets.old.keys gate.number gate.name.now }
+    requires source { StandsAt nets.old.keys source.number source.name.now }
+    requires distinct { IsDistinct (pointwise nat_eq) nets.old.keys }
     ensures numbers { IfOk result (AreNumbersOf nets.old.keys drain.entry.name.now gate.entry.name.now source.entry.name.now) }
     ensures keys { OnOk result (nets.new.keys ≡ with_nets nets.old.keys drain.entry.name.now gate.entry.name.now source.entry.name.now) }
     ensures begins { take (length nets.old.keys) nets.new.keys ≡ nets.old.keys }
@@ -121,16 +162,18 @@ fn number_ends(
     Ok((drain, gate, source))
 }
 
-/// The number of a net, which is added at the end where it is new. A refusal adds nothing.
+/// The number of a net that stands at the number which is held for it. Where none is held, it is added at the
+/// end where it is new. A refusal adds nothing.
 #[tactic(auto, using(crate::proofs::KnownNumbers::known_numbers))]
 fn number(nets: &mut IndexSet<NetName>, net: NetAt<'_>) -> Result<usize, OutOfMemory>
-    requires { IsDistinct (pointwise nat_eq) nets.old.keys }
+    requires stands { StandsAt nets.old.keys net.number net.name.now }
+    requires distinct { IsDistinct (pointwise nat_eq) nets.old.keys }
     ensures number { IfOk result (λ i. i ≡ net_number nets.old.keys net.entry.name.now) }
     ensures keys { nets.new.keys ≡ (if is_ok result then with_net nets.old.keys net.entry.name.now else nets.old.keys) }
     ensures distinct { IsDistinct (pointwise nat_eq) nets.new.keys }
 {
-    if let Some(number) = known_number(nets.as_slice(), net) {
-        return Ok(number);
+    if let Some(number) = net.number {
+        return Ok(number as usize);
     }
     add(nets, net.name)
 }
@@ -152,12 +195,12 @@ fn copied(name: &NetName) -> Result<NetName, OutOfMemory>
     Ok(name.clone()?)
 }
 
-/// The number that a net may have, where the net of this number, from 0, is there and has its name.
-fn known_number(nets: &[NetName], net: NetAt<'_>) -> Option<usize>
-    ensures { IfSome result (λ i. slice_get nets.now i ≡ Some net.entry.name.now) }
+/// The number that is held for a net, where the net stands at it.
+pub fn known_number(nets: &[NetName], net: NetAt<'_>) -> Option<u32>
+    ensures { StandsAt nets.now result net.entry.name.now }
 {
-    let number = net.number? as usize;
-    let there = nets.get(number)?;
+    let number = net.number?;
+    let there = nets.get(number as usize)?;
     if there == net.name {
         Some(number)
     } else {

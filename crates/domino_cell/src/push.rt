@@ -9,12 +9,13 @@ ghost use Rattle.sp_network.specs.TypedTree.{tree_of};
 ghost use Rattle.domino_cell.specs.Cell.{cell};
 ghost use Rattle.domino_cell.specs.HeldNames.{AreNamesOfCell, AreNamesOfGate, held_nets};
 ghost use Rattle.domino_cell.specs.NamedTrees.{named_tree};
+ghost use Rattle.domino_cell.specs.NetsAt.{AreNumbersAt};
 ghost use Rattle.domino_cell.specs.PushedNames.{HasRoomForCell, HasRoomForGate, numbered_cell, static_gate};
 ghost use Rattle.domino_cell.specs.PushedPaths.{HoldsCell, IsDrivenByTree, JoinsWhereOne, MayJoinWhereNotZero};
 
 use crate::names::{CellNames, GateNames};
-use crate::net_at::{NetAt, last_source, push_at};
-use crate::numbers::set_number;
+use crate::net_at::{NetAt, known_at, push_held};
+use crate::numbers::keep_number;
 use crate::tree::TreeNames;
 use deck::Circuit;
 use dom_base::{Kind, NetName, OutOfMemory, ToVdd, ToVss};
@@ -26,6 +27,7 @@ use std::alloc::Global;
 /// foot net `fK` there is then, at all values of the nets, a definite strong path exactly where the
 /// tree conducts, and a possible one exactly where it may. The one error is out of memory, and it
 /// leaves the circuit as it was.
+#[tactic(auto, using(crate::proofs::NetsAt::no_numbers))]
 pub fn push_domino(
     alloc: Global,
     circuit: &mut Circuit,
@@ -47,7 +49,7 @@ pub fn push_domino(
 {
     let nets = CellNames::new(alloc, plan.clock, k)?;
     let mut numbers = Vec::new(alloc);
-    push_named_domino(
+    push_numbered_domino(
         alloc,
         circuit,
         plan,
@@ -60,9 +62,10 @@ pub fn push_domino(
 }
 
 /// Appends the devices of domino cell `k` as `push_domino` does, where `nets` has the names of its nets,
-/// and its output is the net of `gate`. Gate by gate `numbers` has the number that its net may have in the
-/// circuit, and takes the one that it has. The one error is out of memory, and it leaves the circuit as it was.
-pub fn push_named_domino(
+/// and its output may be the net of `gate`. Gate by gate `numbers` has the number at which its net stands in the
+/// circuit where one is held, and takes the one at which it stands then. The one error is out of memory, and it
+/// leaves the circuit as it was.
+pub fn push_numbered_domino(
     alloc: Global,
     circuit: &mut Circuit,
     plan: &GatePlan,
@@ -75,8 +78,10 @@ pub fn push_named_domino(
     requires named { AreNamesOfCell plan.now.clock k nets.now }
     requires gates { EachLeaf (λ gate. gate < length names.now) (tree_of plan.now.tree) }
     requires room { length circuit.old.devices + leaves (tree_of plan.now.tree) + 5 ≤ most_devices }
+    requires numbers { AreNumbersAt circuit.old.nets names.now numbers.old }
     ensures devices { OnOk result (circuit.new
         ≡ with_devices circuit.old (cell (numbered_cell plan.now.clock k) (named_tree names.now (tree_of plan.now.tree)))) }
+    ensures numbers { OnOk result (AreNumbersAt circuit.new.nets names.now numbers.new) }
     ensures refused { OnErr result (circuit.new ≡ circuit.old) }
     ensures whole { IsCircuit circuit.old.ports circuit.old.nets circuit.old.devices }
 {
@@ -102,8 +107,10 @@ fn push_cell(
 ) -> Result<(), OutOfMemory>
     requires gates { EachLeaf (λ gate. gate < length names.now) (tree_of plan.now.tree) }
     requires room { length circuit.old.devices + leaves (tree_of plan.now.tree) + 5 ≤ most_devices }
+    requires numbers { AreNumbersAt circuit.old.nets names.now numbers.old }
     ensures devices { OnOk result (circuit.new
         ≡ with_devices circuit.old (cell (held_nets nets.now) (named_tree names.now (tree_of plan.now.tree)))) }
+    ensures numbers { OnOk result (AreNumbersAt circuit.new.nets names.now numbers.new) }
     ensures grew { Grew circuit.old circuit.new }
 {
     let tree = TreeNames {
@@ -112,15 +119,15 @@ fn push_cell(
     };
     let vdd = NetAt {
         name: &nets.vdd,
-        number: Some(0),
+        number: known_at(circuit, &nets.vdd, 0),
     };
     let vss = NetAt {
         name: &nets.vss,
-        number: Some(1),
+        number: known_at(circuit, &nets.vss, 1),
     };
     let clock = NetAt {
         name: &nets.clock,
-        number: Some(1 + u32::from(plan.clock)),
+        number: known_at(circuit, &nets.clock, 1 + u32::from(plan.clock)),
     };
     let dynamic = NetAt {
         name: &nets.dynamic,
@@ -134,25 +141,25 @@ fn push_cell(
         name: &nets.foot,
         number: None,
     };
-    let precharge = push_at(circuit, Kind::P, dynamic, clock, vdd)?;
+    let precharge = push_held(circuit, Kind::P, dynamic, clock, vdd)?;
     let dynamic = NetAt {
         name: &nets.dynamic,
         number: Some(precharge.drain),
     };
-    let keeper = push_at(circuit, Kind::Keep, dynamic, output, vdd)?;
+    let keeper = push_held(circuit, Kind::Keep, dynamic, output, vdd)?;
     let output = NetAt {
         name: &nets.output,
         number: Some(keeper.gate),
     };
-    tree.push(alloc, circuit, &plan.tree, dynamic, foot, 0, numbers)?;
+    let (_, number) = tree.push(alloc, circuit, &plan.tree, dynamic, foot, 0, numbers)?;
     let foot = NetAt {
         name: &nets.foot,
-        number: last_source(circuit),
+        number: Some(number),
     };
-    push_at(circuit, Kind::N, foot, clock, vss)?;
-    push_at(circuit, Kind::P, output, dynamic, vdd)?;
-    let last = push_at(circuit, Kind::N, output, dynamic, vss)?;
-    set_number(numbers, gate, last.drain);
+    push_held(circuit, Kind::N, foot, clock, vss)?;
+    push_held(circuit, Kind::P, output, dynamic, vdd)?;
+    let last = push_held(circuit, Kind::N, output, dynamic, vss)?;
+    keep_number(numbers, names, gate, &nets.output, last.drain);
     Ok(())
 }
 
@@ -190,6 +197,7 @@ pub fn push_static(
 
 /// Appends the devices of a static gate, given the dual of its tree. After a refusal some of them
 /// may stand at the end.
+#[tactic(auto, using(crate::proofs::NetsAt::no_numbers))]
 fn push_gate(
     alloc: Global,
     circuit: &mut Circuit,
@@ -221,14 +229,17 @@ fn push_gate(
     };
     let vdd = NetAt {
         name: &nets.vdd,
-        number: Some(0),
+        number: None,
     };
     let vss = NetAt {
         name: &nets.vss,
-        number: Some(1),
+        number: None,
     };
-    let mut numbers = Vec::new(alloc);
-    to_vdd.push(alloc, circuit, upper, out, vdd, 0, numbers.as_mut_slice())?;
-    to_vss.push(alloc, circuit, tree, out, vss, 0, numbers.as_mut_slice())?;
+    let mut upper_numbers = Vec::new(alloc);
+    let upper_numbers = upper_numbers.as_mut_slice();
+    to_vdd.push(alloc, circuit, upper, out, vdd, 0, upper_numbers)?;
+    let mut lower_numbers = Vec::new(alloc);
+    let lower_numbers = lower_numbers.as_mut_slice();
+    to_vss.push(alloc, circuit, tree, out, vss, 0, lower_numbers)?;
     Ok(())
 }

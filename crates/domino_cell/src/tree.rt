@@ -1,16 +1,17 @@
 //! The devices of a tree.
-ghost use Rattle.std.specs.Prelude.{◌≡◌, ◌≤◌, ◌<◌, ◌+◌, ◌^◌, All, IfOk, OnOk, length};
+ghost use Rattle.std.specs.Prelude.{◌≡◌, ◌≤◌, ◌<◌, ◌+◌, ◌^◌, All, IfOk, OnOk, Some, length, slice_get};
 ghost use Rattle.dom_base.specs.Names.{IsNetByte};
 ghost use Rattle.deck.specs.CircuitGrowth.{Grew};
 ghost use Rattle.deck.specs.Limits.{most_devices};
 ghost use Rattle.deck.specs.NamedDevices.{with_devices};
 ghost use Rattle.sp_network.specs.Tree.{EachLeaf, inner_count, leaves};
 ghost use Rattle.sp_network.specs.TypedTree.{tree_of};
+ghost use Rattle.domino_cell.specs.NetsAt.{AreNumbersAt, StandsAt};
 ghost use Rattle.domino_cell.specs.NamedTrees.{inner_net, named_tree};
 ghost use Rattle.domino_cell.specs.Spelling.{spell};
 
 use crate::names::numbered_name;
-use crate::net_at::{NetAt, last_source, push_at};
+use crate::net_at::{NetAt, known_number, push_held};
 use crate::numbers::{number_of, set_number};
 use deck::Circuit;
 use dom_base::{NetName, OutOfMemory, Polarity};
@@ -28,8 +29,9 @@ pub struct TreeNames<'a> {
 impl<'a> TreeNames<'a> {
     /// Appends the devices of a tree from `top` to `bottom`: left parts first, and a series takes its
     /// inner net before its parts do, from the number `inner` on. Gives the number after the last
-    /// one. Gate by gate `numbers` has the number that its net may have in the circuit, and takes the
-    /// one that it has. The one error is out of memory, and then some of the devices may stand at the end.
+    /// one, and the number of `bottom` in the circuit. Gate by gate `numbers` has the number at which its net
+    /// stands in the circuit where one is held, and takes the one at which it stands then. The one error is out of
+    /// memory, and then some of the devices may stand at the end.
     #[tactic(auto, using(crate::proofs::PushedTrees::tree_counts))]
     pub fn push<S: Polarity>(
         &self,
@@ -40,16 +42,21 @@ impl<'a> TreeNames<'a> {
         bottom: NetAt<'_>,
         inner: u32,
         numbers: &mut [Option<u32>],
-    ) -> Result<u32, OutOfMemory>
+    ) -> Result<(u32, u32), OutOfMemory>
         requires gates { EachLeaf (λ gate. gate < length self.now.gates.now) (tree_of tree.now) }
         requires front { All IsNetByte self.now.front.now }
         requires room { length circuit.old.devices + leaves (tree_of tree.now) ≤ most_devices }
         requires inner_numbers { inner + inner_count (tree_of tree.now) < 2 ^ 32 }
-        ensures next { IfOk result (λ next. next ≡ inner + inner_count (tree_of tree.now)) }
+        requires top { StandsAt circuit.old.nets top.number top.name.now }
+        requires bottom { StandsAt circuit.old.nets bottom.number bottom.name.now }
+        requires numbers { AreNumbersAt circuit.old.nets self.now.gates.now numbers.old }
+        ensures next { IfOk result (λ p. p.0 ≡ inner + inner_count (tree_of tree.now)) }
         ensures devices { OnOk result (circuit.new ≡ with_devices circuit.old
             (spell S.KIND (inner_net self.now.front.now) (named_tree self.now.gates.now (tree_of tree.now)) top.entry.name.now bottom.entry.name.now inner)) }
         ensures count { OnOk result (length circuit.new.devices ≡ length circuit.old.devices + leaves (tree_of tree.now)) }
         ensures grew { Grew circuit.old circuit.new }
+        ensures stands { IfOk result (λ p. slice_get circuit.new.nets p.1 ≡ Some bottom.entry.name.now) }
+        ensures numbers { OnOk result (AreNumbersAt circuit.new.nets self.now.gates.now numbers.new) }
     {
         match tree {
             Sp::Leaf { gate, .. } => {
@@ -58,9 +65,9 @@ impl<'a> TreeNames<'a> {
                     name: &self.gates[gate],
                     number: number_of(numbers, gate),
                 };
-                let device = push_at(circuit, S::KIND, top, net, bottom)?;
+                let device = push_held(circuit, S::KIND, top, net, bottom)?;
                 set_number(numbers, gate, device.gate);
-                Ok(inner)
+                Ok((inner, device.source))
             }
             Sp::Series(left, right) => {
                 let name = numbered_name(alloc, self.front, inner)?;
@@ -68,18 +75,34 @@ impl<'a> TreeNames<'a> {
                     name: &name,
                     number: None,
                 };
-                let next = self.push(alloc, circuit, left, top, middle, inner + 1, numbers)?;
+                let (next, number) = self.push(
+                    alloc,
+                    circuit,
+                    left,
+                    top,
+                    middle,
+                    inner + 1,
+                    numbers,
+                )?;
                 let middle = NetAt {
                     name: &name,
-                    number: last_source(circuit),
+                    number: Some(number),
+                };
+                let bottom = NetAt {
+                    name: bottom.name,
+                    number: known_number(circuit.nets.as_slice(), bottom),
                 };
                 self.push(alloc, circuit, right, middle, bottom, next, numbers)
             }
             Sp::Parallel(left, right) => {
-                let next = self.push(alloc, circuit, left, top, bottom, inner, numbers)?;
+                let (next, number) = self.push(alloc, circuit, left, top, bottom, inner, numbers)?;
                 let bottom = NetAt {
                     name: bottom.name,
-                    number: last_source(circuit),
+                    number: Some(number),
+                };
+                let top = NetAt {
+                    name: top.name,
+                    number: known_number(circuit.nets.as_slice(), top),
                 };
                 self.push(alloc, circuit, right, top, bottom, next, numbers)
             }

@@ -7,6 +7,9 @@ ghost use Rattle.latch_bind.specs.HeldNames.{AreNamesOfStage, AreSupplies};
 use dom_base::{NetName, OutOfMemory, append, append_number};
 use std::alloc::Global;
 
+/// How many decimal digits a number has at most that names have.
+const MOST_DIGITS: usize = 10;
+
 /// The two supplies.
 #[derive(Drop)]
 pub struct SupplyNames {
@@ -63,7 +66,7 @@ pub fn numbered_name(alloc: Global, front: &[u8], number: u32) -> Result<NetName
     requires { All IsNetByte front.now }
     ensures { IfOk result (λ name. name ≡ front.now ++ decimal number) }
 {
-    let mut bytes = Vec::new(alloc);
+    let mut bytes = Vec::with_capacity(alloc, front.len().saturating_add(MOST_DIGITS))?;
     append(&mut bytes, front)?;
     append_number(&mut bytes, u64::from(number))?;
     Ok(NetName(bytes))
@@ -76,7 +79,7 @@ pub fn joined_name(alloc: Global, front: &[u8], rest: &[u8]) -> Result<NetName, 
     requires rest { All IsNetByte rest.now }
     ensures { IfOk result (λ name. name ≡ front.now ++ rest.now) }
 {
-    let mut bytes = Vec::new(alloc);
+    let mut bytes = Vec::with_capacity(alloc, front.len().saturating_add(rest.len()))?;
     append(&mut bytes, front)?;
     append(&mut bytes, rest)?;
     Ok(NetName(bytes))

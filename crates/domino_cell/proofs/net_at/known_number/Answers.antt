@@ -9,4 +9,4 @@ returns-then-eq c =
     let there = c.in_ok-there.there.now in
     let found = c.in_ok-there.ensures.lookup in
     let same : there ≡ c.args.net.name.now = (bytes_decides there c.args.net.name.now).0 (sym c.eq.ensures ∙ c.if-eq.true) in
-    slice_get_read nets (length nets) c.in_ok-number.field-0 there refl found.3.0 found.1 ∙ ap Some same
+    slice_get_read nets (length nets) c.in_ok-number.number there refl found.3.0 found.1 ∙ ap Some same

@@ -3,4 +3,4 @@ use Rattle.domino_cell.proofs.KnownNumbers.{distinct_either}
 use Rattle.domino_cell.proofs.net_at.number.Goals as goal
 
 pub returns-clause-distinct : goal.returns-clause-distinct
-returns-clause-distinct c = distinct_either (is_ok c.add.result) c.args.nets.now.keys c.args.net.name.now c.add.new.nets.keys c.add.ensures.keys c.requires
+returns-clause-distinct c = distinct_either (is_ok c.add.result) c.args.nets.now.keys c.args.net.name.now c.add.new.nets.keys c.add.ensures.keys c.requires.distinct

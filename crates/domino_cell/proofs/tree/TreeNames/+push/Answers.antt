@@ -1,12 +1,15 @@
-use Rattle.std.proofs.Common.{ap, ap₂, refl, sym, subst, ◌∙◌}
+use Rattle.std.proofs.Common.{get_or, ◌≡◌, ◌<◌, length, Some, [], ap, ap₂, refl, sym, subst, ◌∙◌}
+use Rattle.std.proofs.lemmas.Option.{get_or_from_slice_get, slice_get-get_or}
 use Rattle.std.proofs.lemmas.Result.{on_ok_weaker}
 use Rattle.deck.specs.CircuitGrowth.{Grew}
 use Rattle.deck.specs.Nets.{net_name}
 use Rattle.deck.proofs.CircuitGrowth.{Grew-same, pushed-grew}
-use Rattle.sp_network.specs.Tree.{Parallel, Series}
+use Rattle.sp_network.specs.Tree.{EachLeaf, Parallel, Series}
 use Rattle.sp_network.specs.TypedTree.{tree_of}
 use Rattle.domino_cell.specs.NamedTrees.{inner_net}
 use Rattle.domino_cell.proofs.PushedTrees.{parallel_pushed, series_pushed}
+use Rattle.domino_cell.specs.NetsAt.{AreNumbersAt}
+use Rattle.domino_cell.proofs.NetsAt.{AreNumbersAt-grew, AreNumbersAt-set}
 use Rattle.domino_cell.proofs.tree.TreeNames.+push.Goals as goal
 
 pub returns-in_err-device-in-Leaf-clause-grew : goal.returns-in_err-device-in-Leaf-clause-grew
@@ -38,3 +41,18 @@ returns-in_ok-next-in-Parallel-clause-devices g t c =
     (ap tree_of c.in-Parallel.is ∙ ap₂ Parallel (ap tree_of (sym c.deref-in-Parallel.ensures)) (ap tree_of (sym c.deref-in-Parallel-2.ensures)))
     c.in_ok-next-in-Parallel.ensures.next c.in_ok-next-in-Parallel.ensures.devices two)
     c.push-in-Parallel-2.ensures.devices
+
+pub returns-in_ok-device-in-Leaf-clause-numbers : goal.returns-in_ok-device-in-Leaf-clause-numbers
+returns-in_ok-device-in-Leaf-clause-numbers g t c =
+    let old = c.args.circuit.now in
+    let new = c.push_held.new.circuit in
+    let names = c.args.self.now.gates.now in
+    let gate = c.in-Leaf.gate in
+    let low : gate < length names = subst (λ t. EachLeaf (λ g. g < length names) (tree_of t)) c.in-Leaf.is c.requires.gates in
+    let x = get_or names gate c.index-self-gate.result in
+    let found : net_name names gate ≡ x = get_or_from_slice_get names gate x [] (slice_get-get_or names gate c.index-self-gate.result low) in
+    let grew : Grew old new = subst (Grew old) (sym c.in_ok-device-in-Leaf.ensures.ok) (pushed-grew old _ _ _ _) in
+    subst (AreNumbersAt new.nets names) (sym c.set_number.ensures)
+    (AreNumbersAt-set new.nets names c.args.numbers.now gate c.in_ok-device-in-Leaf.device.gate
+    (AreNumbersAt-grew old new names c.args.numbers.now grew c.requires.numbers)
+    (c.in_ok-device-in-Leaf.ensures.ends.gate ∙ ap Some (sym found)))

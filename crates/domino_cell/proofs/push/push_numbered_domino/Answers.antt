@@ -7,7 +7,7 @@ use Rattle.domino_cell.specs.Cell.{cell}
 use Rattle.domino_cell.specs.NamedTrees.{named_tree}
 use Rattle.domino_cell.proofs.CellCircuits.{Grew-longer}
 use Rattle.domino_cell.proofs.PushedCells.{held_nets_are}
-use Rattle.domino_cell.proofs.push.push_named_domino.Goals as goal
+use Rattle.domino_cell.proofs.push.push_numbered_domino.Goals as goal
 
 pub cut-requires : goal.cut-requires
 cut-requires c = omega (arith, c.device_count-before.ensures.count, Grew-longer c.push_cell.ensures.grew)

@@ -1,0 +1,93 @@
+-- Nets that stand at the numbers which are held for them, in circuits that grow.
+use Rattle.std.proofs.Common.{◌≡◌, ℕ, suc, zero, Option, Some, None, List, [], ◌∷◌, slice_get, refl, sym, ap, subst, ◌∙◌, inl, inr}
+use Rattle.std.specs.Prelude.{◌⊎◌, slice_index_or, slice_set, replicate}
+use Rattle.dom_base.specs.declared.kind.Kind.{Kind}
+use Rattle.dom_base.proofs.Lists.{slice_get-append}
+use Rattle.deck.specs.CircuitData.{CircuitData}
+use Rattle.deck.specs.CircuitGrowth.{Grew}
+use Rattle.deck.specs.Nets.{net_name, with_net, with_nets}
+use Rattle.deck.specs.Pushes.{added_device}
+use Rattle.deck.proofs.NetNumbers.{slice_get-with_net, with_net-grows}
+use Rattle.domino_cell.specs.NetsAt.{AreNumbersAt, HasEnds, StandsAt}
+
+-- what stands at a number stays there once a net is added
+pub slice_get-later : (nets : List (List ℕ)) (added : List ℕ) (i : ℕ) (name : List ℕ) → slice_get nets i ≡ Some name
+    → slice_get (with_net nets added) i ≡ Some name
+slice_get-later nets added i name at =
+    let more = with_net-grows nets added in
+    ap (λ l. slice_get l i) more.1 ∙ slice_get-append nets more.0 i name at
+
+pub StandsAt-later : (nets : List (List ℕ)) (added : List ℕ) (number : Option ℕ) (name : List ℕ) → StandsAt nets number name
+    → StandsAt (with_net nets added) number name
+StandsAt-later nets added None name at = tt
+StandsAt-later nets added (Some i) name at = slice_get-later nets added i name at
+
+-- and once a circuit grew
+pub slice_get-grew : (old new : CircuitData) (i : ℕ) (name : List ℕ) → Grew old new → slice_get old.nets i ≡ Some name
+    → slice_get new.nets i ≡ Some name
+slice_get-grew old new i name grew at = ap (λ l. slice_get l i) grew.nets ∙ slice_get-append old.nets grew.more_nets i name at
+
+pub StandsAt-grew : (old new : CircuitData) (number : Option ℕ) (name : List ℕ) → Grew old new → StandsAt old.nets number name
+    → StandsAt new.nets number name
+StandsAt-grew old new None name grew at = tt
+StandsAt-grew old new (Some i) name grew at = slice_get-grew old new i name grew at
+
+pub AreNumbersAt-grew : (old new : CircuitData) (names : List (List ℕ)) (numbers : List (Option ℕ)) → Grew old new
+    → AreNumbersAt old.nets names numbers → AreNumbersAt new.nets names numbers
+AreNumbersAt-grew old new names numbers grew are = record { at = λ gate n held. slice_get-grew old new n (net_name names gate) grew (are.at gate n held) }
+
+-- a device that was added has its ends
+pub HasEnds-added : (nets : List (List ℕ)) (kind : Kind) (d g s : List ℕ)
+    → HasEnds (with_nets nets d g s) d g s (added_device nets kind d g s)
+HasEnds-added nets kind d g s =
+    let one = with_net nets d in
+    let two = with_net one g in
+    record {
+      drain = slice_get-later two s _ d (slice_get-later one g _ d (slice_get-with_net nets d));
+      gate = slice_get-later two s _ g (slice_get-with_net one g);
+      source = slice_get-with_net two s;
+    }
+
+-- what a list has at a place after one of its places was set
+set_cases : {X : Type 0} (xs : List X) (i j : ℕ) (a d : X)
+    → (slice_index_or (slice_set xs i a) j d ≡ slice_index_or xs j d) ⊎ ((j ≡ i) × (slice_index_or (slice_set xs i a) j d ≡ a))
+set_cases [] i j a d = inl refl
+set_cases (x ∷ xs) zero zero a d = inr (refl, refl)
+set_cases (x ∷ xs) zero (suc j) a d = inl refl
+set_cases (x ∷ xs) (suc i) zero a d = inl refl
+set_cases (x ∷ xs) (suc i) (suc j) a d = elim (set_cases xs i j a d) [ inl same ↦ inl same | inr here ↦ inr (ap suc here.0, here.1) ]
+
+-- the number of one more gate
+pub AreNumbersAt-set : (nets names : List (List ℕ)) (numbers : List (Option ℕ)) (gate n : ℕ) → AreNumbersAt nets names numbers
+    → slice_get nets n ≡ Some (net_name names gate) → AreNumbersAt nets names (slice_set numbers gate (Some n))
+AreNumbersAt-set nets names numbers gate n are here = record { at = λ j m held. by j m held (set_cases numbers gate j (Some n) None) }
+  where
+    by : (j m : ℕ) → slice_index_or (slice_set numbers gate (Some n)) j None ≡ Some m
+        → (slice_index_or (slice_set numbers gate (Some n)) j None ≡ slice_index_or numbers j None)
+        ⊎ ((j ≡ gate) × (slice_index_or (slice_set numbers gate (Some n)) j None ≡ Some n)) → slice_get nets m ≡ Some (net_name names j)
+    by j m held (inl same) = are.at j m (sym same ∙ held)
+    by j m held (inr (is_gate, is_n)) =
+        let same : n ≡ m = cc in
+        sym (ap (slice_get nets) same) ∙ here ∙ ap (λ (g : ℕ). Some (net_name names g)) (sym is_gate)
+
+-- where no number is held
+abbrev nothing : Option ℕ
+nothing = None
+
+none_held : (n gate : ℕ) → slice_index_or (replicate n nothing) gate nothing ≡ nothing
+none_held zero gate = refl
+none_held (suc n) zero = refl
+none_held (suc n) (suc gate) = none_held n gate
+
+pub AreNumbersAt-none : (nets names : List (List ℕ)) (k : ℕ) → AreNumbersAt nets names (replicate k None)
+AreNumbersAt-none nets names k = record { at = λ gate n held. let never : nothing ≡ Some n = sym (none_held k gate) ∙ held in absurd (cc) }
+
+pub AreNumbersAt-empty : (nets names : List (List ℕ)) (numbers : List (Option ℕ)) → numbers ≡ [] → AreNumbersAt nets names numbers
+AreNumbersAt-empty nets names numbers none = subst (AreNumbersAt nets names) (sym none) (AreNumbersAt-none nets names 0)
+
+-- and where it is held for no gate
+pub AreNumbersAt-unknown : (nets names : List (List ℕ)) (numbers : List (Option ℕ)) (k : ℕ) → numbers ≡ replicate k None
+    → AreNumbersAt nets names numbers
+AreNumbersAt-unknown nets names numbers k none = subst (AreNumbersAt nets names) (sym none) (AreNumbersAt-none nets names k)
+
+pub ruleset no_numbers = (AreNumbersAt-empty, AreNumbersAt-unknown)
