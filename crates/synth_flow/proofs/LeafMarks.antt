@@ -4,7 +4,7 @@ use Rattle.std.proofs.Common.{◌≡◌, ℕ, ◌+◌, ◌*◌, ◌/◌, ◌%◌
 use Rattle.std.specs.List.{list_any, range_with_len}
 use Rattle.std.proofs.lemmas.Bool.{cases_eq, ne_eqb}
 use Rattle.std.proofs.lemmas.Grind.{get_or-set_at}
-use Rattle.std.proofs.lemmas.List.{get_or-set_other, length-replicate, take_more}
+use Rattle.std.proofs.lemmas.List.{get_or-replicate, get_or-set_other, length-replicate, take_more}
 use Rattle.std.proofs.lemmas.List.Folds.{list_any-append}
 use Rattle.std.proofs.lemmas.List.FromFn.{filter_of_map_range_with_len_more}
 use Rattle.synth_flow.specs.NamedComplements.{MarksAlso}
@@ -76,15 +76,15 @@ filter_same p q a (suc n) same =
     let rest = filter_same p q (a + 1) n (λ k lt. same k (omega arith)) in
     λ i. cond (same a (omega arith) i) (a ∷ rest i) (rest i)
 
--- the leaves that are marked are those that pass the test, where none was marked before
+-- where none was marked before, those are marked that pass the test
+pub marks_at : (count : ℕ) (start after : List Bool) (test : ℕ → Bool) → start ≡ replicate count false → MarksAlso start after test
+    → (k : ℕ) → k < count → get_or after k false ≡ test k
+marks_at count start after test none also k lt =
+    also k (omega (arith, ap length none, length-replicate count false)) ∙ ap (λ l. get_or l k false || test k) none
+    ∙ ap (λ b. b || test k) (get_or-replicate count k false false lt)
+
+-- so the leaves that are marked are those that pass it
 pub marked_are : (leaves : ℕ) (start after : List Bool) (test : ℕ → Bool) → start ≡ replicate leaves false → MarksAlso start after test
     → filter (λ leaf. get_or after leaf false) (range_with_len 0 leaves) ≡ filter test (range_with_len 0 leaves)
 marked_are leaves start after test none also =
-    let count = ap length none ∙ length-replicate leaves false in
-    filter_same (λ leaf. get_or after leaf false) test 0 leaves
-    (λ k lt. also k (omega (arith, count)) ∙ ap (λ l. get_or l k false || test k) none ∙ ap (λ b. b || test k) (none_at leaves k))
-  where
-    none_at : (n k : ℕ) → get_or (replicate n false) k false ≡ false
-    none_at zero k = refl
-    none_at (suc n) zero = refl
-    none_at (suc n) (suc k) = none_at n k
+    filter_same (λ leaf. get_or after leaf false) test 0 leaves (λ k lt. marks_at leaves start after test none also k (omega arith))

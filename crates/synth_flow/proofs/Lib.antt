@@ -2,9 +2,11 @@ pub mod BareDecks
 pub mod CellNets
 pub mod CellOrder
 pub mod ClockOrder
+pub mod DeckFigures
 pub mod DeckForms
 pub mod DeckRooms
 pub mod DeckStages
+pub mod FigureLoops
 pub mod InverterRows
 pub mod LatchNets
 pub mod LeafMarks
@@ -16,4 +18,6 @@ pub mod NetworkDecks
 pub mod PortNets
 pub mod PushedDecks
 pub mod SinkLists
+pub mod SmallTrees
+pub mod SummaryFacts
 pub mod SynthFacts

@@ -12,3 +12,8 @@ pub mod NameParts
 pub mod NamedComplements
 pub mod NamedDecks
 pub mod SinkParts
+pub mod Summaries
+pub mod SummaryData
+pub mod SummaryLaws
+pub mod SummaryLines
+pub mod SummaryParts

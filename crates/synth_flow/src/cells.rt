@@ -8,7 +8,7 @@ ghost use Rattle.synth_flow.specs.MadeDecks.{AreGated, HasRoomForCells, cells_fr
 
 use deck::Circuit;
 use dom_base::{NetName, OutOfMemory};
-use domino_cell::{CellNames, push_named_domino, reserve_nets};
+use domino_cell::{CellNames, push_numbered_domino, reserve_nets};
 use sp_network::GatePlan;
 use std::alloc::Global;
 
@@ -17,6 +17,7 @@ const NETS_OF_A_CELL: usize = 4;
 
 /// Appends the cells of these plans in order from cell 0, where gate by gate `names` has the net that
 /// gates it. The one error is out of memory, and then some of the cells may stand at the end.
+#[tactic(auto, using(domino_cell::proofs::NetsAt::no_numbers))]
 pub fn push_cells(
     alloc: Global,
     circuit: &mut Circuit,
@@ -36,8 +37,8 @@ pub fn push_cells(
     'cells: for k in 0..plans.len() {
         let plan = &plans[k];
         let gate = outputs.saturating_add(k);
-        nets = nets.next(alloc, plan.clock, k as u32)?;
-        push_named_domino(
+        nets = nets.next(plan.clock, k as u32)?;
+        push_numbered_domino(
             alloc,
             circuit,
             plan,

@@ -3,18 +3,28 @@
 #![tactic(auto)]
 
 mod bare;
+mod both;
 mod cells;
 mod clocked;
 mod complements;
+mod counts;
+mod figure_laws;
+mod figures;
 mod groups;
 mod inverters;
 mod latches;
 mod laws;
 mod names;
 mod options;
+mod report;
 mod sinks;
+mod summaries;
 mod synthesis;
 
+pub use figure_laws::devices_are_counted;
+pub use figures::Summary;
 pub use laws::decks_are_domino;
 pub use options::SynthOptions;
+pub use report::append_summary;
+pub use summaries::summary;
 pub use synthesis::synth;

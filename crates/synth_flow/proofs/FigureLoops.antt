@@ -1,0 +1,52 @@
+-- What the loops over signs, plans and clocks keep.
+use Rattle.std.proofs.Common.{◌≡◌, ℕ, zero, suc, ◌+◌, ◌≤◌, ◌<◌, Bool, true, false, cond, List, [], ◌∷◌, ◌++◌, length, take, filter, get_or, ap, ◌∙◌, arith, slice_get, Some, append-nil, length-append}
+use Rattle.std.specs.List.{enumerate_from, flat_map, range_with_len}
+use Rattle.std.proofs.lemmas.Grind.{flat_map-append}
+use Rattle.std.proofs.lemmas.List.{take_more, length-take}
+use Rattle.std.proofs.lemmas.List.Sums.{sum_by-cons}
+use Rattle.sp_network.specs.Tree.{leaves}
+use Rattle.sp_network.specs.TypedTree.{tree_of}
+use Rattle.sp_network.specs.declared.plan.GatePlan.{GatePlan}
+use Rattle.tree_map.specs.MappedCover.{plan_trees}
+use Rattle.tree_map.specs.Plans.{cost, tree_cost}
+use Rattle.synth_flow.specs.SummaryLines.{clock_line}
+
+-- what some plans and one more cost is within the cost of all
+pub cost_room : (plans : List GatePlan) (i : ℕ) (p : GatePlan) → slice_get plans i ≡ Some p → cost (plan_trees (take i plans)) + (leaves (tree_of p.tree) + 5) ≤ cost (plan_trees plans)
+cost_room [] i p e = absurd cc
+cost_room (x ∷ plans) zero p e =
+    let same : x ≡ p = cc in
+    omega (arith, sum_by-cons tree_cost (tree_of x.tree) (plan_trees plans), ap (λ (q : GatePlan). leaves (tree_of q.tree)) same)
+cost_room (x ∷ plans) (suc i) p e =
+    omega (arith, sum_by-cons tree_cost (tree_of x.tree) (plan_trees (take i plans)), sum_by-cons tree_cost (tree_of x.tree) (plan_trees plans), cost_room plans i p e)
+
+-- numbered elements and one more
+numbered_push : {X : Type 0} (a : ℕ) (xs : List X) (x : X) → enumerate_from a (xs ++ x ∷ []) ≡ enumerate_from a xs ++ (a + length xs, x) ∷ []
+numbered_push a [] x =
+    let at : a ≡ a + 0 = omega arith in
+    ap (λ n. (n, x) ∷ []) at
+numbered_push a (y ∷ xs) x =
+    let at : a + 1 + length xs ≡ a + suc (length xs) = omega arith in
+    ap (λ l. (a, y) ∷ l) (numbered_push (a + 1) xs x) ∙ ap (λ n. (a, y) ∷ (enumerate_from (a + 1) xs ++ (n, x) ∷ [])) at
+
+-- the lines of the clocks and one more
+pub clock_lines_next : (cells : List ℕ) (k : ℕ) → k < length cells
+    → flat_map clock_line (enumerate_from 1 (take (k + 1) cells)) ≡ flat_map clock_line (enumerate_from 1 (take k cells)) ++ clock_line (k + 1, get_or cells k 0)
+clock_lines_next cells k lt =
+    let at : 1 + length (take k cells) ≡ k + 1 = omega (arith, length-take k cells, lt) in
+    ap (λ l. flat_map clock_line (enumerate_from 1 l)) (take_more cells k 0 lt)
+    ∙ ap (flat_map clock_line) (numbered_push 1 (take k cells) (get_or cells k 0) ∙ ap (λ n. enumerate_from 1 (take k cells) ++ (n, get_or cells k 0) ∷ []) at)
+    ∙ flat_map-append clock_line (enumerate_from 1 (take k cells)) ((k + 1, get_or cells k 0) ∷ [])
+    ∙ ap (λ l. flat_map clock_line (enumerate_from 1 (take k cells)) ++ l) (append-nil (clock_line (k + 1, get_or cells k 0)))
+
+-- one more node, by two marks
+pub count_next : (test : ℕ → Bool) (n : ℕ) (more : filter test (range_with_len 0 (n + 1)) ≡ filter test (range_with_len 0 n) ++ cond (test n) (n ∷ []) [])
+    → length (filter test (range_with_len 0 (n + 1))) ≡ length (filter test (range_with_len 0 n)) + cond (test n) 1 0
+count_next test n more = ap length more ∙ by (test n)
+  where
+    before : List ℕ
+    before = filter test (range_with_len 0 n)
+
+    by : (b : Bool) → length (before ++ cond b (n ∷ []) []) ≡ length before + cond b 1 0
+    by true = omega (arith, length-append before (n ∷ []))
+    by false = omega (arith, ap length (append-nil before))

@@ -1,0 +1,48 @@
+-- The figures of the circuit that synthesis gives of a network.
+use Rattle.std.specs.Prelude.{ℕ, ◌≡◌, ◌==◌, ◌&&◌, Bool, true, false, cond, not, List, length, map, filter}
+use Rattle.std.specs.List.{count_by, list_any, range_with_len}
+use Rattle.deck.specs.CircuitData.{CircuitData}
+use Rattle.clock_phase.specs.Levels.{greatest}
+use Rattle.net_flatten.specs.NetworkData.{NetworkData}
+use Rattle.tree_map.specs.Plans.{cost}
+use Rattle.synth_flow.specs.ChosenDecks.{IsChosenDeck}
+use Rattle.synth_flow.specs.DeckNets.{CellPlan}
+use Rattle.synth_flow.specs.DominoDecks.{cells_of}
+use Rattle.synth_flow.specs.SummaryData.{SummaryData}
+
+-- a pair is the one of this node and sign
+abbrev pub is_pair : ℕ → Bool → ℕ × Bool → Bool
+is_pair node sign pair = (pair.0 == node) && cond sign pair.1 (not pair.1)
+
+-- the node is needed with this sign
+abbrev pub needs : List (ℕ × Bool) → Bool → ℕ → Bool
+needs pairs sign node = list_any (is_pair node sign) pairs
+
+-- the nodes, of so many, that are needed in both signs
+abbrev pub both_nodes : List (ℕ × Bool) → ℕ → List ℕ
+both_nodes pairs nodes = filter (λ node. needs pairs true node && needs pairs false node) (range_with_len 0 nodes)
+
+-- how many cells have each of the clocks, from 1 on
+abbrev pub clock_counts : ℕ → List CellPlan → List ℕ
+clock_counts phases cells = map (λ clock. count_by (λ (c : CellPlan). c.clock == clock) cells) (range_with_len 1 phases)
+
+-- The figures of a circuit of the network, by the parts that it is made of: the needed pairs, the nodes that are needed in both
+-- signs, the sinks with the sign minus, the cells, their greatest level, the cost of the plan, and all devices.
+abbrev pub figures : {network : NetworkData} {w h phases : ℕ} {circuit : CircuitData} → IsChosenDeck network w h phases circuit → SummaryData
+figures {network} {w} {h} {phases} {circuit} is = record {
+  inputs = network.inputs;
+  outputs = length network.outputs;
+  latches = length network.latches;
+  pairs = length is.forest.pairs;
+  both = length (both_nodes is.forest.origin (length is.gates.nodes));
+  minus = count_by not is.signs;
+  cells = length is.trees;
+  levels = greatest is.levels;
+  cost = cost is.trees;
+  devices = length circuit.devices;
+  clocks = clock_counts phases (cells_of phases is.levels is.trees);
+}
+
+-- the figures of the circuit that synthesis gives of the network
+abbrev pub IsSummaryOf : NetworkData → ℕ → ℕ → ℕ → SummaryData → Type 0
+IsSummaryOf network w h phases summary = (circuit : CircuitData) × (is : IsChosenDeck network w h phases circuit) × (summary ≡ figures is)
