@@ -1,5 +1,5 @@
 -- Words ask for one command, and its options of synthesis are within the ranges of their values.
-use Rattle.std.proofs.Common.{◌≡◌, ℕ, ◌≤◌, Bool, true, false, List, [], ◌∷◌, Option, Some, None, refl, sym, ap, ◌∙◌, subst, arith, rules}
+use Rattle.std.proofs.Common.{◌≡◌, ℕ, ◌-◌, ◌^◌, ◌≤◌, Bool, true, false, List, [], ◌∷◌, Option, Some, None, refl, sym, ap, ◌∙◌, subst, arith, rules}
 use Rattle.std.specs.Prelude.{IfSome, codes, if◌then◌else◌}
 use Rattle.std.specs.List.{list_all}
 use Rattle.std.specs.Option.{option_map}
@@ -7,7 +7,7 @@ use Rattle.std.specs.Cmp.Lexicographic.{bytes_decides}
 use Rattle.synth_flow.specs.declared.options.SynthOptions.{SynthOptions}
 use Rattle.trace_tool.specs.TraceData.{TraceOptionsData}
 use Rattle.trace_tool.specs.declared.options.Order.{Order}
-use Rattle.command_words.specs.Commands.{Asks, Command, Cosim, Flat, HasGoodOptions, Run, Sim, Synth, command_for, command_named, cosim_in, flat_in, run_in, sim_in, synth_in, taken}
+use Rattle.command_words.specs.Commands.{Asks, Bench, Command, Cosim, Flat, HasGoodOptions, Report, Run, Sim, Synth, bench_in, bench_of, command_for, command_named, cosim_in, flat_in, report_in, run_in, sim_in, synth_in, taken}
 use Rattle.command_words.specs.Given.{given, of_one, of_three, of_two, with_three, with_two}
 use Rattle.command_words.specs.NumberWords.{number_from}
 use Rattle.command_words.specs.SynthOptionWords.{AreGoodOptions, height_of, phases_of, synth_option_names, synth_options, synth_options_with, width_of}
@@ -66,6 +66,21 @@ synth_good : (file : List ℕ) (o : Option SynthOptions) → IfSome o AreGoodOpt
 synth_good file None h = tt
 synth_good file (Some options) h = h
 
+report_good : (file : List ℕ) (o : Option SynthOptions) → IfSome o AreGoodOptions → IfSome (option_map (Report file) o) HasGoodOptions
+report_good file None h = tt
+report_good file (Some options) h = h
+
+numbers_good : (s z : Option ℕ) (o : Option SynthOptions) → IfSome z (λ n. (1 ≤ n) × (n ≤ 30000)) → IfSome o AreGoodOptions
+    → IfSome (with_three Bench s z o) HasGoodOptions
+numbers_good None z o h k = tt
+numbers_good (Some s) None o h k = tt
+numbers_good (Some s) (Some z) None h k = tt
+numbers_good (Some s) (Some z) (Some o) h k = (k, record { some = h.0; few = h.1 })
+
+bench_good : (words : List Written) (seed size : List ℕ) → IfSome (bench_of words seed size) HasGoodOptions
+bench_good words seed size =
+    numbers_good (number_from 0 (2 ^ 64 - 1) seed) (number_from 1 30000 size) (synth_options words) (number_range 1 30000 size) (good_options words)
+
 sim_good : (deck stim : List ℕ) (o : Option TraceOptionsData) → IfSome (option_map (Sim deck stim) o) HasGoodOptions
 sim_good deck stim None = tt
 sim_good deck stim (Some options) = tt
@@ -101,11 +116,22 @@ cosim_in_good words =
     (three_good (λ file deck stim. with_two (Cosim file deck stim) (order_of words) (seed_of words))
     (λ file deck stim. cosim_good file deck stim (order_of words) (seed_of words)) (plain_words words))
 
+report_in_good : (words : List Written) → IfSome (report_in words) HasGoodOptions
+report_in_good words = taken_good synth_option_names [] words (of_one (λ file. option_map (Report file) (synth_options words)) (plain_words words))
+    (one_good (λ file. option_map (Report file) (synth_options words)) (λ file. report_good file (synth_options words) (good_options words)) (plain_words words))
+
+bench_in_good : (words : List Written) → IfSome (bench_in words) HasGoodOptions
+bench_in_good words = taken_good synth_option_names [] words (of_two (bench_of words) (plain_words words))
+    (two_good (bench_of words) (bench_good words) (plain_words words))
+
 named_good : (name : List ℕ) (words : List Written) → IfSome (command_named name words) HasGoodOptions
 named_good name words =
-    let cosim : IfSome (if is_same name (codes "cosim") then cosim_in words else None) HasGoodOptions =
-    either_good (is_same name (codes "cosim")) (cosim_in words) None (cosim_in_good words) tt in
-    let sim = either_good (is_same name (codes "sim")) (sim_in words) (if is_same name (codes "cosim") then cosim_in words else None) (sim_in_good words) cosim in
+    let bench : IfSome (if is_same name (codes "bench") then bench_in words else None) HasGoodOptions =
+    either_good (is_same name (codes "bench")) (bench_in words) None (bench_in_good words) tt in
+    let report =
+    either_good (is_same name (codes "report")) (report_in words) (if is_same name (codes "bench") then bench_in words else None) (report_in_good words) bench in
+    let cosim = either_good (is_same name (codes "cosim")) (cosim_in words) _ (cosim_in_good words) report in
+    let sim = either_good (is_same name (codes "sim")) (sim_in words) _ (sim_in_good words) cosim in
     let run = either_good (is_same name (codes "run")) (run_in words) _ (run_in_good words) sim in
     let flat = either_good (is_same name (codes "flat")) (flat_in words) _ (flat_in_good words) run in
     either_good (is_same name (codes "synth")) (synth_in words) _ (synth_in_good words) flat
@@ -124,9 +150,10 @@ not_same name other apart = not_true (is_same name other) (λ e. apart ((bytes_d
 -- words that begin with another name ask for no command
 pub unknown : (words : List (List ℕ)) (name : List ℕ) (rest : List (List ℕ)) → words ≡ name ∷ rest
     → (name ≡ codes "synth" → ⊥) → (name ≡ codes "flat" → ⊥) → (name ≡ codes "run" → ⊥) → (name ≡ codes "sim" → ⊥) → (name ≡ codes "cosim" → ⊥)
-    → (command : Command) → Asks words command → ⊥
-unknown words name rest are synth flat run sim cosim command asks =
+    → (name ≡ codes "report" → ⊥) → (name ≡ codes "bench" → ⊥) → (command : Command) → Asks words command → ⊥
+unknown words name rest are synth flat run sim cosim report bench command asks =
     let no_command : command_named name (written rest) ≡ None =
     rw (not_same name (codes "synth") synth) (rw (not_same name (codes "flat") flat) (rw (not_same name (codes "run") run)
-    (rw (not_same name (codes "sim") sim) (rw (not_same name (codes "cosim") cosim) refl)))) in
+    (rw (not_same name (codes "sim") sim) (rw (not_same name (codes "cosim") cosim)
+    (rw (not_same name (codes "report") report) (rw (not_same name (codes "bench") bench) refl)))))) in
     some≢none command (sym asks ∙ ap command_for are ∙ no_command)

@@ -1,23 +1,27 @@
 -- The commands, and the words of a command line that ask for each.
-use Rattle.std.specs.Prelude.{ℕ, ◌≡◌, List, [], ◌∷◌, Option, Some, None, codes, if◌then◌else◌}
+use Rattle.std.specs.Prelude.{ℕ, ◌-◌, ◌^◌, ◌≡◌, ◌≤◌, List, [], ◌∷◌, Option, Some, None, codes, if◌then◌else◌}
 use Rattle.std.specs.List.{list_all}
 use Rattle.std.specs.Option.{option_map}
 use Rattle.trace_tool.specs.declared.options.Order.{Order}
 use Rattle.trace_tool.specs.TraceData.{TraceOptionsData}
 use Rattle.synth_flow.specs.declared.options.SynthOptions.{SynthOptions}
-use Rattle.command_words.specs.Given.{of_one, of_three, of_two, with_two}
+use Rattle.command_words.specs.Given.{of_one, of_three, of_two, with_three, with_two}
+use Rattle.command_words.specs.NumberWords.{number_from}
 use Rattle.command_words.specs.SynthOptionWords.{AreGoodOptions, synth_option_names, synth_options}
 use Rattle.command_words.specs.TraceOptionWords.{order_of, order_option_names, seed_of, trace_flag_names, trace_option_names, trace_options}
 use Rattle.command_words.specs.Written.{Written, is_same, plain_words, takes, written}
 
 -- what the program is asked for: the deck of a file, its network, the run of its network over a stimulus, the trace of a deck over a
--- stimulus, or whether a deck does what the network of a file does over a stimulus
+-- stimulus, whether a deck does what the network of a file does over a stimulus, the figures of the deck of a file, or those of a
+-- network that a seed and a size give
 pub data Command : Type 0 where
   Synth : (file : List ℕ) → (options : SynthOptions) → Command
   Flat : (file : List ℕ) → Command
   Run : (file stim : List ℕ) → Command
   Sim : (deck stim : List ℕ) → (options : TraceOptionsData) → Command
   Cosim : (file deck stim : List ℕ) → (order : Order) → (seed : ℕ) → Command
+  Report : (file : List ℕ) → (options : SynthOptions) → Command
+  Bench : (seed size : ℕ) → (options : SynthOptions) → Command
 
 -- the files of a command, in order
 abbrev pub files_of : Command → List (List ℕ)
@@ -26,16 +30,25 @@ files_of (Flat file) = file ∷ []
 files_of (Run file stim) = file ∷ stim ∷ []
 files_of (Sim deck stim options) = deck ∷ stim ∷ []
 files_of (Cosim file deck stim order seed) = file ∷ deck ∷ stim ∷ []
+files_of (Report file options) = file ∷ []
+files_of (Bench seed size options) = []
 
--- a command whose options of synthesis are within the ranges of their values
+-- a size from 1 to 30,000
+pub record IsGoodSize (size : ℕ) : Type 0 where
+  pub some : 1 ≤ size
+  pub few : size ≤ 30000
+
+-- a command whose options of synthesis, and whose size, are within the ranges of their values
 abbrev pub HasGoodOptions : Command → Type 0
 HasGoodOptions (Synth file options) = AreGoodOptions options
 HasGoodOptions (Flat file) = Unit {0}
 HasGoodOptions (Run file stim) = Unit {0}
 HasGoodOptions (Sim deck stim options) = Unit {0}
 HasGoodOptions (Cosim file deck stim order seed) = Unit {0}
+HasGoodOptions (Report file options) = AreGoodOptions options
+HasGoodOptions (Bench seed size options) = AreGoodOptions options × IsGoodSize size
 
--- each command by what is written behind its name: its files, its options with a value, its options without one
+-- each command by what is written behind its name: its files or numbers, its options with a value, its options without one
 abbrev pub taken : (valued flags : List (List ℕ)) → List Written → Option Command → Option Command
 taken valued flags words command = if list_all (takes valued flags) words then command else None
 
@@ -57,13 +70,25 @@ abbrev pub cosim_in : List Written → Option Command
 cosim_in words = taken order_option_names [] words
     (of_three (λ file deck stim. with_two (Cosim file deck stim) (order_of words) (seed_of words)) (plain_words words))
 
+abbrev pub report_in : List Written → Option Command
+report_in words = taken synth_option_names [] words
+    (of_one (λ file. option_map (Report file) (synth_options words)) (plain_words words))
+
+abbrev pub bench_of : List Written → (seed size : List ℕ) → Option Command
+bench_of words seed size = with_three Bench (number_from 0 (2 ^ 64 - 1) seed) (number_from 1 30000 size) (synth_options words)
+
+abbrev pub bench_in : List Written → Option Command
+bench_in words = taken synth_option_names [] words (of_two (bench_of words) (plain_words words))
+
 abbrev pub command_named : List ℕ → List Written → Option Command
 command_named name words =
     if is_same name (codes "synth") then synth_in words
     else (if is_same name (codes "flat") then flat_in words
     else (if is_same name (codes "run") then run_in words
     else (if is_same name (codes "sim") then sim_in words
-    else (if is_same name (codes "cosim") then cosim_in words else None))))
+    else (if is_same name (codes "cosim") then cosim_in words
+    else (if is_same name (codes "report") then report_in words
+    else (if is_same name (codes "bench") then bench_in words else None))))))
 
 -- the command of a command line, whose first word is its name
 abbrev pub command_for : List (List ℕ) → Option Command

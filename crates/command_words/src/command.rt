@@ -2,7 +2,7 @@
 use synth_flow::SynthOptions;
 use trace_tool::{Order, TraceOptions};
 
-/// What the words of the command line ask for, with the names of the files.
+/// What the words of the command line ask for, with the names of the files. A size is 1 to 30,000.
 #[derive(Drop)]
 pub enum Command<'a> {
     Synth {
@@ -27,5 +27,14 @@ pub enum Command<'a> {
         stim: &'a str,
         order: Order,
         seed: u64,
+    },
+    Report {
+        file: &'a str,
+        options: SynthOptions,
+    },
+    Bench {
+        seed: u64,
+        size: u32,
+        options: SynthOptions,
     },
 }

@@ -6,7 +6,7 @@ pub fn asked_is_one()
     ensures { AskedIsOne }
 {}
 
-/// The options of synthesis that words ask for are within the ranges of their values.
+/// The options of synthesis that words ask for, and the size, are within the ranges of their values.
 pub fn asked_is_in_range()
     ensures { AskedIsInRange }
 {}

@@ -2,13 +2,15 @@
 ghost use Rattle.std.specs.Prelude.{◌≡◌, IfOk, IsSome, MatchOption, None, OnErr, Some, map};
 ghost use Rattle.std.specs.String.{string_bytes};
 ghost use Rattle.command_words.specs.Asked.{asked};
-ghost use Rattle.command_words.specs.Commands.{Asks, Command as Plain, command_for, cosim_in, flat_in, run_in, sim_in, synth_in};
+ghost use Rattle.command_words.specs.Commands.{Asks, Command as Plain, command_for};
+ghost use Rattle.command_words.specs.Commands.{bench_in, cosim_in, flat_in, report_in, run_in, sim_in, synth_in};
 ghost use Rattle.command_words.specs.Written.{written};
 
 use crate::command::Command;
 use crate::items::{one_plain, takes_all, three_plain, two_plain};
 use crate::synth_options::synth_options_of;
 use crate::trace_options::{order_of, seed_of, trace_options_of};
+use crate::values::number_from;
 use dom_base::OutOfMemory;
 use std::alloc::Global;
 
@@ -32,6 +34,8 @@ pub fn command_of<'a>(
         "run" => Ok(run_of(rest)),
         "sim" => sim_of(alloc, rest),
         "cosim" => Ok(cosim_of(rest)),
+        "report" => Ok(report_of(rest)),
+        "bench" => Ok(bench_of(rest)),
         _ => Ok(None),
     }
 }
@@ -112,5 +116,37 @@ fn cosim_of<'a>(words: &'a [String]) -> Option<Command<'a>>
         stim,
         order,
         seed,
+    })
+}
+
+/// The command `report FILE` with its options.
+fn report_of<'a>(words: &'a [String]) -> Option<Command<'a>>
+    ensures { MatchOption result (report_in (written (map string_bytes words.now)) ≡ None)
+        (λ command. report_in (written (map string_bytes words.now)) ≡ Some (asked command)) }
+{
+    if !takes_all(words, &["--width", "--height", "--phases"], &[]) {
+        return None;
+    }
+    let file = one_plain(words)?;
+    let options = synth_options_of(words)?;
+    Some(Command::Report { file, options })
+}
+
+/// The command `bench SEED SIZE` with its options.
+fn bench_of<'a>(words: &'a [String]) -> Option<Command<'a>>
+    ensures { MatchOption result (bench_in (written (map string_bytes words.now)) ≡ None)
+        (λ command. bench_in (written (map string_bytes words.now)) ≡ Some (asked command)) }
+{
+    if !takes_all(words, &["--width", "--height", "--phases"], &[]) {
+        return None;
+    }
+    let (seed, size) = two_plain(words)?;
+    let seed = number_from(seed, 0, u64::MAX)?;
+    let size = number_from(size, 1, 30_000)? as u32;
+    let options = synth_options_of(words)?;
+    Some(Command::Bench {
+        seed,
+        size,
+        options,
     })
 }
