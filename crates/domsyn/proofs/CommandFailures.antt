@@ -1,6 +1,6 @@
 -- Why a command fails, by what its files have: bytes or none, a deck or none, a network or none, a run or none, a trace or none.
-use Rattle.std.proofs.Common.{◌≡◌, ◌∙◌, ◌≤◌, ℕ, Bool, true, List, [], ◌∷◌, length, inl, inr, ap, sym, subst, arith}
-use Rattle.std.specs.Prelude.{Some, if◌then◌else◌}
+use Rattle.std.proofs.Common.{◌≡◌, ◌∙◌, ◌≤◌, ℕ, Bool, true, List, [], ◌∷◌, length, inl, inr, ap, refl, sym, subst, arith}
+use Rattle.std.specs.Prelude.{None, Some, if◌then◌else◌}
 use Rattle.blif_ast.specs.Printed.{printed}
 use Rattle.dom_io.specs.Held.{file_limit}
 use Rattle.net_flatten.specs.NetworkData.{NetworkData}
@@ -9,10 +9,10 @@ use Rattle.domsyn.specs.declared.failure.Failure.{Failure}
 use Rattle.domsyn.specs.declared.failure.Failure.TheVariants as failure
 use Rattle.domsyn.specs.declared.refusal.Refusal.{Refusal}
 use Rattle.domsyn.specs.declared.refusal.Refusal.TheVariants.{TooLong, Blif, Flat, TooMany, Deck, Ports, NoNet, Stim}
-use Rattle.command_words.specs.Commands.{Synth, Flat as flat, Run as run, Sim, Cosim}
+use Rattle.command_words.specs.Commands.{Command, Synth, Flat as flat, Run as run, Sim, Cosim, Report, Bench}
 use Rattle.synth_flow.specs.declared.options.SynthOptions.{SynthOptions}
-use Rattle.domsyn.specs.Decks.{IsDeckFor, bounds_of}
-use Rattle.domsyn.specs.Outcomes.{Files, IsComparison, IsDeck, IsFile, IsFlat, IsPrintedRun, is_same}
+use Rattle.domsyn.specs.Decks.{AreFiguresFor, IsDeckFor, bounds_of}
+use Rattle.domsyn.specs.Outcomes.{Files, IsComparison, IsDeck, IsFile, IsFlat, IsPrintedRun, IsReport, is_same}
 use Rattle.domsyn.specs.Networks.{HasNetwork, IsNotRunFor, IsRunOf}
 use Rattle.domsyn.specs.Refusals.{HasNoNetworkFor, IsFaulty, about, refusal_of}
 use Rattle.domsyn.specs.Failures.{AreUnfetched, HasNoNetwork, IsFailureFor, IsFailureOf, IsUnfetched, IsUnrun, IsUntraced, ReadFile}
@@ -22,6 +22,7 @@ use Rattle.trace_tool.specs.TraceData.{TraceOptionsData}
 use Rattle.trace_tool.specs.VerdictLines.{verdict_line}
 use Rattle.trace_tool.specs.Verdicts.{IsVerdictOf}
 use Rattle.trace_tool.specs.declared.fault.TraceFault.{TraceFault}
+use Rattle.trace_tool.specs.declared.fault.TraceFault.TheVariants.{Memory as fault_of_memory}
 use Rattle.trace_tool.specs.declared.options.Order.{Order}
 use Rattle.trace_tool.specs.declared.options.ProbeWord.{ProbeWord}
 use Rattle.trace_tool.specs.declared.verdict.Verdict.{Verdict}
@@ -62,6 +63,41 @@ pub synth_unbuilt : (files : Files) (file bytes : List ℕ) (options : SynthOpti
 synth_unbuilt files file bytes options Rises (failure.Refused name why) fetched is = record { bytes = bytes; holds = fetched.holds; refused = is.1; name_is = is.0 }
 synth_unbuilt files file bytes options Rises (failure.Unread name) fetched is = absurd is
 synth_unbuilt files file bytes options Rises failure.Memory fetched is = tt
+
+-- the file of a deck whose figures are asked for has no bytes
+pub figures_unfetched : (files : Files) (file : List ℕ) (options : SynthOptions) (Rises : Type 0) (s : Failure) → IsUnfetched files file Rises s → IsFailureOf files (Report file options) Rises s
+figures_unfetched files file options Rises (failure.Refused name why) is =
+    record {
+      bytes = is.2.bytes;
+      holds = is.2.holds;
+      refused = subst (HasNoNetworkFor is.2.bytes) (sym is.1) is.2.long;
+      name_is = is.0;
+    }
+figures_unfetched files file options Rises (failure.Unread name) is = (inl is.0, is.1)
+figures_unfetched files file options Rises failure.Memory is = tt
+
+-- its bytes have these figures
+pub figures_printed : (files : Files) (file bytes text : List ℕ) (options : SynthOptions) (settled : Bool) → IsFile files file bytes → AreFiguresFor bytes options text → settled ≡ true
+    → IsReport files file options (if settled then 0 else 6) text
+figures_printed files file bytes text options settled is figures at_rest =
+    record { bytes = bytes; is_file = is; figures = figures; done = ap (λ (b : Bool). if b then 0 else 6) at_rest }
+
+-- they have none
+pub figures_unmade : (files : Files) (file bytes : List ℕ) (options : SynthOptions) (Rises : Type 0) (s : Failure) → IsFile files file bytes → HasNoNetwork file bytes s → IsFailureOf files (Report file options) Rises s
+figures_unmade files file bytes options Rises (failure.Refused name why) fetched is = record { bytes = bytes; holds = fetched.holds; refused = is.1; name_is = is.0 }
+figures_unmade files file bytes options Rises (failure.Unread name) fetched is = absurd is
+figures_unmade files file bytes options Rises failure.Memory fetched is = tt
+
+-- a fault that is want of memory is reported as that
+pub memory_reported : (file deck stim : List ℕ) (fault : TraceFault) (s : Failure) → fault ≡ fault_of_memory → IsFailureFor file deck stim fault s → s ≡ failure.Memory
+memory_reported file deck stim fault (failure.Refused name why) e is = let none : None ≡ Some why = sym (ap refusal_of e) ∙ is.0 in absurd cc
+memory_reported file deck stim fault (failure.Unread name) e is = absurd is
+memory_reported file deck stim fault failure.Memory e is = refl
+
+-- which may be why a bench has no text
+pub bench_forgotten : (files : Files) (command : Command) (seed size : ℕ) (options : SynthOptions) (Rises : Type 0) (s : Failure) → command ≡ Bench seed size options → s ≡ failure.Memory
+    → IsFailureOf files command Rises s
+bench_forgotten files command seed size options Rises s is e = subst (λ (c : Command). IsFailureOf files c Rises s) (sym is) (subst (IsFailureOf files (Bench seed size options) Rises) (sym e) tt)
 
 -- not all files of a simulation have bytes
 pub sim_unfetched : (files : Files) (deck stim : List ℕ) (options : TraceOptionsData) (Rises : Type 0) (s : Failure)

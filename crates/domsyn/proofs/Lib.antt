@@ -1,8 +1,12 @@
+pub mod BenchClauses
+pub mod Benches
 pub mod CommandFailures
 pub mod NetworkCauses
 pub mod NetworkRuns
 pub mod OneOutcome
+pub mod OneSummary
 pub mod OutcomeThere
+pub mod OwnVerdicts
 pub mod ReportedFailures
 pub mod Rooms
 pub mod TopClauses

@@ -7,14 +7,18 @@ use Rattle.dom_io.specs.Held.{file_limit, held}
 use Rattle.net_flatten.specs.OneModel.{file_of}
 use Rattle.domsyn.specs.declared.refusal.Refusal.{Refusal}
 use Rattle.domsyn.specs.declared.refusal.Refusal.TheVariants.{TooLong}
-use Rattle.command_words.specs.Commands.{Command, Synth, Flat as flat, Run as run, Sim, Cosim}
+use Rattle.command_words.specs.Commands.{Command, Synth, Flat as flat, Run as run, Sim, Cosim, Report, Bench}
 use Rattle.plan_law.proofs.OneDeck.{synth_texts_one}
 use Rattle.synth_flow.specs.DeckTexts.{IsSynthText}
+use Rattle.synth_flow.specs.Summaries.{IsSummaryOf}
+use Rattle.synth_flow.specs.SummaryLines.{summary_lines}
 use Rattle.synth_flow.specs.declared.options.SynthOptions.{SynthOptions}
-use Rattle.domsyn.specs.Decks.{IsDeckFor, bounds_of}
-use Rattle.domsyn.specs.Outcomes.{IsComparison, IsDeck, IsFile, IsFirstTooLong, IsFlat, HasNone, IsNoComparison, IsNoRun, IsNoTrace, IsOutcome, IsPrintedRun, IsTooLong, IsTrace, Outcome, Printed, Refused, is_same}
+use Rattle.domsyn.specs.Decks.{AreFiguresFor, IsDeckFor, bounds_of}
+use Rattle.domsyn.specs.Outcomes.{IsComparison, IsDeck, IsFile, IsFirstTooLong, IsFlat, HasNone, IsNoComparison, IsNoRun, IsNoTrace, IsOutcome, IsPrintedRun, IsReport, IsTooLong, IsTrace, Outcome, Printed, Refused, is_same}
 use Rattle.domsyn.specs.Networks.{HasNetwork, IsNotRunFor, IsRunOf}
 use Rattle.domsyn.specs.Refusals.{HasNoNetworkFor, IsFaulty, about, refusal_of}
+use Rattle.domsyn.proofs.Benches.{bench_one}
+use Rattle.domsyn.proofs.OneSummary.{summaries_one}
 use Rattle.domsyn.proofs.NetworkCauses.{network_causes_alike, network_kept, network_or_cause, networks_alike, run_causes_alike, run_or_cause, runs_alike}
 use Rattle.trace_tool.specs.Refusals.{IsRefused}
 use Rattle.trace_tool.specs.TraceData.{TraceData, TraceOptionsData}
@@ -192,6 +196,23 @@ synth_apart known file f options s t w x y =
     let same = bytes_alike known file y.bytes x.bytes y.holds x.is_file.holds in
     network_or_cause x.bytes x.deck.network w x.deck.has (subst (λ b. HasNoNetworkFor b w) same y.refused)
 
+-- the figures of the deck of a file
+report_printed : (known : Pairs) (file : List ℕ) (options : SynthOptions) (s s' : ℕ) (t t' : List ℕ) → IsReport (Some known) file options s t → IsReport (Some known) file options s' t' → Printed s t ≡ Printed s' t'
+report_printed known file options s s' t t' x y =
+    let same = bytes_alike known file y.bytes x.bytes y.is_file.holds x.is_file.holds in
+    let there = subst (λ b. AreFiguresFor b options t') same y.figures in
+    let networks = networks_alike x.bytes there.network x.figures.network there.has x.figures.has in
+    let summary = subst (λ n. IsSummaryOf n options.bounds.w options.bounds.h options.phases there.lines.summary) networks there.lines.is_summary in
+    let figures = summaries_one x.figures.network (network_kept x.bytes x.figures.network x.figures.has) options.bounds.w options.bounds.h options.phases x.figures.lines.summary there.lines.summary
+    x.figures.lines.is_summary summary in
+    let back = sym networks in
+    printed_alike s s' t t' (x.done ∙ sym y.done) (x.figures.lines.text_is ∙ (λ i. summary_lines (back i).name (figures i)) ∙ sym there.lines.text_is)
+
+report_apart : (known : Pairs) (file f : List ℕ) (options : SynthOptions) (s : ℕ) (t : List ℕ) (w : Refusal) → IsReport (Some known) file options s t → HasNone (Some known) file f w → ⊥
+report_apart known file f options s t w x y =
+    let same = bytes_alike known file y.bytes x.bytes y.holds x.is_file.holds in
+    network_or_cause x.bytes x.figures.network w x.figures.has (subst (λ b. HasNoNetworkFor b w) same y.refused)
+
 -- the cause for which it has no network
 none_alike : (known : Pairs) (file f f' : List ℕ) (w w' : Refusal) → HasNone (Some known) file f w → HasNone (Some known) file f' w' → Refused f w ≡ Refused f' w'
 none_alike known file f f' w w' x y =
@@ -255,3 +276,11 @@ one_outcome known (Cosim file deck stim order seed) (Printed s t) (Printed s' t'
 one_outcome known (Cosim file deck stim order seed) (Printed s t) (Refused f w) x y = absurd (cosim_apart known file deck stim order seed f s t w x y)
 one_outcome known (Cosim file deck stim order seed) (Refused f w) (Printed s t) x y = absurd (cosim_apart known file deck stim order seed f s t w y x)
 one_outcome known (Cosim file deck stim order seed) (Refused f w) (Refused f' w') x y = cosim_refused known file deck stim order seed f f' w w' x y
+one_outcome known (Report file o) (Printed s t) (Printed s' t') x y = report_printed known file o s s' t t' x y
+one_outcome known (Report file o) (Printed s t) (Refused f w) x y = absurd (report_apart known file f o s t w x y)
+one_outcome known (Report file o) (Refused f w) (Printed s t) x y = absurd (report_apart known file f o s t w y x)
+one_outcome known (Report file o) (Refused f w) (Refused f' w') x y = none_alike known file f f' w w' x y
+one_outcome known (Bench seed size o) (Printed s t) (Printed s' t') x y = let same = bench_one seed size o s s' t t' x y in printed_alike s s' t t' same.0 same.1
+one_outcome known (Bench seed size o) (Printed s t) (Refused f w) x y = absurd y
+one_outcome known (Bench seed size o) (Refused f w) (Printed s t) x y = absurd x
+one_outcome known (Bench seed size o) (Refused f w) (Refused f' w') x y = absurd x

@@ -29,7 +29,7 @@ use Rattle.trace_tool.specs.Refusals.{IsFirstNoNet}
 use Rattle.trace_tool.specs.VerdictLines.{verdict_line}
 use Rattle.trace_tool.proofs.TraceThere.{trace_is_there}
 use Rattle.trace_tool.proofs.VerdictThere.{verdict_is_there}
-use Rattle.command_words.specs.Commands.{Command, Synth, Flat as flat, Run as run, Sim, Cosim, HasGoodOptions, files_of}
+use Rattle.command_words.specs.Commands.{Command, Synth, Flat as flat, Run as run, Sim, Cosim, Report, Bench, HasGoodOptions, files_of}
 use Rattle.command_words.specs.SynthOptionWords.{AreGoodOptions}
 use Rattle.blif_ast.specs.Printed.{printed}
 use Rattle.net_flatten.specs.NetworkData.{NetworkData}
@@ -46,7 +46,10 @@ use Rattle.domsyn.specs.declared.refusal.Refusal.{Refusal}
 use Rattle.domsyn.specs.declared.refusal.Refusal.TheVariants.{TooLong, Blif, Flat, TooMany, Deck, Ports, NoNet, Stim}
 use Rattle.domsyn.specs.Laws.{IsKnownFile}
 use Rattle.synth_flow.specs.declared.options.SynthOptions.{SynthOptions}
-use Rattle.plan_law.proofs.DecksThere.{texts_there}
+use Rattle.synth_flow.specs.Summaries.{figures}
+use Rattle.synth_flow.specs.SummaryLines.{summary_lines}
+use Rattle.plan_law.proofs.DecksThere.{decks_there, texts_there}
+use Rattle.domsyn.proofs.Benches.{bench_there}
 use Rattle.domsyn.specs.Decks.{bounds_of}
 use Rattle.domsyn.specs.Networks.{HasNetwork, IsNotRunFor, run_lines}
 use Rattle.domsyn.specs.Refusals.{HasNoNetworkFor, IsFaulty, about, refusal_of}
@@ -212,6 +215,28 @@ synth_there known file options good is = by (fits_or_not is.bytes file_limit)
     by (inl fits) = made fits (network_there is.bytes fits)
     by (inr long) = (Refused file TooLong, record { bytes = is.bytes; holds = is.holds; refused = long; name_is = refl })
 
+-- the figures of the deck of a file, or the cause for which it's refused
+report_there : (known : Pairs) (file : List ℕ) (options : SynthOptions) → AreGoodOptions options → IsKnownFile known file → HasOne known (Report file options)
+report_there known file options good is = by (fits_or_not is.bytes file_limit)
+  where
+    made : length is.bytes ≤ file_limit → HasNetworkOrCause is.bytes → HasOne known (Report file options)
+    made fits (inl n) =
+        let deck = decks_there n.0 options.bounds.w options.bounds.h options.phases (network_kept is.bytes n.0 n.1) good.some_width good.some_height in
+        let summary = figures deck.1 in (
+          Printed 0 (summary_lines n.0.name summary),
+          record {
+            bytes = is.bytes;
+            is_file = record { holds = is.holds; within = fits };
+            figures = record { network = n.0; has = n.1; lines = record { summary = summary; is_summary = (deck.0, deck.1, refl); text_is = refl } };
+            done = refl;
+          },
+        )
+    made fits (inr r) = (Refused file r.0, record { bytes = is.bytes; holds = is.holds; refused = r.1; name_is = refl })
+
+    by : (length is.bytes ≤ file_limit) ⊎ (file_limit < length is.bytes) → HasOne known (Report file options)
+    by (inl fits) = made fits (network_there is.bytes fits)
+    by (inr long) = (Refused file TooLong, record { bytes = is.bytes; holds = is.holds; refused = long; name_is = refl })
+
 -- the run of the network of a file over a stimulus, or the cause for which one of them is refused
 run_there : (known : Pairs) (file stim : List ℕ) → IsKnownFile known file → IsKnownFile known stim → HasOne known (run file stim)
 run_there known file stim f s = by (fits_or_not f.bytes file_limit) (fits_or_not s.bytes file_limit)
@@ -370,3 +395,5 @@ outcome_there known (Cosim file deck stim order seed) good all =
     let more = All-tail (IsKnownFile known) file (deck ∷ stim ∷ []) all in
     cosim_there known file deck stim order seed (All-head (IsKnownFile known) file (deck ∷ stim ∷ []) all) (All-head (IsKnownFile known) deck (stim ∷ []) more)
     (All-head (IsKnownFile known) stim [] (All-tail (IsKnownFile known) deck (stim ∷ []) more))
+outcome_there known (Report file options) good all = report_there known file options good (All-head (IsKnownFile known) file [] all)
+outcome_there known (Bench seed size options) good all = let made = bench_there seed size options good.1 good.0 in (Printed made.0 made.1, made.2)

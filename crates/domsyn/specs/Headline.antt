@@ -3,9 +3,10 @@
 -- Integrated Circuits) at switch level (Bryant). `IsRightDeck` says it by the ports of the deck alone (`deck_law/specs/Headline`): for every
 -- input stream and every order of net events.
 use Rattle.std.specs.Prelude.{ℕ, List}
-use Rattle.command_words.specs.Commands.{Asks, Command, Synth, Flat, Run, Sim, Cosim}
+use Rattle.command_words.specs.Commands.{Asks, Command, Synth, Flat, Run, Sim, Cosim, Report, Bench}
 use Rattle.deck_law.specs.Headline.{IsRightDeck}
 use Rattle.synth_flow.specs.declared.options.SynthOptions.{SynthOptions}
+use Rattle.domsyn.specs.Benches.{IsSameBench}
 use Rattle.domsyn.specs.Outcomes.{Files, IsFile}
 
 -- the text is a right deck of the file's bytes, with trees within a width and a height, on so many clocks
@@ -14,13 +15,16 @@ pub record IsRightDeckOfFile (files : Files) (name : List ℕ) (w h phases : ℕ
   pub is_file : IsFile files name bytes
   pub is_right : IsRightDeck bytes w h phases text
 
--- a text that is put out for a command: for `synth` it is a right deck of the file, within the bounds and on the clocks of its options
-abbrev pub IsRightFor : Files → Command → List ℕ → Type 0
-IsRightFor files (Synth file options) text = IsRightDeckOfFile files file options.bounds.w options.bounds.h options.phases text
-IsRightFor files (Flat file) text = Unit {0}
-IsRightFor files (Run file stim) text = Unit {0}
-IsRightFor files (Sim deck stim options) text = Unit {0}
-IsRightFor files (Cosim file deck stim order seed) text = Unit {0}
+-- a text that is put out for a command with a status: for `synth` it is a right deck of the file, within the bounds and on the clocks of
+-- its options, and for `bench` it says that all is the same
+abbrev pub IsRightFor : Files → Command → ℕ → List ℕ → Type 0
+IsRightFor files (Synth file options) status text = IsRightDeckOfFile files file options.bounds.w options.bounds.h options.phases text
+IsRightFor files (Flat file) status text = Unit {0}
+IsRightFor files (Run file stim) status text = Unit {0}
+IsRightFor files (Sim deck stim options) status text = Unit {0}
+IsRightFor files (Cosim file deck stim order seed) status text = Unit {0}
+IsRightFor files (Report file options) status text = Unit {0}
+IsRightFor files (Bench seed size options) status text = IsSameBench seed size options status text
 
 -- where the words ask for the deck of a file with options, such a text is put out
 abbrev pub GivesRightDeck : Files → List (List ℕ) → (List ℕ → Type 0) → Type 0

@@ -1,3 +1,4 @@
+pub mod Benches
 pub mod Bits
 pub mod Decks
 pub mod Failures

@@ -6,9 +6,11 @@ use Rattle.net_flatten.specs.NetworkData.{NetworkData}
 use Rattle.net_flatten.specs.OneModel.{file_of}
 use Rattle.domsyn.specs.declared.refusal.Refusal.{Refusal}
 use Rattle.domsyn.specs.declared.refusal.Refusal.TheVariants.{TooLong}
-use Rattle.command_words.specs.Commands.{Command, Synth, Flat, Run, Sim, Cosim, files_of}
+use Rattle.command_words.specs.Commands.{Command, Synth, Flat, Run, Sim, Cosim, Report, Bench, files_of}
 use Rattle.synth_flow.specs.declared.options.SynthOptions.{SynthOptions}
-use Rattle.domsyn.specs.Decks.{IsDeckFor, bounds_of}
+use Rattle.synth_flow.specs.SummaryData.{SummaryData}
+use Rattle.domsyn.specs.Benches.{IsBenchOf, bench_text}
+use Rattle.domsyn.specs.Decks.{AreFiguresFor, IsDeckFor, bounds_of}
 use Rattle.domsyn.specs.Networks.{HasNetwork, IsNotRunFor, IsRunOf}
 use Rattle.domsyn.specs.Refusals.{HasNoNetworkFor, IsFaulty, about}
 use Rattle.trace_tool.specs.CosimRefusals.{IsCosimRefused}
@@ -150,6 +152,22 @@ pub record IsNoComparison (files : Files) (file deck stim name : List ℕ) (why 
   pub is_stim : IsFile files stim stim_bytes
   pub faulty : IsFaulty (IsCosimRefused bytes deck_bytes stim_bytes) file deck stim name why
 
+-- the figures of the deck of a file, with options
+pub record IsReport (files : Files) (file : List ℕ) (options : SynthOptions) (status : ℕ) (text : List ℕ) : Type 0 where
+  pub bytes : List ℕ
+  pub is_file : IsFile files file bytes
+  pub figures : AreFiguresFor bytes options text
+  pub done : status ≡ 0
+
+-- the figures of the deck of a network that is generated, and the deck's verdict beside it; the status says whether all is the same
+pub record IsBench (seed size : ℕ) (options : SynthOptions) (status : ℕ) (text : List ℕ) : Type 0 where
+  pub model : List ℕ
+  pub summary : SummaryData
+  pub verdict : Verdict
+  pub is : IsBenchOf seed size options model summary verdict
+  pub text_is : text ≡ bench_text model summary verdict
+  pub status_is : status ≡ (if is_same verdict then 0 else 6)
+
 -- the first of the files is refused that is too long, and else one for this cause
 abbrev pub IsRefusalOf : Files → List (List ℕ) → Type 0 → List ℕ → Refusal → Type 0
 IsRefusalOf files names Refuses name why = ((why ≡ TooLong) × IsFirstTooLong files names name) ⊎ Refuses
@@ -168,6 +186,10 @@ IsOutcome files (Sim deck stim options) (Refused name why) =
 IsOutcome files (Cosim file deck stim order seed) (Printed status text) = IsComparison files file deck stim order seed status text
 IsOutcome files (Cosim file deck stim order seed) (Refused name why) =
     IsRefusalOf files (file ∷ deck ∷ stim ∷ []) (IsNoComparison files file deck stim name why) name why
+IsOutcome files (Report file options) (Printed status text) = IsReport files file options status text
+IsOutcome files (Report file options) (Refused name why) = HasNone files file name why
+IsOutcome files (Bench seed size options) (Printed status text) = IsBench seed size options status text
+IsOutcome files (Bench seed size options) (Refused name why) = ⊥
 
 -- a file of the command, before which each one was read and isn't too long
 abbrev pub IsUnread : Files → Command → List ℕ → Type 0

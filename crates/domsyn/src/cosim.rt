@@ -61,7 +61,7 @@ fn answer_of(alloc: Global, verdict: &Verdict) -> Result<Answer, OutOfMemory>
 }
 
 /// Whether all is the same.
-fn is_same(verdict: &Verdict) -> bool
+pub fn is_same(verdict: &Verdict) -> bool
     ensures { result ≡ is_same_verdict verdict.now }
 {
     match verdict {

@@ -9,8 +9,10 @@ ghost use Rattle.domsyn.specs.Headline.{IsRightFor};
 ghost use Rattle.domsyn.specs.Outcomes.{IsOutcome, Printed};
 
 use crate::answer::Answer;
+use crate::bench::bench;
 use crate::cosim::cosim;
 use crate::failure::Failure;
+use crate::figures::figures;
 use crate::flat::flat;
 use crate::run::run;
 use crate::sim::sim;
@@ -29,7 +31,8 @@ pub fn outcome_of<'a, S: Shelf>(
     requires good_options { HasGoodOptions (asked command.now) }
     ensures text { IfOk result (λ answer.
         IsOutcome (S.files shelf.old) (asked command.now) (Printed (if answer.settled then 0 else 6) answer.text.items)) }
-    ensures right { IfOk result (λ answer. IsRightFor (S.files shelf.old) (asked command.now) answer.text.items) }
+    ensures right { IfOk result (λ answer. IsRightFor (S.files shelf.old) (asked command.now)
+        (if answer.settled then 0 else 6) answer.text.items) }
     ensures failed { (failure : Failed) → IsErrOf result failure
         → IsFailureOf (S.files shelf.old) (asked command.now) (Rose (S.faults shelf.old) (S.faults shelf.new)) failure }
     ensures same_files { S.files shelf.new ≡ S.files shelf.old }
@@ -52,5 +55,11 @@ pub fn outcome_of<'a, S: Shelf>(
             order,
             seed,
         } => cosim(alloc, shelf, file, deck, stim, *order, *seed),
+        Command::Report { file, options } => figures(alloc, shelf, file, *options),
+        Command::Bench {
+            seed,
+            size,
+            options,
+        } => bench(alloc, *seed, *size, *options),
     }
 }

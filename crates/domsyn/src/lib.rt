@@ -2,10 +2,12 @@
 #![tactic(auto)]
 
 mod answer;
+mod bench;
 mod cosim;
 mod dispatch;
 mod failure;
 mod fetch;
+mod figures;
 mod flat;
 mod laws;
 mod network;

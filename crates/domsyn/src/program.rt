@@ -5,7 +5,9 @@ ghost use Rattle.std.specs.Io.KnownBytes.{Appends};
 ghost use Rattle.dom_io.specs.Faults.{Rose};
 ghost use Rattle.dom_io.specs.Pieces.{AppendsPrefix};
 ghost use Rattle.domsyn.specs.declared.refusal.Refusal.{Refusal};
-ghost use Rattle.command_words.specs.Commands.{Asks, Command, files_of};
+ghost use Rattle.command_words.specs.Commands.{Asks, Bench, Command, files_of};
+ghost use Rattle.synth_flow.specs.declared.options.SynthOptions.{SynthOptions};
+ghost use Rattle.domsyn.specs.Benches.{GivesSameBench};
 ghost use Rattle.domsyn.specs.Headline.{GivesRightDeck};
 ghost use Rattle.domsyn.specs.Outcomes.{Outcome, Refused, Printed, status_of};
 ghost use Rattle.domsyn.specs.Refusals.{refusal_line};
@@ -72,6 +74,11 @@ pub fn top<S: Shelf, K: Sink, E: Sink>(
     // Where the words ask for the deck of a file, what was put out is a right deck of that file, in every order of events.
     ensures headline { result ≡ 0 → GivesRightDeck (S.files shelf.old) (map string_bytes words.now)
         (Appends (K.taken out.old) (K.taken out.new)) }
+
+    // `bench` refuses nothing and reads nothing, and what it puts out says that its deck does what the network does.
+    ensures bench { (seed size : ℕ) (options : SynthOptions) → Asks (map string_bytes words.now) (Bench seed size options)
+        → (result ≢ 1) × (result ≢ 3) × (result ≢ 6) }
+    ensures same { result ≡ 0 → GivesSameBench (map string_bytes words.now) (Appends (K.taken out.old) (K.taken out.new)) }
 
     // Nothing is put out at another status, and `err` gets the line of the status, of the cause, or of the file.
     ensures nothing { result ≢ 0 → result ≢ 4 → result ≢ 6 → out.new ≡ out.old }

@@ -3,6 +3,7 @@ use Rattle.std.specs.String.{string_bytes}
 use Rattle.command_words.specs.Asked.{asked}
 use Rattle.command_words.proofs.AskedOnce.{asks_in_range}
 use Rattle.domsyn.specs.Top.{IsText}
+use Rattle.domsyn.proofs.BenchClauses.{finished_bench, finished_same, reported_bench}
 use Rattle.domsyn.proofs.TopClauses.{asks_found, asks_some, finished_complete}
 use Rattle.domsyn.proofs.Rooms.{room_for_failure, room_of}
 use Rattle.domsyn.proofs.ReportedFailures.{failure_reported, reported_cause, reported_complete, reported_refused, reported_unread}
@@ -69,3 +70,21 @@ returns-clause-unread g c =
     let words = map string_bytes c.args.words.now in
     let asks = asks_found words c.in-Ok-Some.field-0 c.in-Ok-Some.command c.in-Ok-Some.field-0-is c.in-Ok-Some.ensures.command in
     λ three. (reported_unread (failure_reported (asked c.in-Ok-Some.command) c.in-Err-outcome_of.failure asks (c.in-Err-outcome_of.ensures.failed c.in-Err-outcome_of.failure refl) c.report_failure.ensures.reported) three).1
+
+pub returns-in-Ok-clause-bench : goal.returns-in-Ok-clause-bench
+returns-in-Ok-clause-bench g c =
+    let words = map string_bytes c.args.words.now in
+    let asks = asks_found words c.in-Ok-Some.field-0 c.in-Ok-Some.command c.in-Ok-Some.field-0-is c.in-Ok-Some.ensures.command in
+    finished_bench (g.S.Shelf.files c.args.shelf.now) words (asked c.in-Ok-Some.command) asks _ c.in-Ok.answer.text.items c.in-Ok.ensures.right _ c.finish.ensures.known
+
+pub returns-in-Ok-clause-same : goal.returns-in-Ok-clause-same
+returns-in-Ok-clause-same g c zero =
+    let words = map string_bytes c.args.words.now in
+    let asks = asks_found words c.in-Ok-Some.field-0 c.in-Ok-Some.command c.in-Ok-Some.field-0-is c.in-Ok-Some.ensures.command in
+    finished_same (g.S.Shelf.files c.args.shelf.now) words (asked c.in-Ok-Some.command) asks _ c.in-Ok.answer.text.items c.in-Ok.ensures.right _ _ zero c.finish.ensures.done
+
+pub returns-clause-bench : goal.returns-clause-bench
+returns-clause-bench g c =
+    let words = map string_bytes c.args.words.now in
+    let asks = asks_found words c.in-Ok-Some.field-0 c.in-Ok-Some.command c.in-Ok-Some.field-0-is c.in-Ok-Some.ensures.command in
+    reported_bench {words = words} (failure_reported (asked c.in-Ok-Some.command) c.in-Err-outcome_of.failure asks (c.in-Err-outcome_of.ensures.failed c.in-Err-outcome_of.failure refl) c.report_failure.ensures.reported)

@@ -1,0 +1,161 @@
+-- The outcome of `bench`: it is there, it is one, and it says that all is the same.
+use Rattle.std.proofs.Common.{◌≡◌, ◌∙◌, ◌++◌, ◌⊎◌, inl, inr, ℕ, List, Bool, ap, refl, sym, subst}
+use Rattle.std.specs.Prelude.{if◌then◌else◌}
+use Rattle.command_words.specs.Commands.{IsGoodSize}
+use Rattle.command_words.specs.SynthOptionWords.{AreGoodOptions}
+use Rattle.deck.specs.DeckText.{IsDeckOf}
+use Rattle.deck.proofs.DeckUnique.{IsDeckOf-unique}
+use Rattle.deck_law.specs.Headline.{IsRightDeck}
+use Rattle.deck_law.proofs.GoodDecks.{planned_good}
+use Rattle.deck_law.proofs.RightDecks.{chosen_texts_are_right}
+use Rattle.net_flatten.specs.NetworkData.{NetworkData}
+use Rattle.net_gen.specs.Stimulus.{stimulus_cycles, stimulus_text}
+use Rattle.net_gen.proofs.AcceptedTexts.{generated_is_accepted}
+use Rattle.net_gen.proofs.StimulusTexts.{stimulus_reads}
+use Rattle.network_law.proofs.NetworkExists.{network_exists}
+use Rattle.plan_law.proofs.DecksThere.{decks_there}
+use Rattle.plan_law.proofs.OneDeck.{decks_one}
+use Rattle.spice_text.proofs.ReadBack.{read_back}
+use Rattle.synth_flow.specs.ChosenDecks.{IsChosenDeck, planned}
+use Rattle.synth_flow.specs.Summaries.{IsSummaryOf, figures}
+use Rattle.synth_flow.specs.SummaryData.{SummaryData}
+use Rattle.synth_flow.specs.SummaryLines.{summary_lines}
+use Rattle.synth_flow.specs.declared.options.SynthOptions.{SynthOptions}
+use Rattle.trace_tool.specs.CosimRefusals.{HasNetworkOf, IsCosimRefused, IsUnflattened}
+use Rattle.trace_tool.specs.VerdictLines.{verdict_line}
+use Rattle.trace_tool.specs.Verdicts.{IsVerdictOf}
+use Rattle.trace_tool.specs.declared.fault.TraceFault.{TraceFault}
+use Rattle.trace_tool.specs.declared.fault.TraceFault.TheVariants.{Blif, Flat, Deck, Ports, NoNet, Stim, Memory}
+use Rattle.trace_tool.specs.declared.options.Order.TheVariants.{First}
+use Rattle.trace_tool.specs.declared.verdict.Verdict.{Verdict}
+use Rattle.trace_tool.specs.declared.verdict.Verdict.TheVariants.{Same}
+use Rattle.trace_tool.proofs.NetworkTexts.{network_same, no_network_apart, text_network_kept}
+use Rattle.verdict_law.proofs.RightVerdicts.{right_deck_is_accepted}
+use Rattle.domsyn.specs.Benches.{IsBenchOf, IsOwnVerdict, IsSameBench, IsWholeText, OfWholeDeck, bench_text, events_text, generated_text}
+use Rattle.domsyn.specs.Decks.{AreFigureLines, bounds_of}
+use Rattle.domsyn.specs.Outcomes.{IsBench, is_same}
+use Rattle.domsyn.proofs.OneSummary.{summaries_one}
+use Rattle.domsyn.proofs.OwnVerdicts.{own_verdict_of, own_verdict_one, own_verdict_same, own_verdict_there}
+
+-- a text that is generated has a network
+generated_there : (seed size : ℕ) → IsGoodSize size → (n : NetworkData) × HasNetworkOf (generated_text seed size) n
+generated_there seed size good =
+    let read = generated_is_accepted seed size good.some good.few in
+    let n = network_exists read.0 read.1.unrefused in
+    (n.0, record { file = read.0; accepted = read.1.is_file; network_is = n.1 })
+
+-- so there is no cause for which it has none, but want of memory
+pub generated_unrefused : (seed size : ℕ) → IsGoodSize size → (why : TraceFault) → IsUnflattened (generated_text seed size) why → why ≡ Memory
+generated_unrefused seed size good (Blif line kind) is = absurd ((generated_is_accepted seed size good.some good.few).1.is_file.no_fault line kind is.fault)
+generated_unrefused seed size good (Flat fault) is =
+    let n = generated_there seed size good in absurd (no_network_apart (generated_text seed size) n.0 fault n.1 is)
+generated_unrefused seed size good (Deck line kind) is = absurd is
+generated_unrefused seed size good (Ports place) is = absurd is
+generated_unrefused seed size good (NoNet name) is = absurd is
+generated_unrefused seed size good (Stim line kind) is = absurd is
+generated_unrefused seed size good Memory is = refl
+
+module _ (seed size : ℕ) (options : SynthOptions) where
+  pub bench_there : IsGoodSize size → AreGoodOptions options → (status : ℕ) × (text : List ℕ) × IsBench seed size options status text
+  bench_there good fits =
+      let n = generated_there seed size good in
+      let is = text_network_kept (generated_text seed size) n.0 n.1 in
+      let deck = decks_there n.0 options.bounds.w options.bounds.h options.phases is fits.some_width fits.some_height in
+      let own = own_verdict_there seed n.0 is options.bounds.w options.bounds.h options.phases deck.0 deck.1 fits.some_phase fits.few_phases in
+      let summary = figures deck.1 in
+      let status = if is_same own.0 then 0 else 6 in
+      let text = bench_text n.0.name summary own.0 in (
+        status,
+        text,
+        record {
+          model = n.0.name;
+          summary = summary;
+          verdict = own.0;
+          is =
+              record { network = n.0; has = n.1; model_is = refl; is_summary = (deck.0, deck.1, refl); circuit = deck.0; is_chosen = deck.1; is_verdict = own.1 };
+          text_is = refl;
+          status_is = refl;
+        },
+      )
+
+  -- what a bench tells is one
+  bench_parts_one : (m m' : List ℕ) (s s' : SummaryData) (v v' : Verdict) → IsBenchOf seed size options m s v → IsBenchOf seed size options m' s' v' → (m ≡ m') × (s ≡ s') × (v ≡ v')
+  bench_parts_one m m' s s' v v' x y =
+      let networks = network_same (generated_text seed size) y.network x.network y.has x.has in
+      let is = text_network_kept (generated_text seed size) x.network x.has in
+      let summary = subst (λ (n : NetworkData). IsSummaryOf n options.bounds.w options.bounds.h options.phases s') networks y.is_summary in
+      let chosen = subst (λ (n : NetworkData). IsChosenDeck n options.bounds.w options.bounds.h options.phases y.circuit) networks y.is_chosen in
+      let circuits = decks_one x.network options.bounds.w options.bounds.h options.phases y.circuit x.circuit is chosen x.is_chosen in
+      let verdict = subst (λ c. IsOwnVerdict seed x.network c v') circuits (subst (λ (n : NetworkData). IsOwnVerdict seed n y.circuit v') networks y.is_verdict) in (
+        x.model_is ∙ ap (λ (n : NetworkData). n.name) (sym networks) ∙ sym y.model_is,
+        summaries_one x.network is options.bounds.w options.bounds.h options.phases s s' x.is_summary summary,
+        own_verdict_one seed x.network is x.circuit v v' x.is_verdict verdict,
+      )
+
+  pub bench_one : (s s' : ℕ) (t t' : List ℕ) → IsBench seed size options s t → IsBench seed size options s' t' → (s ≡ s') × (t ≡ t')
+  bench_one s s' t t' x y =
+      let same = bench_parts_one x.model y.model x.summary y.summary x.verdict y.verdict x.is y.is in (
+        x.status_is ∙ ap (λ (v : Verdict). if is_same v then 0 else 6) same.2 ∙ sym y.status_is,
+        x.text_is ∙ (λ i. bench_text (same.0 i) (same.1 i) (same.2 i)) ∙ sym y.text_is,
+      )
+
+  -- a text that says that all is the same is one of a bench
+  pub same_bench : (status : ℕ) (text : List ℕ) → IsSameBench seed size options status text → IsBench seed size options status text
+  same_bench status text is =
+      record { model = is.model; summary = is.summary; verdict = Same 4 is.events; is = is.is; text_is = is.text_is; status_is = is.done }
+
+  module _ (fits : AreGoodOptions options) (network : NetworkData) (has : HasNetworkOf (generated_text seed size) network) where
+    right : (deck : List ℕ) → IsWholeText network options deck → IsRightDeck (generated_text seed size) options.bounds.w options.bounds.h options.phases deck
+    right deck is =
+        chosen_texts_are_right (generated_text seed size) deck (bounds_of options) options.phases has.file network has.accepted has.network_is fits.some_phase fits.few_phases
+        (record { circuit = is.circuit; is_chosen = is.is_chosen; written = is.written }) is.whole.numbered is.whole.names
+
+    reads_back : (deck : List ℕ) → (is : IsWholeText network options deck) → IsDeckOf deck is.circuit
+    reads_back deck is =
+        read_back is.circuit deck
+        (record {
+          is = is.whole.numbered;
+          names = is.whole.names;
+          good = planned_good network options.bounds.w options.bounds.h options.phases is.circuit (planned is.is_chosen) fits.few_phases;
+        }) is.written
+
+    -- the deck is refused for nothing beside the network
+    pub bench_unrefused : (why : TraceFault) → (why ≡ Memory) ⊎ OfWholeDeck network options (λ deck. IsCosimRefused (generated_text seed size) deck (stimulus_text seed network.inputs) why)
+        → why ≡ Memory
+    bench_unrefused why (inl none) = none
+    bench_unrefused why (inr own) =
+        right_deck_is_accepted (generated_text seed size) own.deck (stimulus_text seed network.inputs) options.bounds.w options.bounds.h options.phases network
+        (stimulus_cycles seed network.inputs) why (right own.deck own.is_text) has (stimulus_reads seed network.inputs) own.holds
+
+    -- the figures, the events and the verdict that all is the same
+    pub bench_made : (verdict : Verdict) (front text : List ℕ) (settled : Bool)
+        → OfWholeDeck network options (λ deck. IsVerdictOf (generated_text seed size) deck (stimulus_text seed network.inputs) First 0 verdict)
+        → AreFigureLines network options front → text ≡ front ++ events_text verdict ++ verdict_line verdict → settled ≡ is_same verdict
+        → IsSameBench seed size options (if settled then 0 else 6) text
+    bench_made verdict front text settled own lines text_is settled_is =
+        let v = own.holds in
+        let is = text_network_kept (generated_text seed size) network has in
+        let same =
+        own_verdict_same seed network is (generated_text seed size) own.deck verdict v has options.bounds.w options.bounds.h options.phases (right own.deck own.is_text) in
+        let circuits = IsDeckOf-unique own.deck v.circuit own.is_text.circuit v.is_deck (reads_back own.deck own.is_text) in
+        let found = own_verdict_of seed network is (generated_text seed size) own.deck verdict v has own.is_text.circuit circuits in
+        record {
+          model = network.name;
+          summary = lines.summary;
+          events = same.0;
+          is =
+              record {
+                network = network;
+                has = has;
+                model_is = refl;
+                is_summary = lines.is_summary;
+                circuit = own.is_text.circuit;
+                is_chosen = own.is_text.is_chosen;
+                is_verdict = subst (IsOwnVerdict seed network own.is_text.circuit) same.1 found;
+              };
+          text_is =
+              text_is
+              ∙ ap (λ (l : List ℕ). l ++ events_text verdict ++ verdict_line verdict) lines.text_is
+              ∙ ap (λ (v : Verdict). summary_lines network.name lines.summary ++ events_text v ++ verdict_line v) same.1;
+          done = ap (λ (b : Bool). if b then 0 else 6) (settled_is ∙ ap is_same same.1);
+        }

@@ -1,0 +1,24 @@
+use Rattle.std.proofs.lemmas.Result.{err_from_is_err_and, IfOk-weaker}
+use Rattle.dom_io.specs.Faults.{Rose}
+use Rattle.domsyn.proofs.CommandFailures.{figures_printed, figures_unfetched, figures_unmade}
+use Rattle.domsyn.proofs.figures.figures.Goals as goal
+
+pub returns-in_err-bytes-clause-failed : goal.returns-in_err-bytes-clause-failed
+returns-in_err-bytes-clause-failed g c failure is =
+    let p = err_from_is_err_and c.from_residual.result c.from_residual.ensures.1 in
+    let a = p.1 in
+    let b = p.2 in
+    let Rises = Rose (g.S.Shelf.faults c.args.shelf.now) (g.S.Shelf.faults c.fetch.new.shelf) in
+    figures_unfetched (g.S.Shelf.files c.args.shelf.now) c.args.file.now c.args.options Rises failure (c.in_err-bytes.ensures.failed failure (cc))
+
+pub returns-clause-text : goal.returns-clause-text
+returns-clause-text g c =
+    IfOk-weaker c.figures_of.result _ _
+    (λ answer is.
+    figures_printed (g.S.Shelf.files c.args.shelf.now) c.args.file.now c.in_ok-bytes.bytes.items answer.text.items c.args.options answer.settled c.in_ok-bytes.ensures.bytes is.0 is.1)
+    c.figures_of.ensures.figures
+
+pub returns-clause-failed : goal.returns-clause-failed
+returns-clause-failed g c failure is =
+    let Rises = Rose (g.S.Shelf.faults c.args.shelf.now) (g.S.Shelf.faults c.fetch.new.shelf) in
+    figures_unmade (g.S.Shelf.files c.args.shelf.now) c.args.file.now c.in_ok-bytes.bytes.items c.args.options Rises failure c.in_ok-bytes.ensures.bytes (c.figures_of.ensures.failed failure is)

@@ -1,0 +1,135 @@
+//! The command `bench SEED SIZE` with its options: the figures of the deck of a network that is generated, and how the deck does
+//! beside the network.
+ghost use Rattle.std.specs.Prelude.{◌≡◌, ◌⊎◌, ◌++◌, IfOk, IsErrOf, OnOk, if◌then◌else◌};
+ghost use Rattle.command_words.specs.Commands.{IsGoodSize};
+ghost use Rattle.command_words.specs.SynthOptionWords.{AreGoodOptions};
+ghost use Rattle.domsyn.specs.declared.failure.Failure.{Failure as Failed};
+ghost use Rattle.domsyn.specs.Benches.{IsSameBench, IsWholeText, OfWholeDeck, events_text};
+ghost use Rattle.domsyn.specs.declared.failure.Failure.TheVariants.{Memory as OutOf};
+ghost use Rattle.domsyn.specs.Outcomes.{IsBench};
+ghost use Rattle.trace_tool.specs.CosimRefusals.{HasNetworkOf, IsCosimRefused, IsUnflattened};
+ghost use Rattle.net_gen.specs.Stimulus.{stimulus_text};
+ghost use Rattle.trace_tool.specs.VerdictLines.{verdict_line};
+ghost use Rattle.trace_tool.specs.Verdicts.{IsVerdictOf};
+ghost use Rattle.trace_tool.specs.declared.options.Order.TheVariants.{First};
+ghost use Rattle.trace_tool.specs.declared.fault.TraceFault.{TraceFault as Fault};
+ghost use Rattle.trace_tool.specs.declared.fault.TraceFault.TheVariants.{Memory};
+
+use crate::answer::Answer;
+use crate::cosim::is_same;
+use crate::failure::Failure;
+use crate::figures::figure_lines;
+use crate::trace_failure::failure_of;
+use dom_base::{OutOfMemory, append, append_number};
+use net_flatten::{Network, flatten};
+use net_gen::{bench_stimulus, generate};
+use spice_text::write;
+use std::alloc::Global;
+use synth_flow::{SynthOptions, synth as deck_circuit};
+use trace_tool::{Order, TraceFault, Verdict, cosim};
+
+/// The outcome of `bench SEED SIZE` with options. The verdict is that all is the same, and the one failure is
+/// want of memory.
+pub fn bench<'a>(
+    alloc: Global,
+    seed: u64,
+    size: u32,
+    options: SynthOptions,
+) -> Result<Answer, Failure<'a>>
+    requires good_size { IsGoodSize size }
+    requires good_options { AreGoodOptions options }
+    ensures text { IfOk result (λ answer. IsBench seed size options (if answer.settled then 0 else 6) answer.text.items) }
+    ensures same { IfOk result (λ answer. IsSameBench seed size options (if answer.settled then 0 else 6) answer.text.items) }
+    ensures failed { (failure : Failed) → IsErrOf result failure → failure ≡ OutOf }
+{
+    match bench_of(alloc, seed, size, options) {
+        Ok(answer) => Ok(answer),
+        Err(fault) => Err(failure_of(fault, "", "", "")),
+    }
+}
+
+/// The figures of the deck of a network that is generated, the events and the verdict of the deck beside the
+/// network.
+fn bench_of(
+    alloc: Global,
+    seed: u64,
+    size: u32,
+    options: SynthOptions,
+) -> Result<Answer, TraceFault>
+    requires good_size { IsGoodSize size }
+    requires good_options { AreGoodOptions options }
+    ensures same { IfOk result (λ answer. IsSameBench seed size options (if answer.settled then 0 else 6) answer.text.items) }
+    ensures failed { (why : Fault) → IsErrOf result why → why ≡ Memory }
+{
+    let blif = generate(alloc, seed, size)?;
+    let network = network_of_text(alloc, &blif)?;
+    let mut text = figure_lines(alloc, &network, options)?;
+    let verdict = own_verdict(alloc, seed, options, &network, &blif)?;
+    append_verdict(alloc, &mut text, &verdict)?;
+    let settled = is_same(&verdict);
+    Ok(Answer { text, settled })
+}
+
+/// The network of a text of BLIF.
+fn network_of_text(alloc: Global, blif: &[u8]) -> Result<Network, TraceFault>
+    ensures network { IfOk result (HasNetworkOf blif.now) }
+    ensures refused { (why : Fault) → IsErrOf result why → IsUnflattened blif.now why }
+{
+    let file = blif_read::read(alloc, blif)?;
+    let network = flatten(alloc, &file)?;
+    Ok(network)
+}
+
+/// The verdict of the deck of a network, with options, beside the network's text over the four cycles of a seed.
+fn own_verdict(
+    alloc: Global,
+    seed: u64,
+    options: SynthOptions,
+    network: &Network,
+    blif: &[u8],
+) -> Result<Verdict, TraceFault>
+    requires good_options { AreGoodOptions options }
+    ensures verdict { IfOk result (λ verdict. OfWholeDeck network.now options
+        (λ deck. IsVerdictOf blif.now deck (stimulus_text seed network.now.inputs) First 0 verdict)) }
+    ensures refused { (why : Fault) → IsErrOf result why → (why ≡ Memory) ⊎ OfWholeDeck network.now options
+        (λ deck. IsCosimRefused blif.now deck (stimulus_text seed network.now.inputs) why) }
+{
+    let deck = deck_text(alloc, network, options)?;
+    let stim = bench_stimulus(alloc, seed, network.inputs)?;
+    cosim(alloc, blif, &deck, &stim, Order::First, 0)
+}
+
+/// The text of the deck of a network, with options.
+fn deck_text(
+    alloc: Global,
+    network: &Network,
+    options: SynthOptions,
+) -> Result<Vec<u8>, OutOfMemory>
+    requires good_options { AreGoodOptions options }
+    ensures { IfOk result (λ text. IsWholeText network.now options text.items) }
+{
+    let circuit = deck_circuit(alloc, network, options)?;
+    circuit.whole();
+    write(alloc, &circuit)
+}
+
+/// Appends the line of the events of a verdict, where all is the same, and the line of the verdict.
+fn append_verdict(alloc: Global, text: &mut Vec<u8>, verdict: &Verdict) -> Result<(), OutOfMemory>
+    ensures { OnOk result (text.new.items ≡ text.old.items ++ events_text verdict.now ++ verdict_line verdict.now) }
+{
+    append_events(text, verdict)?;
+    let line = verdict.text(alloc)?;
+    append(text, &line)
+}
+
+/// Appends the line of the events of a verdict, where all is the same.
+fn append_events(text: &mut Vec<u8>, verdict: &Verdict) -> Result<(), OutOfMemory>
+    ensures { OnOk result (text.new.items ≡ text.old.items ++ events_text verdict.now) }
+{
+    if let Verdict::Same { events, .. } = verdict {
+        append(text, b"events ")?;
+        append_number(text, *events)?;
+        append(text, b"\n")?;
+    }
+    Ok(())
+}
