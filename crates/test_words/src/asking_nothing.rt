@@ -135,8 +135,6 @@ const OTHER_WORDS: &[(&str, &[&[&str]])] = &[
             &["Synth", "a"],
             &["synth ", "a"],
             &["", "a"],
-            &["report", "a"],
-            &["bench", "1", "0"],
         ],
     ),
 ];
@@ -277,7 +275,11 @@ const COSIM_WORDS: &[(&str, &[&[&str]])] = &[
 ];
 
 /// Asserts that each list asks for nothing.
-fn ask_for_nothing(rt: &impl Abort, alloc: Global, all: &[(&str, &[&[&str]])]) -> Result<(), Fail> {
+pub fn ask_for_nothing(
+    rt: &impl Abort,
+    alloc: Global,
+    all: &[(&str, &[&[&str]])],
+) -> Result<(), Fail> {
     let files = [("a", AND), ("d", AND_DECK), ("s", b"11\n".as_slice())];
     for (what, lists) in all {
         assert_eq!(rt; asking(alloc, &files, lists)?, None, "at {what}");
@@ -337,6 +339,10 @@ fn limits_of_options_are_taken(rt: HostRuntime) -> Result<(), Fail> {
         &["sim", "d", "--probe=-x-,d0+,a=b", "s"],
         &["cosim", "a", "d", "s"],
         &["cosim", "--order", "seed", "a", "d", "--seed=7", "s"],
+        &["report", "a"],
+        &["report", "--width", "+2", "a", "--phases=04"],
+        &["bench", "0", "1"],
+        &["bench", "18446744073709551615", "--height", "2", "+01"],
     ];
     for words in lists {
         assert_eq!(rt; asking(rt.alloc(), &files, &[words])?, Some(0));

@@ -3,3 +3,5 @@
 
 #[cfg(test)]
 mod asking_nothing;
+#[cfg(test)]
+mod figure_words;
