@@ -1,20 +1,40 @@
 //! Names as lists of bytes.
-ghost use Rattle.std.specs.Prelude.{◌≡◌, ◌==◌, IfOk, MatchOption};
+ghost use Rattle.std.specs.Prelude.{◌≡◌, ◌==◌, ◌∷◌, [], IfOk, MatchOption};
 ghost use Rattle.std.specs.Cmp.Lexicographic.{pointwise};
 ghost use Rattle.std.specs.Cmp.Rules.{comparing, hashing};
-ghost use Rattle.std.specs.Hash as fed;
 ghost use Rattle.std.specs.List.{list_all};
+ghost use Rattle.std.specs.Str.{str_to_ascii_lowercase};
 ghost use Rattle.std.proofs.Common.{rules};
 ghost use Rattle.dom_base.specs.Names.{IsNetName, is_net_byte, is_net_name};
 
-use crate::{OutOfMemory, append};
-use std::alloc::Global;
+use crate::OutOfMemory;
+use smallvec::SmallVec;
+use std::alloc::{AllocError, Global};
 use std::hash::{Hash, Hasher};
 use std::marker::Model;
 
+/// The bytes of a name. The name itself has room for 16; more stand in an allocation.
+pub type NameBytes = SmallVec<u8, 16>;
+
+/// These bytes, as those of a name.
+fn bytes_of(alloc: Global, bytes: &[u8]) -> Result<NameBytes, AllocError>
+    ensures { IfOk result (λ name. name.items ≡ bytes.now) }
+{
+    SmallVec::from_slice(alloc, bytes)
+}
+
+/// These bytes in lower case, as those of a name. The one error is out of memory.
+pub fn name_in_lower_case(alloc: Global, bytes: &[u8]) -> Result<NameBytes, OutOfMemory>
+    ensures { IfOk result (λ name. name.items ≡ str_to_ascii_lowercase bytes.now) }
+{
+    let mut lowered = bytes_of(alloc, bytes)?;
+    lowered.as_mut_slice().make_ascii_lowercase();
+    Ok(lowered)
+}
+
 /// A name of any bytes.
-#[derive(Clone, Debug, Drop)]
-pub struct Name(pub Vec<u8>);
+#[derive(Debug, Drop)]
+pub struct Name(pub NameBytes);
 
 impl Model for Name {
     ghost use Rattle.std.specs.Prelude.{List, ℕ};
@@ -25,11 +45,26 @@ impl Model for Name {
 }
 
 impl Name {
+    /// The name of these bytes. The one error is out of memory.
+    pub fn from_bytes(alloc: Global, bytes: &[u8]) -> Result<Name, OutOfMemory>
+        ensures { IfOk result (λ name. name ≡ bytes.now) }
+    {
+        Ok(Name(bytes_of(alloc, bytes)?))
+    }
+
     /// The bytes of the name.
     pub fn as_bytes(&self) -> &[u8]
         ensures { result.now ≡ self.now }
     {
         self.0.as_slice()
+    }
+}
+
+impl Clone for Name {
+    ghost is_clone = { λ name copy. copy ≡ name };
+
+    fn clone(&self) -> Result<Name, AllocError> {
+        Ok(Name(bytes_of(*self.0.allocator(), self.as_bytes())?))
     }
 }
 
@@ -48,12 +83,12 @@ impl Eq for Name {
 }
 
 impl Hash for Name {
-    ghost hash_input = { fed.slice fed.u8 };
+    ghost hash_input = { λ name. name ∷ [] };
 
     ghost respects_eq = { Prim.search (hashing, rules) };
 
     fn hash<H: Hasher>(&self, state: &mut H) {
-        self.0.as_slice().hash(state);
+        state.write(self.as_bytes());
     }
 }
 
@@ -77,8 +112,8 @@ fn is_net_name(word: &[u8]) -> bool
 
 /// The name of a net: at least one byte, and none that is a blank, a control byte or an
 /// upper-case ASCII letter.
-#[derive(Clone, Debug, Drop)]
-pub struct NetName(pub Vec<u8>);
+#[derive(Debug, Drop)]
+pub struct NetName(pub NameBytes);
 
 impl Model for NetName {
     ghost use Rattle.std.specs.Prelude.{List, ℕ};
@@ -93,7 +128,7 @@ impl Model for NetName {
 
 impl NetName {
     /// The name of these bytes, or none where they are no name of a net: the one way to make a name that is checked.
-    pub fn new(bytes: Vec<u8>) -> Option<NetName>
+    pub fn new(bytes: NameBytes) -> Option<NetName>
         ensures { MatchOption result (IsNetName bytes.items → ⊥) (λ name. IsNetName bytes.items × (name ≡ bytes.items)) }
     {
         if is_net_name(bytes.as_slice()) {
@@ -107,9 +142,7 @@ impl NetName {
     pub fn from_word(alloc: Global, word: &[u8]) -> Result<Option<NetName>, OutOfMemory>
         ensures { IfOk result (λ found. MatchOption found (IsNetName word.now → ⊥) (λ name. IsNetName word.now × (name ≡ word.now))) }
     {
-        let mut bytes = Vec::new(alloc);
-        append(&mut bytes, word)?;
-        Ok(NetName::new(bytes))
+        Ok(NetName::new(bytes_of(alloc, word)?))
     }
 
     /// The bytes of the name.
@@ -118,6 +151,14 @@ impl NetName {
         ensures good { IsNetName self.now }
     {
         self.0.as_slice()
+    }
+}
+
+impl Clone for NetName {
+    ghost is_clone = { λ name copy. copy ≡ name };
+
+    fn clone(&self) -> Result<NetName, AllocError> {
+        Ok(NetName(bytes_of(*self.0.allocator(), self.as_bytes())?))
     }
 }
 
@@ -136,11 +177,11 @@ impl Eq for NetName {
 }
 
 impl Hash for NetName {
-    ghost hash_input = { fed.slice fed.u8 };
+    ghost hash_input = { λ name. name ∷ [] };
 
     ghost respects_eq = { Prim.search (hashing, rules) };
 
     fn hash<H: Hasher>(&self, state: &mut H) {
-        self.0.as_slice().hash(state);
+        state.write(self.as_bytes());
     }
 }

@@ -1,8 +1,8 @@
-//! Bytes and numbers, appended to a text. Each call fails only where it runs out of memory, and then the text is as it was.
+//! Bytes and numbers, appended to a text or a name. Each call fails only where it runs out of memory, and then that is as it was.
 ghost use Rattle.std.specs.Prelude.{◌≡◌, ◌++◌, ◌∷◌, OnErr, OnOk};
 ghost use Rattle.std.specs.Fmt.{decimal};
 
-use crate::OutOfMemory;
+use crate::{NameBytes, OutOfMemory};
 use itoa::Buffer;
 
 /// Appends bytes.
@@ -37,4 +37,22 @@ pub fn append_word(text: &mut Vec<u8>, word: &[u8]) -> Result<(), OutOfMemory>
             Err(failed)
         }
     }
+}
+
+/// Appends bytes to those of a name.
+pub fn append_to_name(name: &mut NameBytes, bytes: &[u8]) -> Result<(), OutOfMemory>
+    ensures bytes { OnOk result (name.new.items ≡ name.old.items ++ bytes.now) }
+    ensures unchanged { OnErr result (name.new.items ≡ name.old.items) }
+{
+    name.extend_from_slice(bytes)?;
+    Ok(())
+}
+
+/// Appends a number in decimal digits to the bytes of a name.
+pub fn append_number_to_name(name: &mut NameBytes, number: u64) -> Result<(), OutOfMemory>
+    ensures digits { OnOk result (name.new.items ≡ name.old.items ++ decimal number) }
+    ensures unchanged { OnErr result (name.new.items ≡ name.old.items) }
+{
+    let mut buffer = Buffer::new();
+    append_to_name(name, buffer.format(number).as_bytes())
 }
