@@ -1,18 +1,26 @@
 //! Rows of a table.
+ghost use Rattle.std.specs.Prelude.{◌≡◌};
+
+use smallvec::SmallVec;
+use std::alloc::AllocError;
 use std::marker::Model;
 
 /// What a row asks of an input: 0, 1 or nothing.
-#[derive(Clone, Copy, Debug, PartialEq, Eq)]
+#[derive(Clone, Copy, Debug, Default, PartialEq, Eq)]
 pub enum Letter {
     Zero,
     One,
+    #[default]
     Any,
 }
 
+/// The letters of a row. The row itself has room for 16; more stand in an allocation.
+pub type Letters = SmallVec<Letter, 16>;
+
 /// A row of a table: one letter per input of the table, in order.
-#[derive(Clone, Debug, Drop)]
+#[derive(Debug, Drop)]
 pub struct Row {
-    pub letters: Vec<Letter>,
+    pub letters: Letters,
 }
 
 impl Model for Row {
@@ -22,4 +30,14 @@ impl Model for Row {
     ghost Value = { List Letter };
 
     ghost view = { λ r. r.letters.items };
+}
+
+impl Clone for Row {
+    ghost is_clone = { λ row copy. copy ≡ row };
+
+    fn clone(&self) -> Result<Row, AllocError> {
+        Ok(Row {
+            letters: SmallVec::from_slice(*self.letters.allocator(), self.letters.as_slice())?,
+        })
+    }
 }

@@ -23,7 +23,7 @@ pub use file::{BlifFile, BlifModel};
 pub use instance::{Binding, Instance};
 pub use kind::BlifKind;
 pub use latch::{Control, Edge2, Latch};
-pub use letter::{Letter, Row};
+pub use letter::{Letter, Letters, Row};
 pub use line::end_line;
 use models::put_models;
 pub use models::{put_head, put_latches};

@@ -6,15 +6,9 @@ ghost use Rattle.blif_read.specs.Build.{new_model, new_table};
 
 use crate::forms::sides;
 use crate::line::Line;
-use blif_ast::{Binding, BlifModel, Control, Edge2, Instance, Latch, Letter, Row, Table};
-use dom_base::{Name, OutOfMemory};
+use blif_ast::{Binding, BlifModel, Control, Edge2, Instance, Latch, Letter, Letters, Row, Table};
+use dom_base::{Name, NameBytes, OutOfMemory};
 use std::alloc::{AllocError, Global};
-
-fn name_of(alloc: Global, word: &[u8]) -> Result<Name, AllocError>
-    ensures { IfOk result (λ name. name ≡ word.now) }
-{
-    Ok(Name(word.to_vec(alloc)?))
-}
 
 /// Makes room for exactly so many items in a list that has none yet: most lists of a file stay as long as
 /// their first card or row makes them.
@@ -33,18 +27,18 @@ pub fn push_names(alloc: Global, names: &mut Vec<Name>, words: &[&[u8]]) -> Resu
 {
     reserve_first(names, words.len())?;
     for word in words {
-        names.push(name_of(alloc, word)?)?;
+        names.push(Name::from_bytes(alloc, word)?)?;
     }
     Ok(())
 }
 
 /// The word at this place, or an empty one.
-fn name_at(alloc: Global, words: &[&[u8]], place: usize) -> Result<Name, AllocError>
+fn name_at(alloc: Global, words: &[&[u8]], place: usize) -> Result<Name, OutOfMemory>
     ensures { IfOk result (λ name. name ≡ slice_index_or (map (λ w. w.now) words.now) place []) }
 {
     match words.get(place) {
-        Some(word) => name_of(alloc, word),
-        None => Ok(Name(Vec::new(alloc))),
+        Some(word) => Name::from_bytes(alloc, word),
+        None => Ok(Name(NameBytes::new(alloc))),
     }
 }
 
@@ -105,10 +99,14 @@ fn row_letter(byte: u8) -> Letter
     }
 }
 
-fn letters_of(alloc: Global, word: &[u8]) -> Result<Vec<Letter>, AllocError>
+fn letters_of(alloc: Global, word: &[u8]) -> Result<Letters, AllocError>
     ensures { IfOk result (λ v. v.items ≡ map row_letter word.now) }
 {
-    word.iter().map(|b| row_letter(*b)).collect(alloc)
+    let mut letters = Letters::with_capacity(alloc, word.len())?;
+    for byte in word {
+        letters.push(row_letter(*byte))?;
+    }
+    Ok(letters)
 }
 
 /// The row of these words.
@@ -117,7 +115,7 @@ pub fn row_of(alloc: Global, words: &[&[u8]]) -> Result<Row, OutOfMemory>
 {
     let letters = match words {
         [letters, _, ..] => letters_of(alloc, letters)?,
-        _ => Vec::new(alloc),
+        _ => Letters::new(alloc),
     };
     Ok(Row { letters })
 }
@@ -133,7 +131,7 @@ fn control_of(alloc: Global, kind: &[u8], word: &[u8]) -> Result<Control, OutOfM
     let signal = if word == b"NIL".as_slice() {
         None
     } else {
-        Some(name_of(alloc, word)?)
+        Some(Name::from_bytes(alloc, word)?)
     };
     Ok(Control { edge, signal })
 }
@@ -160,8 +158,8 @@ pub fn latch_of(alloc: Global, line: u64, words: &[&[u8]]) -> Result<Option<Latc
         _ => return Ok(None),
     };
     Ok(Some(Latch {
-        input: name_of(alloc, words[1])?,
-        output: name_of(alloc, words[2])?,
+        input: Name::from_bytes(alloc, words[1])?,
+        output: Name::from_bytes(alloc, words[2])?,
         control,
         init,
         line,
@@ -173,8 +171,8 @@ fn binding_of(alloc: Global, word: &[u8]) -> Result<Binding, OutOfMemory>
 {
     let (formal, actual) = sides(word);
     Ok(Binding {
-        formal: name_of(alloc, formal)?,
-        actual: name_of(alloc, actual)?,
+        formal: Name::from_bytes(alloc, formal)?,
+        actual: Name::from_bytes(alloc, actual)?,
     })
 }
 

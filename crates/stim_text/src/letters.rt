@@ -5,17 +5,21 @@ ghost use Rattle.stim_text.specs.LinesRead.{IsPinsOf, is_good};
 
 use crate::{Pins, StimKind};
 use dom_base::strip_comment;
+use smallvec::SmallVec;
 use std::alloc::{AllocError, Global};
 
-/// The bytes of a line outside its comment, without blanks and tabs.
-pub fn letters_of(alloc: Global, line: &[u8]) -> Result<Vec<u8>, AllocError>
-    ensures { IfOk result (λ v. v.items ≡ letters_of line.now) }
+/// Makes a list that of the bytes of a line outside its comment, without blanks and tabs.
+pub fn take_letters(letters: &mut Vec<u8>, line: &[u8]) -> Result<(), AllocError>
+    ensures { OnOk result (letters.new.items ≡ letters_of line.now) }
 {
-    strip_comment(line)
-        .iter()
-        .copied()
-        .filter(|b| *b != b' ' && *b != b'\t')
-        .collect(alloc)
+    letters.clear();
+    let kept = strip_comment(line);
+    for byte in kept {
+        if *byte != b' ' && *byte != b'\t' {
+            letters.push(*byte)?;
+        }
+    }
+    Ok(())
 }
 
 /// The fault of letters for this number of pins, if they have one.
@@ -69,7 +73,7 @@ pub fn pins_of(alloc: Global, letters: &[u8], width: u32) -> Result<Pins, AllocE
     requires { is_good width letters.now ≡ true }
     ensures { IfOk result (λ pins. IsPinsOf width letters.now pins) }
 {
-    let mut bits = Vec::new(alloc);
+    let mut bits = SmallVec::new(alloc);
     if width == 0 {
         return Ok(Pins(bits));
     }
@@ -78,7 +82,7 @@ pub fn pins_of(alloc: Global, letters: &[u8], width: u32) -> Result<Pins, AllocE
 }
 
 /// Appends a bit for each letter.
-fn push_bits(bits: &mut Vec<bool>, letters: &[u8]) -> Result<(), AllocError>
+fn push_bits(bits: &mut SmallVec<bool, 16>, letters: &[u8]) -> Result<(), AllocError>
     ensures { OnOk result (bits.new.items ≡ bits.old.items ++ map (λ b. b == 49) letters.now) }
 {
     for letter in letters {

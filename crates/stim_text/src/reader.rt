@@ -3,7 +3,7 @@ ghost use Rattle.std.specs.Prelude.{ℕ, ◌≡◌, ◌<◌, ◌+◌, IfOk, IsEr
 ghost use Rattle.stim_text.specs.Stimuli.{IsStimulusOf, IsStimFaultAt, letters_of};
 ghost use Rattle.stim_text.specs.LinesRead.{IsLineRead, IsLineFault};
 
-use crate::letters::{fault_of, letters_of, pins_of};
+use crate::letters::{fault_of, pins_of, take_letters};
 use crate::{Pins, StimFault};
 use dom_base::cut_line;
 use std::alloc::Global;
@@ -20,17 +20,19 @@ pub fn read_stim(alloc: Global, text: &[u8], width: u32) -> Result<Vec<Pins>, St
     let mut cycles = Vec::new(alloc);
     let mut rest = text;
     let mut number = 1;
+    let mut letters = Vec::new(alloc);
     'lines: while let Some((line, more)) = cut_line(rest) {
-        read_line(alloc, line, number, width, &mut cycles)?;
+        read_line(alloc, &mut letters, line, number, width, &mut cycles)?;
         rest = more;
         number += 1;
     }
     Ok(cycles)
 }
 
-/// Appends the cycle of a line, where the line has letters.
+/// Appends the cycle of a line, where the line has letters. What stands in `letters` is overwritten.
 fn read_line(
     alloc: Global,
+    letters: &mut Vec<u8>,
     line: &[u8],
     number: u64,
     width: u32,
@@ -39,14 +41,14 @@ fn read_line(
     ensures cycle { OnOk result (IsLineRead width (letters_of line.now) cycles.old.items cycles.new.items) }
     ensures fault { (n : ℕ) (k : _) → IsErrOf result (StimFault.At n k) → (n ≡ number) × IsLineFault width (letters_of line.now) k }
 {
-    let letters = letters_of(alloc, line)?;
+    take_letters(letters, line)?;
     if letters.is_empty() {
         return Ok(());
     }
-    match fault_of(&letters, width) {
+    match fault_of(letters, width) {
         Some(kind) => Err(StimFault::At { line: number, kind }),
         None => {
-            cycles.push(pins_of(alloc, &letters, width)?)?;
+            cycles.push(pins_of(alloc, letters, width)?)?;
             Ok(())
         }
     }
