@@ -9,11 +9,10 @@ ghost use Rattle.deck.specs.Ports.{IsOutput, IsPin};
 ghost use Rattle.deck.specs.Pushes.{added_device, new_circuit, pushed};
 ghost use Rattle.deck.specs.Whole.{IsWhole};
 
-use crate::number::{add_all, number_ends};
+use crate::number::{NetSet, add_all, number_ends};
 use crate::ports::leading_nets;
 use crate::{Device, Phase};
-use dom_base::{Kind, NetName, OutOfMemory};
-use indexmap::IndexSet;
+use dom_base::{Kind, NameDigest, NameHash, NetName, OutOfMemory};
 use std::alloc::Global;
 use std::marker::Model;
 
@@ -25,7 +24,7 @@ pub struct Circuit {
     pub name: NetName,
     pub phases: Vec<Phase>,
     pub ports: u32,
-    pub nets: IndexSet<NetName>,
+    pub nets: NetSet,
     pub devices: Vec<Device>,
 }
 
@@ -61,7 +60,7 @@ impl Circuit {
         requires few { length pins.now + length outs.now ≤ most_pins_and_outputs }
         ensures { IfOk result (λ c. c ≡ new_circuit name phases.items clocks pins.now outs.now) }
     {
-        let mut nets = leading_nets(alloc, clocks)?;
+        let mut nets = leading_nets(alloc, hash_of(alloc, pins, outs)?, clocks)?;
         add_all(&mut nets, pins)?;
         add_all(&mut nets, outs)?;
         let devices = Vec::new(alloc);
@@ -118,10 +117,25 @@ impl Circuit {
     }
 }
 
+/// A hash for a circuit with these pins and outputs, whose other nets no stranger names.
+fn hash_of(alloc: Global, pins: &[NetName], outs: &[NetName]) -> Result<NameHash, OutOfMemory> {
+    let mut digest = NameDigest::new(alloc);
+    add_names(&mut digest, pins)?;
+    add_names(&mut digest, outs)?;
+    Ok(digest.hash())
+}
+
+fn add_names(digest: &mut NameDigest, names: &[NetName]) -> Result<(), OutOfMemory> {
+    for name in names {
+        digest.add(name.as_bytes())?;
+    }
+    Ok(())
+}
+
 /// Adds a device between the nets of these names at the end, and its nets where they are new. After
 /// a refusal some of the nets may stand at the end.
 fn push_device(
-    nets: &mut IndexSet<NetName>,
+    nets: &mut NetSet,
     devices: &mut Vec<Device>,
     kind: Kind,
     drain: &NetName,

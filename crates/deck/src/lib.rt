@@ -18,6 +18,7 @@ pub use device::Device;
 pub use escape::{esc, escapes_differ};
 pub use fault::DeckKind;
 pub use limits::{MOST_CLOCKS, MOST_DEVICES, MOST_PORTS, UNCLOCKED_COUNT};
+pub use number::NetSet;
 pub use phase::Phase;
 pub use port_order::{roles, roles_are_one};
 pub use role::{PortFault, Roles};

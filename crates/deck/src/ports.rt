@@ -6,9 +6,8 @@ ghost use Rattle.deck.specs.Numbers.{with_all};
 ghost use Rattle.deck.specs.Ports.{clock_ports, latch_ports, leading_ports};
 
 use crate::limits::UNCLOCKED_COUNT;
-use crate::number::number;
-use dom_base::{NetName, OutOfMemory};
-use indexmap::IndexSet;
+use crate::number::{NetSet, number};
+use dom_base::{NameBytes, NameHash, NetName, OutOfMemory};
 use std::alloc::Global;
 
 /// The names of the clocks.
@@ -54,13 +53,13 @@ pub fn leading_port(clocks: u8, port: u8) -> &'static [u8]
 }
 
 /// The ports before the first pin of a circuit with so many clocks, numbered in order from 0.
-pub fn leading_nets(alloc: Global, clocks: u8) -> Result<IndexSet<NetName>, OutOfMemory>
+pub fn leading_nets(alloc: Global, hash: NameHash, clocks: u8) -> Result<NetSet, OutOfMemory>
     requires { clocks ≤ most_clocks }
     ensures { IfOk result (λ s. s.keys ≡ with_all [] (leading_ports clocks)) }
 {
-    let mut nets = IndexSet::new(alloc);
+    let mut nets = NetSet::with_hasher(alloc, hash);
     for port in 0..clocks + UNCLOCKED_COUNT {
-        let name = NetName(leading_port(clocks, port).to_vec(alloc)?);
+        let name = NetName(NameBytes::from_slice(alloc, leading_port(clocks, port))?);
         number(&mut nets, &name)?;
     }
     Ok(nets)

@@ -8,6 +8,7 @@ use crate::DeckFault;
 use crate::cards::{Card, Cards};
 use crate::subckt::Subckt;
 use deck::{Circuit, DeckKind};
+use dom_base::NameHash;
 use std::alloc::Global;
 
 /// The circuit of a deck, the text of one SPICE subcircuit of transistors, or the first line with a
@@ -18,6 +19,7 @@ pub fn read(alloc: Global, text: &[u8]) -> Result<Circuit, DeckFault>
     ensures circuit { IfOk result (λ circuit. IsDeckOf text.now circuit) }
     ensures fault { (line : ℕ) (kind : DeckKind) → IsErrOf result (DeckFault.At line kind) → IsDeckFaultAt text.now line kind }
 {
+    let hash = NameHash::of_text(text);
     let mut cards = Cards::new(alloc, text)?;
     let mut subckt = Subckt::Before;
     let mut card = Card {
@@ -25,7 +27,7 @@ pub fn read(alloc: Global, text: &[u8]) -> Result<Circuit, DeckFault>
         words: Vec::new(alloc),
     };
     'cards: while cards.next(alloc, &mut card)? {
-        subckt.push(alloc, &card)?;
+        subckt.push(alloc, hash, &card)?;
     }
     subckt.finish(cards)
 }

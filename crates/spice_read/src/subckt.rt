@@ -10,9 +10,8 @@ ghost use Rattle.spice_read.specs.declared.subckt.Subckt.TheVariants.{Open};
 use crate::DeckFault;
 use crate::cards::{Card, Cards, Form};
 use crate::words::net_name;
-use deck::{Circuit, DeckKind};
-use dom_base::{Kind, NetName, OutOfMemory};
-use indexmap::IndexSet;
+use deck::{Circuit, DeckKind, NetSet};
+use dom_base::{Kind, NameHash, NetName, OutOfMemory};
 use std::alloc::Global;
 use std::mem;
 
@@ -29,11 +28,11 @@ pub enum Subckt {
 }
 
 /// The words as nets, each once, in order of first appearance.
-fn nets_of(alloc: Global, words: &[&[u8]]) -> Result<IndexSet<NetName>, OutOfMemory>
+fn nets_of(alloc: Global, hash: NameHash, words: &[&[u8]]) -> Result<NetSet, OutOfMemory>
     requires { All (λ w. IsNetName (str_to_ascii_lowercase w.now)) words.now }
     ensures { IfOk result (λ nets. nets.keys ≡ with_all [] (map (λ w. str_to_ascii_lowercase w.now) words.now)) }
 {
-    let mut nets = IndexSet::new(alloc);
+    let mut nets = NetSet::with_hasher(alloc, hash);
     for word in words {
         nets.insert(net_name(alloc, word)?)?;
     }
@@ -41,12 +40,12 @@ fn nets_of(alloc: Global, words: &[&[u8]]) -> Result<IndexSet<NetName>, OutOfMem
 }
 
 /// The circuit that a `.subckt` opens: its ports are its nets, and it has no devices.
-fn open(alloc: Global, card: &Card<'_>) -> Result<Circuit, DeckFault>
+fn open(alloc: Global, hash: NameHash, card: &Card<'_>) -> Result<Circuit, DeckFault>
     requires { HasNames 1 card.now }
     ensures circuit { IfOk result (λ c. (ports_fault card.now ≡ None) × (c ≡ opened card.now)) }
     ensures fault { AnswersFault result card.now.number (ports_fault card.now) }
 {
-    let nets = nets_of(alloc, card.ports())?;
+    let nets = nets_of(alloc, hash, card.ports())?;
     if nets.len() < card.ports().len() {
         return Err(card.fault(DeckKind::DuplicatePort));
     }
@@ -82,7 +81,7 @@ fn push_device(
 
 impl Subckt {
     /// Reads a card, or says why it can't be read.
-    pub fn push(&mut self, alloc: Global, card: &Card<'_>) -> Result<(), DeckFault>
+    pub fn push(&mut self, alloc: Global, hash: NameHash, card: &Card<'_>) -> Result<(), DeckFault>
         requires { IsWordedCard card.now }
         ensures clean { OnOk result (fault_in self.old card.now ≡ None) }
         ensures after { OnOk result (self.new ≡ subckt_after self.old card.now) }
@@ -90,7 +89,7 @@ impl Subckt {
     {
         match card.form() {
             Ok(Form::Device(kind)) => self.push_device(alloc, kind, card),
-            Ok(Form::Subckt) => self.open(alloc, card),
+            Ok(Form::Subckt) => self.open(alloc, hash, card),
             Ok(Form::Ends) => self.close(card),
             Ok(Form::Skipped) => Ok(()),
             Err(kind) => Err(card.fault(kind)),
@@ -113,7 +112,7 @@ impl Subckt {
         Ok(())
     }
 
-    fn open(&mut self, alloc: Global, card: &Card<'_>) -> Result<(), DeckFault>
+    fn open(&mut self, alloc: Global, hash: NameHash, card: &Card<'_>) -> Result<(), DeckFault>
         requires { HasNames 1 card.now }
         ensures clean { OnOk result (opening_fault self.old card.now ≡ None) }
         ensures after { OnOk result (self.new ≡ Open (opened card.now)) }
@@ -121,7 +120,7 @@ impl Subckt {
     {
         match self {
             Subckt::Before => {
-                *self = Subckt::Open(open(alloc, card)?);
+                *self = Subckt::Open(open(alloc, hash, card)?);
                 Ok(())
             }
             Subckt::Open(_) | Subckt::Closed(_) => Err(card.fault(DeckKind::SecondSubckt)),

@@ -10,7 +10,7 @@ ghost use Rattle.spice_read.specs.Readers.{begins_phase, sign_given};
 
 use crate::lines::{front_word, same_letters, unindent};
 use deck::Phase;
-use dom_base::{NetName, OutOfMemory, cut_words, has_control};
+use dom_base::{NetName, OutOfMemory, cut_words, has_control, name_in_lower_case};
 use std::alloc::Global;
 
 /// Appends the words of a line, which blanks and tabs part.
@@ -32,8 +32,7 @@ pub fn net_name(alloc: Global, word: &[u8]) -> Result<NetName, OutOfMemory>
     requires { IsNetName (str_to_ascii_lowercase word.now) }
     ensures { IfOk result (λ name. name ≡ str_to_ascii_lowercase word.now) }
 {
-    let bytes = word.to_ascii_lowercase(alloc)?;
-    Ok(NetName(bytes))
+    Ok(NetName(name_in_lower_case(alloc, word)?))
 }
 
 /// Whether the sign is `+`, where it is `+` or `-`.
