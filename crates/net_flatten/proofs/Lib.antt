@@ -62,6 +62,7 @@ pub mod Pairs
 pub mod PairsApart
 pub mod PathSums
 pub mod Permuted
+pub mod PlacedNames
 pub mod Ranges
 pub mod Recursions
 pub mod Renumbering

@@ -40,17 +40,17 @@ fn main_name(file: &BlifFile) -> Result<Name, OutOfMemory>
 }
 
 /// The network of a good file that has nothing to be refused for, from its numbers and the levels of
-/// its signals. The one error is want of memory.
+/// its signals, which it lets go of. The one error is want of memory.
 pub fn network_of(
     alloc: Global,
     file: &BlifFile,
     numbered: &NumberedFile<'_>,
-    levels: &[usize],
+    levels: Vec<usize>,
 ) -> Result<Network, OutOfMemory>
     requires good { IsGoodFile file.now }
     requires numbers { HasNumbers file.now numbered.now }
     requires accepted { (r : Refusal) → HasRefusal file.now r → ⊥ }
-    requires levels { AreTableLevels numbered.now.signals numbered.now.parts levels.now }
+    requires levels { AreTableLevels numbered.now.signals numbered.now.parts levels.items }
     ensures { IfOk result (IsNetworkOf file.now) }
 {
     let parts = numbered.parts();
@@ -61,9 +61,11 @@ pub fn network_of(
     add_states(&mut numbers, parts)?;
     add_outputs(&mut numbers, parts, &ordered)?;
     let places = renumber(alloc, numbered.signals, &numbers)?;
+    let names = names_of_network(alloc, numbered.names(), &numbers)?;
+    drop(numbers);
     Ok(Network {
         name: main_name(file)?,
-        names: names_of_network(alloc, numbered.names(), &numbers)?,
+        names,
         inputs,
         outputs: places_of(alloc, &places, numbered.outputs())?,
         latches: net_latches(alloc, file, parts, &places)?,

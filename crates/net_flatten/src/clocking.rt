@@ -103,7 +103,7 @@ fn has_number(part: &NumberedPart, number: u32) -> bool
     ensures at { result ≡ true → IsAtNumber number [] part.now }
     ensures not_at { result ≡ false → IsAtNumber number [] part.now → ⊥ }
 {
-    part.drives == number || part.reads.contains(&number)
+    part.drives == number || part.reads.as_slice().contains(&number)
 }
 
 /// The index of the first part that reads or drives the signal of a number.

@@ -66,7 +66,7 @@ pub fn find_read_outside(set: &NumberSet, parts: &[NumberedPart]) -> Option<Read
 {
     for index in 0..parts.len() {
         let part = &parts[index];
-        if let Some(read) = find_outside(set, &part.reads) {
+        if let Some(read) = find_outside(set, part.reads.as_slice()) {
             return Some(ReadAt { part: index, read });
         }
     }

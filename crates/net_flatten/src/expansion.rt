@@ -16,7 +16,7 @@ ghost use Rattle.net_flatten.specs.declared.fault.FlatKind.TheVariants.{Recursio
 
 use crate::models::{ModelCalls, plan_all};
 use crate::name_table::NameTable;
-use crate::numbered::{NumberedFile, NumberedPart, PartCard};
+use crate::numbered::{NumberedFile, NumberedPart, PartCard, Reads};
 use crate::plan::Plan;
 use crate::signals::{SignalNumbers, number_signals};
 use crate::walk::{ScopedPart, expand};
@@ -24,39 +24,66 @@ use blif_ast::{BlifFile, BlifModel, Latch, Table};
 use dom_base::{Name, OutOfMemory};
 use std::alloc::Global;
 
-/// The numbers of the signals of these names in a scope.
+/// The numbers of the signals of these names in a scope, which stand on the cards of its model behind so many names.
 fn number_names(
     alloc: Global,
     numbers: &SignalNumbers<'_>,
     scope: usize,
     model: u32,
     names: &[Name],
+    start: usize,
 ) -> Result<Vec<u32>, OutOfMemory>
     requires there { AllByRecursion (HasSignalNumber numbers.now scope model) names.now }
     ensures { IfOk result (λ all. all.items ≡ map (signal_number numbers.now scope model) names.now) }
 {
     let mut all = Vec::with_capacity(alloc, names.len())?;
+    let mut before = start;
     for name in names {
-        all.push(numbers.number(scope, model, name))?;
+        all.push(numbers.number_at(scope, model, name, before))?;
+        before = before.saturating_add(1);
     }
     Ok(all)
+}
+
+/// The numbers of the signals of the names that a table reads, which stand on the cards of its model behind so many names.
+fn number_reads(
+    alloc: Global,
+    numbers: &SignalNumbers<'_>,
+    scope: usize,
+    model: u32,
+    names: &[Name],
+    start: usize,
+) -> Result<Reads, OutOfMemory>
+    requires there { AllByRecursion (HasSignalNumber numbers.now scope model) names.now }
+    ensures { IfOk result (λ reads. reads.items ≡ map (signal_number numbers.now scope model) names.now) }
+{
+    let mut reads = Reads::with_capacity(alloc, names.len())?;
+    let mut before = start;
+    for name in names {
+        reads.push(numbers.number_at(scope, model, name, before))?;
+        before = before.saturating_add(1);
+    }
+    Ok(reads)
 }
 
 fn number_table(
     alloc: Global,
     numbers: &SignalNumbers<'_>,
     part: ScopedPart,
+    index: u32,
     table: &Table,
 ) -> Result<NumberedPart, OutOfMemory>
     requires inputs { AllByRecursion (HasSignalNumber numbers.now part.scope part.model) table.now.inputs }
     requires output { HasSignalNumber numbers.now part.scope part.model table.now.output }
     ensures { IfOk result (λ numbered. numbered ≡ table_by_numbers numbers.now part table.now) }
 {
+    let start = numbers.start(part.model, index);
+    let end = start.saturating_add(table.inputs.len());
     Ok(NumberedPart {
         model: part.model,
         card: part.card,
-        reads: number_names(alloc, numbers, part.scope, part.model, &table.inputs)?,
-        drives: numbers.number(part.scope, part.model, &table.output),
+        reads: number_reads(alloc, numbers, part.scope, part.model, &table.inputs, start)?,
+        drives: numbers.number_at(part.scope, part.model, &table.output, end),
         control: None,
     })
 }
@@ -82,7 +109,7 @@ fn number_latch(
     requires control { IfSome (control_name latch.now) (HasSignalNumber numbers.now part.scope part.model) }
     ensures { IfOk result (λ numbered. numbered ≡ latch_by_numbers numbers.now part latch.now) }
 {
-    let mut reads = Vec::with_capacity(alloc, 1)?;
+    let mut reads = Reads::new(alloc);
     reads.push(numbers.number(part.scope, part.model, &latch.input))?;
     Ok(NumberedPart {
         model: part.model,
@@ -123,7 +150,7 @@ fn number_part(
     match part.card {
         PartCard::Table(index) => {
             let table = table_at(file, part.model, index);
-            number_table(alloc, numbers, part, table)
+            number_table(alloc, numbers, part, index, table)
         }
         PartCard::Latch(index) => {
             let latch = latch_at(file, part.model, index);
@@ -180,8 +207,8 @@ pub fn number_file<'a>(
         signals: numbers.count(),
         names: numbers.model_names(0).names(alloc)?,
         parts: number_parts(alloc, file, &numbers, &expansion.parts)?,
-        inputs: number_names(alloc, &numbers, 0, 0, &main.inputs)?,
-        outputs: number_names(alloc, &numbers, 0, 0, &main.outputs)?,
+        inputs: number_names(alloc, &numbers, 0, 0, &main.inputs, 0)?,
+        outputs: number_names(alloc, &numbers, 0, 0, &main.outputs, main.inputs.len())?,
     })
 }
 

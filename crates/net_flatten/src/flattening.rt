@@ -36,5 +36,5 @@ pub fn flatten(alloc: Global, file: &BlifFile) -> Result<Network, FlatFault>
     let numbered = number_planned_file(alloc, file, &calls, names)?;
     drop(calls);
     let levels = check_signals(alloc, file, &numbered)?;
-    Ok(network_of(alloc, file, &numbered, &levels)?)
+    Ok(network_of(alloc, file, &numbered, levels)?)
 }

@@ -9,6 +9,7 @@ ghost use Rattle.net_flatten.specs.ModelFaults.{IsBadFormal, IsDuplicateModel, f
 ghost use Rattle.net_flatten.specs.Reports.{IsReport, NoneHolds};
 ghost use Rattle.net_flatten.specs.Scans.{AreFirsts, IsScan};
 
+use crate::name_hashes::{hash_of_formals, hash_of_lists};
 use crate::names::Names;
 use crate::report::Report;
 use crate::scan::Scan;
@@ -74,7 +75,8 @@ fn has_few_ports(unit: &BlifModel) -> bool {
 fn ports<'a>(alloc: Global, model: &'a BlifModel) -> Result<Names<'a>, OutOfMemory>
     ensures { IfOk result (AreFirsts (names_of_ports model.now)) }
 {
-    let mut names = Names::new(alloc);
+    let hash = hash_of_lists(alloc, model.inputs.as_slice(), model.outputs.as_slice())?;
+    let mut names = Names::new(alloc, hash);
     add_all(&mut names, &model.inputs)?;
     add_all(&mut names, &model.outputs)?;
     Ok(names)
@@ -131,7 +133,8 @@ fn bad_in_instance(
     requires ports { IsPortTable unit.now (option_copied table) }
     ensures { IfOk result (IsReport IsBadFormal (formals_with instance.now unit.now) line_of_formal name_of_formal) }
 {
-    let mut scan = Scan::with_room(alloc, instance.bindings.len())?;
+    let hash = hash_of_formals(alloc, instance.bindings.as_slice())?;
+    let mut scan = Scan::with_room(alloc, hash, instance.bindings.len())?;
     scan_bindings(&mut scan, &instance.bindings, unit, table)?;
     if let Some(report) = scan.report(instance.line)? {
         return Ok(Some(report));

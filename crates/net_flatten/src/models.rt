@@ -15,6 +15,7 @@ use crate::calls::{CallGraph, call_graph, name_models};
 use crate::fault::{FlatFault, FlatKind};
 use crate::formals::bad_formal;
 use crate::lined::plan_model;
+use crate::name_hashes::hash_of_models;
 use crate::names::Names;
 use crate::plan::Plan;
 use crate::ports::duplicate_port;
@@ -85,7 +86,8 @@ pub fn find_plans(alloc: Global, models: &[BlifModel]) -> Result<Planning, OutOf
     if MOST <= models.len() {
         return Err(OutOfMemory);
     }
-    let mut names = Names::with_room(alloc, models.len())?;
+    let hash = hash_of_models(alloc, models)?;
+    let mut names = Names::with_room(alloc, hash, models.len())?;
     if let Some(report) = name_models(&mut names, models)? {
         return Ok(Planning::Refused(FlatKind::DuplicateModel, report));
     }

@@ -1,21 +1,30 @@
 //! The names of a model by numbers.
-ghost use Rattle.std.specs.Prelude.{◌≡◌, ◌<◌, ◌-◌, ◌++◌, ◌∷◌, IfOk, [], OnOk, Some, length, map, position, reverse, slice_get};
+ghost use Rattle.std.specs.Prelude.{◌≡◌, ◌<◌, ◌-◌, ◌++◌, ◌∷◌, IfOk, [], OnOk, Some, length, map, position, reverse, slice_get, true};
 ghost use Rattle.std.specs.List.{flat_map};
 ghost use Rattle.std.specs.Set.{unique_keys};
 ghost use Rattle.blif_ast.specs.Cards.{same};
 ghost use Rattle.indexmap.specs.IndexSet.{insert_key};
 ghost use Rattle.net_flatten.specs.Occurrences.{actuals_of, names_of, names_of_latch, names_of_table, signal_of_control};
 
+use crate::name_hashes::hash_of_names;
 use blif_ast::{BlifModel, Instance, Latch, Table};
-use dom_base::{Name, OutOfMemory};
+use dom_base::{Name, NameHash, OutOfMemory};
 use indexmap::IndexSet;
 use std::alloc::Global;
 use std::marker::Model;
 
-/// The names that occur in a model, each once: the index of a name is its number there.
+/// From how many tables on a model keeps where the names on its cards were found.
+const MANY: usize = 64;
+
+/// The names that occur in a model, each once: the index of a name is its number there. Of a model of many tables
+/// `found` has for each name on its cards, the last one first, how many of `names` stood before it when it was gathered,
+/// and `starts` for each table how many names stand on the cards before it. So a name on a card is found without a search:
+/// it is compared with the one that was found there.
 #[derive(Drop)]
 pub struct NameTable<'a> {
-    pub names: IndexSet<&'a Name>,
+    pub names: IndexSet<&'a Name, NameHash>,
+    pub found: Vec<usize>,
+    pub starts: Vec<usize>,
 }
 
 impl<'a> Model for NameTable<'a> {
@@ -50,11 +59,15 @@ impl<'a> NameTable<'a> {
     {
         let all = all_names(alloc, model)?;
         let ports = model.inputs.len() / 2 + model.outputs.len() / 2;
+        let hash = hash_of_names(alloc, all.as_slice())?;
         let mut table = NameTable {
-            names: IndexSet::with_capacity(alloc, all.len() / 2 + ports)?,
+            names: IndexSet::with_capacity_and_hasher(alloc, all.len() / 2 + ports, hash)?,
+            found: Vec::new(alloc),
+            starts: starts_of(alloc, model)?,
         };
         for index in 0..all.len() {
-            table.insert(from_last(&all, index))?;
+            let number = table.insert(from_last(&all, index))?;
+            table.keep(number)?;
         }
         Ok(table)
     }
@@ -65,11 +78,21 @@ impl<'a> NameTable<'a> {
         self.names.reverse();
     }
 
-    /// Adds a name, unless it is there.
-    fn insert(&mut self, name: &'a Name) -> Result<(), OutOfMemory>
+    /// Adds a name, unless it is there. It gives its index.
+    fn insert(&mut self, name: &'a Name) -> Result<usize, OutOfMemory>
         ensures { OnOk result (self.new ≡ insert_key same self.old name.now) }
     {
-        self.names.insert(name)?;
+        let (index, _) = self.names.insert_full(name)?;
+        Ok(index)
+    }
+
+    /// Keeps where a name was found, in a model of many tables.
+    fn keep(&mut self, index: usize) -> Result<(), OutOfMemory>
+        ensures { OnOk result (self.new ≡ self.old) }
+    {
+        if !self.starts.is_empty() {
+            self.found.push(index)?;
+        }
         Ok(())
     }
 
@@ -104,6 +127,61 @@ impl<'a> NameTable<'a> {
     {
         self.names.get_index_of(&name)
     }
+
+    /// The number of a name of the model, which stands on its cards behind so many names.
+    pub fn number_at(&self, name: &Name, before: usize) -> Option<usize>
+        ensures { result ≡ position (same name.now) self.now }
+    {
+        if let Some(index) = self.guess(before) {
+            if self.is_at(index, name) {
+                return Some(index);
+            }
+        }
+        self.number(name)
+    }
+
+    /// The number of the name that stands on the cards behind so many names, if that was kept.
+    fn guess(&self, before: usize) -> Option<usize> {
+        let back = self.found.len().saturating_sub(before).saturating_sub(1);
+        let found = self.found.get(back).copied()?;
+        Some(self.len().saturating_sub(found).saturating_sub(1))
+    }
+
+    /// Whether a name has this number.
+    fn is_at(&self, index: usize, name: &Name) -> bool
+        ensures { result ≡ true → position (same name.now) self.now ≡ Some index }
+    {
+        match self.names.as_slice().get(index) {
+            Some(known) => are_same(name, known),
+            None => false,
+        }
+    }
+
+    /// How many names stand on the cards before this table, if that was kept.
+    pub fn start(&self, table: u32) -> usize {
+        self.starts.get(table as usize).copied().unwrap_or(0)
+    }
+}
+
+/// Whether two names are the same.
+fn are_same(name: &Name, other: &Name) -> bool
+    ensures { result ≡ same name.now other.now }
+{
+    name.as_bytes() == other.as_bytes()
+}
+
+/// How many names stand on the cards of a model before each of its tables, where these are many.
+fn starts_of(alloc: Global, model: &BlifModel) -> Result<Vec<usize>, OutOfMemory> {
+    if model.tables.len() < MANY {
+        return Ok(Vec::new(alloc));
+    }
+    let mut starts = Vec::with_capacity(alloc, model.tables.len())?;
+    let mut start = model.inputs.len().saturating_add(model.outputs.len());
+    for table in &model.tables {
+        starts.push(start)?;
+        start = start.saturating_add(table.inputs.len()).saturating_add(1);
+    }
+    Ok(starts)
 }
 
 /// The name at this index from the last one on.

@@ -2,7 +2,7 @@
 ghost use Rattle.std.specs.Prelude.{◌≡◌, IfOk, MatchOption, Contains, Some, slice_get, [], option_copied, IsTrue, ◌↔◌};
 ghost use Rattle.net_flatten.specs.NameNumbers.{IsNameAdded};
 
-use dom_base::{Name, OutOfMemory};
+use dom_base::{Name, NameHash, OutOfMemory};
 use indexmap::IndexSet;
 use std::alloc::Global;
 use std::marker::Model;
@@ -10,7 +10,7 @@ use std::marker::Model;
 /// Names that differ, in the order in which they were added: a name's number is its index.
 #[derive(Drop)]
 pub struct Names<'a> {
-    pub set: IndexSet<&'a Name>,
+    pub set: IndexSet<&'a Name, NameHash>,
 }
 
 impl<'a> Model for Names<'a> {
@@ -22,21 +22,21 @@ impl<'a> Model for Names<'a> {
 }
 
 impl<'a> Names<'a> {
-    /// No names.
-    pub fn new(alloc: Global) -> Names<'a>
+    /// No names, which are hashed so.
+    pub fn new(alloc: Global, hash: NameHash) -> Names<'a>
         ensures { result ≡ [] }
     {
         Names {
-            set: IndexSet::new(alloc),
+            set: IndexSet::with_hasher(alloc, hash),
         }
     }
 
-    /// No names, with room for so many. It fails only for want of memory.
-    pub fn with_room(alloc: Global, count: usize) -> Result<Names<'a>, OutOfMemory>
+    /// No names, which are hashed so, with room for so many. It fails only for want of memory.
+    pub fn with_room(alloc: Global, hash: NameHash, count: usize) -> Result<Names<'a>, OutOfMemory>
         ensures { IfOk result (λ names. names ≡ []) }
     {
         Ok(Names {
-            set: IndexSet::with_capacity(alloc, count)?,
+            set: IndexSet::with_capacity_and_hasher(alloc, count, hash)?,
         })
     }
 

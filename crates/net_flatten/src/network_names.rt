@@ -6,7 +6,7 @@ ghost use Rattle.std.specs.List.{list_all};
 ghost use Rattle.net_flatten.specs.NetworkNames.{AreNetworkNames, MarksTaken, network_name};
 ghost use Rattle.net_flatten.specs.Numbering.{IsLeastPrefixAmong, IsPrefixedNumber, letters_w};
 
-use dom_base::{Name, OutOfMemory, append_number};
+use dom_base::{Name, NameBytes, OutOfMemory, append_number_to_name};
 use std::alloc::Global;
 
 /// The place of the first byte that is no `w`.
@@ -93,8 +93,8 @@ pub fn least_prefix(alloc: Global, names: &[&Name]) -> Result<usize, OutOfMemory
 fn prefixed_number(alloc: Global, width: usize, number: usize) -> Result<Name, OutOfMemory>
     ensures { IfOk result (λ name. name ≡ letters_w width ++ decimal number) }
 {
-    let mut bytes = vec![in alloc; b'w'; width]?;
-    append_number(&mut bytes, number as u64)?;
+    let mut bytes = NameBytes::from_elem(alloc, b'w', width)?;
+    append_number_to_name(&mut bytes, number as u64)?;
     Ok(Name(bytes))
 }
 

@@ -58,7 +58,7 @@ fn net_latch(file: &BlifFile, part: &NumberedPart, places: &[u32]) -> NetLatch
         unreachable!()
     };
     NetLatch {
-        input: places[part.reads[0] as usize],
+        input: places[part.reads.as_slice()[0] as usize],
         init: latch_at(file, part.model, index).init == 1,
     }
 }

@@ -2,7 +2,11 @@
 ghost use Rattle.std.specs.Prelude.{◌≡◌, map};
 
 use dom_base::Name;
+use smallvec::SmallVec;
 use std::marker::Model;
+
+/// The numbers of the signals that a part reads. The part itself has room for 4; more stand in an allocation.
+pub type Reads = SmallVec<u32, 4>;
 
 /// Which card of its model a part is: the index of its table or of its latch there.
 #[derive(Clone, Copy)]
@@ -18,7 +22,7 @@ pub enum PartCard {
 pub struct NumberedPart {
     pub model: u32,
     pub card: PartCard,
-    pub reads: Vec<u32>,
+    pub reads: Reads,
     pub drives: u32,
     pub control: Option<u32>,
 }

@@ -4,6 +4,7 @@ ghost use Rattle.std.specs.List.{flat_map};
 ghost use Rattle.net_flatten.specs.ModelFaults.{IsDuplicatePort, ports_in, ports_of_model};
 ghost use Rattle.net_flatten.specs.Reports.{IsReport};
 
+use crate::name_hashes::hash_of_lists;
 use crate::report::Report;
 use crate::scan::Scan;
 use blif_ast::BlifModel;
@@ -41,7 +42,8 @@ fn duplicate_in_list(
     if names.len() < 2 {
         return Ok(None);
     }
-    let mut scan = Scan::with_room(alloc, names.len())?;
+    let hash = hash_of_lists(alloc, names, &[])?;
+    let mut scan = Scan::with_room(alloc, hash, names.len())?;
     for name in names {
         scan.look(name, true)?;
     }

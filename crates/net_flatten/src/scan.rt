@@ -4,7 +4,7 @@ ghost use Rattle.net_flatten.specs.Scans.{IsLooked, IsWrongReport, least_with, w
 
 use crate::names::Names;
 use crate::report::Report;
-use dom_base::{Name, OutOfMemory};
+use dom_base::{Name, NameHash, OutOfMemory};
 use std::alloc::Global;
 use std::marker::Model;
 
@@ -25,13 +25,13 @@ impl<'a> Model for Scan<'a> {
 }
 
 impl<'a> Scan<'a> {
-    /// No name was looked at, and there is room for so many that differ. It fails only for want of memory.
-    pub fn with_room(alloc: Global, count: usize) -> Result<Scan<'a>, OutOfMemory>
+    /// No name was looked at, and there is room for so many that differ, which are hashed so. It fails only for want of memory.
+    pub fn with_room(alloc: Global, hash: NameHash, count: usize) -> Result<Scan<'a>, OutOfMemory>
         ensures names { IfOk result (λ scan. scan.names ≡ []) }
         ensures least { IfOk result (λ scan. scan.least ≡ None) }
     {
         Ok(Scan {
-            names: Names::with_room(alloc, count)?,
+            names: Names::with_room(alloc, hash, count)?,
             least: None,
         })
     }

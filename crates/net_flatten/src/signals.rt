@@ -45,6 +45,23 @@ impl<'a> SignalNumbers<'a> {
         self.roots[self.starts[scope] + index]
     }
 
+    /// The same for a name that stands on the cards of the model behind so many names.
+    pub fn number_at(&self, scope: usize, model: u32, name: &Name, before: usize) -> u32
+        requires there { HasSignalNumber self.now scope model name.now }
+        ensures { result ≡ signal_number self.now scope model name.now }
+    {
+        let table = &self.names[model as usize];
+        let index = table.number_at(name, before).unwrap();
+        self.roots[self.starts[scope] + index]
+    }
+
+    /// How many names stand on the cards of a model before a table, if that was kept.
+    pub fn start(&self, model: u32, table: u32) -> usize
+        requires { model < length self.now.names }
+    {
+        self.names[model as usize].start(table)
+    }
+
     /// How many numbers there are.
     pub fn count(&self) -> u32
         requires few { length self.now.roots ≤ most_signals }

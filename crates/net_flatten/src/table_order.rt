@@ -27,7 +27,7 @@ fn levelled_tables(
     requires within { All (IsPartWithin (length levels.now)) parts.now }
     ensures { IfOk result (λ tables. AreLevelledTables levels.now parts.now (tables_among parts.now) tables.items) }
 {
-    let mut tables = Vec::new(alloc);
+    let mut tables = Vec::with_capacity(alloc, parts.len())?;
     for index in 0..parts.len() {
         let part = &parts[index];
         if let PartCard::Table(_) = part.card {
@@ -50,18 +50,18 @@ fn sort_by_level(tables: &mut Vec<LevelledTable>) -> Result<(), OutOfMemory>
     Ok(())
 }
 
-/// The tables among the parts in order of their levels, and within a level in the order of the parts.
-/// The one error is want of memory.
+/// The tables among the parts in order of their levels, and within a level in the order of the parts. It lets go of
+/// the levels. The one error is want of memory.
 pub fn tables_by_level(
     alloc: Global,
     parts: &[NumberedPart],
-    levels: &[usize],
+    levels: Vec<usize>,
 ) -> Result<Vec<LevelledTable>, OutOfMemory>
-    requires within { All (IsPartWithin (length levels.now)) parts.now }
+    requires within { All (IsPartWithin (length levels.items)) parts.now }
     ensures { IfOk result (λ tables. map (λ (t : LevelledTable). slice_get parts.now t.part) tables.items
-        ≡ map Some (in_order (λ p. level_at levels.now p.drives) (tables_among parts.now))) }
+        ≡ map Some (in_order (λ p. level_at levels.items p.drives) (tables_among parts.now))) }
 {
-    let mut tables = levelled_tables(alloc, parts, levels)?;
+    let mut tables = levelled_tables(alloc, parts, levels.as_slice())?;
     sort_by_level(&mut tables)?;
     Ok(tables)
 }

@@ -81,7 +81,7 @@ invariant_of-result c =
     (c.in_ok-add_outputs.ensures {u = tt}) in
     let network : NetworkData = record {
       name = c.in_ok-main_name.field-0;
-      names = c.in_ok-names_of_network.field-0.items;
+      names = c.in_ok-names.names.items;
       inputs = c.len-inputs.result;
       outputs = c.in_ok-places_of.field-0.items;
       latches = c.in_ok-net_latches.field-0.items;
@@ -95,7 +95,7 @@ invariant_of-result c =
       name_is = c.in_ok-main_name.ensures;
       names_are = subst (λ l. AreNetworkNames l c.deref-2.result.now network.names) c.names.ensures
           (subst (λ l. AreNetworkNames (map (λ k. k.now) c.names.result.now) l network.names) (c.deref-3.ensures.value ∙ sym c.deref-2.ensures.value)
-          c.in_ok-names_of_network.ensures);
+          c.in_ok-names.ensures);
       inputs_are = count ∙ ap length pins;
       outputs_are = c.in_ok-places_of.ensures ∙ ap (λ l. map (network_place l) c.outputs.result.now) c.deref-4.ensures.value;
       latches_are = c.in_ok-net_latches.ensures
@@ -118,7 +118,7 @@ returns c =
     (c.in_ok-add_outputs.ensures {u = tt}) in
     let network : NetworkData = record {
       name = c.in_ok-main_name.field-0;
-      names = c.in_ok-names_of_network.field-0.items;
+      names = c.in_ok-names.names.items;
       inputs = c.len-inputs.result;
       outputs = c.in_ok-places_of.field-0.items;
       latches = c.in_ok-net_latches.field-0.items;
@@ -132,7 +132,7 @@ returns c =
       name_is = c.in_ok-main_name.ensures;
       names_are = subst (λ l. AreNetworkNames l c.deref-2.result.now network.names) c.names.ensures
           (subst (λ l. AreNetworkNames (map (λ k. k.now) c.names.result.now) l network.names) (c.deref-3.ensures.value ∙ sym c.deref-2.ensures.value)
-          c.in_ok-names_of_network.ensures);
+          c.in_ok-names.ensures);
       inputs_are = count ∙ ap length pins;
       outputs_are = c.in_ok-places_of.ensures ∙ ap (λ l. map (network_place l) c.outputs.result.now) c.deref-4.ensures.value;
       latches_are = c.in_ok-net_latches.ensures

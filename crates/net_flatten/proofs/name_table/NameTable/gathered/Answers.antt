@@ -18,7 +18,7 @@ within_back g ys xs index e l = omega (arith, l, ap length e, length-map ys g)
 pub loop-index-preserved : goal.loop-index-preserved
 loop-index-preserved c =
     let all = ap (map (λ r. r.now)) c.deref.ensures.value ∙ c.in_ok-all.ensures {u = tt} in
-    c.in_ok-insert.ensures {u = tt}
+    c.in_ok-keep.ensures {u = tt} ∙ c.in_ok-number.ensures {u = tt}
     ∙ ap (λ t. insert_key same t c.from_last.result.now) c.loop-index.invariant
     ∙ insert_back (names_of c.args.model.now) c.loop-index.index c.from_last.result.now
     (within_back (λ r. r.now) c.deref.result.now (names_of c.args.model.now) c.loop-index.index all (omega (arith, c.loop-index-test.true, c.len-index-end.ensures, c.deref.ensures.len)))

@@ -5,6 +5,6 @@ use Rattle.net_flatten.proofs.NameNumbers.{inserted}
 use Rattle.net_flatten.proofs.name_table.NameTable.insert.Goals as goal
 
 pub returns : goal.returns
-returns c = ap (map (λ k. k.now)) c.in_ok-insert.ensures.keys
+returns c = ap (map (λ k. k.now)) c.in_ok-index.ensures.keys
     ∙ inserted (λ k. k.now) c.args.name.now c.self.inside.names.keys c.args.name refl
     ∙ ap (λ keys. insert_key same keys c.args.name.now) c.self.view_is
