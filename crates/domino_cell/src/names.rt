@@ -1,14 +1,11 @@
 //! Names of the nets of a cell.
-ghost use Rattle.std.specs.Prelude.{◌≡◌, ◌++◌, All, IfOk, codes};
+ghost use Rattle.std.specs.Prelude.{◌≡◌, ◌++◌, All, IfOk, OnOk, codes};
 ghost use Rattle.std.specs.Fmt.{decimal};
 ghost use Rattle.dom_base.specs.Names.{IsNetByte, IsNetName};
 ghost use Rattle.domino_cell.specs.HeldNames.{AreNamesOfCell, AreNamesOfGate};
 
-use dom_base::{NetName, OutOfMemory, append, append_number};
+use dom_base::{NameBytes, NetName, OutOfMemory, append_number_to_name, append_to_name};
 use std::alloc::Global;
-
-/// How many decimal digits a number has at most that names have.
-const MOST_DIGITS: usize = 10;
 
 /// The nets of a domino cell, and how its inner nets begin.
 #[derive(Drop)]
@@ -39,23 +36,22 @@ impl CellNames {
         })
     }
 
-    /// The nets of cell `k` on the clock of this number, with the supplies of this other cell, in the room of
-    /// its names.
-    pub fn next(self, clock: u8, k: u32) -> Result<CellNames, OutOfMemory>
-        requires vdd { self.vdd ≡ codes "vdd" }
-        requires vss { self.vss ≡ codes "vss" }
-        ensures { IfOk result (AreNamesOfCell clock k) }
+    /// Renames the nets to those of cell `k` on the clock of this number, with the same supplies. After a refusal
+    /// some may have their new names.
+    pub fn renumber(&mut self, alloc: Global, clock: u8, k: u32) -> Result<(), OutOfMemory>
+        requires vdd { self.old.vdd ≡ codes "vdd" }
+        requires vss { self.old.vss ≡ codes "vss" }
+        ensures { OnOk result (AreNamesOfCell clock k self.new) }
     {
-        let tree = renumbered(self.front, b"t", k)?;
-        Ok(CellNames {
-            vdd: self.vdd,
-            vss: self.vss,
-            clock: renumbered(self.clock, b"ck", u32::from(clock))?,
-            dynamic: renumbered(self.dynamic, b"d", k)?,
-            output: renumbered(self.output, b"z", k)?,
-            foot: renumbered(self.foot, b"f", k)?,
-            front: longer_name(tree, b"_")?,
-        })
+        let number = number_bytes(alloc, k)?;
+        let digits = number.as_slice();
+        self.clock = numbered_name(alloc, b"ck", u32::from(clock))?;
+        self.dynamic = joined_name(alloc, b"d", digits)?;
+        self.output = joined_name(alloc, b"z", digits)?;
+        self.foot = joined_name(alloc, b"f", digits)?;
+        let tree = joined_name(alloc, b"t", digits)?;
+        self.front = longer_name(tree, b"_")?;
+        Ok(())
     }
 }
 
@@ -88,9 +84,9 @@ pub fn numbered_name(alloc: Global, front: &[u8], number: u32) -> Result<NetName
     requires { All IsNetByte front.now }
     ensures { IfOk result (λ name. name ≡ front.now ++ decimal number) }
 {
-    let mut bytes = Vec::with_capacity(alloc, front.len().saturating_add(MOST_DIGITS))?;
-    append(&mut bytes, front)?;
-    append_number(&mut bytes, u64::from(number))?;
+    let mut bytes = NameBytes::new(alloc);
+    append_to_name(&mut bytes, front)?;
+    append_number_to_name(&mut bytes, u64::from(number))?;
     Ok(NetName(bytes))
 }
 
@@ -101,23 +97,21 @@ fn joined_name(alloc: Global, front: &[u8], rest: &[u8]) -> Result<NetName, OutO
     requires rest { All IsNetByte rest.now }
     ensures { IfOk result (λ name. name ≡ front.now ++ rest.now) }
 {
-    let mut bytes = Vec::with_capacity(alloc, front.len().saturating_add(rest.len()))?;
-    append(&mut bytes, front)?;
-    append(&mut bytes, rest)?;
+    let mut bytes = NameBytes::new(alloc);
+    append_to_name(&mut bytes, front)?;
+    append_to_name(&mut bytes, rest)?;
     Ok(NetName(bytes))
 }
 
-/// The name of a front and a number in decimal digits, in the room of another name.
+/// The decimal digits of a number, which may stand in a name.
 #[tactic(auto, using(crate::proofs::NetNames::joined_names))]
-fn renumbered(name: NetName, front: &[u8], number: u32) -> Result<NetName, OutOfMemory>
-    requires { All IsNetByte front.now }
-    ensures { IfOk result (λ name. name ≡ front.now ++ decimal number) }
+fn number_bytes(alloc: Global, number: u32) -> Result<NameBytes, OutOfMemory>
+    ensures digits { IfOk result (λ bytes. bytes.items ≡ decimal number) }
+    ensures good { IfOk result (λ bytes. All IsNetByte bytes.items) }
 {
-    let mut bytes = name.0;
-    bytes.clear();
-    append(&mut bytes, front)?;
-    append_number(&mut bytes, u64::from(number))?;
-    Ok(NetName(bytes))
+    let mut bytes = NameBytes::new(alloc);
+    append_number_to_name(&mut bytes, u64::from(number))?;
+    Ok(bytes)
 }
 
 /// A name with more bytes behind it.
@@ -128,6 +122,6 @@ fn longer_name(name: NetName, rest: &[u8]) -> Result<NetName, OutOfMemory>
 {
     name.as_bytes();
     let mut bytes = name.0;
-    append(&mut bytes, rest)?;
+    append_to_name(&mut bytes, rest)?;
     Ok(NetName(bytes))
 }

@@ -8,9 +8,8 @@ ghost use Rattle.deck.specs.Numbers.{AreNumbersOf};
 ghost use Rattle.deck.specs.Pushes.{added_device, pushed};
 ghost use Rattle.domino_cell.specs.NetsAt.{HasEnds, StandsAt};
 
-use deck::{Circuit, Device};
+use deck::{Circuit, Device, NetSet};
 use dom_base::{Kind, NetName, OutOfMemory};
-use indexmap::IndexSet;
 
 /// A net by its name, and the number that it may have in a circuit. Where another net or none has
 /// this number, the net is looked up by its name.
@@ -111,7 +110,7 @@ pub fn push_held(
 /// Adds a device between these nets at the end, and its nets where they are new. After a refusal some
 /// of the nets may stand at the end.
 fn push_device(
-    nets: &mut IndexSet<NetName>,
+    nets: &mut NetSet,
     devices: &mut Vec<Device>,
     kind: Kind,
     drain: NetAt<'_>,
@@ -143,7 +142,7 @@ fn push_device(
 
 /// The numbers of a device's nets. After a refusal some of the nets may stand at the end.
 fn number_ends(
-    nets: &mut IndexSet<NetName>,
+    nets: &mut NetSet,
     drain: NetAt<'_>,
     gate: NetAt<'_>,
     source: NetAt<'_>,
@@ -165,7 +164,7 @@ fn number_ends(
 /// The number of a net that stands at the number which is held for it. Where none is held, it is added at the
 /// end where it is new. A refusal adds nothing.
 #[tactic(auto, using(crate::proofs::KnownNumbers::known_numbers))]
-fn number(nets: &mut IndexSet<NetName>, net: NetAt<'_>) -> Result<usize, OutOfMemory>
+fn number(nets: &mut NetSet, net: NetAt<'_>) -> Result<usize, OutOfMemory>
     requires stands { StandsAt nets.old.keys net.number net.name.now }
     requires distinct { IsDistinct (pointwise nat_eq) nets.old.keys }
     ensures number { IfOk result (λ i. i ≡ net_number nets.old.keys net.entry.name.now) }
@@ -179,7 +178,7 @@ fn number(nets: &mut IndexSet<NetName>, net: NetAt<'_>) -> Result<usize, OutOfMe
 }
 
 /// The number of a net, which is added at the end where it is new, by its name. A refusal adds nothing.
-fn add(nets: &mut IndexSet<NetName>, name: &NetName) -> Result<usize, OutOfMemory>
+fn add(nets: &mut NetSet, name: &NetName) -> Result<usize, OutOfMemory>
     ensures number { IfOk result (λ i. i ≡ net_number nets.old.keys name.now) }
     ensures keys { nets.new.keys ≡ (if is_ok result then with_net nets.old.keys name.now else nets.old.keys) }
 {

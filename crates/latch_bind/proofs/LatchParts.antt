@@ -8,10 +8,10 @@ use Rattle.deck.specs.CircuitGrowth.{Grew}
 use Rattle.deck.specs.NamedDevices.{NamedDevice, with_devices}
 use Rattle.deck.proofs.CircuitGrowth.{Grew-trans, with_devices-grew}
 use Rattle.domino_cell.proofs.CellCircuits.{with_devices-append}
-use Rattle.latch_bind.specs.HeldNames.{AreNamesOfStage, AreSupplies, held_inverter, held_reset}
+use Rattle.latch_bind.specs.HeldNames.{AreLatchPorts, AreNamesOfStage, held_inverter, held_reset}
 use Rattle.latch_bind.specs.Latches.{data_net, named_latch}
+use Rattle.latch_bind.specs.declared.names.LatchPorts.{LatchPorts}
 use Rattle.latch_bind.specs.declared.names.StageNames.{StageNames}
-use Rattle.latch_bind.specs.declared.names.SupplyNames.{SupplyNames}
 
 -- devices appended in two parts
 pub two_parts : (old between new : CircuitData) (xs ys : List (NamedDevice (List ℕ)))
@@ -23,29 +23,29 @@ pub Grew-with : (old between new : CircuitData) (ds : List (NamedDevice (List �
 Grew-with old between new ds grew more = Grew-trans old between new grew (subst (Grew between) (sym more) (with_devices-grew between ds))
 
 -- the devices by the names that are held are those of the latch
-pub held_latch : (supplies : SupplyNames) (master slave : StageNames) (input : List ℕ) (j : ℕ) (start : Bool)
-    → AreSupplies supplies → AreNamesOfStage (codes "m" ++ decimal j) (codes "lm") master → AreNamesOfStage (codes "q" ++ decimal j) (codes "ls") slave
-    → input ≡ data_net j
-    → held_inverter supplies master input ++ held_inverter supplies slave master.out ++ held_reset supplies slave.out start ∷ [] ≡ named_latch (j, start)
-held_latch supplies master slave input j false s m q x = λ i.
-    record { kind = pch; drain = m.out_is i; gate = m.opposite i; source = m.upper i }
-    ∷ record { kind = pch; drain = m.upper i; gate = x i; source = s.vdd i }
-    ∷ record { kind = nch; drain = m.out_is i; gate = m.clock_is i; source = m.lower i }
-    ∷ record { kind = nch; drain = m.lower i; gate = x i; source = s.vss i }
-    ∷ record { kind = pch; drain = q.out_is i; gate = q.opposite i; source = q.upper i }
-    ∷ record { kind = pch; drain = q.upper i; gate = m.out_is i; source = s.vdd i }
-    ∷ record { kind = nch; drain = q.out_is i; gate = q.clock_is i; source = q.lower i }
-    ∷ record { kind = nch; drain = q.lower i; gate = m.out_is i; source = s.vss i }
-    ∷ record { kind = nch; drain = q.out_is i; gate = codes "rs"; source = s.vss i }
+pub held_latch : (ports : LatchPorts) (master slave : StageNames) (input : List ℕ) (j : ℕ) (start : Bool)
+    → AreLatchPorts ports → AreNamesOfStage (codes "m" ++ decimal j) master → AreNamesOfStage (codes "q" ++ decimal j) slave → input ≡ data_net j
+    → held_inverter ports.supplies master ports.master ports.master_opposite input
+    ++ held_inverter ports.supplies slave ports.slave ports.slave_opposite master.out ++ held_reset ports slave.out start ∷ [] ≡ named_latch (j, start)
+held_latch ports master slave input j false p m q x = λ i.
+    record { kind = pch; drain = m.out_is i; gate = p.master_opposite i; source = m.upper i }
+    ∷ record { kind = pch; drain = m.upper i; gate = x i; source = p.supplies.vdd i }
+    ∷ record { kind = nch; drain = m.out_is i; gate = p.master i; source = m.lower i }
+    ∷ record { kind = nch; drain = m.lower i; gate = x i; source = p.supplies.vss i }
+    ∷ record { kind = pch; drain = q.out_is i; gate = p.slave_opposite i; source = q.upper i }
+    ∷ record { kind = pch; drain = q.upper i; gate = m.out_is i; source = p.supplies.vdd i }
+    ∷ record { kind = nch; drain = q.out_is i; gate = p.slave i; source = q.lower i }
+    ∷ record { kind = nch; drain = q.lower i; gate = m.out_is i; source = p.supplies.vss i }
+    ∷ record { kind = nch; drain = q.out_is i; gate = p.reset i; source = p.supplies.vss i }
     ∷ []
-held_latch supplies master slave input j true s m q x = λ i.
-    record { kind = pch; drain = m.out_is i; gate = m.opposite i; source = m.upper i }
-    ∷ record { kind = pch; drain = m.upper i; gate = x i; source = s.vdd i }
-    ∷ record { kind = nch; drain = m.out_is i; gate = m.clock_is i; source = m.lower i }
-    ∷ record { kind = nch; drain = m.lower i; gate = x i; source = s.vss i }
-    ∷ record { kind = pch; drain = q.out_is i; gate = q.opposite i; source = q.upper i }
-    ∷ record { kind = pch; drain = q.upper i; gate = m.out_is i; source = s.vdd i }
-    ∷ record { kind = nch; drain = q.out_is i; gate = q.clock_is i; source = q.lower i }
-    ∷ record { kind = nch; drain = q.lower i; gate = m.out_is i; source = s.vss i }
-    ∷ record { kind = pch; drain = q.out_is i; gate = codes "rsb"; source = s.vdd i }
+held_latch ports master slave input j true p m q x = λ i.
+    record { kind = pch; drain = m.out_is i; gate = p.master_opposite i; source = m.upper i }
+    ∷ record { kind = pch; drain = m.upper i; gate = x i; source = p.supplies.vdd i }
+    ∷ record { kind = nch; drain = m.out_is i; gate = p.master i; source = m.lower i }
+    ∷ record { kind = nch; drain = m.lower i; gate = x i; source = p.supplies.vss i }
+    ∷ record { kind = pch; drain = q.out_is i; gate = p.slave_opposite i; source = q.upper i }
+    ∷ record { kind = pch; drain = q.upper i; gate = m.out_is i; source = p.supplies.vdd i }
+    ∷ record { kind = nch; drain = q.out_is i; gate = p.slave i; source = q.lower i }
+    ∷ record { kind = nch; drain = q.lower i; gate = m.out_is i; source = p.supplies.vss i }
+    ∷ record { kind = pch; drain = q.out_is i; gate = p.reset_opposite i; source = p.supplies.vdd i }
     ∷ []

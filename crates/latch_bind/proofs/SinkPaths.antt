@@ -1,5 +1,5 @@
 -- The inverter of a sink that is appended to a circuit is a stage of it, and one supply alone drives its output.
-use Rattle.std.proofs.Common.{◌≡◌, ℕ, zero, suc, ◌<◌, ◌≤◌, false, List, [], ◌∷◌, ◌++◌, length, map, refl, sym, ap, ◌∙◌, subst, inl, inr, arith, nat_eq, All, Some, slice_get, true}
+use Rattle.std.proofs.Common.{◌≡◌, ℕ, zero, suc, ◌<◌, ◌≤◌, false, List, ◌++◌, length, map, refl, sym, ◌∙◌, subst, inl, inr, arith, nat_eq, All, true}
 use Rattle.std.specs.Prelude.{◌⊎◌, ◌≢◌, Contains, codes}
 use Rattle.std.specs.Cmp.Lexicographic.{pointwise}
 use Rattle.std.proofs.lemmas.List.Elements.{All-from_recursion, Contains-append_cases}

@@ -4,10 +4,10 @@ ghost use Rattle.deck.specs.CircuitGrowth.{Grew};
 ghost use Rattle.deck.specs.Limits.{most_devices};
 ghost use Rattle.deck.specs.NamedDevices.{with_devices};
 ghost use Rattle.deck.specs.Pushes.{pushed};
-ghost use Rattle.latch_bind.specs.HeldNames.{held_inverter, held_reset};
+ghost use Rattle.latch_bind.specs.HeldNames.{AreLatchPorts, held_inverter, held_reset};
 ghost use Rattle.latch_bind.specs.Latches.{HasRoomForLatch, named_latch};
 
-use crate::names::{StageNames, SupplyNames, joined_name, numbered_name};
+use crate::names::{ClockNets, LatchPorts, StageNames, SupplyNames, numbered_name};
 use deck::Circuit;
 use dom_base::{Kind, NetName, OutOfMemory};
 use domino_cell::{NetAt, push_at};
@@ -27,12 +27,30 @@ pub fn push_latch(
     ensures devices { OnOk result (circuit.new ≡ with_devices circuit.old (named_latch (j, init))) }
     ensures refused { OnErr result (circuit.new ≡ circuit.old) }
 {
-    let supplies = SupplyNames::new(alloc)?;
-    let master = StageNames::new(alloc, b"m", j, b"lm")?;
-    let slave = StageNames::new(alloc, b"q", j, b"ls")?;
+    let ports = LatchPorts::new(alloc, circuit)?;
+    push_held_latch(alloc, circuit, &ports, j, init)
+}
+
+/// Appends the nine devices of latch `j` as `push_latch` does, where `ports` has the names of the ports. The one
+/// error is out of memory, and it leaves the circuit as it was.
+pub fn push_held_latch(
+    alloc: Global,
+    circuit: &mut Circuit,
+    ports: &LatchPorts,
+    j: u32,
+    init: bool,
+) -> Result<(), OutOfMemory>
+    requires ports { AreLatchPorts ports.now }
+    requires nets { HasRoomForLatch circuit.old j }
+    requires room { length circuit.old.devices + 9 ≤ most_devices }
+    ensures devices { OnOk result (circuit.new ≡ with_devices circuit.old (named_latch (j, init))) }
+    ensures refused { OnErr result (circuit.new ≡ circuit.old) }
+{
+    let master = StageNames::new(alloc, b"m", j)?;
+    let slave = StageNames::new(alloc, b"q", j)?;
     let input = numbered_name(alloc, b"x", j)?;
     let before = circuit.device_count();
-    match push_parts(alloc, circuit, &supplies, &master, &slave, &input, init) {
+    match push_parts(circuit, ports, &master, &slave, &input, init) {
         Ok(()) => Ok(()),
         Err(failed) => {
             circuit.cut(before);
@@ -44,9 +62,8 @@ pub fn push_latch(
 /// Appends the master, the slave and the reset device of a latch. After a refusal some of their
 /// devices may stand at the end.
 fn push_parts(
-    alloc: Global,
     circuit: &mut Circuit,
-    supplies: &SupplyNames,
+    ports: &LatchPorts,
     master: &StageNames,
     slave: &StageNames,
     input: &NetName,
@@ -54,25 +71,27 @@ fn push_parts(
 ) -> Result<(), OutOfMemory>
     requires { length circuit.old.devices + 9 ≤ most_devices }
     ensures devices { OnOk result (circuit.new ≡ with_devices circuit.old
-        (held_inverter supplies.now master.now input.now
-        ++ held_inverter supplies.now slave.now master.now.out ++ held_reset supplies.now slave.now.out init ∷ [])) }
+        (held_inverter ports.now.supplies master.now ports.now.master ports.now.master_opposite input.now
+        ++ held_inverter ports.now.supplies slave.now ports.now.slave ports.now.slave_opposite master.now.out
+        ++ held_reset ports.now slave.now.out init ∷ [])) }
     ensures grew { Grew circuit.old circuit.new }
 {
     let data = NetAt {
         name: input,
         number: None,
     };
-    let held = push_inverter(circuit, supplies, master, data)?;
+    let supplies = &ports.supplies;
+    let held = push_inverter(circuit, supplies, master, ports.master_clocks(), data)?;
     let data = NetAt {
         name: &master.out,
         number: Some(held),
     };
-    let number = push_inverter(circuit, supplies, slave, data)?;
+    let number = push_inverter(circuit, supplies, slave, ports.slave_clocks(), data)?;
     let out = NetAt {
         name: &slave.out,
         number: Some(number),
     };
-    push_reset(alloc, circuit, supplies, out, init)?;
+    push_reset(circuit, ports, out, init)?;
     Ok(())
 }
 
@@ -82,20 +101,16 @@ fn push_inverter(
     circuit: &mut Circuit,
     supplies: &SupplyNames,
     stage: &StageNames,
+    clocks: ClockNets<'_>,
     input: NetAt<'_>,
 ) -> Result<u32, OutOfMemory>
     requires { length circuit.old.devices + 4 ≤ most_devices }
-    ensures devices { OnOk result (circuit.new ≡ with_devices circuit.old (held_inverter supplies.now stage.now input.entry.name.now)) }
+    ensures devices { OnOk result (circuit.new ≡ with_devices circuit.old
+        (held_inverter supplies.now stage.now clocks.entry.clock.name.now clocks.entry.opposite.name.now input.entry.name.now)) }
     ensures grew { Grew circuit.old circuit.new }
 {
-    let vdd = NetAt {
-        name: &supplies.vdd,
-        number: Some(0),
-    };
-    let vss = NetAt {
-        name: &supplies.vss,
-        number: Some(1),
-    };
+    let vdd = supplies.vdd_net();
+    let vss = supplies.vss_net();
     let out = NetAt {
         name: &stage.out,
         number: None,
@@ -104,7 +119,7 @@ fn push_inverter(
         circuit,
         Kind::P,
         out,
-        &stage.opposite,
+        clocks.opposite,
         &stage.upper,
         input,
         vdd,
@@ -121,7 +136,7 @@ fn push_inverter(
         circuit,
         Kind::N,
         out,
-        &stage.clock,
+        clocks.clock,
         &stage.lower,
         input,
         vss,
@@ -136,20 +151,16 @@ fn push_branch(
     circuit: &mut Circuit,
     kind: Kind,
     out: NetAt<'_>,
-    clock: &NetName,
+    clock: NetAt<'_>,
     between: &NetName,
     input: NetAt<'_>,
     supply: NetAt<'_>,
 ) -> Result<(u32, u32), OutOfMemory>
     requires { length circuit.old.devices + 2 ≤ most_devices }
-    ensures devices { OnOk result (circuit.new ≡ pushed (pushed circuit.old kind out.entry.name.now clock.now between.now)
+    ensures devices { OnOk result (circuit.new ≡ pushed (pushed circuit.old kind out.entry.name.now clock.entry.name.now between.now)
         kind between.now input.entry.name.now supply.entry.name.now) }
     ensures grew { Grew circuit.old circuit.new }
 {
-    let clock = NetAt {
-        name: clock,
-        number: None,
-    };
     let middle = NetAt {
         name: between,
         number: None,
@@ -165,39 +176,26 @@ fn push_branch(
 
 /// Appends the device that resets `out` to the start value.
 fn push_reset(
-    alloc: Global,
     circuit: &mut Circuit,
-    supplies: &SupplyNames,
+    ports: &LatchPorts,
     out: NetAt<'_>,
     init: bool,
 ) -> Result<(), OutOfMemory>
     requires { length circuit.old.devices < most_devices }
-    ensures devices { OnOk result (circuit.new ≡ with_devices circuit.old (held_reset supplies.now out.entry.name.now init ∷ [])) }
+    ensures devices { OnOk result (circuit.new ≡ with_devices circuit.old (held_reset ports.now out.entry.name.now init ∷ [])) }
     ensures refused { OnErr result (circuit.new ≡ circuit.old) }
 {
+    let supplies = &ports.supplies;
     if init {
-        let name = joined_name(alloc, b"rsb", b"")?;
-        let gate = NetAt {
-            name: &name,
-            number: None,
-        };
-        let vdd = NetAt {
-            name: &supplies.vdd,
-            number: Some(0),
-        };
-        push_at(circuit, Kind::P, out, gate, vdd)?;
-        Ok(())
+        push_at(
+            circuit,
+            Kind::P,
+            out,
+            ports.reset_opposite_net(),
+            supplies.vdd_net(),
+        )?;
     } else {
-        let name = joined_name(alloc, b"rs", b"")?;
-        let gate = NetAt {
-            name: &name,
-            number: None,
-        };
-        let vss = NetAt {
-            name: &supplies.vss,
-            number: Some(1),
-        };
-        push_at(circuit, Kind::N, out, gate, vss)?;
-        Ok(())
+        push_at(circuit, Kind::N, out, ports.reset_net(), supplies.vss_net())?;
     }
+    Ok(())
 }

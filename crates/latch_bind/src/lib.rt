@@ -5,6 +5,6 @@ mod latch;
 mod names;
 mod sink;
 
-pub use latch::push_latch;
-pub use names::{joined_name, numbered_name};
+pub use latch::{push_held_latch, push_latch};
+pub use names::{LatchPorts, joined_name, numbered_name};
 pub use sink::push_sink;

@@ -50,7 +50,7 @@ fn put_card(
     requires { IsInRange (length nets.now) device }
     ensures { OnOk result (text.new.items ≡ text.old.items ++ device_card nets.now (index, device)) }
 {
-    append(text, b"m")?;
+    text.push(b'm')?;
     append_number(text, index as u64)?;
     append_word(text, net_name(nets, device.drain))?;
     append_word(text, net_name(nets, device.gate))?;

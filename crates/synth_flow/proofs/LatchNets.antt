@@ -13,7 +13,8 @@ use Rattle.latch_bind.specs.Latches.{HasRoomForLatch, named_latch, named_reset}
 use Rattle.synth_flow.specs.MadeDecks.{IsBeforeLatch, latches_from}
 use Rattle.latch_bind.proofs.LatchParts.{two_parts}
 use Rattle.synth_flow.proofs.LoopItems.{count_with}
-use Rattle.synth_flow.proofs.NameParts.{HasNames, NoDigit, all_nets, bare_number_is, none_named, number_is, rest_is}
+use Rattle.synth_flow.specs.NameParts.{NoDigit}
+use Rattle.synth_flow.proofs.NameParts.{HasNames, all_nets, bare_number_is, none_named, number_is, rest_is}
 
 -- a name of another kind
 pub other : (j c : ℕ) (cs : List ℕ) → c ≢ 109 → c ≢ 113 → IsBeforeLatch j (c ∷ cs)

@@ -12,19 +12,14 @@ use Rattle.deck.specs.CircuitData.{CircuitData}
 use Rattle.deck.specs.NamedDevices.{NamedDevice, with_devices}
 use Rattle.deck.specs.Nets.{with_net}
 use Rattle.deck.specs.Pushes.{pushed}
-use Rattle.synth_flow.specs.NameParts.{behind, front, is_digit, number_of, rest_of}
+use Rattle.synth_flow.specs.NameParts.{NoDigit, behind, front, is_digit, number_of, rest_of}
 
--- some bytes that begin with no digit
-abbrev pub NoDigit : List ℕ → Type 0
-NoDigit [] = Unit {0}
-NoDigit (c ∷ cs) = is_digit c ≡ false
-
-front-digits : (ds cs : List ℕ) → AllDigits 10 ds → NoDigit cs → front (ds ++ cs) ≡ ds
+pub front-digits : (ds cs : List ℕ) → AllDigits 10 ds → NoDigit cs → front (ds ++ cs) ≡ ds
 front-digits [] [] d e = refl
 front-digits [] (c ∷ cs) d e = rw e refl
 front-digits (x ∷ ds) cs d e = let yes : is_digit x ≡ true = lt-ltb (digit_value x) 10 d.0 in rw yes (ap (λ l. x ∷ l) (front-digits ds cs d.1 e))
 
-behind-digits : (ds cs : List ℕ) → AllDigits 10 ds → NoDigit cs → behind (ds ++ cs) ≡ cs
+pub behind-digits : (ds cs : List ℕ) → AllDigits 10 ds → NoDigit cs → behind (ds ++ cs) ≡ cs
 behind-digits [] [] d e = refl
 behind-digits [] (c ∷ cs) d e = rw e refl
 behind-digits (x ∷ ds) cs d e = let yes : is_digit x ≡ true = lt-ltb (digit_value x) 10 d.0 in rw yes (behind-digits ds cs d.1 e)

@@ -1,5 +1,5 @@
 -- The parts of a name: its first byte, the number behind it, and what is behind the number.
-use Rattle.std.specs.Prelude.{ℕ, Bool, cond, List, [], ◌∷◌, nat_lt}
+use Rattle.std.specs.Prelude.{ℕ, ◌≡◌, Bool, false, cond, List, [], ◌∷◌, nat_lt}
 use Rattle.std.specs.Char.{digit_value}
 use Rattle.std.specs.Str.Parse.{digits_value}
 
@@ -14,6 +14,11 @@ front (c ∷ cs) = cond (is_digit c) (c ∷ front cs) []
 abbrev pub behind : List ℕ → List ℕ
 behind [] = []
 behind (c ∷ cs) = cond (is_digit c) (behind cs) (c ∷ cs)
+
+-- some bytes that begin with no digit
+abbrev pub NoDigit : List ℕ → Type 0
+NoDigit [] = Unit {0}
+NoDigit (c ∷ cs) = is_digit c ≡ false
 
 abbrev pub letter_of : List ℕ → ℕ
 letter_of [] = 0

@@ -37,7 +37,7 @@ pub fn push_cells(
     'cells: for k in 0..plans.len() {
         let plan = &plans[k];
         let gate = outputs.saturating_add(k);
-        nets = nets.next(plan.clock, k as u32)?;
+        nets.renumber(alloc, plan.clock, k as u32)?;
         push_numbered_domino(
             alloc,
             circuit,

@@ -7,7 +7,7 @@ ghost use Rattle.synth_flow.specs.MadeDecks.{IsBeforeLatch, latches_from};
 
 use deck::Circuit;
 use dom_base::OutOfMemory;
-use latch_bind::push_latch;
+use latch_bind::{LatchPorts, push_held_latch};
 use net_flatten::NetLatch;
 use std::alloc::Global;
 
@@ -23,8 +23,9 @@ pub fn push_latches(
     requires room { length circuit.old.devices + 9 * length latches.now ≤ most_devices }
     ensures { OnOk result (circuit.new ≡ with_devices circuit.old (latches_from 0 (map (λ (l : NetLatch). l.init) latches.now))) }
 {
+    let ports = LatchPorts::new(alloc, circuit)?;
     'latches: for j in 0..latches.len() {
-        push_latch(alloc, circuit, j as u32, latches[j].init)?;
+        push_held_latch(alloc, circuit, &ports, j as u32, latches[j].init)?;
     }
     Ok(())
 }

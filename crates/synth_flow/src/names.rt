@@ -8,7 +8,7 @@ ghost use Rattle.synth_flow.specs.DeckNets.{complement_net, named_gate, own_net}
 ghost use Rattle.synth_flow.specs.MadeDecks.{port_net};
 
 use deck::esc;
-use dom_base::{Name, NetName, OutOfMemory, append};
+use dom_base::{Name, NameBytes, NetName, OutOfMemory, append_to_name};
 use latch_bind::numbered_name;
 use std::alloc::Global;
 
@@ -19,9 +19,9 @@ pub fn escaped_name(alloc: Global, front: &[u8], name: &Name) -> Result<NetName,
     requires name { IsByteName name.now }
     ensures { IfOk result (λ net. net ≡ front.now ++ escaped name.now) }
 {
-    let mut bytes = Vec::new(alloc);
-    append(&mut bytes, front)?;
-    append(&mut bytes, esc(alloc, name.as_bytes())?.as_slice())?;
+    let mut bytes = NameBytes::new(alloc);
+    append_to_name(&mut bytes, front)?;
+    append_to_name(&mut bytes, esc(alloc, name.as_bytes())?.as_slice())?;
     Ok(NetName(bytes))
 }
 

@@ -26,7 +26,7 @@ cells-preserved c =
     record {
       made = next_cell c.args.circuit.now c.cells.circuit c.push_numbered_domino.new.circuit c.args.names.now c.args.plans.now c.cells.k p
           (item_at c.args.plans.now c.cells.k p (omega arith) c.index-plans-k.is) c.cells.invariant.made c.in_ok-push_numbered_domino.ensures.devices;
-      vdd = c.in_ok-nets-2.ensures.vdd;
-      vss = c.in_ok-nets-2.ensures.vss;
+      vdd = c.in_ok-renumber.ensures.vdd;
+      vss = c.in_ok-renumber.ensures.vss;
       held = subst (AreNumbersAt c.push_numbered_domino.new.circuit.nets c.args.names.now) (sym back) c.in_ok-push_numbered_domino.ensures.numbers;
     }

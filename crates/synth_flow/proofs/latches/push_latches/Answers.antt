@@ -6,15 +6,15 @@ use Rattle.synth_flow.specs.MadeDecks.{IsBeforeLatch}
 use Rattle.synth_flow.proofs.LatchNets.{next_latch, room_for_next, start_at}
 use Rattle.synth_flow.proofs.latches.push_latches.Goals as goal
 
-pub push_latch-requires-clause-nets : goal.push_latch-requires-clause-nets
-push_latch-requires-clause-nets c =
+pub push_held_latch-requires-clause-nets : goal.push_held_latch-requires-clause-nets
+push_held_latch-requires-clause-nets c =
     let starts = map (λ (l : NetLatch). l.init) c.args.latches.now in
     let count = length-map c.args.latches.now (λ (l : NetLatch). l.init) in
     (room_for_next c.args.circuit.now c.latches.circuit starts c.latches.j (omega (arith, count, c.requires.few)) (omega arith)
     (recursion_from_All (IsBeforeLatch 0) c.args.circuit.now.nets c.requires.nets) c.latches.invariant).0
 
-pub push_latch-requires-clause-room : goal.push_latch-requires-clause-room
-push_latch-requires-clause-room c =
+pub push_held_latch-requires-clause-room : goal.push_held_latch-requires-clause-room
+push_held_latch-requires-clause-room c =
     let starts = map (λ (l : NetLatch). l.init) c.args.latches.now in
     let count = length-map c.args.latches.now (λ (l : NetLatch). l.init) in
     let room = (room_for_next c.args.circuit.now c.latches.circuit starts c.latches.j (omega (arith, count, c.requires.few)) (omega arith)
@@ -23,6 +23,6 @@ push_latch-requires-clause-room c =
 
 pub latches-preserved : goal.latches-preserved
 latches-preserved c =
-    next_latch c.args.circuit.now c.latches.circuit c.push_latch.new.circuit (map (λ (l : NetLatch). l.init) c.args.latches.now) c.latches.j _
+    next_latch c.args.circuit.now c.latches.circuit c.push_held_latch.new.circuit (map (λ (l : NetLatch). l.init) c.args.latches.now) c.latches.j _
     (start_at c.args.latches.now _ c.latches.j (omega arith))
-    c.latches.invariant c.in_ok-push_latch.ensures.devices
+    c.latches.invariant c.in_ok-push_held_latch.ensures.devices
