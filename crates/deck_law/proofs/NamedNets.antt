@@ -31,6 +31,7 @@ use Rattle.deck_law.proofs.Numbers.{cell_in, complement_in, devices_are, grew, l
 use Rattle.deck_law.proofs.PortNumbers.{number_is}
 use Rattle.deck_law.proofs.DeviceLists.{flat_longer, flat_many, enumerated, spell_longer}
 use Rattle.net_flatten.proofs.Lists.{get_of_map}
+use Rattle.synth_flow.proofs.BareDecks.{begins}
 use Rattle.synth_flow.proofs.DeckForms.{zipped_get, length_map}
 use Rattle.synth_flow.specs.DeckNets as named
 use Rattle.domino_cell.specs.PushedNames.{numbered_cell}
@@ -44,11 +45,6 @@ distinct-right : (xs ys : List (List ℕ)) → IsDistinct (pointwise nat_eq) (xs
 unfolding IsDistinct
 distinct-right [] ys d = d
 distinct-right (x ∷ xs) ys d = distinct-right xs ys d.1
-
--- a name that begins with two bytes
-begins : (b c : ℕ) (name : List ℕ) → starts_with nat_eq name (b ∷ c ∷ []) ≡ true → (rest : List ℕ) × (name ≡ b ∷ rest)
-begins b c [] e = absurd (cc)
-begins b c (x ∷ name) e = let same : b ≡ x = eqb-true _ _ (and_parts _ _ e).0 in (name, ap (λ y. y ∷ name) (sym same))
 
 module _ (circuit : CircuitData) (d : IsNamedDeck circuit) (ok : IsCircuit circuit.ports circuit.nets circuit.devices) where
   IsSmall : ℕ → Type 0

@@ -7,41 +7,11 @@ use Rattle.std.proofs.Common.{◌≡◌, ℕ, suc, ◌+◌, ◌-◌, ◌<◌, �
 use Rattle.std.proofs.lemmas.Bool.{eqb-true, le-ltb, lt-ltb, ltb-true}
 use Rattle.std.proofs.lemmas.Fmt.{decimal_is_IsNumeral}
 use Rattle.deck.specs.Nets.{net_number}
+use Rattle.synth_flow.specs.NameParts.{NoDigit, behind, front, letter_of}
+use Rattle.synth_flow.proofs.NameParts.{behind-digits, front-digits}
 use Rattle.domino_cell.specs.Stage.{Inside, Top}
 use Rattle.domino_law.specs.Nets.{At, Clock, Complement, Dynamic, FromLatch, FromPin, Lm, Lmb, Ls, Lsb, Master, Net, Next, Output, Part, Pin, Rs, Rsb, DeckSignal, Sink, Slave, Vdd, Vss}
 use Rattle.deck_law.specs.NetNames.{leaf_of, deck_name, leaf_signal}
-
--- the digits at the front of a name, and what is behind them
-abbrev pub is_digit : ℕ → Bool
-is_digit c = nat_lt (digit_value c) 10
-
-abbrev pub front : List ℕ → List ℕ
-front [] = []
-front (c ∷ cs) = cond (is_digit c) (c ∷ front cs) []
-
-abbrev pub behind : List ℕ → List ℕ
-behind [] = []
-behind (c ∷ cs) = cond (is_digit c) (behind cs) (c ∷ cs)
-
--- a list that begins with no digit
-abbrev pub Ends : List ℕ → Type 0
-Ends [] = Unit {0}
-Ends (c ∷ cs) = is_digit c ≡ false
-
-front-digits : (ds cs : List ℕ) → AllDigits 10 ds → Ends cs → front (ds ++ cs) ≡ ds
-front-digits [] [] d e = refl
-front-digits [] (c ∷ cs) d e = rw e refl
-front-digits (x ∷ ds) cs d e = let yes : is_digit x ≡ true = lt-ltb (digit_value x) 10 d.0 in rw yes (ap (λ l. x ∷ l) (front-digits ds cs d.1 e))
-
-behind-digits : (ds cs : List ℕ) → AllDigits 10 ds → Ends cs → behind (ds ++ cs) ≡ cs
-behind-digits [] [] d e = refl
-behind-digits [] (c ∷ cs) d e = rw e refl
-behind-digits (x ∷ ds) cs d e = let yes : is_digit x ≡ true = lt-ltb (digit_value x) 10 d.0 in rw yes (behind-digits ds cs d.1 e)
-
--- the first byte, or 0
-abbrev pub first : List ℕ → ℕ
-first [] = 0
-first (c ∷ cs) = c
 
 abbrev pub is_none : List ℕ → Bool
 is_none [] = true
@@ -54,10 +24,10 @@ module _ (pins outs : List (List ℕ)) where
   spot_of (c ∷ cs) part = cond (c == 112) (At part (Inside 0 0)) (At part (Inside 1 0))
 
   abbrev pub read_c : List ℕ → Net
-  read_c xs = cond (first xs == 107) (Clock (digits_value 10 (drop 1 xs) - 1)) (At (Complement (leaf_signal (length pins) (digits_value 10 xs))) Top)
+  read_c xs = cond (letter_of xs == 107) (Clock (digits_value 10 (drop 1 xs) - 1)) (At (Complement (leaf_signal (length pins) (digits_value 10 xs))) Top)
 
   abbrev pub read_l : List ℕ → Net
-  read_l xs = cond (first xs == 109) (cond (is_none (drop 1 xs)) Lm Lmb) (cond (is_none (drop 1 xs)) Ls Lsb)
+  read_l xs = cond (letter_of xs == 109) (cond (is_none (drop 1 xs)) Lm Lmb) (cond (is_none (drop 1 xs)) Ls Lsb)
 
   abbrev pub read_from : ℕ → List ℕ → Net
   read_from b xs =
@@ -72,7 +42,7 @@ module _ (pins outs : List (List ℕ)) where
       (cond (b == 111) (At (Sink (net_number outs (b ∷ xs))) Top)
       (cond (b == 99) (read_c xs)
       (cond (b == 108) (read_l xs)
-      (cond (b == 118) (cond (first xs == 100) Vdd Vss)
+      (cond (b == 118) (cond (letter_of xs == 100) Vdd Vss)
       (cond (is_none (drop 1 xs)) Rs Rsb))))))))))))
 
   abbrev pub read : List ℕ → Net
@@ -86,10 +56,10 @@ module _ (pins outs : List (List ℕ)) where
   value-is : (n : ℕ) → IsSmall n → digits_value 10 (decimal n) ≡ n
   value-is n small = (decimal_is_IsNumeral n small).1
 
-  front-is : (n : ℕ) (cs : List ℕ) → IsSmall n → Ends cs → digits_value 10 (front (decimal n ++ cs)) ≡ n
+  front-is : (n : ℕ) (cs : List ℕ) → IsSmall n → NoDigit cs → digits_value 10 (front (decimal n ++ cs)) ≡ n
   front-is n cs small e = ap (digits_value 10) (front-digits (decimal n) cs (decimal_is_IsNumeral n small).0.1 e) ∙ value-is n small
 
-  behind-is : (n : ℕ) (cs : List ℕ) → IsSmall n → Ends cs → behind (decimal n ++ cs) ≡ cs
+  behind-is : (n : ℕ) (cs : List ℕ) → IsSmall n → NoDigit cs → behind (decimal n ++ cs) ≡ cs
   behind-is n cs small e = behind-digits (decimal n) cs (decimal_is_IsNumeral n small).0.1 e
 
   pub read-fixed : (read (deck_name pins outs Vdd) ≡ Vdd) × (read (deck_name pins outs Vss) ≡ Vss) × (read (deck_name pins outs Lm) ≡ Lm) × (read (deck_name pins outs Lmb) ≡ Lmb)
@@ -122,10 +92,10 @@ module _ (pins outs : List (List ℕ)) where
       less n = omega arith
 
   -- a number begins with no `k`
-  no_k : (n : ℕ) → IsSmall n → (first (decimal n) == 107) ≡ false
+  no_k : (n : ℕ) → IsSmall n → (letter_of (decimal n) == 107) ≡ false
   no_k n small = by (decimal n) (decimal_is_IsNumeral n small).0
     where
-      by : (ds : List ℕ) → (0 < length ds) × AllDigits 10 ds → (first ds == 107) ≡ false
+      by : (ds : List ℕ) → (0 < length ds) × AllDigits 10 ds → (letter_of ds == 107) ≡ false
       by [] h = absurd (omega (arith, h.0))
       by (c ∷ ds) h = other (c == 107) refl
         where
@@ -156,7 +126,7 @@ module _ (pins outs : List (List ℕ)) where
     by (codes "n") refl,
   )
     where
-      by : (cs : List ℕ) → Ends cs → read (109 ∷ decimal j ++ cs) ≡ spot_of cs (Master j)
+      by : (cs : List ℕ) → NoDigit cs → read (109 ∷ decimal j ++ cs) ≡ spot_of cs (Master j)
       by cs e = ap (λ l. spot_of l (Master (digits_value 10 (front (decimal j ++ cs))))) (behind-is j cs small e) ∙ ap (λ n. spot_of cs (Master n)) (front-is j cs small e)
 
   pub read-slave : (j : ℕ) → IsSmall j → (read (deck_name pins outs (At (Slave j) Top)) ≡ At (Slave j) Top)
@@ -167,7 +137,7 @@ module _ (pins outs : List (List ℕ)) where
     by (codes "n") refl,
   )
     where
-      by : (cs : List ℕ) → Ends cs → read (113 ∷ decimal j ++ cs) ≡ spot_of cs (Slave j)
+      by : (cs : List ℕ) → NoDigit cs → read (113 ∷ decimal j ++ cs) ≡ spot_of cs (Slave j)
       by cs e = ap (λ l. spot_of l (Slave (digits_value 10 (front (decimal j ++ cs))))) (behind-is j cs small e) ∙ ap (λ n. spot_of cs (Slave n)) (front-is j cs small e)
 
 pub signal_fits : (pins : List (List ℕ)) (leaf : ℕ) → SignalFits pins [] (leaf_signal (length pins) leaf)
