@@ -5,7 +5,7 @@ ghost use Rattle.std.specs.List.{filter_map, list_all, slice_split};
 ghost use Rattle.std.specs.Option.{option_to_list};
 ghost use Rattle.command_words.specs.ProbeWords.{are_probe_words, is_comma, is_probe_name, is_visible, probe_of, probe_word, probe_words};
 
-use dom_base::{NetName, OutOfMemory};
+use dom_base::{NetName, OutOfMemory, name_in_lower_case};
 use event_sim::Edge;
 use memchr::memchr;
 use std::alloc::Global;
@@ -101,7 +101,7 @@ fn probe_word(alloc: Global, word: &[u8]) -> Result<Option<ProbeWord>, OutOfMemo
     if !is_probe_name(name) {
         return Ok(None);
     }
-    match NetName::new(name.to_ascii_lowercase(alloc)?) {
+    match NetName::new(name_in_lower_case(alloc, name)?) {
         Some(name) => Ok(Some(ProbeWord { name, edge })),
         None => Ok(None),
     }

@@ -3,16 +3,16 @@ ghost use Rattle.std.specs.Prelude.{◌≡◌, ◌++◌, IfOk, OnOk, codes};
 ghost use Rattle.std.specs.Fmt.{decimal};
 ghost use Rattle.net_gen.specs.Generated.{latch_count, numbered};
 
-use dom_base::{Name, OutOfMemory, append, append_number};
+use dom_base::{Name, NameBytes, OutOfMemory, append_number_to_name, append_to_name};
 use std::alloc::Global;
 
 /// A letter with a number.
 fn numbered_name(alloc: Global, letter: &[u8], number: u32) -> Result<Name, OutOfMemory>
     ensures { IfOk result (λ name. name ≡ letter.now ++ decimal number) }
 {
-    let mut bytes = Vec::new(alloc);
-    append(&mut bytes, letter)?;
-    append_number(&mut bytes, number as u64)?;
+    let mut bytes = NameBytes::new(alloc);
+    append_to_name(&mut bytes, letter)?;
+    append_number_to_name(&mut bytes, number as u64)?;
     Ok(Name(bytes))
 }
 

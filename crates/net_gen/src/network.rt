@@ -64,7 +64,7 @@ pub fn network_of(alloc: Global, seed: u64, tables: u32) -> Result<Network, OutO
     ensures { IfOk result (λ network. network ≡ generated_network seed tables) }
 {
     Ok(Network {
-        name: Name(b"gen".to_vec(alloc)?),
+        name: Name::from_bytes(alloc, b"gen")?,
         names: names_of(alloc, tables)?,
         inputs: EACH,
         outputs: outputs_of(alloc, tables)?,

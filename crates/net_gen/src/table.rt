@@ -4,7 +4,7 @@ ghost use Rattle.net_gen.specs.Draws.{next_state, state_after};
 ghost use Rattle.net_gen.specs.Generated.{drawn_letter, input_behind, input_of, reach, row_at, table_behind, three_from};
 
 use crate::draws::Draws;
-use blif_ast::{Letter, Row};
+use blif_ast::{Letter, Letters, Row};
 use dom_base::OutOfMemory;
 use net_flatten::NetTable;
 use std::alloc::Global;
@@ -55,7 +55,7 @@ fn row(alloc: Global, draws: &mut Draws) -> Result<Row, OutOfMemory>
     let second = letter(draws);
     let third = letter(draws);
     Ok(Row {
-        letters: vec![in alloc; first, second, third]?,
+        letters: Letters::from_array(alloc, [first, second, third])?,
     })
 }
 

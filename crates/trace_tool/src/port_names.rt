@@ -6,7 +6,7 @@ ghost use Rattle.trace_tool.specs.PortDifferences.{ComparesPorts};
 ghost use Rattle.trace_tool.specs.Verdicts.{DifferFirstAt, network_ports};
 
 use deck::{Circuit, Roles, esc};
-use dom_base::{Name, NetName, OutOfMemory, append};
+use dom_base::{Name, NameBytes, NetName, OutOfMemory, append_to_name};
 use net_flatten::Network;
 use std::alloc::Global;
 
@@ -57,9 +57,9 @@ fn port_names(alloc: Global, network: &Network) -> Result<Vec<Name>, OutOfMemory
 fn port_name(alloc: Global, front: &[u8], name: &Name) -> Result<Name, OutOfMemory>
     ensures { IfOk result (λ port. port ≡ front.now ++ escaped name.now) }
 {
-    let mut port = Vec::new(alloc);
-    append(&mut port, front)?;
-    append(&mut port, &esc(alloc, name.as_bytes())?)?;
+    let mut port = NameBytes::new(alloc);
+    append_to_name(&mut port, front)?;
+    append_to_name(&mut port, &esc(alloc, name.as_bytes())?)?;
     Ok(Name(port))
 }
 

@@ -7,7 +7,7 @@ use Rattle.gate_decompose.proofs.row.row_items.Goals.{in-One+in_ok-push-in-One, 
 
 pub loop-place-preserved : goal.loop-place-preserved
 loop-place-preserved c =
-    let same = c.deref-letter-items.ensures.value ∙ c.row.view_is in
+    let same = c.deref-letter-items.ensures ∙ c.row.view_is in
     elim c.match-letter.branch [
       | in-One+in_ok-push-in-One w ↦
           letter_made c.args.refs.now c.args.inputs.now c.args.row.now c.deref-letter-items.result.now c.loop-place.place Zero One c.loop-place.items.items c.match-letter.items.items

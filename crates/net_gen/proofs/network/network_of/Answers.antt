@@ -6,7 +6,7 @@ use Rattle.net_gen.proofs.network.network_of.Goals as goal
 
 pub invariant_of-result : goal.invariant_of-result
 invariant_of-result c =
-    let name = c.in_ok-to_vec.ensures.items_if_clones_equal (λ x y e. e) in
+    let name = c.in_ok-from_bytes.ensures in
     let names = c.in_ok-names_of.ensures in
     let outputs = c.in_ok-outputs_of.ensures in
     let latches = c.in_ok-latches_of.ensures in

@@ -15,4 +15,4 @@ returns-clause-row c =
     let first : c.letter-first.result ≡ drawn_letter (drawn s 0 3) = c.letter-first.ensures.letter ∙ ap (λ t. drawn_letter (t % 3)) one in
     let second : c.letter-second.result ≡ drawn_letter (drawn s 1 3) = c.letter-second.ensures.letter ∙ ap (λ t. drawn_letter (t % 3)) two in
     let third : c.letter-third.result ≡ drawn_letter (drawn s 2 3) = c.letter-third.ensures.letter ∙ ap (λ t. drawn_letter (t % 3)) three in
-    c.in_ok-vec.ensures.items ∙ λ i. first i ∷ second i ∷ third i ∷ []
+    c.in_ok-from_array.ensures.items ∙ λ i. first i ∷ second i ∷ third i ∷ []
