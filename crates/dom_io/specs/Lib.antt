@@ -1,4 +1,6 @@
+pub mod Asked
 pub mod Faults
 pub mod Held
 pub mod Memory
 pub mod Pieces
+pub mod Sure

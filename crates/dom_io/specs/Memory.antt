@@ -1,10 +1,12 @@
 -- Shelves and sinks in memory as plain data.
-use Rattle.std.specs.Prelude.{ℕ, ◌≡◌, ◌≢◌, ◌≤◌, List, [], length}
+use Rattle.std.specs.Prelude.{ℕ, ◌≡◌, ◌≢◌, ◌≤◌, List, [], Option, length}
+use Rattle.dom_io.specs.Asked.{Asking}
 
--- a shelf in memory: names with their bytes, the calls that are to fail, and the counts
+-- a shelf in memory: names with their bytes, the calls that are to fail, what was asked for so far, where it is told, and the counts
 pub record ShelfData : Type 0 where
   pub files : List (List ℕ × List ℕ)
   pub fails : List ℕ
+  pub asked : Option (List Asking)
   pub calls : ℕ
   pub faults : ℕ
 

@@ -16,7 +16,7 @@ const BUFFER: usize = 4096;
 /// The files that the runtime opens by their paths, with a count of the fetches that failed.
 ///
 /// A path that cannot be opened, a folder, and an error of a read are faults. What the system
-/// holds is not known to any contract.
+/// holds, and what it was asked for, is not known to any contract.
 #[derive(Drop)]
 pub struct FileShelf<R: Files + Clone + Drop> {
     pub rt: R,
@@ -25,6 +25,8 @@ pub struct FileShelf<R: Files + Clone + Drop> {
 
 impl<R: Files + Clone + Drop> Shelf for FileShelf<R> {
     ghost files = { λ _. None };
+
+    ghost asked = { λ _. None };
 
     ghost faults = { λ s. s.faults };
 

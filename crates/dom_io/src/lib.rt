@@ -10,6 +10,8 @@ mod put;
 mod shelf;
 mod sink;
 mod stream_sink;
+mod sure_shelf;
+mod sure_sink;
 
 pub use file_shelf::FileShelf;
 pub use limit::{FILE_LIMIT, is_too_long};
@@ -19,3 +21,5 @@ pub use put::put_all;
 pub use shelf::{FetchFault, Shelf};
 pub use sink::{Sink, SinkFault};
 pub use stream_sink::StreamSink;
+pub use sure_shelf::SureShelf;
+pub use sure_sink::SureSink;

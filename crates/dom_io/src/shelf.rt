@@ -1,5 +1,7 @@
 //! Shelves: files by their names.
-ghost use Rattle.std.specs.Prelude.{◌≡◌, ◌≤◌, ◌+◌, ◌↔◌, ℕ, List, Option, IfOk, IsErrOf, length};
+ghost use Rattle.std.specs.Prelude.{◌≡◌, ◌≤◌, ◌+◌, ◌↔◌, ℕ, List, [], ◌∷◌, Option, IfOk, IsErrOf, length};
+ghost use Rattle.std.specs.Result.{is_ok};
+ghost use Rattle.dom_io.specs.Asked.{Asking, HasAsked};
 ghost use Rattle.dom_io.specs.Faults.{Rose};
 ghost use Rattle.dom_io.specs.Held.{IsHeld, file_limit};
 ghost use Rattle.dom_io.specs.declared.shelf.FetchFault.TheVariants.{Memory};
@@ -26,6 +28,10 @@ pub trait Shelf {
     /// The files as pairs of name and bytes, where they are known. The first pair of a name counts.
     ghost files: { Self → Option (List (List ℕ × List ℕ)) };
 
+    /// The names that were asked for so far, in order, each with whether its file was given, where they are known. A shelf
+    /// may stop telling them.
+    ghost asked: { Self → Option (List Asking) };
+
     /// How often the shelf has failed. The count stops at the last `u64`.
     ghost faults: { Self → ℕ };
 
@@ -33,13 +39,15 @@ pub trait Shelf {
     ghost may_ask: { Self → List ℕ → Type 0 };
 
     /// The bytes of the file of this name, or the first `FILE_LIMIT + 1` of them where there are more. The error is
-    /// `Failed` where the shelf failed, which it counts, and `Memory` where it ran out of memory.
+    /// `Failed` where the shelf failed, which it counts, and `Memory` where it ran out of memory. Whatever the answer, the name
+    /// was asked for.
     fn fetch(&mut self, alloc: Global, name: &str) -> Result<Vec<u8>, FetchFault>
         requires { may_ask self.old name.now }
         ensures size { IfOk result (λ v. length v.items ≤ file_limit + 1) }
         ensures bytes { IfOk result (λ v. IsHeld (files self.old) name.now v.items) }
         ensures same_files { files self.new ≡ files self.old }
         ensures same_names { (n : List ℕ) → may_ask self.new n ↔ may_ask self.old n }
+        ensures asked { HasAsked (asked self.old) (asked self.new) ((name.now, is_ok result) ∷ []) }
         ensures later { faults self.old ≤ faults self.new }
         ensures failed { IsErrOf result FetchFault.Failed → Rose (faults self.old) (faults self.new) };
 }

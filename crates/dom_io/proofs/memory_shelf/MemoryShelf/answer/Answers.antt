@@ -1,6 +1,6 @@
 use Rattle.std.proofs.Common.{ap, inr}
 use Rattle.dom_io.specs.Memory.{ShelfData}
-use Rattle.dom_io.proofs.memory_shelf.MemoryShelfShelf.fetch.Goals as goal
+use Rattle.dom_io.proofs.memory_shelf.MemoryShelf.answer.Goals as goal
 
 pub returns-in_err-first_bytes-in-Some-clause-absent :
     goal.returns-in_err-first_bytes-in-Some-clause-absent
