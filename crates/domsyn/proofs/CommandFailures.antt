@@ -14,7 +14,7 @@ use Rattle.synth_flow.specs.declared.options.SynthOptions.{SynthOptions}
 use Rattle.domsyn.specs.Decks.{AreFiguresFor, IsDeckFor, bounds_of}
 use Rattle.domsyn.specs.Outcomes.{Files, IsComparison, IsDeck, IsFile, IsFlat, IsPrintedRun, IsReport, is_same}
 use Rattle.domsyn.specs.Networks.{HasNetwork, IsNotRunFor, IsRunOf}
-use Rattle.domsyn.specs.Refusals.{HasNoNetworkFor, IsFaulty, about, refusal_of}
+use Rattle.domsyn.specs.Refusals.{HasNoNetworkFor, about, refusal_of}
 use Rattle.domsyn.specs.Failures.{AreUnfetched, HasNoNetwork, IsFailureFor, IsFailureOf, IsUnfetched, IsUnrun, IsUntraced, ReadFile}
 use Rattle.trace_tool.specs.CosimRefusals.{IsCosimRefused}
 use Rattle.trace_tool.specs.Refusals.{IsRefused}

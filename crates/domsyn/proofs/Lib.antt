@@ -1,6 +1,7 @@
 pub mod BenchClauses
 pub mod Benches
 pub mod CommandFailures
+pub mod FetchedFiles
 pub mod NetworkCauses
 pub mod NetworkRuns
 pub mod OneOutcome
@@ -8,5 +9,6 @@ pub mod OneSummary
 pub mod OutcomeThere
 pub mod OwnVerdicts
 pub mod ReportedFailures
+pub mod ReportedFetches
 pub mod Rooms
 pub mod TopClauses

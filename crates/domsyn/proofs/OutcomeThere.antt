@@ -52,7 +52,7 @@ use Rattle.plan_law.proofs.DecksThere.{decks_there, texts_there}
 use Rattle.domsyn.proofs.Benches.{bench_there}
 use Rattle.domsyn.specs.Decks.{bounds_of}
 use Rattle.domsyn.specs.Networks.{HasNetwork, IsNotRunFor, run_lines}
-use Rattle.domsyn.specs.Refusals.{HasNoNetworkFor, IsFaulty, about, refusal_of}
+use Rattle.domsyn.specs.Refusals.{HasNoNetworkFor, about, refusal_of}
 use Rattle.domsyn.proofs.NetworkCauses.{network_kept}
 use Rattle.domsyn.specs.Outcomes.{IsOutcome, Outcome, Printed, Refused, is_same}
 

@@ -2,6 +2,7 @@ pub mod Benches
 pub mod Bits
 pub mod Decks
 pub mod Failures
+pub mod Fetches
 pub mod Headline
 pub mod Laws
 pub mod NetworkRuns

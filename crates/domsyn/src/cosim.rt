@@ -1,9 +1,11 @@
 //! The command `cosim FILE DECK STIM`: the verdict of a deck beside the network of a file over a stimulus.
-ghost use Rattle.std.specs.Prelude.{◌≡◌, ◌≤◌, ◌↔◌, ℕ, List, IfOk, IsErrOf, if◌then◌else◌};
+ghost use Rattle.std.specs.Prelude.{◌≡◌, ◌≤◌, ◌↔◌, ℕ, List, IfOk, IsErrOf, if◌then◌else◌, [], ◌∷◌, OnOk};
+ghost use Rattle.dom_io.specs.Asked.{HasAsked};
 ghost use Rattle.dom_io.specs.Faults.{Rose};
 ghost use Rattle.command_words.specs.Commands.{Cosim};
 ghost use Rattle.domsyn.specs.declared.failure.Failure.{Failure as Failed};
 ghost use Rattle.domsyn.specs.Failures.{IsFailureOf};
+ghost use Rattle.domsyn.specs.Fetches.{AsksAt, all_given};
 ghost use Rattle.domsyn.specs.Outcomes.{IsOutcome, Printed, is_same as is_same_verdict};
 ghost use Rattle.trace_tool.specs.VerdictLines.{verdict_line};
 
@@ -34,6 +36,9 @@ pub fn cosim<'a, S: Shelf>(
     ensures failed { (failure : Failed) → IsErrOf result failure
         → IsFailureOf (S.files shelf.old) (Cosim file.now deck.now stim.now order seed)
         (Rose (S.faults shelf.old) (S.faults shelf.new)) failure }
+    ensures asked { OnOk result (HasAsked (S.asked shelf.old) (S.asked shelf.new) (all_given (file.now ∷ deck.now ∷ stim.now ∷ []))) }
+    ensures asked_failed { (failure : Failed) → IsErrOf result failure → AsksAt (S.files shelf.old) (file.now ∷ deck.now ∷ stim.now ∷ [])
+        (HasAsked (S.asked shelf.old) (S.asked shelf.new)) failure }
     ensures same_files { S.files shelf.new ≡ S.files shelf.old }
     ensures same_names { (name : List ℕ) → S.may_ask shelf.new name ↔ S.may_ask shelf.old name }
     ensures later { S.faults shelf.old ≤ S.faults shelf.new }

@@ -1,10 +1,12 @@
 //! From a command to its outcome.
-ghost use Rattle.std.specs.Prelude.{◌≡◌, ◌≤◌, ◌↔◌, ℕ, List, All, IfOk, IsErrOf, if◌then◌else◌};
+ghost use Rattle.std.specs.Prelude.{◌≡◌, ◌≤◌, ◌↔◌, ℕ, List, All, IfOk, IsErrOf, OnOk, [], if◌then◌else◌};
+ghost use Rattle.dom_io.specs.Asked.{HasAsked};
 ghost use Rattle.dom_io.specs.Faults.{Rose};
 ghost use Rattle.command_words.specs.Asked.{asked};
 ghost use Rattle.command_words.specs.Commands.{HasGoodOptions, files_of};
 ghost use Rattle.domsyn.specs.declared.failure.Failure.{Failure as Failed};
 ghost use Rattle.domsyn.specs.Failures.{IsFailureOf};
+ghost use Rattle.domsyn.specs.Fetches.{AsksAt, all_given};
 ghost use Rattle.domsyn.specs.Headline.{IsRightFor};
 ghost use Rattle.domsyn.specs.Outcomes.{IsOutcome, Printed};
 
@@ -35,6 +37,10 @@ pub fn outcome_of<'a, S: Shelf>(
         (if answer.settled then 0 else 6) answer.text.items) }
     ensures failed { (failure : Failed) → IsErrOf result failure
         → IsFailureOf (S.files shelf.old) (asked command.now) (Rose (S.faults shelf.old) (S.faults shelf.new)) failure }
+    ensures asked { OnOk result (HasAsked (S.asked shelf.old) (S.asked shelf.new) (all_given (files_of (asked command.now)))) }
+    ensures asked_failed { (failure : Failed) → IsErrOf result failure → AsksAt (S.files shelf.old) (files_of (asked command.now))
+        (HasAsked (S.asked shelf.old) (S.asked shelf.new)) failure }
+    ensures unfetched { files_of (asked command.now) ≡ [] → shelf.new ≡ shelf.old }
     ensures same_files { S.files shelf.new ≡ S.files shelf.old }
     ensures same_names { (name : List ℕ) → S.may_ask shelf.new name ↔ S.may_ask shelf.old name }
     ensures later { S.faults shelf.old ≤ S.faults shelf.new }

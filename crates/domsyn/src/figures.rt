@@ -1,5 +1,6 @@
 //! The command `report FILE` with its options: the figures of the deck of the network of a file.
-ghost use Rattle.std.specs.Prelude.{◌≡◌, ◌≤◌, ◌↔◌, ℕ, List, IfOk, IsErrOf, if◌then◌else◌, length, true};
+ghost use Rattle.std.specs.Prelude.{◌≡◌, ◌≤◌, ◌↔◌, ℕ, List, [], ◌∷◌, IfOk, IsErrOf, OnOk, if◌then◌else◌, length, true};
+ghost use Rattle.dom_io.specs.Asked.{HasAsked};
 ghost use Rattle.dom_io.specs.Faults.{Rose};
 ghost use Rattle.dom_io.specs.Held.{file_limit};
 ghost use Rattle.command_words.specs.Commands.{Report};
@@ -7,6 +8,7 @@ ghost use Rattle.command_words.specs.SynthOptionWords.{AreGoodOptions};
 ghost use Rattle.domsyn.specs.declared.failure.Failure.{Failure as Failed};
 ghost use Rattle.domsyn.specs.Decks.{AreFigureLines, AreFiguresFor};
 ghost use Rattle.domsyn.specs.Failures.{HasNoNetwork, IsFailureOf};
+ghost use Rattle.domsyn.specs.Fetches.{AsksAt, all_given};
 ghost use Rattle.domsyn.specs.Outcomes.{IsOutcome, Printed};
 
 use crate::answer::Answer;
@@ -32,6 +34,9 @@ pub fn figures<'a, S: Shelf>(
         IsOutcome (S.files shelf.old) (Report file.now options) (Printed (if answer.settled then 0 else 6) answer.text.items)) }
     ensures failed { (failure : Failed) → IsErrOf result failure
         → IsFailureOf (S.files shelf.old) (Report file.now options) (Rose (S.faults shelf.old) (S.faults shelf.new)) failure }
+    ensures asked { OnOk result (HasAsked (S.asked shelf.old) (S.asked shelf.new) (all_given (file.now ∷ []))) }
+    ensures asked_failed { (failure : Failed) → IsErrOf result failure → AsksAt (S.files shelf.old) (file.now ∷ [])
+        (HasAsked (S.asked shelf.old) (S.asked shelf.new)) failure }
     ensures same_files { S.files shelf.new ≡ S.files shelf.old }
     ensures same_names { (name : List ℕ) → S.may_ask shelf.new name ↔ S.may_ask shelf.old name }
     ensures later { S.faults shelf.old ≤ S.faults shelf.new }

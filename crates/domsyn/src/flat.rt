@@ -1,6 +1,7 @@
 //! The command `flat FILE`: the network of a file as one model.
-ghost use Rattle.std.specs.Prelude.{◌≡◌, ◌≤◌, ◌↔◌, ℕ, List, IfOk, IsErrOf, if◌then◌else◌, length, true};
+ghost use Rattle.std.specs.Prelude.{◌≡◌, ◌≤◌, ◌↔◌, ℕ, List, [], ◌∷◌, IfOk, IsErrOf, OnOk, if◌then◌else◌, length, true};
 ghost use Rattle.blif_ast.specs.Printed.{printed};
+ghost use Rattle.dom_io.specs.Asked.{HasAsked};
 ghost use Rattle.dom_io.specs.Faults.{Rose};
 ghost use Rattle.dom_io.specs.Held.{file_limit};
 ghost use Rattle.command_words.specs.Commands.{Flat};
@@ -9,6 +10,7 @@ ghost use Rattle.net_flatten.specs.OneModel.{file_of};
 ghost use Rattle.domsyn.specs.declared.failure.Failure.{Failure as Failed};
 ghost use Rattle.domsyn.specs.Failures.{HasNoNetwork, IsFailureOf};
 ghost use Rattle.domsyn.specs.Networks.{HasNetwork};
+ghost use Rattle.domsyn.specs.Fetches.{AsksAt, all_given};
 ghost use Rattle.domsyn.specs.Outcomes.{IsOutcome, Printed};
 
 use crate::answer::Answer;
@@ -30,6 +32,9 @@ pub fn flat<'a, S: Shelf>(
         IsOutcome (S.files shelf.old) (Flat file.now) (Printed (if answer.settled then 0 else 6) answer.text.items)) }
     ensures failed { (failure : Failed) → IsErrOf result failure
         → IsFailureOf (S.files shelf.old) (Flat file.now) (Rose (S.faults shelf.old) (S.faults shelf.new)) failure }
+    ensures asked { OnOk result (HasAsked (S.asked shelf.old) (S.asked shelf.new) (all_given (file.now ∷ []))) }
+    ensures asked_failed { (failure : Failed) → IsErrOf result failure → AsksAt (S.files shelf.old) (file.now ∷ [])
+        (HasAsked (S.asked shelf.old) (S.asked shelf.new)) failure }
     ensures same_files { S.files shelf.new ≡ S.files shelf.old }
     ensures same_names { (name : List ℕ) → S.may_ask shelf.new name ↔ S.may_ask shelf.old name }
     ensures later { S.faults shelf.old ≤ S.faults shelf.new }

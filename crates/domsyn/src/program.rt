@@ -2,12 +2,14 @@
 ghost use Rattle.std.specs.Prelude.{◌≡◌, ◌≢◌, ◌≤◌, ◌⊎◌, ℕ, List, Some, All, IfSome, ◌↔◌, length, map};
 ghost use Rattle.std.specs.String.{string_bytes};
 ghost use Rattle.std.specs.Io.KnownBytes.{Appends};
+ghost use Rattle.dom_io.specs.Asked.{HasAsked};
 ghost use Rattle.dom_io.specs.Faults.{Rose};
 ghost use Rattle.dom_io.specs.Pieces.{AppendsPrefix};
 ghost use Rattle.domsyn.specs.declared.refusal.Refusal.{Refusal};
 ghost use Rattle.command_words.specs.Commands.{Asks, Bench, Command, files_of};
 ghost use Rattle.synth_flow.specs.declared.options.SynthOptions.{SynthOptions};
 ghost use Rattle.domsyn.specs.Benches.{GivesSameBench};
+ghost use Rattle.domsyn.specs.Fetches.{AsksAll, AsksAtRefusal, AsksFirst, AsksUpTo};
 ghost use Rattle.domsyn.specs.Headline.{GivesRightDeck};
 ghost use Rattle.domsyn.specs.Outcomes.{Outcome, Refused, Printed, status_of};
 ghost use Rattle.domsyn.specs.Refusals.{refusal_line};
@@ -25,8 +27,8 @@ const USAGE_LINE: &[u8] =
 
 /// Does all that the program does, and gives its status: 0 done, 1 a file is refused, 2 the words ask
 /// for nothing, 3 a file can't be read, 4 the output can't be written, 5 out of memory, 6 a settling
-/// of a simulation doesn't end, or a deck does something else than its file. `words` are those of the command line without the program's name. The text goes
-/// to `out`, and a line to `err` at every status but 0 and 6.
+/// of a simulation doesn't end, or a deck does something else than its file. `words` are those of the
+/// command line without the program's name. The text goes to `out`, and a line to `err` at every status but 0 and 6.
 pub fn top<S: Shelf, K: Sink, E: Sink>(
     alloc: Global,
     words: &[String],
@@ -49,6 +51,14 @@ pub fn top<S: Shelf, K: Sink, E: Sink>(
     ensures same_files { S.files shelf.new ≡ S.files shelf.old }
     ensures same_names { (name : List ℕ) → S.may_ask shelf.new name ↔ S.may_ask shelf.old name }
 
+    // The files of the words are asked for in their order, each once, and none after one that isn't given or is too long: all of
+    // them where there is a text, up to the file that the line names where it can't be read or is too long, and else all, or some
+    // of the first where memory did not suffice.
+    ensures asked_all { result ≢ 1 → result ≢ 2 → result ≢ 3 → result ≢ 5
+        → AsksAll (map string_bytes words.now) (HasAsked (S.asked shelf.old) (S.asked shelf.new)) }
+    ensures asked_first { result ≡ 5
+        → AsksFirst (S.files shelf.old) (map string_bytes words.now) (HasAsked (S.asked shelf.old) (S.asked shelf.new)) }
+
     // A fault of the outside is reported only where its count rose in this call.
     ensures cannot_read { result ≡ 3 → Rose (S.faults shelf.old) (S.faults shelf.new) }
     ensures cannot_write { result ≡ 4 → Rose (K.faults out.old) (K.faults out.new) }
@@ -62,7 +72,8 @@ pub fn top<S: Shelf, K: Sink, E: Sink>(
         × AppendsPrefix (K.taken out.old) (K.taken out.new) text) }
     ensures refused { result ≡ 1 → (file : List ℕ) × ((why : Refusal)
         × HasOutcome (S.files shelf.old) (map string_bytes words.now) (Refused file why)
-        × Reports (E.taken err.old) (E.taken err.new) (E.faults err.old) (E.faults err.new) (refusal_line file why)) }
+        × Reports (E.taken err.old) (E.taken err.new) (E.faults err.old) (E.faults err.new) (refusal_line file why)
+        × AsksAtRefusal (S.files shelf.old) (map string_bytes words.now) (HasAsked (S.asked shelf.old) (S.asked shelf.new)) file why) }
     ensures cause { result ≡ 1 → IfSome (S.files shelf.old) (λ known. (file : List ℕ) (why : Refusal)
         → HasOutcome (Some known) (map string_bytes words.now) (Refused file why)
         → Reports (E.taken err.old) (E.taken err.new) (E.faults err.old) (E.faults err.new) (refusal_line file why)) }
@@ -78,12 +89,15 @@ pub fn top<S: Shelf, K: Sink, E: Sink>(
     // `bench` refuses nothing and reads nothing, and what it puts out says that its deck does what the network does.
     ensures bench { (seed size : ℕ) (options : SynthOptions) → Asks (map string_bytes words.now) (Bench seed size options)
         → (result ≢ 1) × (result ≢ 3) × (result ≢ 6) }
+    ensures bench_unfetched { (seed size : ℕ) (options : SynthOptions) → Asks (map string_bytes words.now) (Bench seed size options)
+        → shelf.new ≡ shelf.old }
     ensures same { result ≡ 0 → GivesSameBench (map string_bytes words.now) (Appends (K.taken out.old) (K.taken out.new)) }
 
     // Nothing is put out at another status, and `err` gets the line of the status, of the cause, or of the file.
     ensures nothing { result ≢ 0 → result ≢ 4 → result ≢ 6 → out.new ≡ out.old }
     ensures unread { result ≡ 3 → (file : List ℕ) × MeetsUnread (S.files shelf.old) (map string_bytes words.now) file
-        × Reports (E.taken err.old) (E.taken err.new) (E.faults err.old) (E.faults err.new) (unread_line file) }
+        × Reports (E.taken err.old) (E.taken err.new) (E.faults err.old) (E.faults err.new) (unread_line file)
+        × AsksUpTo (S.files shelf.old) (map string_bytes words.now) (HasAsked (S.asked shelf.old) (S.asked shelf.new)) file }
     ensures reported { result ≢ 1 → result ≢ 3
         → Reports (E.taken err.old) (E.taken err.new) (E.faults err.old) (E.faults err.new) (line_of result) }
     ensures quiet { (result ≡ 0) ⊎ (result ≡ 6) → err.new ≡ err.old }

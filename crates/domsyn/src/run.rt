@@ -1,11 +1,14 @@
 //! The command `run FILE STIM`: the run of the network of a file over a stimulus.
-ghost use Rattle.std.specs.Prelude.{◌≡◌, ◌≤◌, ◌++◌, ◌↔◌, ℕ, List, All, IfOk, IsErrOf, None, OnOk, if◌then◌else◌, length, map, true};
+ghost use Rattle.std.specs.Prelude.{◌≡◌, ◌≤◌, ◌++◌, ◌↔◌, ℕ, List, [], ◌∷◌, All, IfOk, IsErrOf, None, OnOk, length, map, true};
+ghost use Rattle.std.specs.Prelude.{if◌then◌else◌};
+ghost use Rattle.dom_io.specs.Asked.{HasAsked};
 ghost use Rattle.dom_io.specs.Faults.{Rose};
 ghost use Rattle.dom_io.specs.Held.{file_limit};
 ghost use Rattle.command_words.specs.Commands.{Run};
 ghost use Rattle.domsyn.specs.declared.failure.Failure.{Failure as Failed};
 ghost use Rattle.domsyn.specs.Bits.{tri_of};
 ghost use Rattle.domsyn.specs.Failures.{IsFailureOf, IsUnrun};
+ghost use Rattle.domsyn.specs.Fetches.{AsksAt, all_given};
 ghost use Rattle.domsyn.specs.NetworkRuns.{PutsCycle};
 ghost use Rattle.domsyn.specs.Networks.{IsRunOf, IsRunText};
 ghost use Rattle.domsyn.specs.Outcomes.{IsOutcome, Printed};
@@ -38,6 +41,9 @@ pub fn run<'a, S: Shelf>(
         IsOutcome (S.files shelf.old) (Run file.now stim.now) (Printed (if answer.settled then 0 else 6) answer.text.items)) }
     ensures failed { (failure : Failed) → IsErrOf result failure
         → IsFailureOf (S.files shelf.old) (Run file.now stim.now) (Rose (S.faults shelf.old) (S.faults shelf.new)) failure }
+    ensures asked { OnOk result (HasAsked (S.asked shelf.old) (S.asked shelf.new) (all_given (file.now ∷ stim.now ∷ []))) }
+    ensures asked_failed { (failure : Failed) → IsErrOf result failure → AsksAt (S.files shelf.old) (file.now ∷ stim.now ∷ [])
+        (HasAsked (S.asked shelf.old) (S.asked shelf.new)) failure }
     ensures same_files { S.files shelf.new ≡ S.files shelf.old }
     ensures same_names { (name : List ℕ) → S.may_ask shelf.new name ↔ S.may_ask shelf.old name }
     ensures later { S.faults shelf.old ≤ S.faults shelf.new }

@@ -1,9 +1,11 @@
 //! The command `sim DECK STIM`: the trace of a deck over a stimulus.
-ghost use Rattle.std.specs.Prelude.{◌≡◌, ◌≤◌, ◌↔◌, ℕ, List, IfOk, IsErrOf, if◌then◌else◌};
+ghost use Rattle.std.specs.Prelude.{◌≡◌, ◌≤◌, ◌↔◌, ℕ, List, IfOk, IsErrOf, if◌then◌else◌, [], ◌∷◌, OnOk};
+ghost use Rattle.dom_io.specs.Asked.{HasAsked};
 ghost use Rattle.dom_io.specs.Faults.{Rose};
 ghost use Rattle.command_words.specs.Commands.{Sim};
 ghost use Rattle.domsyn.specs.declared.failure.Failure.{Failure as Failed};
 ghost use Rattle.domsyn.specs.Failures.{IsFailureOf, IsUntraced};
+ghost use Rattle.domsyn.specs.Fetches.{AsksAt, all_given};
 ghost use Rattle.domsyn.specs.Outcomes.{IsOutcome, Printed};
 ghost use Rattle.trace_tool.specs.Traces.{IsTraceOf};
 
@@ -29,6 +31,9 @@ pub fn sim<'a, S: Shelf>(
         IsOutcome (S.files shelf.old) (Sim deck.now stim.now options.now) (Printed (if answer.settled then 0 else 6) answer.text.items)) }
     ensures failed { (failure : Failed) → IsErrOf result failure
         → IsFailureOf (S.files shelf.old) (Sim deck.now stim.now options.now) (Rose (S.faults shelf.old) (S.faults shelf.new)) failure }
+    ensures asked { OnOk result (HasAsked (S.asked shelf.old) (S.asked shelf.new) (all_given (deck.now ∷ stim.now ∷ []))) }
+    ensures asked_failed { (failure : Failed) → IsErrOf result failure → AsksAt (S.files shelf.old) (deck.now ∷ stim.now ∷ [])
+        (HasAsked (S.asked shelf.old) (S.asked shelf.new)) failure }
     ensures same_files { S.files shelf.new ≡ S.files shelf.old }
     ensures same_names { (name : List ℕ) → S.may_ask shelf.new name ↔ S.may_ask shelf.old name }
     ensures later { S.faults shelf.old ≤ S.faults shelf.new }

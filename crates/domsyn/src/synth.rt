@@ -1,5 +1,6 @@
 //! The command `synth FILE` with its options: the deck of the network of a file.
-ghost use Rattle.std.specs.Prelude.{◌≡◌, ◌≤◌, ◌↔◌, ℕ, List, IfOk, IsErrOf, if◌then◌else◌, length, true};
+ghost use Rattle.std.specs.Prelude.{◌≡◌, ◌≤◌, ◌↔◌, ℕ, List, [], ◌∷◌, IfOk, IsErrOf, OnOk, if◌then◌else◌, length, true};
+ghost use Rattle.dom_io.specs.Asked.{HasAsked};
 ghost use Rattle.dom_io.specs.Faults.{Rose};
 ghost use Rattle.dom_io.specs.Held.{file_limit};
 ghost use Rattle.command_words.specs.Commands.{Synth};
@@ -9,6 +10,7 @@ ghost use Rattle.deck_law.specs.Headline.{IsRightDeck};
 ghost use Rattle.domsyn.specs.Decks.{IsDeckFor, bounds_of};
 ghost use Rattle.domsyn.specs.Failures.{HasNoNetwork, IsFailureOf};
 ghost use Rattle.domsyn.specs.Headline.{IsRightDeckOfFile};
+ghost use Rattle.domsyn.specs.Fetches.{AsksAt, all_given};
 ghost use Rattle.domsyn.specs.Outcomes.{IsOutcome, Printed};
 
 use crate::answer::Answer;
@@ -35,6 +37,9 @@ pub fn synth<'a, S: Shelf>(
         IsRightDeckOfFile (S.files shelf.old) file.now options.bounds.w options.bounds.h options.phases answer.text.items) }
     ensures failed { (failure : Failed) → IsErrOf result failure
         → IsFailureOf (S.files shelf.old) (Synth file.now options) (Rose (S.faults shelf.old) (S.faults shelf.new)) failure }
+    ensures asked { OnOk result (HasAsked (S.asked shelf.old) (S.asked shelf.new) (all_given (file.now ∷ []))) }
+    ensures asked_failed { (failure : Failed) → IsErrOf result failure → AsksAt (S.files shelf.old) (file.now ∷ [])
+        (HasAsked (S.asked shelf.old) (S.asked shelf.new)) failure }
     ensures same_files { S.files shelf.new ≡ S.files shelf.old }
     ensures same_names { (name : List ℕ) → S.may_ask shelf.new name ↔ S.may_ask shelf.old name }
     ensures later { S.faults shelf.old ≤ S.faults shelf.new }

@@ -1,12 +1,16 @@
-use Rattle.std.proofs.Common.{map, refl, arith}
+use Rattle.std.proofs.Common.{map, inl, refl}
 use Rattle.std.specs.String.{string_bytes}
 use Rattle.command_words.specs.Asked.{asked}
+use Rattle.dom_io.specs.Asked.{HasAsked}
+use Rattle.dom_io.specs.Faults.{Rose}
+use Rattle.dom_io.proofs.AskedLemmas.{HasAsked-nothing}
 use Rattle.command_words.proofs.AskedOnce.{asks_in_range}
 use Rattle.domsyn.specs.Top.{IsText}
 use Rattle.domsyn.proofs.BenchClauses.{finished_bench, finished_same, reported_bench}
 use Rattle.domsyn.proofs.TopClauses.{asks_found, asks_some, finished_complete}
 use Rattle.domsyn.proofs.Rooms.{room_for_failure, room_of}
-use Rattle.domsyn.proofs.ReportedFailures.{failure_reported, reported_cause, reported_complete, reported_refused, reported_unread}
+use Rattle.domsyn.proofs.ReportedFailures.{failure_reported, reported_cause, reported_complete, reported_unread}
+use Rattle.domsyn.proofs.ReportedFetches.{asks_all, bench_asks_none, failed_as, finished_known, first_asks, refused_asks, unread_asks}
 use Rattle.domsyn.proofs.program.top.Goals as goal
 
 pub report-requires : goal.report-requires
@@ -47,12 +51,6 @@ returns-clause-cannot_read g c =
     let asks = asks_found words c.in-Ok-Some.field-0 c.in-Ok-Some.command c.in-Ok-Some.field-0-is c.in-Ok-Some.ensures.command in
     λ three. (reported_unread {words = words} (failure_reported (asked c.in-Ok-Some.command) c.in-Err-outcome_of.failure asks (c.in-Err-outcome_of.ensures.failed c.in-Err-outcome_of.failure refl) c.report_failure.ensures.reported) three).0
 
-pub returns-clause-refused : goal.returns-clause-refused
-returns-clause-refused g c =
-    let words = map string_bytes c.args.words.now in
-    let asks = asks_found words c.in-Ok-Some.field-0 c.in-Ok-Some.command c.in-Ok-Some.field-0-is c.in-Ok-Some.ensures.command in
-    reported_refused (failure_reported (asked c.in-Ok-Some.command) c.in-Err-outcome_of.failure asks (c.in-Err-outcome_of.ensures.failed c.in-Err-outcome_of.failure refl) c.report_failure.ensures.reported)
-
 pub returns-clause-cause : goal.returns-clause-cause
 returns-clause-cause g c =
     let words = map string_bytes c.args.words.now in
@@ -64,12 +62,6 @@ returns-clause-complete g c =
     let words = map string_bytes c.args.words.now in
     let asks = asks_found words c.in-Ok-Some.field-0 c.in-Ok-Some.command c.in-Ok-Some.field-0-is c.in-Ok-Some.ensures.command in
     reported_complete _ (failure_reported (asked c.in-Ok-Some.command) c.in-Err-outcome_of.failure asks (c.in-Err-outcome_of.ensures.failed c.in-Err-outcome_of.failure refl) c.report_failure.ensures.reported)
-
-pub returns-clause-unread : goal.returns-clause-unread
-returns-clause-unread g c =
-    let words = map string_bytes c.args.words.now in
-    let asks = asks_found words c.in-Ok-Some.field-0 c.in-Ok-Some.command c.in-Ok-Some.field-0-is c.in-Ok-Some.ensures.command in
-    λ three. (reported_unread (failure_reported (asked c.in-Ok-Some.command) c.in-Err-outcome_of.failure asks (c.in-Err-outcome_of.ensures.failed c.in-Err-outcome_of.failure refl) c.report_failure.ensures.reported) three).1
 
 pub returns-in-Ok-clause-bench : goal.returns-in-Ok-clause-bench
 returns-in-Ok-clause-bench g c =
@@ -88,3 +80,68 @@ returns-clause-bench g c =
     let words = map string_bytes c.args.words.now in
     let asks = asks_found words c.in-Ok-Some.field-0 c.in-Ok-Some.command c.in-Ok-Some.field-0-is c.in-Ok-Some.ensures.command in
     reported_bench {words = words} (failure_reported (asked c.in-Ok-Some.command) c.in-Err-outcome_of.failure asks (c.in-Err-outcome_of.ensures.failed c.in-Err-outcome_of.failure refl) c.report_failure.ensures.reported)
+
+pub returns-in-Err-clause-asked_first : goal.returns-in-Err-clause-asked_first
+returns-in-Err-clause-asked_first g c = λ five. inl (HasAsked-nothing (g.S.Shelf.asked c.args.shelf.now))
+
+pub returns-in-Ok-clause-asked_all : goal.returns-in-Ok-clause-asked_all
+returns-in-Ok-clause-asked_all g c =
+    let words = map string_bytes c.args.words.now in
+    let asks = asks_found words c.in-Ok-Some.field-0 c.in-Ok-Some.command c.in-Ok-Some.field-0-is c.in-Ok-Some.ensures.command in
+    let HasAskedHere = HasAsked (g.S.Shelf.asked c.args.shelf.now) (g.S.Shelf.asked c.outcome_of.new.shelf) in
+    λ one two three five. asks_all words HasAskedHere (asked c.in-Ok-Some.command) asks c.in-Ok.ensures.asked
+
+pub returns-in-Ok-clause-bench_unfetched : goal.returns-in-Ok-clause-bench_unfetched
+returns-in-Ok-clause-bench_unfetched g c =
+    let words = map string_bytes c.args.words.now in
+    let asks = asks_found words c.in-Ok-Some.field-0 c.in-Ok-Some.command c.in-Ok-Some.field-0-is c.in-Ok-Some.ensures.command in
+    bench_asks_none words _ (asked c.in-Ok-Some.command) asks c.in-Ok.ensures.unfetched
+
+pub returns-clause-refused : goal.returns-clause-refused
+returns-clause-refused g c =
+    let words = map string_bytes c.args.words.now in
+    let asks = asks_found words c.in-Ok-Some.field-0 c.in-Ok-Some.command c.in-Ok-Some.field-0-is c.in-Ok-Some.ensures.command in
+    let HasAskedHere = HasAsked (g.S.Shelf.asked c.args.shelf.now) (g.S.Shelf.asked c.outcome_of.new.shelf) in
+    let failed = c.in-Err-outcome_of.ensures.failed c.in-Err-outcome_of.failure refl in
+    let there = c.in-Err-outcome_of.ensures.asked_failed c.in-Err-outcome_of.failure refl in
+    let Rises = Rose (g.S.Shelf.faults c.args.shelf.now) (g.S.Shelf.faults c.outcome_of.new.shelf) in
+    refused_asks {HasAsked = HasAskedHere} Rises _ (asked c.in-Ok-Some.command) c.in-Err-outcome_of.failure asks failed there c.report_failure.ensures.reported
+
+pub returns-clause-unread : goal.returns-clause-unread
+returns-clause-unread g c =
+    let words = map string_bytes c.args.words.now in
+    let asks = asks_found words c.in-Ok-Some.field-0 c.in-Ok-Some.command c.in-Ok-Some.field-0-is c.in-Ok-Some.ensures.command in
+    let HasAskedHere = HasAsked (g.S.Shelf.asked c.args.shelf.now) (g.S.Shelf.asked c.outcome_of.new.shelf) in
+    let failed = c.in-Err-outcome_of.ensures.failed c.in-Err-outcome_of.failure refl in
+    let there = c.in-Err-outcome_of.ensures.asked_failed c.in-Err-outcome_of.failure refl in
+    let Rises = Rose (g.S.Shelf.faults c.args.shelf.now) (g.S.Shelf.faults c.outcome_of.new.shelf) in
+    unread_asks {HasAsked = HasAskedHere} Rises _ (asked c.in-Ok-Some.command) c.in-Err-outcome_of.failure asks failed there c.report_failure.ensures.reported
+
+pub returns-clause-asked_first : goal.returns-clause-asked_first
+returns-clause-asked_first g c =
+    let words = map string_bytes c.args.words.now in
+    let asks = asks_found words c.in-Ok-Some.field-0 c.in-Ok-Some.command c.in-Ok-Some.field-0-is c.in-Ok-Some.ensures.command in
+    let HasAskedHere = HasAsked (g.S.Shelf.asked c.args.shelf.now) (g.S.Shelf.asked c.outcome_of.new.shelf) in
+    let failed = c.in-Err-outcome_of.ensures.failed c.in-Err-outcome_of.failure refl in
+    let there = c.in-Err-outcome_of.ensures.asked_failed c.in-Err-outcome_of.failure refl in
+    λ five. first_asks {HasAsked = HasAskedHere} (asked c.in-Ok-Some.command) c.in-Err-outcome_of.failure asks there
+
+pub returns-clause-asked_all : goal.returns-clause-asked_all
+returns-clause-asked_all g c = λ one two three five. absurd (failed_as _ c.in-Err-outcome_of.failure c.report_failure.ensures.reported one three five)
+
+pub returns-clause-bench_unfetched : goal.returns-clause-bench_unfetched
+returns-clause-bench_unfetched g c =
+    let words = map string_bytes c.args.words.now in
+    let asks = asks_found words c.in-Ok-Some.field-0 c.in-Ok-Some.command c.in-Ok-Some.field-0-is c.in-Ok-Some.ensures.command in
+    bench_asks_none words _ (asked c.in-Ok-Some.command) asks c.in-Err-outcome_of.ensures.unfetched
+
+pub returns-in-Err-clause-asked_all : goal.returns-in-Err-clause-asked_all
+returns-in-Err-clause-asked_all g c = λ one two three five. absurd (five c.report_memory.ensures.status)
+
+pub returns-in-Ok-None-clause-asked_all : goal.returns-in-Ok-None-clause-asked_all
+returns-in-Ok-None-clause-asked_all g c =
+    λ one two three five. absurd (two refl)
+
+pub returns-in-Ok-clause-asked_first : goal.returns-in-Ok-clause-asked_first
+returns-in-Ok-clause-asked_first g c =
+    λ five. absurd (finished_known c.in-Ok.answer.settled _ c.finish.ensures.known five)

@@ -1,9 +1,11 @@
-use Rattle.std.proofs.Common.{subst, arith}
+use Rattle.std.proofs.Common.{true, [], ◌∷◌, subst, arith}
 use Rattle.std.proofs.lemmas.Result.{err_from_is_err_and, IfOk-weaker}
 use Rattle.dom_io.specs.Faults.{Rose}
 use Rattle.domsyn.specs.Failures.{IsUnfetched}
 use Rattle.domsyn.specs.Outcomes.{Files, IsFile}
 use Rattle.domsyn.proofs.CommandFailures.{run_printed, run_stim_unfetched, run_unfetched, run_unmade}
+use Rattle.dom_io.proofs.AskedLemmas.{HasAsked-then}
+use Rattle.domsyn.proofs.FetchedFiles.{asks_first, asks_later, asks_none, later_unrun}
 use Rattle.domsyn.proofs.run.run.Goals as goal
 
 pub returns-in_err-bytes-clause-failed : goal.returns-in_err-bytes-clause-failed
@@ -45,3 +47,49 @@ returns-clause-failed g c failure is =
     let is_stim = subst (λ (files : Files). IsFile files c.args.stim.now c.in_ok-stim_bytes.stim_bytes.items) c.in_ok-bytes.ensures.same_files c.in_ok-stim_bytes.ensures.bytes in
     run_unmade files (record { name = c.args.file.now; bytes = c.in_ok-bytes.bytes.items }) (record { name = c.args.stim.now; bytes = c.in_ok-stim_bytes.stim_bytes.items })
     Rises failure c.in_ok-bytes.ensures.bytes is_stim (c.run_of.ensures.failed failure is)
+
+pub returns-in_err-bytes-clause-asked_failed : goal.returns-in_err-bytes-clause-asked_failed
+returns-in_err-bytes-clause-asked_failed g c failure is =
+    let p = err_from_is_err_and c.from_residual.result c.from_residual.ensures.1 in
+    let a = p.1 in
+    let b = p.2 in
+    let files = g.S.Shelf.files c.args.shelf.now in
+    let before = g.S.Shelf.asked c.args.shelf.now in
+    let after = g.S.Shelf.asked c.fetch.new.shelf in
+    let Rises = Rose (g.S.Shelf.faults c.args.shelf.now) (g.S.Shelf.faults c.fetch.new.shelf) in
+    asks_first files before after c.args.file.now (c.args.stim.now ∷ []) Rises failure (c.in_err-bytes.ensures.failed failure (cc)) (c.in_err-bytes.ensures.asked_failed failure (cc))
+
+pub returns-in_err-stim_bytes-clause-asked_failed : goal.returns-in_err-stim_bytes-clause-asked_failed
+returns-in_err-stim_bytes-clause-asked_failed g c failure is =
+    let p = err_from_is_err_and c.from_residual-in_err-stim_bytes.result c.from_residual-in_err-stim_bytes.ensures.1 in
+    let a = p.1 in
+    let b = p.2 in
+    let files = g.S.Shelf.files c.args.shelf.now in
+    let before = g.S.Shelf.asked c.args.shelf.now in
+    let middle = g.S.Shelf.asked c.fetch.new.shelf in
+    let after = g.S.Shelf.asked c.fetch-2.new.shelf in
+    let RisesHere = Rose (g.S.Shelf.faults c.fetch.new.shelf) (g.S.Shelf.faults c.fetch-2.new.shelf) in
+    let unfetched : IsUnfetched files c.args.stim.now RisesHere failure =
+    subst (λ (files : Files). IsUnfetched files c.args.stim.now RisesHere failure) c.in_ok-bytes.ensures.same_files (c.in_err-stim_bytes.ensures.failed failure (cc)) in
+    asks_later files before middle after c.args.file.now c.in_ok-bytes.bytes.items (c.args.stim.now ∷ []) failure c.in_ok-bytes.ensures.bytes c.in_ok-bytes.ensures.asked
+    (asks_first files middle after c.args.stim.now [] RisesHere failure unfetched (c.in_err-stim_bytes.ensures.asked_failed failure (cc)))
+
+pub returns-clause-asked : goal.returns-clause-asked
+returns-clause-asked g c =
+    let before = g.S.Shelf.asked c.args.shelf.now in
+    let middle = g.S.Shelf.asked c.fetch.new.shelf in
+    let after = g.S.Shelf.asked c.fetch-2.new.shelf in
+    let asked = HasAsked-then before middle after ((c.args.file.now, true) ∷ []) ((c.args.stim.now, true) ∷ []) c.in_ok-bytes.ensures.asked c.in_ok-stim_bytes.ensures.asked in
+    IfOk-weaker c.run_of.result _ _ (λ answer is. asked) c.run_of.ensures.text
+
+pub returns-clause-asked_failed : goal.returns-clause-asked_failed
+returns-clause-asked_failed g c failure is =
+    let files = g.S.Shelf.files c.args.shelf.now in
+    let before = g.S.Shelf.asked c.args.shelf.now in
+    let middle = g.S.Shelf.asked c.fetch.new.shelf in
+    let after = g.S.Shelf.asked c.fetch-2.new.shelf in
+    let is_stim : IsFile files c.args.stim.now c.in_ok-stim_bytes.stim_bytes.items =
+    subst (λ (files : Files). IsFile files c.args.stim.now c.in_ok-stim_bytes.stim_bytes.items) c.in_ok-bytes.ensures.same_files c.in_ok-stim_bytes.ensures.bytes in
+    let later = later_unrun (record { name = c.args.file.now; bytes = c.in_ok-bytes.bytes.items }) (record { name = c.args.stim.now; bytes = c.in_ok-stim_bytes.stim_bytes.items }) failure (c.run_of.ensures.failed failure is) in
+    asks_later files before middle after c.args.file.now c.in_ok-bytes.bytes.items (c.args.stim.now ∷ []) failure c.in_ok-bytes.ensures.bytes c.in_ok-bytes.ensures.asked
+    (asks_later files middle after after c.args.stim.now c.in_ok-stim_bytes.stim_bytes.items [] failure is_stim c.in_ok-stim_bytes.ensures.asked (asks_none files after failure later))
