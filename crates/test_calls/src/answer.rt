@@ -26,6 +26,7 @@ pub fn shelf_with(alloc: Global, files: &[(&str, &[u8])]) -> Result<MemoryShelf,
     Ok(MemoryShelf {
         files: owned,
         fails: Vec::new(alloc),
+        asked: Some(Vec::new(alloc)),
         calls: 0,
         faults: 0,
     })
@@ -41,6 +42,19 @@ pub fn failing(alloc: Global, most: usize, call: u64) -> Result<MemorySink, OutO
     requires { 1 ≤ most }
 {
     MemorySink::new(alloc, most, PLENTY, vec![in alloc; call]?)
+}
+
+/// Whether a shelf tells that it was asked for these names, in order, and that it gave all of them, or all but the last.
+pub fn was_asked(shelf: &MemoryShelf, names: &[&str], given: bool) -> bool {
+    let Some(asked) = &shelf.asked else {
+        return false;
+    };
+    let mut right = asked.len() == names.len();
+    for (k, (asking, name)) in asked.iter().zip(names.iter()).enumerate() {
+        right &= asking.0.as_str() == *name
+            && asking.1 == (given || k < names.len().saturating_sub(1));
+    }
+    right
 }
 
 /// The status of a call with these words.

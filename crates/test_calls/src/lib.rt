@@ -5,4 +5,5 @@ mod answer;
 
 pub use answer::{
     Answer, USAGE, ample, answer_to, asking, failing, shelf_of, shelf_with, status_of, synth,
+    was_asked,
 };

@@ -5,7 +5,7 @@ ghost use Rattle.deck.specs.Pushes.{new_circuit};
 
 use crate::trees::series_of_two;
 use deck::{Circuit, Device};
-use dom_base::{Kind, NetName, OutOfMemory};
+use dom_base::{Kind, NameBytes, NetName, OutOfMemory};
 use domino_cell::{push_domino, push_static};
 use sp_network::GatePlan;
 use std::alloc::Global;
@@ -16,7 +16,7 @@ fn named(alloc: Global, name: &[u8]) -> Result<NetName, OutOfMemory>
     requires { IsNetName name.now }
     ensures { IfOk result (λ n. n ≡ name.now) }
 {
-    Ok(NetName(name.to_vec(alloc)?))
+    Ok(NetName(NameBytes::from_slice(alloc, name)?))
 }
 
 /// A circuit with the nine ports that each one has, on one clock.

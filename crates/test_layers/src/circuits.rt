@@ -3,7 +3,7 @@ ghost use Rattle.std.specs.Prelude.{◌≡◌, IfOk};
 ghost use Rattle.dom_base.specs.Names.{IsNetName};
 
 use deck::{Circuit, Device, Phase, esc};
-use dom_base::{Kind, NetName, OutOfMemory};
+use dom_base::{Kind, NameBytes, NetName, OutOfMemory};
 use std::alloc::Global;
 use std::test::Fail;
 
@@ -92,7 +92,7 @@ fn named(alloc: Global, name: &[u8]) -> Result<NetName, OutOfMemory>
     requires { IsNetName name.now }
     ensures { IfOk result (λ n. n ≡ name.now) }
 {
-    Ok(NetName(name.to_vec(alloc)?))
+    Ok(NetName(NameBytes::from_slice(alloc, name)?))
 }
 
 fn without_devices(alloc: Global) -> Result<Circuit, OutOfMemory> {

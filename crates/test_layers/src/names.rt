@@ -1,5 +1,7 @@
-//! Words that are names of nets, and words that aren't.
-use dom_base::NetName;
+//! Words that are names of nets, words that aren't, and hashes of names.
+use dom_base::{Name, NameHash, NetName};
+use std::alloc::{AllocError, Global};
+use std::hash::BuildHasher;
 use std::test::Fail;
 
 #[test]
@@ -8,6 +10,9 @@ fn names_of_words(rt: HostRuntime) -> Result<(), Fail> {
     for (word, is_name) in [
         ("a", true),
         ("i_a+[0].~", true),
+        ("sixteen_bytes_at", true),
+        ("seventeen_bytes_a", true),
+        ("a_name_that_does_not_fit_into_the_room_of_a_name", true),
         ("\u{e9}", true),
         ("", false),
         ("a b", false),
@@ -22,5 +27,22 @@ fn names_of_words(rt: HostRuntime) -> Result<(), Fail> {
         };
         assert!(rt; same == is_name, "at {word}");
     }
+    Ok(())
+}
+
+/// A text of so many bytes, of this one each.
+fn text_of(alloc: Global, byte: u8, length: usize) -> Result<Vec<u8>, AllocError> {
+    vec![in alloc; byte; length]
+}
+
+#[test]
+fn hashes_of_texts(rt: HostRuntime) -> Result<(), Fail> {
+    let alloc = rt.alloc();
+    let name = Name::from_bytes(alloc, b"n1")?;
+    let first = NameHash::of_text(&text_of(alloc, b'a', 8192)?);
+    let same = NameHash::of_text(&text_of(alloc, b'a', 8192)?);
+    let second = NameHash::of_text(&text_of(alloc, b'b', 8192)?);
+    assert!(rt; first.hash_one(&name) == same.hash_one(&name));
+    assert!(rt; first.hash_one(&name) != second.hash_one(&name));
     Ok(())
 }

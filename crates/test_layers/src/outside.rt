@@ -87,6 +87,7 @@ fn memory(rt: HostRuntime) -> Result<(), Fail> {
     let mut shelf = MemoryShelf {
         files,
         fails: vec![in alloc; 3]?,
+        asked: Some(Vec::new(alloc)),
         calls: 0,
         faults: 0,
     };
@@ -98,6 +99,8 @@ fn memory(rt: HostRuntime) -> Result<(), Fail> {
         "a name that is not held"
     );
     assert_eq!(rt; (shelf.calls, shelf.faults), (4, 2));
+    let told = matches!(&shelf.asked, Some(asked) if asked.len() == 4);
+    assert!(rt; told, "what it was asked for");
 
     let mut sink = MemorySink::new(alloc, 16, PLENTY, vec![in alloc; 2]?)?;
     let text = b"* domsyn deck 1\n* phase o_f +\n";

@@ -18,7 +18,7 @@ fn lines_of(alloc: Global, text: &str, width: u32) -> Result<Vec<u8>, Fail> {
     for pins in read_stim(alloc, text.as_bytes(), width)? {
         let row = CycleRow {
             cycle,
-            pins: pins.0,
+            pins: pins.as_slice().to_vec(alloc)?,
             outs: Vec::new(alloc),
             events: None,
         };
