@@ -1,8 +1,9 @@
 //! Rows of a table.
-ghost use Rattle.std.specs.Prelude.{◌≡◌};
+ghost use Rattle.std.specs.Prelude.{◌≡◌, []};
 
 use smallvec::SmallVec;
-use std::alloc::AllocError;
+use std::alloc::{AllocError, Global};
+use std::default::MadeWith;
 use std::marker::Model;
 
 /// What a row asks of an input: 0, 1 or nothing.
@@ -16,6 +17,9 @@ pub enum Letter {
 
 /// The letters of a row. The row itself has room for 16; more stand in an allocation.
 pub type Letters = SmallVec<Letter, 16>;
+
+/// The rows of a table. The table itself has room for 2; more stand in an allocation.
+pub type Rows = SmallVec<Row, 2>;
 
 /// A row of a table: one letter per input of the table, in order.
 #[derive(Debug, Drop)]
@@ -39,5 +43,15 @@ impl Clone for Row {
         Ok(Row {
             letters: SmallVec::from_slice(*self.letters.allocator(), self.letters.as_slice())?,
         })
+    }
+}
+
+impl MadeWith<Global> for Row {
+    ghost is_made_with = { λ row. row ≡ [] };
+
+    fn made_with(alloc: Global) -> Row {
+        Row {
+            letters: Letters::new(alloc),
+        }
     }
 }

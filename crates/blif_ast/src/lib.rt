@@ -23,12 +23,12 @@ pub use file::{BlifFile, BlifModel};
 pub use instance::{Binding, Instance};
 pub use kind::BlifKind;
 pub use latch::{Control, Edge2, Latch};
-pub use letter::{Letter, Letters, Row};
+pub use letter::{Letter, Letters, Row, Rows};
 pub use line::end_line;
 use models::put_models;
 pub use models::{put_head, put_latches};
 use std::alloc::Global;
-pub use table::Table;
+pub use table::{InputNames, Table};
 
 /// The text of a file, in bytes. Each line ends with LF and its words are separated by one blank;
 /// where the last word of a line ends with `\`, one blank follows it. The lines of a model are

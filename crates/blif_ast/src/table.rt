@@ -1,7 +1,11 @@
 //! Tables of a model.
-use crate::Row;
+use crate::Rows;
 use dom_base::Name;
+use smallvec::SmallVec;
 use std::marker::Model;
+
+/// The names that a table reads. The table itself has room for 3; more stand in an allocation.
+pub type InputNames = SmallVec<Name, 3>;
 
 /// A table of BLIF, the card `.names`. Where `on` is true its rows end in 1, and the output is 1
 /// exactly where some row matches the inputs; where it is false they end in 0, and the output is
@@ -9,10 +13,10 @@ use std::marker::Model;
 /// the card, from 1.
 #[derive(Clone, Debug, Drop)]
 pub struct Table {
-    pub inputs: Vec<Name>,
+    pub inputs: InputNames,
     pub output: Name,
     pub on: bool,
-    pub rows: Vec<Row>,
+    pub rows: Rows,
     pub line: u64,
 }
 

@@ -111,7 +111,6 @@ fn push_row(alloc: Global, table: &mut Option<Table>, words: &[&[u8]]) -> Result
     match table {
         Some(table) => {
             table.on = on_after(&table.rows, table.on, last_letter(words));
-            reserve_first(&mut table.rows, 1)?;
             table.rows.push(row_of(alloc, words)?)?;
             Ok(())
         }

@@ -6,7 +6,10 @@ ghost use Rattle.blif_read.specs.Build.{new_model, new_table};
 
 use crate::forms::sides;
 use crate::line::Line;
-use blif_ast::{Binding, BlifModel, Control, Edge2, Instance, Latch, Letter, Letters, Row, Table};
+use blif_ast::{
+    Binding, BlifModel, Control, Edge2, InputNames, Instance, Latch, Letter, Letters, Row, Rows,
+    Table,
+};
 use dom_base::{Name, NameBytes, OutOfMemory};
 use std::alloc::{AllocError, Global};
 
@@ -57,20 +60,22 @@ pub fn new_model(alloc: Global, line: &Line<'_, '_>) -> Result<BlifModel, OutOfM
     })
 }
 
-fn names_of(alloc: Global, words: &[&[u8]]) -> Result<Vec<Name>, OutOfMemory>
+fn names_of(alloc: Global, words: &[&[u8]]) -> Result<InputNames, OutOfMemory>
     ensures { IfOk result (λ names. names.items ≡ map (λ w. w.now) words.now) }
 {
-    let mut names = Vec::with_capacity(alloc, words.len())?;
-    push_names(alloc, &mut names, words)?;
+    let mut names = InputNames::with_capacity(alloc, words.len())?;
+    for word in words {
+        names.push(Name::from_bytes(alloc, word)?)?;
+    }
     Ok(names)
 }
 
 /// The inputs of a table by the words of its card.
-fn inputs_of(alloc: Global, words: &[&[u8]]) -> Result<Vec<Name>, OutOfMemory>
+fn inputs_of(alloc: Global, words: &[&[u8]]) -> Result<InputNames, OutOfMemory>
     ensures { IfOk result (λ names. names.items ≡ table_inputs (map (λ w. w.now) words.now)) }
 {
     if words.len() <= 2 {
-        return Ok(Vec::new(alloc));
+        return Ok(InputNames::new(alloc));
     }
     names_of(alloc, &words[1..words.len() - 1])
 }
@@ -84,7 +89,7 @@ pub fn new_table(alloc: Global, line: &Line<'_, '_>) -> Result<Table, OutOfMemor
         inputs: inputs_of(alloc, words)?,
         output: name_at(alloc, words, words.len().saturating_sub(1))?,
         on: true,
-        rows: Vec::new(alloc),
+        rows: Rows::new(alloc),
         line: line.number,
     })
 }

@@ -64,3 +64,9 @@ false_from_not false e = refl
 -- no Boolean is both
 pub never : {b : Bool} → b ≡ true → b ≡ false → ⊥
 never x y = let e : true ≡ false = sym x ∙ y in cc
+
+-- two of which each is true where the other is
+pub same_truth : (a b : Bool) → (a ≡ true → b ≡ true) → (b ≡ true → a ≡ true) → a ≡ b
+same_truth true b h k = sym (h refl)
+same_truth false true h k = k refl
+same_truth false false h k = refl

@@ -1,11 +1,11 @@
 -- Facts of each element of a list, by recursion; fronts that pass a test; reverses; elements by index; lists that are apart.
-use Rattle.std.proofs.Common.{◌≡◌, ℕ, zero, suc, Bool, true, false, List, [], ◌∷◌, ◌++◌, map, filter, take, drop, refl, ap, arith, ◌≢◌, ◌<◌, ◌+◌, cond, not, ◌==◌, length, get_or, reverse, All, Option, None, eqb-true, sym, ap₂, ◌∙◌, subst, append_assoc}
+use Rattle.std.proofs.Common.{◌≡◌, ℕ, zero, suc, Bool, true, false, List, [], ◌∷◌, ◌++◌, map, filter, take, drop, refl, ap, arith, ◌≢◌, ◌<◌, ◌+◌, cond, not, ◌==◌, length, get_or, reverse, All, Option, None, eqb-true, sym, ap₂, ◌∙◌, subst, append_assoc, set, ◌⊎◌, inl, inr}
 use Rattle.std.specs.Prelude.{◌&&◌, ◌||◌, Contains, Some, slice_get}
-use Rattle.std.specs.List.{AllByRecursion, flat_map, list_all, list_any, prefix_len, take_while, before_first, cons_option, filter_map, IsDistinct}
+use Rattle.std.specs.List.{AllByRecursion, flat_map, list_all, list_any, prefix_len, take_while, before_first, cons_option, filter_map, IsDistinct, AllZip, enumerate_from}
 use Rattle.std.proofs.lemmas.List.Elements.{recursion_from_All, All-contains, All-from_recursion, Contains-append_left, Contains-append_right, All-head, All-tail}
 use Rattle.std.specs.Option.{option_to_list}
 use Rattle.std.proofs.lemmas.List.{reverse-append}
-use Rattle.std.proofs.lemmas.Option.{slice_get-get_or}
+use Rattle.std.proofs.lemmas.Option.{slice_get-get_or, same_Some}
 use Rattle.dom_base.specs.Apart.{AreApart}
 use Rattle.dom_base.proofs.Bools.{false_from_not}
 
@@ -180,6 +180,33 @@ pub slice_get-behind : {X : Type 0} (xs ys : List X) (i : ℕ) → slice_get (xs
 slice_get-behind [] ys i = ap (slice_get ys) (let z : 0 + i ≡ i = omega arith in z)
 slice_get-behind (x ∷ xs) ys i = ap (slice_get (x ∷ xs ++ ys)) (let z : suc (length xs) + i ≡ suc (length xs + i) = omega arith in z) ∙ slice_get-behind xs ys i
 
+-- what stands at an index of a list that is followed by more
+pub slice_get-left : {X : Type 0} (xs ys : List X) (i : ℕ) → i < length xs → slice_get (xs ++ ys) i ≡ slice_get xs i
+slice_get-left [] ys i lt = absurd (omega (arith, lt))
+slice_get-left (x ∷ xs) ys zero lt = refl
+slice_get-left (x ∷ xs) ys (suc i) lt = slice_get-left xs ys i (omega (arith, lt))
+
+-- what stands at the end of a list that was appended to
+pub slice_get-push : {X : Type 0} (xs : List X) (y : X) → slice_get (xs ++ y ∷ []) (length xs) ≡ Some y
+slice_get-push [] y = refl
+slice_get-push (x ∷ xs) y = slice_get-push xs y
+
+-- what stands at an index of a list that was appended to
+pub slice_get-push_cases : {X : Type 0} (xs : List X) (y : X) (i : ℕ) (x : X) → slice_get (xs ++ (y ∷ [])) i ≡ Some x
+    → (slice_get xs i ≡ Some x) ⊎ ((i ≡ length xs) × (y ≡ x))
+slice_get-push_cases [] y zero x e = inr (refl, same_Some y x e)
+slice_get-push_cases [] y (suc i) x e = absurd (cc)
+slice_get-push_cases (z ∷ xs) y zero x e = inl e
+slice_get-push_cases (z ∷ xs) y (suc i) x e = elim (slice_get-push_cases xs y i x e) [ inl f ↦ inl f | inr f ↦ inr (ap suc f.0, f.1) ]
+
+-- what stands at an index after another was set
+pub slice_get-set_other : {X : Type 0} (xs : List X) (i j : ℕ) (y : X) → (j ≡ i → ⊥) → slice_get (set xs i y) j ≡ slice_get xs j
+slice_get-set_other [] i j y other = refl
+slice_get-set_other (x ∷ xs) zero zero y other = absurd (other refl)
+slice_get-set_other (x ∷ xs) zero (suc j) y other = refl
+slice_get-set_other (x ∷ xs) (suc i) zero y other = refl
+slice_get-set_other (x ∷ xs) (suc i) (suc j) y other = slice_get-set_other xs i j y (λ e. other (ap suc e))
+
 -- what a list has stands at an index
 pub slice_get-contained : {X : Type 0} (xs : List X) (x : X) → Contains xs x → (i : ℕ) × (slice_get xs i ≡ Some x)
 slice_get-contained xs x c = (c.0, slice_get-get_or xs c.0 x c.1 ∙ ap Some c.2)
@@ -225,6 +252,24 @@ map-injective f one (x ∷ xs) (y ∷ ys) e =
 pub map-push : {X Y : Type 0} (f : X → Y) (xs : List X) (x : X) → map f (xs ++ x ∷ []) ≡ map f xs ++ f x ∷ []
 map-push f [] x = refl
 map-push f (y ∷ ys) x = ap (λ l. f y ∷ l) (map-push f ys x)
+
+-- numbered elements and one more
+pub enumerate_from-push : {X : Type 0} (k : ℕ) (xs : List X) (x : X)
+    → enumerate_from k (xs ++ x ∷ []) ≡ enumerate_from k xs ++ (k + length xs, x) ∷ []
+enumerate_from-push k [] x = ap (λ n. (n, x) ∷ []) (let z : k ≡ k + 0 = omega arith in z)
+enumerate_from-push k (y ∷ ys) x =
+    let z : k + 1 + length ys ≡ k + length (y ∷ ys) = omega arith in
+    ap (λ l. (k, y) ∷ l) (enumerate_from-push (k + 1) ys x ∙ ap (λ n. enumerate_from (k + 1) ys ++ (n, x) ∷ []) z)
+
+-- what goes with the items of a list, where one thing goes with each, is one list
+pub AllZip-one : {X Y : Type 0} (R : X → Y → Type 0) → ((x : X) (y z : Y) → R x y → R x z → y ≡ z) → (xs : List X) (ys zs : List Y)
+    → AllZip R xs ys → AllZip R xs zs → ys ≡ zs
+AllZip-one R one [] [] [] a b = refl
+AllZip-one R one [] [] (z ∷ zs) a b = absurd b
+AllZip-one R one [] (y ∷ ys) zs a b = absurd a
+AllZip-one R one (x ∷ xs) [] zs a b = absurd a
+AllZip-one R one (x ∷ xs) (y ∷ ys) [] a b = absurd b
+AllZip-one R one (x ∷ xs) (y ∷ ys) (z ∷ zs) a b = ap₂ (λ u us. u ∷ us) (one x y z a.0 b.0) (AllZip-one R one xs ys zs a.1 b.1)
 
 pub length-some : {X : Type 0} (xs : List X) → xs ≢ [] → 0 < length xs
 length-some [] n = absurd (n refl)

@@ -10,6 +10,7 @@ ghost use Rattle.dom_base.specs.Names.{IsNetName, is_net_byte, is_net_name};
 use crate::OutOfMemory;
 use smallvec::SmallVec;
 use std::alloc::{AllocError, Global};
+use std::default::MadeWith;
 use std::hash::{Hash, Hasher};
 use std::marker::Model;
 
@@ -65,6 +66,14 @@ impl Clone for Name {
 
     fn clone(&self) -> Result<Name, AllocError> {
         Ok(Name(bytes_of(*self.0.allocator(), self.as_bytes())?))
+    }
+}
+
+impl MadeWith<Global> for Name {
+    ghost is_made_with = { λ name. name ≡ [] };
+
+    fn made_with(alloc: Global) -> Name {
+        Name(NameBytes::new(alloc))
     }
 }
 
