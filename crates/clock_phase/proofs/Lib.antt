@@ -1,3 +1,4 @@
+pub mod EarlierCells
 pub mod Greatest
 pub mod Levels
 pub mod LevelsUpTo

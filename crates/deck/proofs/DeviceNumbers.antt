@@ -7,7 +7,7 @@ use Rattle.dom_base.specs.declared.kind.Kind.{Kind}
 use Rattle.deck.specs.declared.device.Device.{Device}
 use Rattle.deck.specs.CircuitData.{CircuitData}
 use Rattle.deck.specs.NamedDevices.{NamedDevice, named_device, with_devices}
-use Rattle.deck.specs.Nets.{net_name, with_net, with_nets, ends, IsInRange, IsNumbered, used, IsCircuit}
+use Rattle.deck.specs.Nets.{net_name, with_net, with_nets, ends, IsInRange, IsNumbered, numbers_used, IsCircuit}
 use Rattle.deck.specs.Numbers.{AreNumbersOf}
 use Rattle.deck.specs.Pushes.{added_device, pushed}
 use Rattle.deck.proofs.NetNumbers.{IsDistinct-with_net, net_number-take, number_fits, with_net-take}
@@ -16,21 +16,21 @@ pub ends-append : (ds es : List Device) → ends (ds ++ es) ≡ ends ds ++ ends 
 ends-append [] es = refl
 ends-append (d ∷ ds) es = rw (ends-append ds es) refl
 
-pub used-append : (n : ℕ) (xs ys : List ℕ) → used n (xs ++ ys) ≡ used (used n xs) ys
-used-append n [] ys = refl
-used-append n (x ∷ xs) ys = used-append (max n (x + 1)) xs ys
+pub numbers_used-append : (n : ℕ) (xs ys : List ℕ) → numbers_used n (xs ++ ys) ≡ numbers_used (numbers_used n xs) ys
+numbers_used-append n [] ys = refl
+numbers_used-append n (x ∷ xs) ys = numbers_used-append (max n (x + 1)) xs ys
 
-pub used-ge : (n : ℕ) (xs : List ℕ) → n ≤ used n xs
-used-ge n [] = omega arith
-used-ge n (x ∷ xs) = omega (arith, used-ge (max n (x + 1)) xs)
+pub numbers_used-ge : (n : ℕ) (xs : List ℕ) → n ≤ numbers_used n xs
+numbers_used-ge n [] = omega arith
+numbers_used-ge n (x ∷ xs) = omega (arith, numbers_used-ge (max n (x + 1)) xs)
 
-pub IsNumbered-append : (n : ℕ) (xs ys : List ℕ) → IsNumbered n xs → IsNumbered (used n xs) ys → IsNumbered n (xs ++ ys)
+pub IsNumbered-append : (n : ℕ) (xs ys : List ℕ) → IsNumbered n xs → IsNumbered (numbers_used n xs) ys → IsNumbered n (xs ++ ys)
 IsNumbered-append n [] ys a b = b
 IsNumbered-append n (x ∷ xs) ys a b = (a.0, IsNumbered-append (max n (x + 1)) xs ys a.1 b)
 
-pub used-le : (n : ℕ) (ds : List Device) → IsNumbered n (ends ds) → used n (ends ds) ≤ n + 3 * length ds
-used-le n [] a = omega arith
-used-le n (d ∷ ds) a = omega (arith, used-le (max (max (max n (d.drain + 1)) (d.gate + 1)) (d.source + 1)) ds a.1.1.1, a.0, a.1.0, a.1.1.0)
+pub numbers_used-le : (n : ℕ) (ds : List Device) → IsNumbered n (ends ds) → numbers_used n (ends ds) ≤ n + 3 * length ds
+numbers_used-le n [] a = omega arith
+numbers_used-le n (d ∷ ds) a = omega (arith, numbers_used-le (max (max (max n (d.drain + 1)) (d.gate + 1)) (d.source + 1)) ds a.1.1.1, a.0, a.1.0, a.1.1.0)
 
 -- one more device, at the end
 pub IsCircuit-pushed : (ports : ℕ) (nets : List (List ℕ)) (devices : List Device) (kind : Kind) (d g s : List ℕ)
@@ -48,7 +48,7 @@ IsCircuit-pushed ports nets devices kind d g s is room =
       in_order = rw (ends-append devices (device ∷ []))
           (IsNumbered-append ports (ends devices) named is.in_order
           (omega (arith, is.all_used, a.within), (omega (arith, is.all_used, a.length_then, b.within), (omega (arith, is.all_used, a.length_then, b.length_then, c.within), tt))));
-      all_used = rw (ends-append devices (device ∷ []), used-append ports (ends devices) named)
+      all_used = rw (ends-append devices (device ∷ []), numbers_used-append ports (ends devices) named)
           (omega (arith, is.all_used, a.length_then, b.length_then, c.length_then));
     }
 
@@ -76,10 +76,10 @@ IsCircuit-with_devices c (d ∷ ds) is few =
     IsCircuit-with_devices next ds (IsCircuit-push c d.kind d.drain d.gate d.source is (omega arith)) (omega (arith, more))
 
 -- each number is below the count of the nets in the end
-pub devices_in_range : (bound n : ℕ) (ds : List Device) → used n (ends ds) ≤ bound → AllByRecursion (IsInRange bound) ds
+pub devices_in_range : (bound n : ℕ) (ds : List Device) → numbers_used n (ends ds) ≤ bound → AllByRecursion (IsInRange bound) ds
 devices_in_range bound n [] h = tt
 devices_in_range bound n (d ∷ ds) h =
-    let most = used-ge (max (max (max n (d.drain + 1)) (d.gate + 1)) (d.source + 1)) (ends ds) in (
+    let most = numbers_used-ge (max (max (max n (d.drain + 1)) (d.gate + 1)) (d.source + 1)) (ends ds) in (
       record { drain = omega arith; gate = omega arith; source = omega arith },
       devices_in_range bound (max (max (max n (d.drain + 1)) (d.gate + 1)) (d.source + 1)) ds h,
     )
@@ -91,10 +91,10 @@ IsCircuit-in_range ports nets devices is =
 
 -- a circuit has its ports among its nets, and few nets
 pub IsCircuit-ports : (ports : ℕ) (nets : List (List ℕ)) (devices : List Device) → IsCircuit ports nets devices → ports ≤ length nets
-IsCircuit-ports ports nets devices is = omega (arith, is.all_used, used-ge ports (ends devices))
+IsCircuit-ports ports nets devices is = omega (arith, is.all_used, numbers_used-ge ports (ends devices))
 
 pub IsCircuit-few : (ports : ℕ) (nets : List (List ℕ)) (devices : List Device) → IsCircuit ports nets devices → length nets ≤ 2 ^ 20 + 3 * 2 ^ 24
-IsCircuit-few ports nets devices is = omega (arith, is.all_used, used-le ports devices is.in_order, is.few_ports)
+IsCircuit-few ports nets devices is = omega (arith, is.all_used, numbers_used-le ports devices is.in_order, is.few_ports)
 
 -- the circuit with these devices, and so many of its nets
 abbrev pub first_nets : CircuitData → ℕ → List Device → CircuitData
@@ -104,7 +104,7 @@ first_nets c n devices = record c { nets = take n c.nets; devices = devices }
 pushed-named : (c : CircuitData) (n : ℕ) (before : List Device) (d : Device)
     → IsDistinct (pointwise nat_eq) c.nets → IsInRange (length c.nets) d → IsNumbered n (ends (d ∷ []))
     → pushed (first_nets c n before) d.kind (net_name c.nets d.drain) (net_name c.nets d.gate) (net_name c.nets d.source)
-    ≡ first_nets c (used n (ends (d ∷ []))) (before ++ d ∷ [])
+    ≡ first_nets c (numbers_used n (ends (d ∷ []))) (before ++ d ∷ [])
 pushed-named c n before d apart low order =
     let first = with_net-take c.nets apart n d.drain order.0 low.drain in
     let second = with_net-take c.nets apart (max n (d.drain + 1)) d.gate order.1.0 low.gate in
@@ -117,9 +117,9 @@ pushed-named c n before d apart low order =
 -- all devices, by the names of their nets
 pub with_devices-named : (c : CircuitData) (n : ℕ) (before ds : List Device)
     → IsDistinct (pointwise nat_eq) c.nets → IsNumbered n (ends ds) → AllByRecursion (IsInRange (length c.nets)) ds
-    → with_devices (first_nets c n before) (map (named_device c.nets) ds) ≡ first_nets c (used n (ends ds)) (before ++ ds)
+    → with_devices (first_nets c n before) (map (named_device c.nets) ds) ≡ first_nets c (numbers_used n (ends ds)) (before ++ ds)
 with_devices-named c n before [] apart order low = ap (first_nets c n) (sym (append-nil before))
 with_devices-named c n before (d ∷ ds) apart order low =
     ap (λ e. with_devices e (map (named_device c.nets) ds)) (pushed-named c n before d apart low.0 (order.0, (order.1.0, (order.1.1.0, tt))))
-    ∙ with_devices-named c (used n (ends (d ∷ []))) (before ++ d ∷ []) ds apart order.1.1.1 low.1
-    ∙ ap (first_nets c (used n (ends (d ∷ ds)))) (append_assoc before (d ∷ []) ds)
+    ∙ with_devices-named c (numbers_used n (ends (d ∷ []))) (before ++ d ∷ []) ds apart order.1.1.1 low.1
+    ∙ ap (first_nets c (numbers_used n (ends (d ∷ ds)))) (append_assoc before (d ∷ []) ds)

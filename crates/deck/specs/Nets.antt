@@ -40,9 +40,9 @@ IsNumbered n [] = Unit {0}
 IsNumbered n (e ∷ es) = (e ≤ n) × IsNumbered (max n (e + 1)) es
 
 -- how many numbers stand in the end
-abbrev pub used : ℕ → List ℕ → ℕ
-used n [] = n
-used n (e ∷ es) = used (max n (e + 1)) es
+abbrev pub numbers_used : ℕ → List ℕ → ℕ
+numbers_used n [] = n
+numbers_used n (e ∷ es) = numbers_used (max n (e + 1)) es
 
 -- what holds of every circuit: the limits, no net twice, the ports first, and the other nets
 -- in order of first appearance over the devices
@@ -51,4 +51,4 @@ pub record IsCircuit (ports : ℕ) (nets : List (List ℕ)) (devices : List Devi
   pub few_devices : length devices ≤ most_devices
   pub distinct : IsDistinct (pointwise nat_eq) nets
   pub in_order : IsNumbered ports (ends devices)
-  pub all_used : length nets ≡ used ports (ends devices)
+  pub all_used : length nets ≡ numbers_used ports (ends devices)

@@ -1,7 +1,7 @@
 //! Circuits that go back to their first devices.
 ghost use Rattle.std.specs.Prelude.{◌≡◌, ◌≤◌, length};
 ghost use Rattle.deck.specs.Cuts.{cut_to};
-ghost use Rattle.deck.specs.Nets.{ends, used};
+ghost use Rattle.deck.specs.Nets.{ends, numbers_used};
 
 use crate::{Circuit, Device};
 
@@ -22,7 +22,7 @@ impl Circuit {
 /// order of first appearance.
 #[tactic(auto, using(crate::proofs::Cuts::counting_used))]
 fn count_used(ports: u32, devices: &[Device]) -> u64
-    ensures { result ≡ used ports (ends devices.now) }
+    ensures { result ≡ numbers_used ports (ends devices.now) }
 {
     let mut count = u64::from(ports);
     for device in devices {

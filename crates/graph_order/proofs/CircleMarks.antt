@@ -4,8 +4,8 @@ use Rattle.std.specs.Prelude.{◌↔◌, Contains, IsTrue, slice_get, slice_inde
 use Rattle.std.proofs.lemmas.List.{length-append}
 use Rattle.std.proofs.lemmas.List.Elements.{All-contains}
 use Rattle.std.proofs.lemmas.Option.{slice_get-get_or, slice_get_within}
+use Rattle.dom_base.proofs.Lists.{slice_get-push_cases}
 use Rattle.graph_order.proofs.Joined.{joined_back, leads_or}
-use Rattle.graph_order.proofs.Lists.{get_push}
 use Rattle.graph_order.specs.Components.{AreComponents, HasOneOf}
 use Rattle.graph_order.specs.Orders.{IsGraph, LeadsOn, more, step, successors}
 
@@ -27,7 +27,7 @@ module _ (nodes : List (List ℕ)) where
   next_mark k marks mark (count, each) is = (omega (arith, length-append marks (mark ∷ []), count), next)
     where
       next : (node : ℕ) (m : Bool) → slice_get (marks ++ mark ∷ []) node ≡ Some m → IsTrue m ↔ LeadsOn nodes node node
-      next node m e = elim (get_push marks mark node m e) [
+      next node m e = elim (slice_get-push_cases marks mark node m e) [
         | inl h ↦ each node m h
         | inr h ↦ subst (λ n. IsTrue m ↔ LeadsOn nodes n n) (sym (h.0 ∙ count)) (subst (λ b. IsTrue b ↔ LeadsOn nodes k k) h.1 is)
       ]

@@ -4,11 +4,11 @@ use Rattle.std.specs.Prelude.{Contains, slice_get}
 use Rattle.std.proofs.lemmas.Bool.{cases_lt}
 use Rattle.std.proofs.lemmas.List.Elements.{Contains-append_left, Contains-append_right}
 use Rattle.std.proofs.lemmas.Option.{slice_get_within}
-use Rattle.dom_base.proofs.Lists.{Contains-first, slice_get-append, slice_get-contained}
+use Rattle.dom_base.proofs.Lists.{Contains-first, slice_get-append, slice_get-contained, slice_get-push}
 use Rattle.graph_order.proofs.ComponentSteps.{all_looked, at_top, lower, reach_top}
 use Rattle.graph_order.proofs.Joined.{joined_both, joined_forth, joined_back}
 use Rattle.graph_order.proofs.Lists.{take_get}
-use Rattle.graph_order.proofs.Placed.{all_within-here, all_within-length, all_within-other, behind, contains_push, from_behind, in_front, one_at, pushed_last}
+use Rattle.graph_order.proofs.Placed.{all_within-here, all_within-length, all_within-other, behind, contains_push, from_behind, in_front, one_at}
 use Rattle.graph_order.specs.declared.components.Place.{Place}
 use Rattle.graph_order.specs.declared.components.Place.TheVariants.{New, OnPath, Within}
 use Rattle.graph_order.specs.declared.components.Stop.{Stop}
@@ -87,7 +87,7 @@ module _ (nodes : List (List ℕ)) (w : ComponentData) (f : Stop) (sound : IsSou
   start_before p c =
       let i = slice_get-contained starts p c in
       sound.rising i.0 (length starts) p f.place (slice_get_within starts i.0 p i.1) (start_at i.0 p i.1)
-      (subst (λ l. slice_get l (length starts) ≡ Some f.place) (sym split) (pushed_last starts f.place))
+      (subst (λ l. slice_get l (length starts) ≡ Some f.place) (sym split) (slice_get-push starts f.place))
 
   back : (q b : ℕ) → slice_get after.path q ≡ Some b
       → (p : ℕ) × (a : ℕ) × Contains starts p × (p ≤ q) × (slice_get after.path p ≡ Some a) × IsOrLeads nodes b a

@@ -4,9 +4,10 @@ use Rattle.std.specs.Prelude.{Contains, slice_get}
 use Rattle.std.proofs.lemmas.Bool.{cases_eq}
 use Rattle.std.proofs.lemmas.List.{length-append, length-replicate}
 use Rattle.std.proofs.lemmas.Option.{slice_get_within}
+use Rattle.dom_base.proofs.Lists.{slice_get-push_cases}
 use Rattle.graph_order.proofs.ComponentSearches.{entered_sound}
 use Rattle.graph_order.proofs.Joined.{joined_both, joined_back, joined_forth, joined_through}
-use Rattle.graph_order.proofs.Lists.{get_push, get_set}
+use Rattle.graph_order.proofs.Lists.{get_set}
 use Rattle.graph_order.specs.declared.components.Place.{Place}
 use Rattle.graph_order.specs.declared.components.Place.TheVariants.{New, OnPath, Within}
 use Rattle.graph_order.specs.Components.{AreComponents}
@@ -25,7 +26,7 @@ pub next_name : (places : List Place) (k : ℕ) (numbers : List ℕ) (first : �
 next_name places k numbers first (count, each) at = (omega (arith, length-append numbers (first ∷ []), count), next)
   where
     next : (x name : ℕ) → slice_get (numbers ++ first ∷ []) x ≡ Some name → slice_get places x ≡ Some (Within name)
-    next x name e = elim (get_push numbers first x name e) [
+    next x name e = elim (slice_get-push_cases numbers first x name e) [
       | inl h ↦ each x name h
       | inr h ↦ ap (slice_get places) (h.0 ∙ count) ∙ at ∙ ap (λ n. Some (Within n)) h.1
     ]

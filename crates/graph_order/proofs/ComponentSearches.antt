@@ -4,9 +4,9 @@ use Rattle.std.specs.Prelude.{Contains, slice_get}
 use Rattle.std.proofs.lemmas.List.{length-set}
 use Rattle.std.proofs.lemmas.List.Elements.{Contains-append_left, Contains-append_right}
 use Rattle.std.proofs.lemmas.Option.{slice_get_within}
-use Rattle.dom_base.proofs.Lists.{Contains-first, Contains-slice_get, slice_get-append}
-use Rattle.graph_order.proofs.Lists.{get_push, get_set}
-use Rattle.graph_order.proofs.Placed.{contains_push, pushed_last, set_elsewhere, set_here}
+use Rattle.dom_base.proofs.Lists.{Contains-first, Contains-slice_get, slice_get-append, slice_get-set_other, slice_get-push, slice_get-push_cases}
+use Rattle.graph_order.proofs.Lists.{get_set}
+use Rattle.graph_order.proofs.Placed.{contains_push, set_here}
 use Rattle.graph_order.specs.declared.components.Place.{Place}
 use Rattle.graph_order.specs.declared.components.Place.TheVariants.{New, OnPath, Within}
 use Rattle.graph_order.specs.declared.components.Stop.{Stop}
@@ -34,7 +34,7 @@ module _ (nodes : List (List ℕ)) where
         one_place e = cc
 
     still : (x : ℕ) (q : Place) → slice_get s.places x ≡ Some q → (q ≡ New → ⊥) → slice_get entered.places x ≡ Some q
-    still x q e other = set_elsewhere s.places child x (OnPath (length s.path)) (apart x q e other) ∙ e
+    still x q e other = slice_get-set_other s.places child x (OnPath (length s.path)) (apart x q e other) ∙ e
 
     was_within : (x : ℕ) (first : ℕ) → slice_get entered.places x ≡ Some (Within first) → slice_get s.places x ≡ Some (Within first)
     was_within x first e = elim (get_set s.places child x (OnPath (length s.path)) (Within first) e) [
@@ -46,7 +46,7 @@ module _ (nodes : List (List ℕ)) where
     child_at = set_here s.places child (OnPath (length s.path)) (slice_get_within s.places child New fresh)
 
     on_path : (p x : ℕ) → slice_get entered.path p ≡ Some x → slice_get entered.places x ≡ Some (OnPath p)
-    on_path p x e = elim (get_push s.path child p x e) [
+    on_path p x e = elim (slice_get-push_cases s.path child p x e) [
       | inl h ↦ still x (OnPath p) (sound.on_path p x h) (λ z. absurd cc)
       | inr h ↦ subst (λ y. slice_get entered.places y ≡ Some (OnPath p)) h.1 (child_at ∙ ap (λ n. Some (OnPath n)) (sym h.0))
     ]
@@ -55,7 +55,7 @@ module _ (nodes : List (List ℕ)) where
     at_place p x e = elim (get_set s.places child x (OnPath (length s.path)) (OnPath p) e) [
       | inl h ↦ (
           let is : length s.path ≡ p = path_at (length s.path) p h.1 in
-          subst (λ n. slice_get (s.path ++ child ∷ []) n ≡ Some x) is (pushed_last s.path child ∙ ap Some (sym h.0))
+          subst (λ n. slice_get (s.path ++ child ∷ []) n ≡ Some x) is (slice_get-push s.path child ∙ ap Some (sym h.0))
           )
       | inr h ↦ slice_get-append s.path (child ∷ []) p x (sound.at_place p x h.1)
     ]
@@ -67,7 +67,7 @@ module _ (nodes : List (List ℕ)) where
         (looked : (p start i a b : ℕ) → slice_get s.path p ≡ Some a → slice_get (successors nodes a) i ≡ Some b
         → IsLookedAt stops a i → Contains s.starts start → start ≤ p → IsInComponentOrFrom s.places start b ⊎ (b ≡ child)) where
       forward : (p q a b : ℕ) → p < q → slice_get entered.path p ≡ Some a → slice_get entered.path q ≡ Some b → LeadsOn nodes a b
-      forward p q a b l e f = by (get_push s.path child p a e) (get_push s.path child q b f)
+      forward p q a b l e f = by (slice_get-push_cases s.path child p a e) (slice_get-push_cases s.path child q b f)
         where
           by : (slice_get s.path p ≡ Some a) ⊎ ((p ≡ length s.path) × (child ≡ a))
               → (slice_get s.path q ≡ Some b) ⊎ ((q ≡ length s.path) × (child ≡ b)) → LeadsOn nodes a b
@@ -78,7 +78,7 @@ module _ (nodes : List (List ℕ)) where
 
       back : (q b : ℕ) → slice_get entered.path q ≡ Some b
           → (p : ℕ) × (a : ℕ) × Contains entered.starts p × (p ≤ q) × (slice_get entered.path p ≡ Some a) × IsOrLeads nodes b a
-      back q b e = elim (get_push s.path child q b e) [
+      back q b e = elim (slice_get-push_cases s.path child q b e) [
         | inl h ↦ (
             let k = sound.back q b h in
             let there = slice_get-append s.path (child ∷ []) k.0 k.1 k.4 in
@@ -89,7 +89,7 @@ module _ (nodes : List (List ℕ)) where
           child,
           Contains-append_right s.starts (length s.path ∷ []) (length s.path) (Contains-first (length s.path) []),
           omega (arith, h.0),
-          pushed_last s.path child,
+          slice_get-push s.path child,
           inl (sym h.1),
         )
       ]
@@ -99,7 +99,7 @@ module _ (nodes : List (List ℕ)) where
           (slice_get_within s.path f.0.place f.0.node (stopped f.0 f.1).0)
 
       rising : (i j p q : ℕ) → i < j → slice_get entered.starts i ≡ Some p → slice_get entered.starts j ≡ Some q → p < q
-      rising i j p q l e f = by (get_push s.starts (length s.path) i p e) (get_push s.starts (length s.path) j q f)
+      rising i j p q l e f = by (slice_get-push_cases s.starts (length s.path) i p e) (slice_get-push_cases s.starts (length s.path) j q f)
         where
           by : (slice_get s.starts i ≡ Some p) ⊎ ((i ≡ length s.starts) × (length s.path ≡ p))
               → (slice_get s.starts j ≡ Some q) ⊎ ((j ≡ length s.starts) × (length s.path ≡ q)) → p < q
@@ -119,12 +119,12 @@ module _ (nodes : List (List ℕ)) where
       all_stopped f c = elim (contains_push stops new_stop f c) [
         | inl h ↦ let k = stopped f h in (slice_get-append s.path (child ∷ []) f.place f.node k.0, k.1)
         | inr is ↦ subst (λ (g : Stop). (slice_get entered.path g.place ≡ Some g.node) × (g.next ≤ length (successors nodes g.node))) is
-            (pushed_last s.path child, omega arith)
+            (slice_get-push s.path child, omega arith)
       ]
 
       all_deeper : (i j : ℕ) (f g : Stop) → i < j → slice_get entered.stops i ≡ Some f → slice_get entered.stops j ≡ Some g
           → f.place < g.place
-      all_deeper i j f g l e k = by (get_push stops new_stop i f e) (get_push stops new_stop j g k)
+      all_deeper i j f g l e k = by (slice_get-push_cases stops new_stop i f e) (slice_get-push_cases stops new_stop j g k)
         where
           by : (slice_get stops i ≡ Some f) ⊎ ((i ≡ length stops) × (new_stop ≡ f))
               → (slice_get stops j ≡ Some g) ⊎ ((j ≡ length stops) × (new_stop ≡ g)) → f.place < g.place
@@ -137,7 +137,7 @@ module _ (nodes : List (List ℕ)) where
 
       all_looked : (p start i a b : ℕ) → slice_get entered.path p ≡ Some a → slice_get (successors nodes a) i ≡ Some b
           → IsLookedAt entered.stops a i → Contains entered.starts start → start ≤ p → IsInComponentOrFrom entered.places start b
-      all_looked p start i a b e n h c l = by (get_push s.path child p a e) (contains_push s.starts (length s.path) start c)
+      all_looked p start i a b e n h c l = by (slice_get-push_cases s.path child p a e) (contains_push s.starts (length s.path) start c)
         where
           found : IsInComponentOrFrom s.places start b ⊎ (b ≡ child) → start ≤ length s.path → IsInComponentOrFrom entered.places start b
           found (inl (inl w)) below = inl (w.0, still b (Within w.0) w.1 (λ z. absurd cc))

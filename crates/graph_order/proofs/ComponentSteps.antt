@@ -4,11 +4,11 @@ use Rattle.std.specs.Prelude.{Contains, All, slice_get}
 use Rattle.std.proofs.lemmas.Bool.{cases_eq, cases_lt}
 use Rattle.std.proofs.lemmas.List.Elements.{All-contains, Contains-append_left, Contains-append_right}
 use Rattle.std.proofs.lemmas.Option.{slice_get-get_or, slice_get_within}
-use Rattle.dom_base.proofs.Lists.{Contains-first, Contains-slice_get, slice_get-append, slice_get-contained}
+use Rattle.dom_base.proofs.Lists.{Contains-first, Contains-slice_get, slice_get-append, slice_get-contained, slice_get-push, slice_get-push_cases}
 use Rattle.graph_order.proofs.ComponentSearches.{entered_sound}
 use Rattle.graph_order.proofs.Joined.{leads_or, or_leads, or_or}
-use Rattle.graph_order.proofs.Lists.{get_push, none_past, take_get}
-use Rattle.graph_order.proofs.Placed.{contains_push, in_front, one_at, pushed_last}
+use Rattle.graph_order.proofs.Lists.{none_past, take_get}
+use Rattle.graph_order.proofs.Placed.{contains_push, in_front, one_at}
 use Rattle.graph_order.specs.declared.components.Place.TheVariants.{New, OnPath, Within}
 use Rattle.graph_order.specs.declared.components.Stop.{Stop}
 use Rattle.graph_order.specs.ComponentSearches.{ComponentData, IsJoinedFrom, IsLookedAt, IsOrLeads, IsSoundPath, IsInComponentOrFrom, looked_further, with_entered, with_starts, with_stop}
@@ -25,7 +25,7 @@ module _ (nodes : List (List ℕ)) (w : ComponentData) (f : Stop) (sound : IsSou
   lower g c =
       let i = slice_get-contained w.stops g c in
       sound.deeper i.0 (length w.stops) g f (slice_get_within w.stops i.0 g i.1) (slice_get-append w.stops (f ∷ []) i.0 g i.1)
-      (pushed_last w.stops f)
+      (slice_get-push w.stops f)
 
   -- no stretch starts behind the top stop
   pub start_low : (p : ℕ) → Contains w.starts p → p ≤ f.place
@@ -77,7 +77,7 @@ module _ (nodes : List (List ℕ)) (w : ComponentData) (f : Stop) (sound : IsSou
     ]
 
     further_deeper : (i j : ℕ) (g h : Stop) → i < j → slice_get stops i ≡ Some g → slice_get stops j ≡ Some h → g.place < h.place
-    further_deeper i j g h l e k = by (get_push w.stops (looked_further f) i g e) (get_push w.stops (looked_further f) j h k)
+    further_deeper i j g h l e k = by (slice_get-push_cases w.stops (looked_further f) i g e) (slice_get-push_cases w.stops (looked_further f) j h k)
       where
         by : (slice_get w.stops i ≡ Some g) ⊎ ((i ≡ length w.stops) × (looked_further f ≡ g))
             → (slice_get w.stops j ≡ Some h) ⊎ ((j ≡ length w.stops) × (looked_further f ≡ h)) → g.place < h.place

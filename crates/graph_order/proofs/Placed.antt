@@ -5,7 +5,7 @@ use Rattle.std.proofs.lemmas.Bool.{cases_eq}
 use Rattle.std.proofs.lemmas.List.{length-set, take_all}
 use Rattle.std.proofs.lemmas.List.Elements.{Contains-append_cases}
 use Rattle.std.proofs.lemmas.Option.{slice_get_within}
-use Rattle.dom_base.proofs.Lists.{Contains-first, Contains-later, Contains-slice_get, slice_get-contained}
+use Rattle.dom_base.proofs.Lists.{Contains-first, Contains-later, Contains-slice_get, slice_get-contained, slice_get-set_other}
 use Rattle.graph_order.proofs.Lists.{contains_cons, take_next}
 use Rattle.graph_order.specs.declared.components.Place.{Place}
 use Rattle.graph_order.specs.declared.components.Place.TheVariants.{Within}
@@ -16,13 +16,6 @@ module _ {X : Type 0} where
   set_here [] k y l = absurd (omega (arith, l))
   set_here (x ∷ xs) zero y l = refl
   set_here (x ∷ xs) (suc k) y l = set_here xs k y (omega (arith, l))
-
-  pub set_elsewhere : (xs : List X) (i j : ℕ) (y : X) → (j ≡ i → ⊥) → slice_get (set xs i y) j ≡ slice_get xs j
-  set_elsewhere [] i j y apart = refl
-  set_elsewhere (x ∷ xs) zero zero y apart = absurd (apart refl)
-  set_elsewhere (x ∷ xs) zero (suc j) y apart = refl
-  set_elsewhere (x ∷ xs) (suc i) zero y apart = refl
-  set_elsewhere (x ∷ xs) (suc i) (suc j) y apart = set_elsewhere xs i j y (λ e. apart (ap suc e))
 
   -- what stands below a place stands in the front up to it
   pub in_front : (xs : List X) (k j : ℕ) (x : X) → j < k → slice_get xs j ≡ Some x → slice_get (take k xs) j ≡ Some x
@@ -43,10 +36,6 @@ module _ {X : Type 0} where
   from_behind [] (suc k) x c = absurd (omega (arith, c.1))
   from_behind (y ∷ ys) zero x c = let h = slice_get-contained (y ∷ ys) x c in (h.0, omega arith, h.1)
   from_behind (y ∷ ys) (suc k) x c = let h = from_behind ys k x c in (suc h.0, omega (arith, h.1), h.2)
-
-  pub pushed_last : (xs : List X) (x : X) → slice_get (xs ++ x ∷ []) (length xs) ≡ Some x
-  pushed_last [] x = refl
-  pushed_last (y ∷ ys) x = pushed_last ys x
 
   pub contains_push : (xs : List X) (x y : X) → Contains (xs ++ x ∷ []) y → Contains xs y ⊎ (x ≡ y)
   contains_push xs x y c = elim (Contains-append_cases xs (x ∷ []) y c) [
@@ -73,7 +62,7 @@ pub all_within-other : (places : List Place) (nodes : List ℕ) (first x : ℕ) 
 all_within-other places [] first x out = refl
 all_within-other places (n ∷ nodes) first x out =
     all_within-other (set places n (Within first)) nodes first x (λ c. out (Contains-later n nodes x c))
-    ∙ set_elsewhere places n x (Within first) (λ is. out (subst (Contains (n ∷ nodes)) (sym is) (Contains-first n nodes)))
+    ∙ slice_get-set_other places n x (Within first) (λ is. out (subst (Contains (n ∷ nodes)) (sym is) (Contains-first n nodes)))
 
 -- a node that is within the component stays there
 all_within-kept : (places : List Place) (nodes : List ℕ) (first x : ℕ) → slice_get places x ≡ Some (Within first)
@@ -87,7 +76,7 @@ all_within-kept places (n ∷ nodes) first x e = all_within-kept (set places n (
       where
         inside : slice_get places n ≡ Some (Within first) → n < length places
         inside at = slice_get_within places n (Within first) at
-    by (inr apart) = set_elsewhere places n x (Within first) apart ∙ e
+    by (inr apart) = slice_get-set_other places n x (Within first) apart ∙ e
 
 pub all_within-here : (places : List Place) (nodes : List ℕ) (first x : ℕ) → Contains nodes x → x < length places
     → slice_get (all_within places nodes first) x ≡ Some (Within first)

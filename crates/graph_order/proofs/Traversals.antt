@@ -7,13 +7,13 @@ use Rattle.std.proofs.lemmas.List.{length-replicate, length-set, take-append-le}
 use Rattle.std.proofs.lemmas.List.Elements.{All-contains, Contains-append_left, Contains-append_right}
 use Rattle.std.proofs.lemmas.Bool.{cases_eq}
 use Rattle.std.proofs.lemmas.Option.{slice_get_within}
-use Rattle.dom_base.proofs.Lists.{AllByRecursion-append, AllByRecursion-left, AllByRecursion-right, AllByRecursion-weaker, Contains-first, Contains-later, Contains-slice_get}
+use Rattle.dom_base.proofs.Lists.{AllByRecursion-append, AllByRecursion-left, AllByRecursion-right, AllByRecursion-weaker, Contains-first, Contains-later, Contains-slice_get, slice_get-push_cases}
 use Rattle.graph_order.specs.declared.traversal.Frame.{Frame}
 use Rattle.graph_order.specs.declared.traversal.Mark.{Mark}
 use Rattle.graph_order.specs.declared.traversal.Mark.TheVariants.{New, Open, Done}
 use Rattle.graph_order.specs.Orders.{IsGraph, IsSuccessor, IsOrder, LeadsOn, more, successors, step}
 use Rattle.graph_order.specs.Traversals.{GoesOn, IsAdvance, IsDoneBelow, IsFresh, IsSeen, IsSound, IsTrail, IsVisiting, HasVisited, IsWay, TraversalData, with_finished, frame_successors, looked, new_successors, nodes_of, with_opened, with_frame}
-use Rattle.graph_order.proofs.Lists.{contains_cons, get_push, get_set, none_past, reverse_push, take_next}
+use Rattle.graph_order.proofs.Lists.{contains_cons, get_set, none_past, reverse_push, take_next}
 
 module _ (nodes : List (List ℕ)) where
   -- more is done
@@ -170,7 +170,7 @@ module _ (nodes : List (List ℕ)) where
       all_looked = subst (AllByRecursion (Contains w.done)) (ap (λ n. take n (successors nodes f.node)) all ∙ take-length (successors nodes f.node)) way.0
 
       finish_earlier : (k node : ℕ) → slice_get (w.done ++ f.node ∷ []) k ≡ Some node → AllByRecursion (Contains (take k (w.done ++ f.node ∷ []))) (successors nodes node)
-      finish_earlier k node e = elim (get_push w.done f.node k node e) [
+      finish_earlier k node e = elim (slice_get-push_cases w.done f.node k node e) [
         | inl h ↦ subst (λ l. AllByRecursion (Contains l) (successors nodes node)) (sym (take-append-le k w.done (f.node ∷ []) (omega (arith, slice_get_within w.done k node h)))) (sound.earlier k node h)
         | inr h ↦ subst (λ l. AllByRecursion (Contains l) (successors nodes node)) (sym (ap (λ n. take n (w.done ++ f.node ∷ [])) h.0 ∙ take-append_seam w.done (f.node ∷ [])))
             (subst (λ n. AllByRecursion (Contains w.done) (successors nodes n)) h.1 all_looked)

@@ -6,13 +6,13 @@ abbrev pub count_at : List ℕ → ℕ → ℕ
 count_at counts node = slice_index_or counts node 0
 
 -- one number where there is a count, else none
-abbrev pub one_if : ℕ → ℕ → List ℕ
-one_if zero low = []
-one_if (suc count) low = low ∷ []
+abbrev pub number_if_counted : ℕ → ℕ → List ℕ
+number_if_counted zero low = []
+number_if_counted (suc count) low = low ∷ []
 
 -- the numbers of the leaves with a count, of a node of this height whose first leaf has the number low
 abbrev pub listed_at : List ℕ → ℕ → ℕ → ℕ → List ℕ
-listed_at counts zero node low = one_if (count_at counts node) low
+listed_at counts zero node low = number_if_counted (count_at counts node) low
 listed_at counts (suc height) node low = listed_at counts height (2 * node) low ++ listed_at counts height (2 * node + 1) (low + 2 ^ height)
 
 -- each node but one counts what the two below it count; the leaves stand from size on and count 0 or 1
