@@ -2,8 +2,7 @@
 use Rattle.std.proofs.Common.{◌≡◌, ℕ, List, [], ◌∷◌, Option, Some, None, refl, ap, sym, ◌∙◌, subst}
 use Rattle.std.specs.Option.{option_map_or}
 use Rattle.blif_ast.specs.InstanceData.{InstanceData}
-use Rattle.net_flatten.specs.Laws.{SignalsAreClasses}
-use Rattle.net_flatten.specs.Signals.{IsOneSignal, Signal, bound_actual, back, both, bound, itself, signal_of}
+use Rattle.model_calls.specs.Signals.{IsOneSignal, Signal, bound_actual, back, both, bound, itself, signal_of, SignalsAreClasses}
 
 alike : {s t : Signal} → IsOneSignal s t → signal_of s.path s.name ≡ signal_of t.path t.name
 alike (bound {i} {up} {formal} {actual} is) = ap (λ o. option_map_or (signal_of up) o (record { path = i ∷ up; name = formal })) is

@@ -11,19 +11,19 @@ use Rattle.blif_ast.specs.declared.latch.Control.{Control}
 use Rattle.blif_ast.specs.declared.latch.Edge2.{Edge2}
 use Rattle.blif_ast.specs.declared.latch.Edge2.TheVariants.{Rising, Falling}
 use Rattle.net_flatten.specs.declared.clocking.Clock.{Clock}
-use Rattle.net_flatten.specs.declared.fault.FlatKind.TheVariants.{TwoControls}
-use Rattle.net_flatten.specs.CheckOutcomes.{IsAtOutput}
+use Rattle.model_calls.specs.declared.fault.FlatKind.TheVariants.{TwoControls}
+use Rattle.part_numbers.specs.CheckOutcomes.{IsAtOutput}
 use Rattle.net_flatten.specs.ClockSearches.{IsClockOf, IsClockedAt, IsOtherClock, other_edge, other_signal, same_edge}
-use Rattle.net_flatten.specs.Ends.{Clocking, End, clocking, clocking_of, clockings, driven_end, end_at}
-use Rattle.net_flatten.specs.Expanded.{LatchPart, PlacedPart, TablePart, expanded, part_latch}
-use Rattle.net_flatten.specs.NumberedFiles.{IsNumberedFile, NumberedFileData, NumberedPartData, PartBySignals, card_of_part, control_of_part, numbered_part, placed_part}
-use Rattle.net_flatten.specs.PartCards.{card_edge, edge_of}
-use Rattle.net_flatten.specs.Refusals.{IsOfKind}
-use Rattle.net_flatten.specs.SignalFaults.{IsOther, IsOtherControl}
-use Rattle.net_flatten.specs.Signals.{Signal, signal_of}
-use Rattle.net_flatten.proofs.IndexedLists.{index_of, take_get}
-use Rattle.net_flatten.proofs.Lists.{get_take}
-use Rattle.net_flatten.proofs.NumberedEnds.{part_at, placed_at}
+use Rattle.model_calls.specs.Ends.{Clocking, End, clocking, clocking_of, clockings, driven_end, end_at}
+use Rattle.model_calls.specs.Expanded.{LatchPart, PlacedPart, TablePart, expanded, part_latch}
+use Rattle.part_numbers.specs.NumberedFiles.{IsNumberedFile, NumberedFileData, NumberedPartData, PartBySignals, card_of_part, control_of_part, numbered_part, placed_part}
+use Rattle.part_numbers.specs.PartCards.{card_edge, edge_of}
+use Rattle.model_calls.specs.Refusals.{IsOfKind}
+use Rattle.model_calls.specs.SignalFaults.{IsOther, IsOtherControl}
+use Rattle.model_calls.specs.Signals.{Signal, signal_of}
+use Rattle.model_calls.proofs.IndexedLists.{index_of, take_get}
+use Rattle.model_calls.proofs.Lists.{get_take}
+use Rattle.part_numbers.proofs.NumberedEnds.{part_at, placed_at}
 use Rattle.net_flatten.proofs.Splits.{first_behind, kept_from, kept_split}
 
 -- what is kept of what is kept

@@ -10,10 +10,10 @@ use Rattle.blif_ast.specs.declared.latch.Edge2.{Edge2}
 use Rattle.blif_ast.specs.declared.latch.Edge2.TheVariants.{Rising, Falling}
 use Rattle.net_flatten.specs.declared.clocking.Clock.{Clock}
 use Rattle.net_flatten.specs.ClockSearches.{IsClockOf, IsClockedAt, differs_from_clock, first_of, joined_clock, other_edge, other_signal, same_edge}
-use Rattle.net_flatten.specs.NumberedFiles.{NumberedPartData}
-use Rattle.net_flatten.specs.PartCards.{edge_of}
-use Rattle.net_flatten.proofs.Fitting.{contains_cons}
-use Rattle.net_flatten.proofs.IndexedLists.{take_next}
+use Rattle.part_numbers.specs.NumberedFiles.{NumberedPartData}
+use Rattle.part_numbers.specs.PartCards.{edge_of}
+use Rattle.model_calls.proofs.Fitting.{contains_cons}
+use Rattle.model_calls.proofs.IndexedLists.{take_next}
 
 pub same_edges : (a b : Edge2) → not (same_edge a b) ≡ false → a ≡ b
 same_edges Rising Rising e = refl

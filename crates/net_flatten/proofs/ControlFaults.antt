@@ -8,25 +8,25 @@ use Rattle.dom_base.proofs.Lists.{AllByRecursion-append, AllByRecursion-contains
 use Rattle.blif_ast.specs.BlifFileData.{BlifFileData}
 use Rattle.blif_ast.specs.declared.latch.Control.{Control}
 use Rattle.net_flatten.specs.declared.clocking.ControlAt.{ControlAt}
-use Rattle.net_flatten.specs.declared.fault.FlatKind.TheVariants.{ControlUsed}
-use Rattle.net_flatten.specs.CheckOutcomes.{IsAtControlOf, IsLineAt}
+use Rattle.model_calls.specs.declared.fault.FlatKind.TheVariants.{ControlUsed}
+use Rattle.part_numbers.specs.CheckOutcomes.{IsAtControlOf, IsLineAt}
 use Rattle.net_flatten.specs.ClockSearches.{HasControl, IsAtNumber, IsControlFound, IsFirstControl}
-use Rattle.net_flatten.specs.Ends.{Clocking, End, clocking, clocking_of, controls, driven_end, end_at, main_outputs, read_ends}
-use Rattle.net_flatten.specs.Expanded.{LatchPart, PlacedPart, TablePart, expanded, part_latch}
+use Rattle.model_calls.specs.Ends.{Clocking, End, clocking, clocking_of, controls, driven_end, end_at, main_outputs, read_ends}
+use Rattle.model_calls.specs.Expanded.{LatchPart, PlacedPart, TablePart, expanded, part_latch}
 use Rattle.net_flatten.specs.FoundFirst.{HoldsOfNone, IsFirstAt, IsFoundFirst}
-use Rattle.net_flatten.specs.NumberedFiles.{IsNumberedFile, NumberedFileData, NumberedPartData, card_of_part, numbered_part, placed_part}
-use Rattle.net_flatten.specs.Occurrences.{main_model}
-use Rattle.net_flatten.specs.PartCards.{card_control}
-use Rattle.net_flatten.specs.Refusals.{IsOfKind, IsReported}
-use Rattle.net_flatten.specs.SignalFaults.{IsAtControl, ends_but_inputs, part_ends, signals}
-use Rattle.net_flatten.specs.Signals.{Signal}
-use Rattle.net_flatten.proofs.Apart.{each_place}
+use Rattle.part_numbers.specs.NumberedFiles.{IsNumberedFile, NumberedFileData, NumberedPartData, card_of_part, numbered_part, placed_part}
+use Rattle.model_calls.specs.Occurrences.{main_model}
+use Rattle.part_numbers.specs.PartCards.{card_control}
+use Rattle.model_calls.specs.Refusals.{IsOfKind, IsReported}
+use Rattle.model_calls.specs.SignalFaults.{IsAtControl, ends_but_inputs, part_ends, signals}
+use Rattle.model_calls.specs.Signals.{Signal}
+use Rattle.model_calls.proofs.Apart.{each_place}
 use Rattle.net_flatten.proofs.ClockFaults.{clockings_of_parts, control_alike, control_end, control_of_number, kept_twice, number_of_control}
-use Rattle.net_flatten.proofs.EachPart.{each_flat}
-use Rattle.net_flatten.proofs.Fitting.{contains_cons}
-use Rattle.net_flatten.proofs.IndexedLists.{split_at, take_get}
-use Rattle.net_flatten.proofs.Lists.{get_map, get_of_map}
-use Rattle.net_flatten.proofs.NumberedEnds.{Number, Number-append, drives_number, number_there, outputs_number, part_at, placed_at, reads_number}
+use Rattle.model_calls.proofs.EachPart.{each_flat}
+use Rattle.model_calls.proofs.Fitting.{contains_cons}
+use Rattle.model_calls.proofs.IndexedLists.{split_at, take_get}
+use Rattle.model_calls.proofs.Lists.{get_map, get_of_map}
+use Rattle.part_numbers.proofs.NumberedEnds.{Number, Number-append, drives_number, number_there, outputs_number, part_at, placed_at, reads_number}
 use Rattle.net_flatten.proofs.Splits.{first_by_itself, flat_split, kept_from, kept_split}
 
 -- the first place of an end at a signal, with none before it

@@ -7,24 +7,24 @@ use Rattle.std.proofs.lemmas.List.Elements.{Contains-append_right}
 use Rattle.dom_base.proofs.Lists.{Contains-slice_get}
 use Rattle.blif_ast.specs.BlifFileData.{BlifFileData}
 use Rattle.graph_order.specs.Orders.{IsSuccessor, LeadsOn, more, step, successors}
-use Rattle.net_flatten.specs.declared.fault.FlatKind.TheVariants.{Cycle, DrivenTwice}
-use Rattle.net_flatten.specs.CheckOutcomes.{IsAtOutput}
+use Rattle.model_calls.specs.declared.fault.FlatKind.TheVariants.{Cycle, DrivenTwice}
+use Rattle.part_numbers.specs.CheckOutcomes.{IsAtOutput}
 use Rattle.net_flatten.specs.Dependences.{AreDependences, AreDrivenOnce, is_table}
-use Rattle.net_flatten.specs.Ends.{driven_end, inputs_of, output_of}
-use Rattle.net_flatten.specs.Expanded.{PlacedPart, PlacedTable, TablePart, expanded, part_table, tables}
+use Rattle.model_calls.specs.Ends.{driven_end, inputs_of, output_of}
+use Rattle.model_calls.specs.Expanded.{PlacedPart, PlacedTable, TablePart, expanded, part_table, tables}
 use Rattle.net_flatten.specs.FoundFirst.{HoldsOfNone, IsFirstAt}
 use Rattle.net_flatten.specs.Loops.{IsOnLoop}
-use Rattle.net_flatten.specs.NumberedFiles.{IsNumberedFile, NumberedFileData, NumberedPartData, numbered_part, placed_part}
-use Rattle.net_flatten.specs.Reaches.{Reaches, more as onward, step as one}
-use Rattle.net_flatten.specs.Refusals.{IsOfKind}
-use Rattle.net_flatten.specs.SignalFaults.{IsFedBy, IsOnCycle}
-use Rattle.net_flatten.specs.Signals.{Signal}
-use Rattle.net_flatten.proofs.Apart.{each_place}
+use Rattle.part_numbers.specs.NumberedFiles.{IsNumberedFile, NumberedFileData, NumberedPartData, numbered_part, placed_part}
+use Rattle.model_calls.specs.Reaches.{Reaches, more as onward, step as one}
+use Rattle.model_calls.specs.Refusals.{IsOfKind}
+use Rattle.model_calls.specs.SignalFaults.{IsFedBy, IsOnCycle}
+use Rattle.model_calls.specs.Signals.{Signal}
+use Rattle.model_calls.proofs.Apart.{each_place}
 use Rattle.net_flatten.proofs.ClockFaults.{kept_contains}
 use Rattle.net_flatten.proofs.DriverFaults.{none_again}
-use Rattle.net_flatten.proofs.IndexedLists.{index_of, take_get}
-use Rattle.net_flatten.proofs.Lists.{get_map, get_take}
-use Rattle.net_flatten.proofs.NumberedEnds.{Number, drives_number, number_at, part_at, placed_at, reads_number, signal_at}
+use Rattle.model_calls.proofs.IndexedLists.{index_of, take_get}
+use Rattle.model_calls.proofs.Lists.{get_map, get_take}
+use Rattle.part_numbers.proofs.NumberedEnds.{Number, drives_number, number_at, part_at, placed_at, reads_number, signal_at}
 use Rattle.net_flatten.proofs.Splits.{first_by_itself, kept_from, kept_split}
 use Rattle.net_flatten.proofs.TablesAlike.{part_of_table, reads_of_table, table_alike, table_of_part}
 

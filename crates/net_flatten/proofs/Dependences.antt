@@ -7,9 +7,9 @@ use Rattle.std.proofs.lemmas.List.Elements.{Contains-append_cases, Contains-appe
 use Rattle.dom_base.proofs.Lists.{Contains-first}
 use Rattle.graph_order.specs.Orders.{successors}
 use Rattle.net_flatten.specs.Dependences.{AreDependences, AreDrivenOnce, is_table}
-use Rattle.net_flatten.specs.NumberedFiles.{NumberedPartData}
-use Rattle.net_flatten.proofs.Fitting.{contains_cons}
-use Rattle.net_flatten.proofs.IndexedLists.{index_of, take_get, take_next}
+use Rattle.part_numbers.specs.NumberedFiles.{NumberedPartData}
+use Rattle.model_calls.proofs.Fitting.{contains_cons}
+use Rattle.model_calls.proofs.IndexedLists.{index_of, take_get, take_next}
 
 no_successors : (n a : ℕ) → successors (replicate n []) a ≡ []
 no_successors zero a = refl

@@ -7,25 +7,25 @@ use Rattle.std.proofs.lemmas.Option.{slice_get-get_or, slice_get_within}
 use Rattle.dom_base.proofs.Lists.{AllByRecursion-append, AllByRecursion-contains, Contains-slice_get}
 use Rattle.blif_ast.specs.BlifFileData.{BlifFileData}
 use Rattle.net_flatten.specs.declared.driven.ReadAt.{ReadAt}
-use Rattle.net_flatten.specs.declared.fault.FlatKind.TheVariants.{DrivenTwice, Undriven}
-use Rattle.net_flatten.specs.CheckOutcomes.{IsAtInput, IsAtMainOutput, IsAtOutput}
+use Rattle.model_calls.specs.declared.fault.FlatKind.TheVariants.{DrivenTwice, Undriven}
+use Rattle.part_numbers.specs.CheckOutcomes.{IsAtInput, IsAtMainOutput, IsAtOutput}
 use Rattle.net_flatten.specs.DriverSearches.{IsFirstOutside, IsFirstRead, IsOutsideSet}
-use Rattle.net_flatten.specs.Ends.{End, driven_end, drivers, end_at, main_inputs, main_outputs, read_ends, readers}
-use Rattle.net_flatten.specs.Expanded.{PlacedPart, expanded}
+use Rattle.model_calls.specs.Ends.{End, driven_end, drivers, end_at, main_inputs, main_outputs, read_ends, readers}
+use Rattle.model_calls.specs.Expanded.{PlacedPart, expanded}
 use Rattle.net_flatten.specs.FoundFirst.{HoldsOfNone, IsFirstAt}
-use Rattle.net_flatten.specs.NumberSets.{IsSetOf}
-use Rattle.net_flatten.specs.NumberedFaults.{IsDrivenAgain, driven_by}
-use Rattle.net_flatten.specs.NumberedFiles.{IsNumberedFile, NumberedFileData, NumberedPartData, numbered_part, placed_part}
-use Rattle.net_flatten.specs.Occurrences.{main_model}
-use Rattle.net_flatten.specs.Refusals.{IsOfKind}
-use Rattle.net_flatten.specs.SignalFaults.{IsDrivenTwice, IsUndriven, signals}
-use Rattle.net_flatten.specs.Signals.{Signal}
-use Rattle.net_flatten.proofs.Apart.{each_place}
-use Rattle.net_flatten.proofs.EachPart.{each_flat}
-use Rattle.net_flatten.proofs.Firsts.{none_holds}
-use Rattle.net_flatten.proofs.IndexedLists.{split_at, take_get}
-use Rattle.net_flatten.proofs.Lists.{get_map, get_of_map}
-use Rattle.net_flatten.proofs.NumberedEnds.{Number, driven_number, drives_number, number_at, number_there, outputs_number, part_at, placed_at, reads_number, signal_at, signal_there}
+use Rattle.model_calls.specs.NumberSets.{IsSetOf}
+use Rattle.part_numbers.specs.NumberedFaults.{IsDrivenAgain, driven_by}
+use Rattle.part_numbers.specs.NumberedFiles.{IsNumberedFile, NumberedFileData, NumberedPartData, numbered_part, placed_part}
+use Rattle.model_calls.specs.Occurrences.{main_model}
+use Rattle.model_calls.specs.Refusals.{IsOfKind}
+use Rattle.model_calls.specs.SignalFaults.{IsDrivenTwice, IsUndriven, signals}
+use Rattle.model_calls.specs.Signals.{Signal}
+use Rattle.model_calls.proofs.Apart.{each_place}
+use Rattle.model_calls.proofs.EachPart.{each_flat}
+use Rattle.model_calls.proofs.Firsts.{none_holds}
+use Rattle.model_calls.proofs.IndexedLists.{split_at, take_get}
+use Rattle.model_calls.proofs.Lists.{get_map, get_of_map}
+use Rattle.part_numbers.proofs.NumberedEnds.{Number, driven_number, drives_number, number_at, number_there, outputs_number, part_at, placed_at, reads_number, signal_at, signal_there}
 use Rattle.net_flatten.proofs.NumberedSearches.{HoldsOfNoneBefore}
 use Rattle.net_flatten.proofs.Splits.{first_by_itself, flat_split}
 

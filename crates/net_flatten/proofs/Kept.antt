@@ -14,28 +14,28 @@ use Rattle.blif_ast.specs.Cards.{same}
 use Rattle.blif_ast.specs.TableData.{TableData}
 use Rattle.blif_ast.specs.Good.{IsGoodFile, IsGoodName, IsGoodTable}
 use Rattle.net_flatten.specs.declared.network.NetLatch.{NetLatch}
-use Rattle.net_flatten.specs.Ends.{controls, inputs_of, next_of, output_of, state_of}
-use Rattle.net_flatten.specs.Expanded.{LatchPart, PlacedPart, PlacedTable, TablePart, expanded, part_latch, latches, part_table, tables}
+use Rattle.model_calls.specs.Ends.{controls, inputs_of, next_of, output_of, state_of}
+use Rattle.model_calls.specs.Expanded.{LatchPart, PlacedPart, PlacedTable, TablePart, expanded, part_latch, latches, part_table, tables}
 use Rattle.net_flatten.specs.Flattening.{IsNetworkOf, LatchBySignals, TableBySignals, numbered_latch, numbered_table, placed_latch, placed_table}
-use Rattle.net_flatten.specs.Counts.{letter_count}
-use Rattle.net_flatten.specs.Limits.{letters, most_signals}
+use Rattle.model_calls.specs.Counts.{letter_count}
+use Rattle.model_calls.specs.Limits.{letters, most_signals}
 use Rattle.net_flatten.specs.NetworkData.{NetTableData, NetworkData}
 use Rattle.net_flatten.specs.Networks.{IsNetTable, IsNetwork, first_table}
-use Rattle.net_flatten.specs.Numbering.{IsLevelling, by_level, is_control_name, letters_w, name_by_number, names_by_number, pins, signals_by_number}
-use Rattle.net_flatten.specs.Occurrences.{Occurrence, actuals_of, main_model, names_of_latch, names_of_table, occurrences}
-use Rattle.net_flatten.specs.Signals.{Signal, signal_of}
-use Rattle.net_flatten.proofs.Apart.{Apart, apart_from_places, each_in_order, each_place}
-use Rattle.net_flatten.proofs.Drivers.{driven, each_latch, each_table, numbered_apart, output_once}
-use Rattle.net_flatten.proofs.Lists.{each_le_greatest}
-use Rattle.net_flatten.proofs.Sums.{part_weight, parts_weigh, place_weight, sum_same}
-use Rattle.net_flatten.proofs.Fitting.{fits}
-use Rattle.net_flatten.proofs.Pairs.{count_pairs, input_in_pairs, parts_in_pairs}
-use Rattle.net_flatten.specs.Pairs.{pairs}
-use Rattle.net_flatten.proofs.MainNames.{HasMainName, main_names}
-use Rattle.net_flatten.proofs.GoodParts.{IsGoodPart, good_driven, good_main, good_parts}
+use Rattle.model_calls.specs.Numbering.{IsLevelling, by_level, is_control_name, letters_w, name_by_number, names_by_number, pins, signals_by_number}
+use Rattle.model_calls.specs.Occurrences.{Occurrence, actuals_of, main_model, names_of_latch, names_of_table, occurrences}
+use Rattle.model_calls.specs.Signals.{Signal, signal_of}
+use Rattle.model_calls.proofs.Apart.{Apart, apart_from_places, each_in_order, each_place}
+use Rattle.model_calls.proofs.Drivers.{driven, each_latch, each_table, numbered_apart, output_once}
+use Rattle.model_calls.proofs.Lists.{each_le_greatest}
+use Rattle.model_calls.proofs.Sums.{part_weight, parts_weigh, place_weight, sum_same}
+use Rattle.model_calls.proofs.Fitting.{fits}
+use Rattle.model_calls.proofs.Pairs.{count_pairs, input_in_pairs, parts_in_pairs}
+use Rattle.model_calls.specs.Pairs.{pairs}
+use Rattle.model_calls.proofs.MainNames.{HasMainName, main_names}
+use Rattle.part_numbers.proofs.GoodParts.{IsGoodPart, good_driven, good_main, good_parts}
 use Rattle.net_flatten.proofs.Within.{few_letters, few_signals, few_sinks}
 use Rattle.net_flatten.proofs.NamesKept.{names_are_good, names_differ}
-use Rattle.net_flatten.proofs.Rising.{rising_in_order, rising_places, sum_in_order}
+use Rattle.model_calls.proofs.Rising.{rising_in_order, rising_places, sum_in_order}
 
 -- lists that are taken to one list
 

@@ -5,8 +5,8 @@ use Rattle.dom_base.proofs.Lists.{map-push}
 use Rattle.net_flatten.specs.declared.table_order.LevelledTable.{LevelledTable}
 use Rattle.net_flatten.specs.Dependences.{level_at}
 use Rattle.net_flatten.specs.LevelledTables.{AreLevelledTables}
-use Rattle.net_flatten.specs.NumberedFiles.{NumberedPartData}
-use Rattle.net_flatten.specs.Ordered.{in_order}
+use Rattle.part_numbers.specs.NumberedFiles.{NumberedPartData}
+use Rattle.model_calls.specs.Ordered.{in_order}
 use Rattle.net_flatten.proofs.OrderedAlike.{in_order_alike}
 
 pub levelled_with : (levels : List ℕ) (parts tables : List NumberedPartData) (levelled : List LevelledTable) (index level : ℕ) (p : NumberedPartData)

@@ -6,17 +6,17 @@ use Rattle.std.specs.List.{AllByRecursion, filter_map, flat_map, fold}
 use Rattle.std.proofs.lemmas.Bool.{cases_eq}
 use Rattle.dom_base.proofs.Lists.{AllByRecursion-both, AllByRecursion-contains, AllByRecursion-left, AllByRecursion-map, AllByRecursion-weaker, AllByRecursion-unmap}
 use Rattle.blif_ast.specs.BlifFileData.{BlifFileData}
-use Rattle.net_flatten.specs.Ends.{End, drivers, end_at, inputs_of, main_inputs, main_outputs, output_of, read_ends, state_of}
-use Rattle.net_flatten.specs.Expanded.{PlacedPart, LatchPart, PlacedTable, TablePart, expanded, part_latch, latches, part_table, tables}
-use Rattle.net_flatten.specs.Numbering.{IsLevelling, by_level}
-use Rattle.net_flatten.specs.Occurrences.{main_model}
-use Rattle.net_flatten.specs.Refusal.{Refusal}
-use Rattle.net_flatten.specs.Refusals.{HasRefusal}
-use Rattle.net_flatten.specs.SignalFaults.{signals}
-use Rattle.net_flatten.specs.Signals.{Signal, signal_of}
-use Rattle.net_flatten.proofs.Apart.{each_place, in_order_same}
-use Rattle.net_flatten.proofs.Drivers.{driven, driver_cases, each_table, part_is_driven, readers_driven}
-use Rattle.net_flatten.proofs.Lists.{each_le_greatest, each_of_flat, map_same}
+use Rattle.model_calls.specs.Ends.{End, drivers, end_at, inputs_of, main_inputs, main_outputs, output_of, read_ends, state_of}
+use Rattle.model_calls.specs.Expanded.{PlacedPart, LatchPart, PlacedTable, TablePart, expanded, part_latch, latches, part_table, tables}
+use Rattle.model_calls.specs.Numbering.{IsLevelling, by_level}
+use Rattle.model_calls.specs.Occurrences.{main_model}
+use Rattle.model_calls.specs.Refusal.{Refusal}
+use Rattle.model_calls.specs.Refusals.{HasRefusal}
+use Rattle.model_calls.specs.SignalFaults.{signals}
+use Rattle.model_calls.specs.Signals.{Signal, signal_of}
+use Rattle.model_calls.proofs.Apart.{each_place, in_order_same}
+use Rattle.model_calls.proofs.Drivers.{driven, driver_cases, each_table, part_is_driven, readers_driven}
+use Rattle.model_calls.proofs.Lists.{each_le_greatest, each_of_flat, map_same}
 
 -- the level of what a part drives
 abbrev LevelOf : (Signal → ℕ) → PlacedPart → Type 0

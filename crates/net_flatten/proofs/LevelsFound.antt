@@ -10,14 +10,14 @@ use Rattle.dom_base.proofs.Lists.{AllByRecursion-contains, AllByRecursion-filter
 use Rattle.graph_order.specs.Orders.{IsOrder}
 use Rattle.net_flatten.specs.Dependences.{AreDependences, AreTableLevels, IsDrivingTable, is_table, level_at}
 use Rattle.net_flatten.specs.LevelSteps.{AreLevelsSoFar}
-use Rattle.net_flatten.specs.NumberSets.{IsSetOf}
-use Rattle.net_flatten.specs.NumberedFaults.{IsPartWithin}
-use Rattle.net_flatten.specs.NumberedFiles.{NumberedPartData}
+use Rattle.model_calls.specs.NumberSets.{IsSetOf}
+use Rattle.part_numbers.specs.NumberedFaults.{IsPartWithin}
+use Rattle.part_numbers.specs.NumberedFiles.{NumberedPartData}
 use Rattle.net_flatten.specs.TableNumbers.{driven_by_tables, tables_among}
-use Rattle.net_flatten.proofs.EachPart.{each_itself}
-use Rattle.net_flatten.proofs.Fitting.{contains_cons}
-use Rattle.net_flatten.proofs.IndexedLists.{index_of}
-use Rattle.net_flatten.proofs.Lists.{contains_map, get_map}
+use Rattle.model_calls.proofs.EachPart.{each_itself}
+use Rattle.model_calls.proofs.Fitting.{contains_cons}
+use Rattle.model_calls.proofs.IndexedLists.{index_of}
+use Rattle.model_calls.proofs.Lists.{contains_map, get_map}
 
 -- what stands in a filtered list stands in the list, and passes the test
 pub contains_filter : {X : Type 0} (test : X → Bool) (xs : List X) (x : X) → Contains (filter test xs) x → (test x ≡ true) × Contains xs x

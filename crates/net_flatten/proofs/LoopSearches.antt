@@ -9,10 +9,10 @@ use Rattle.graph_order.proofs.Circles.{no_circle}
 use Rattle.net_flatten.specs.Dependences.{AreDependences}
 use Rattle.net_flatten.specs.FoundFirst.{HoldsOfNone}
 use Rattle.net_flatten.specs.Loops.{IsOnLoop}
-use Rattle.net_flatten.specs.NumberedFaults.{IsPartWithin}
-use Rattle.net_flatten.specs.NumberedFiles.{NumberedPartData}
-use Rattle.net_flatten.proofs.Apart.{each_place}
-use Rattle.net_flatten.proofs.IndexedLists.{index_of}
+use Rattle.part_numbers.specs.NumberedFaults.{IsPartWithin}
+use Rattle.part_numbers.specs.NumberedFiles.{NumberedPartData}
+use Rattle.model_calls.proofs.Apart.{each_place}
+use Rattle.model_calls.proofs.IndexedLists.{index_of}
 
 module _ (signals : ℕ) (parts : List NumberedPartData) (within : All (IsPartWithin signals) parts) (nodes : List (List ℕ)) (d : AreDependences signals parts nodes) where
   -- an order of all nodes leaves none on a loop

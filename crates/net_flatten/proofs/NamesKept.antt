@@ -14,11 +14,11 @@ use Rattle.blif_ast.specs.BlifModelData.{BlifModelData}
 use Rattle.blif_ast.specs.Cards.{same}
 use Rattle.blif_ast.specs.Good.{IsGoodName, IsNameByte}
 use Rattle.blif_ast.specs.InstanceData.{InstanceData}
-use Rattle.net_flatten.specs.Numbering.{IsDecimalDigit, IsPrefixedNumber, is_main, letters_w, name_by_number, names_by_number}
-use Rattle.net_flatten.specs.Occurrences.{names_of}
-use Rattle.net_flatten.specs.Signals.{Signal}
-use Rattle.net_flatten.proofs.Apart.{Apart}
-use Rattle.net_flatten.proofs.MainNames.{HasMainName}
+use Rattle.model_calls.specs.Numbering.{IsDecimalDigit, IsPrefixedNumber, is_main, letters_w, name_by_number, names_by_number}
+use Rattle.model_calls.specs.Occurrences.{names_of}
+use Rattle.model_calls.specs.Signals.{Signal}
+use Rattle.model_calls.proofs.Apart.{Apart}
+use Rattle.model_calls.proofs.MainNames.{HasMainName}
 
 digits_by_recursion : (ds : List ℕ) → AllDigits 10 ds → AllByRecursion IsDecimalDigit ds
 digits_by_recursion [] h = tt
@@ -45,7 +45,7 @@ good_numbered width k l = record { some = some width; bytes = bytes }
     some zero = some_digits k l
     some (suc w) = λ e. absurd cc
 
-apart_same : (names : List (List ℕ)) → Apart names → IsDistinct same names
+pub apart_same : (names : List (List ℕ)) → Apart names → IsDistinct same names
 unfolding IsDistinct
 apart_same [] a = tt
 apart_same (x ∷ xs) a = (AllByRecursion-weaker (λ y. x ≢ y) (λ y. same x y ≡ false) (λ y h. by y h (same x y) refl) xs a.0, apart_same xs a.1)

@@ -4,29 +4,29 @@ use Rattle.std.specs.Prelude.{All, Contains, slice_get}
 use Rattle.std.proofs.lemmas.List.Elements.{All-from_recursion}
 use Rattle.dom_base.proofs.Lists.{Contains-slice_get}
 use Rattle.blif_ast.specs.BlifFileData.{BlifFileData}
-use Rattle.net_flatten.specs.declared.fault.FlatKind.TheVariants.{DrivenTwice}
+use Rattle.model_calls.specs.declared.fault.FlatKind.TheVariants.{DrivenTwice}
 use Rattle.net_flatten.specs.Dependences.{AreTableLevels}
-use Rattle.net_flatten.specs.Ends.{output_of}
+use Rattle.model_calls.specs.Ends.{output_of}
 use Rattle.net_flatten.specs.Flattening.{IsNetworkOf}
 use Rattle.net_flatten.specs.NetworkData.{NetworkData}
 use Rattle.net_flatten.specs.NetworkNames.{AreNetworkNames}
 use Rattle.net_flatten.specs.NetworkNumbers.{IsRenumbering, latches_among, pin_numbers}
 use Rattle.net_flatten.specs.NetworkParts.{latch_in_network, network_place, table_in_network}
-use Rattle.net_flatten.specs.NumberedFiles.{IsNumberedFile, NumberedFileData}
-use Rattle.net_flatten.specs.Numbering.{IsLeastPrefixAmong, letters_w, pins}
-use Rattle.net_flatten.specs.Occurrences.{main_model, names_of}
-use Rattle.net_flatten.specs.Refusal.{Refusal, At}
-use Rattle.net_flatten.specs.Refusals.{HasRefusal}
-use Rattle.net_flatten.specs.Signals.{Signal, signal_of}
-use Rattle.net_flatten.proofs.Apart.{each_place}
-use Rattle.net_flatten.proofs.Drivers.{numbered_apart}
-use Rattle.net_flatten.proofs.Fitting.{fits}
+use Rattle.part_numbers.specs.NumberedFiles.{IsNumberedFile, NumberedFileData}
+use Rattle.model_calls.specs.Numbering.{IsLeastPrefixAmong, letters_w, pins}
+use Rattle.model_calls.specs.Occurrences.{main_model, names_of}
+use Rattle.model_calls.specs.Refusal.{Refusal, At}
+use Rattle.model_calls.specs.Refusals.{HasRefusal}
+use Rattle.model_calls.specs.Signals.{Signal, signal_of}
+use Rattle.model_calls.proofs.Apart.{each_place}
+use Rattle.model_calls.proofs.Drivers.{numbered_apart}
+use Rattle.model_calls.proofs.Fitting.{fits}
 use Rattle.net_flatten.proofs.Kept.{same_length}
 use Rattle.net_flatten.proofs.NetworkLevels.{level_of, levelling}
 use Rattle.net_flatten.proofs.NetworkNames.{least_of_unique, names_by_signals}
 use Rattle.net_flatten.proofs.NetworkOrder.{IsControlNumber, network_numbers, network_signals, numbers_stand, ordered, pins_alike}
 use Rattle.net_flatten.proofs.NetworkParts.{latches_stand, outputs_stand, tables_stand}
-use Rattle.net_flatten.proofs.NumberedEnds.{numbers_within, signal_at}
+use Rattle.part_numbers.proofs.NumberedEnds.{numbers_within, signal_at}
 
 module _ {f : BlifFileData} {all : List Signal} {n : NumberedFileData} (is : IsNumberedFile f all n) (control : Option ℕ) (known : IsControlNumber is control) (levels : List ℕ)
     (accepted : (r : Refusal) → HasRefusal f r → ⊥) where

@@ -16,18 +16,18 @@ use Rattle.net_flatten.specs.NetworkData.{NetworkData}
 use Rattle.net_flatten.specs.NetworkNames.{AreNetworkNames}
 use Rattle.net_flatten.specs.NetworkNumbers.{IsRenumbering, latches_among, pin_numbers}
 use Rattle.net_flatten.specs.NetworkParts.{latch_in_network, levelled_in_network, network_place, table_in_network}
-use Rattle.net_flatten.specs.NumberedFaults.{IsPartWithin}
-use Rattle.net_flatten.specs.NumberedFiles.{HasNumbers, NumberedFileData, NumberedPartData}
-use Rattle.net_flatten.specs.Occurrences.{main_model}
-use Rattle.net_flatten.specs.Ordered.{in_order}
-use Rattle.net_flatten.specs.Refusal.{Refusal}
-use Rattle.net_flatten.specs.Refusals.{HasRefusal}
+use Rattle.part_numbers.specs.NumberedFaults.{IsPartWithin}
+use Rattle.part_numbers.specs.NumberedFiles.{HasNumbers, NumberedFileData, NumberedPartData}
+use Rattle.model_calls.specs.Occurrences.{main_model}
+use Rattle.model_calls.specs.Ordered.{in_order}
+use Rattle.model_calls.specs.Refusal.{Refusal}
+use Rattle.model_calls.specs.Refusals.{HasRefusal}
 use Rattle.net_flatten.specs.TableNumbers.{tables_among}
 use Rattle.net_flatten.proofs.Kept.{same_each}
 use Rattle.net_flatten.proofs.NetworkBuilt.{built, few_numbers, numbers_in}
 use Rattle.net_flatten.proofs.NetworkOrder.{IsControlNumber, control_found, network_numbers}
 use Rattle.net_flatten.proofs.NetworkParts.{latches_some, tables_at, tables_some}
-use Rattle.net_flatten.proofs.NumberedEnds.{outputs_within, parts_within}
+use Rattle.part_numbers.proofs.NumberedEnds.{outputs_within, parts_within}
 use Rattle.net_flatten.proofs.TableOutputs.{AreOutputs}
 
 -- each table stands at its index

@@ -6,24 +6,24 @@ use Rattle.std.proofs.lemmas.Bool.{true≢false}
 use Rattle.std.proofs.lemmas.List.Elements.{All-from_recursion, Contains-append_left}
 use Rattle.dom_base.proofs.Lists.{Contains-slice_get, slice_get-contained}
 use Rattle.blif_ast.specs.BlifFileData.{BlifFileData}
-use Rattle.net_flatten.specs.declared.fault.FlatKind.TheVariants.{DrivenTwice}
+use Rattle.model_calls.specs.declared.fault.FlatKind.TheVariants.{DrivenTwice}
 use Rattle.net_flatten.specs.Dependences.{AreTableLevels, IsDrivingTable, is_table, level_at}
-use Rattle.net_flatten.specs.Ends.{End, inputs_of, main_inputs, output_of, state_of}
-use Rattle.net_flatten.specs.Expanded.{LatchPart, PlacedLatch, PlacedPart, PlacedTable, TablePart, expanded, latches, part_latch, part_table, tables}
+use Rattle.model_calls.specs.Ends.{End, inputs_of, main_inputs, output_of, state_of}
+use Rattle.model_calls.specs.Expanded.{LatchPart, PlacedLatch, PlacedPart, PlacedTable, TablePart, expanded, latches, part_latch, part_table, tables}
 use Rattle.net_flatten.specs.NetworkNumbers.{latches_among}
-use Rattle.net_flatten.specs.NumberedFiles.{IsNumberedFile, NumberedFileData, NumberedPartData, numbered_part, placed_part}
-use Rattle.net_flatten.specs.Numbering.{IsLevelling, by_level}
-use Rattle.net_flatten.specs.Ordered.{in_order}
-use Rattle.net_flatten.specs.Refusals.{IsOfKind}
-use Rattle.net_flatten.specs.SignalFaults.{signals}
-use Rattle.net_flatten.specs.Signals.{Signal}
+use Rattle.part_numbers.specs.NumberedFiles.{IsNumberedFile, NumberedFileData, NumberedPartData, numbered_part, placed_part}
+use Rattle.model_calls.specs.Numbering.{IsLevelling, by_level}
+use Rattle.model_calls.specs.Ordered.{in_order}
+use Rattle.model_calls.specs.Refusals.{IsOfKind}
+use Rattle.model_calls.specs.SignalFaults.{signals}
+use Rattle.model_calls.specs.Signals.{Signal}
 use Rattle.net_flatten.specs.TableNumbers.{tables_among}
-use Rattle.net_flatten.proofs.Apart.{each_place}
+use Rattle.model_calls.proofs.Apart.{each_place}
 use Rattle.net_flatten.proofs.CycleFaults.{driven_once}
 use Rattle.net_flatten.proofs.DriverFaults.{none_again}
-use Rattle.net_flatten.proofs.Lists.{get_map}
+use Rattle.model_calls.proofs.Lists.{get_map}
 use Rattle.net_flatten.proofs.NumberOfSignal.{number_is, number_of}
-use Rattle.net_flatten.proofs.NumberedEnds.{Number, drives_number, inputs_number, placed_at, reads_number, signal_at}
+use Rattle.part_numbers.proofs.NumberedEnds.{Number, drives_number, inputs_number, placed_at, reads_number, signal_at}
 use Rattle.net_flatten.proofs.OrderedAlike.{filter_kept, in_order_alike, kept_alike, map_alike}
 use Rattle.net_flatten.proofs.Splits.{kept_from}
 use Rattle.net_flatten.proofs.TablesAlike.{part_of_table, reads_of_table, table_alike}

@@ -13,14 +13,14 @@ use Rattle.std.proofs.lemmas.Option.{slice_get-map, slice_get_past, slice_get_wi
 use Rattle.std.proofs.Math.Nat.{le_of_lt}
 use Rattle.std.proofs.lemmas.List.Elements.{All-contains, All-head, Contains-append_left, Contains-append_right, Contains-get_or, Contains-push_cases, recursion_from_All}
 use Rattle.dom_base.proofs.Decided.{lt_or_ge}
-use Rattle.dom_base.proofs.Lists.{All-at, All-from_test, Contains-first, Contains-later, head_same, length-some, map-push, tail_same}
+use Rattle.dom_base.proofs.Lists.{All-at, All-from_test, Contains-first, Contains-later, head_same, length-some, map-push, tail_same, enumerate_from-push}
 use Rattle.blif_ast.specs.Cards.{same}
 use Rattle.net_flatten.specs.NetworkNames.{IsTakenWidth, MarksTaken, network_name, network_names}
-use Rattle.net_flatten.specs.Numbering.{IsDecimalDigit, IsFreePrefix, IsLeastPrefixAmong, IsPrefixedNumber, is_main, letters_w, name_by_number, names_by_number}
-use Rattle.net_flatten.specs.Signals.{Signal, signal_of}
-use Rattle.net_flatten.proofs.Fitting.{contains_cons, contains_unique}
-use Rattle.net_flatten.proofs.IndexedLists.{get_left, get_set, take_next}
-use Rattle.net_flatten.proofs.UniqueNames.{position_cons}
+use Rattle.model_calls.specs.Numbering.{IsDecimalDigit, IsFreePrefix, IsLeastPrefixAmong, IsPrefixedNumber, is_main, letters_w, name_by_number, names_by_number}
+use Rattle.model_calls.specs.Signals.{Signal, signal_of}
+use Rattle.model_calls.proofs.Fitting.{contains_cons, contains_unique}
+use Rattle.model_calls.proofs.IndexedLists.{get_left, get_set, take_next}
+use Rattle.model_calls.proofs.UniqueNames.{position_cons}
 
 -- a byte that is no `w`
 abbrev pub is_other : ℕ → Bool
@@ -260,14 +260,6 @@ least_of_unique names = (
   λ p. record { is_free = unique_of_free names p.is_free; least = λ other f. p.least other (free_of_unique names f) },
 )
 
--- the names of the signals of a network, one more at the end
-enumerate_push : {X : Type 0} (k : ℕ) (xs : List X) (x : X)
-    → enumerate_from k (xs ++ x ∷ []) ≡ enumerate_from k xs ++ (k + length xs, x) ∷ []
-enumerate_push k [] x = ap (λ n. (n, x) ∷ []) (let z : k ≡ k + 0 = omega arith in z)
-enumerate_push k (y ∷ ys) x =
-    let z : k + 1 + length ys ≡ k + length (y ∷ ys) = omega arith in
-    ap (λ l. (k, y) ∷ l) (enumerate_push (k + 1) ys x ∙ ap (λ n. enumerate_from (k + 1) ys ++ (n, x) ∷ []) z)
-
 pub next_name : (names : List (List ℕ)) (prefix : List ℕ) (numbers : List ℕ) (index x : ℕ) → slice_get numbers index ≡ Some x
     → network_names names prefix (take (index + 1) numbers)
     ≡ network_names names prefix (take index numbers) ++ network_name names prefix index x ∷ []
@@ -275,7 +267,7 @@ next_name names prefix numbers index x at =
     let count : length (take index numbers) ≡ index = length-take-le index numbers (le_of_lt (slice_get_within numbers index x at)) in
     let last : 0 + length (take index numbers) ≡ index = omega (arith, count) in
     ap (network_names names prefix) (take_next numbers index x at)
-    ∙ ap (map name_at) (enumerate_push 0 (take index numbers) x)
+    ∙ ap (map name_at) (enumerate_from-push 0 (take index numbers) x)
     ∙ map-push name_at (enumerate_from 0 (take index numbers)) (0 + length (take index numbers), x)
     ∙ ap (λ n. network_names names prefix (take index numbers) ++ network_name names prefix n x ∷ []) last
   where

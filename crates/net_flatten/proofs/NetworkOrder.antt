@@ -14,35 +14,35 @@ use Rattle.blif_ast.specs.BlifFileData.{BlifFileData}
 use Rattle.blif_ast.specs.Cards.{same}
 use Rattle.blif_ast.specs.InstanceData.{InstanceData}
 use Rattle.net_flatten.specs.declared.clocking.ControlAt.{ControlAt}
-use Rattle.net_flatten.specs.declared.fault.FlatKind.TheVariants.{ControlUsed}
+use Rattle.model_calls.specs.declared.fault.FlatKind.TheVariants.{ControlUsed}
 use Rattle.net_flatten.specs.ClockSearches.{IsControlFound}
 use Rattle.net_flatten.specs.Dependences.{level_at}
-use Rattle.net_flatten.specs.Ends.{End, controls, driven_end, drivers, end_at, main_outputs, output_of, read_ends, readers, state_of}
-use Rattle.net_flatten.specs.Expanded.{LatchPart, PlacedPart, PlacedTable, TablePart, expanded, latches, part_latch, part_table, tables}
+use Rattle.model_calls.specs.Ends.{End, controls, driven_end, drivers, end_at, main_outputs, output_of, read_ends, readers, state_of}
+use Rattle.model_calls.specs.Expanded.{LatchPart, PlacedPart, PlacedTable, TablePart, expanded, latches, part_latch, part_table, tables}
 use Rattle.net_flatten.specs.NetworkNumbers.{is_number, latches_among, pin_numbers}
-use Rattle.net_flatten.specs.NumberedFiles.{IsNumberedFile, NumberedFileData, NumberedPartData, numbered_part, placed_part}
-use Rattle.net_flatten.specs.Numbering.{by_level, is_control_name, is_main, pins, signals_by_number}
-use Rattle.net_flatten.specs.Occurrences.{main_model}
-use Rattle.net_flatten.specs.Ordered.{in_order}
-use Rattle.net_flatten.specs.Refusal.{Refusal, At}
-use Rattle.net_flatten.specs.Refusals.{HasRefusal}
-use Rattle.net_flatten.specs.SignalFaults.{IsAtControl, ends_but_inputs, part_ends, signals}
-use Rattle.net_flatten.specs.Signals.{Signal, signal_of}
+use Rattle.part_numbers.specs.NumberedFiles.{IsNumberedFile, NumberedFileData, NumberedPartData, numbered_part, placed_part}
+use Rattle.model_calls.specs.Numbering.{by_level, is_control_name, is_main, pins, signals_by_number}
+use Rattle.model_calls.specs.Occurrences.{main_model}
+use Rattle.model_calls.specs.Ordered.{in_order}
+use Rattle.model_calls.specs.Refusal.{Refusal, At}
+use Rattle.model_calls.specs.Refusals.{HasRefusal}
+use Rattle.model_calls.specs.SignalFaults.{IsAtControl, ends_but_inputs, part_ends, signals}
+use Rattle.model_calls.specs.Signals.{Signal, signal_of}
 use Rattle.net_flatten.specs.TableNumbers.{tables_among}
-use Rattle.net_flatten.proofs.Apart.{each_place}
+use Rattle.model_calls.proofs.Apart.{each_place}
 use Rattle.net_flatten.proofs.ClockFaults.{kept_contains}
 use Rattle.net_flatten.proofs.ControlFaults.{first_control, no_first_control}
-use Rattle.net_flatten.proofs.Drivers.{driven, driver_cases, readers_driven}
-use Rattle.net_flatten.proofs.EachPart.{each_flat}
-use Rattle.net_flatten.proofs.Firsts.{none_holds}
-use Rattle.net_flatten.proofs.Lists.{contains_map}
-use Rattle.net_flatten.proofs.MainNames.{contains_flat}
+use Rattle.model_calls.proofs.Drivers.{driven, driver_cases, readers_driven}
+use Rattle.model_calls.proofs.EachPart.{each_flat}
+use Rattle.model_calls.proofs.Firsts.{none_holds}
+use Rattle.model_calls.proofs.Lists.{contains_map}
+use Rattle.model_calls.proofs.MainNames.{contains_flat}
 use Rattle.net_flatten.proofs.NetworkLevels.{latch_drives, latches_alike, level_of, ordered_alike, table_drives}
-use Rattle.net_flatten.proofs.NumberedEnds.{Number, Number-append, number_at, number_there, outputs_number, part_at, reads_number}
+use Rattle.part_numbers.proofs.NumberedEnds.{Number, Number-append, number_at, number_there, outputs_number, part_at, reads_number}
 use Rattle.net_flatten.proofs.OrderedAlike.{filter_kept, kept_alike, map_alike}
-use Rattle.net_flatten.proofs.Pairs.{contains_to}
-use Rattle.net_flatten.proofs.Permuted.{permuted_contains, permuted_order}
-use Rattle.net_flatten.proofs.Ranges.{map_map}
+use Rattle.model_calls.proofs.Pairs.{contains_to}
+use Rattle.part_numbers.proofs.Permuted.{permuted_contains, permuted_order}
+use Rattle.part_numbers.proofs.Ranges.{map_map}
 
 -- a number stands in a list, if it isn't so that it doesn't
 contains_stable : (xs : List ℕ) (x : ℕ) → ((Contains xs x → ⊥) → ⊥) → Contains xs x

@@ -7,28 +7,28 @@ use Rattle.blif_ast.specs.BlifFileData.{BlifFileData}
 use Rattle.net_flatten.specs.declared.network.NetLatch.{NetLatch}
 use Rattle.net_flatten.specs.declared.table_order.LevelledTable.{LevelledTable}
 use Rattle.net_flatten.specs.Dependences.{is_table, level_at}
-use Rattle.net_flatten.specs.Ends.{End, end_at, next_of, read_ends}
-use Rattle.net_flatten.specs.Expanded.{LatchPart, PlacedLatch, PlacedPart, PlacedTable, TablePart, latches, tables}
+use Rattle.model_calls.specs.Ends.{End, end_at, next_of, read_ends}
+use Rattle.model_calls.specs.Expanded.{LatchPart, PlacedLatch, PlacedPart, PlacedTable, TablePart, latches, tables}
 use Rattle.net_flatten.specs.Flattening.{numbered_latch, numbered_table, placed_latch, placed_table}
 use Rattle.net_flatten.specs.NetworkData.{NetTableData}
 use Rattle.net_flatten.specs.NetworkNumbers.{IsRenumbering, latches_among}
 use Rattle.net_flatten.specs.NetworkParts.{latch_by_card, latch_in_network, levelled_in_network, network_place, table_by_card, table_in_network}
-use Rattle.net_flatten.specs.NumberedFiles.{IsNumberedFile, NumberedFileData, NumberedPartData, PartBySignals, card_at, card_of_part, model_at, numbered_part, placed_part}
-use Rattle.net_flatten.specs.Occurrences.{main_model}
-use Rattle.net_flatten.specs.Ordered.{in_order}
-use Rattle.net_flatten.specs.Refusal.{Refusal}
-use Rattle.net_flatten.specs.Refusals.{HasRefusal}
-use Rattle.net_flatten.specs.SignalFaults.{signals}
-use Rattle.net_flatten.specs.Signals.{Signal, signal_of}
+use Rattle.part_numbers.specs.NumberedFiles.{IsNumberedFile, NumberedFileData, NumberedPartData, PartBySignals, card_at, card_of_part, model_at, numbered_part, placed_part}
+use Rattle.model_calls.specs.Occurrences.{main_model}
+use Rattle.model_calls.specs.Ordered.{in_order}
+use Rattle.model_calls.specs.Refusal.{Refusal}
+use Rattle.model_calls.specs.Refusals.{HasRefusal}
+use Rattle.model_calls.specs.SignalFaults.{signals}
+use Rattle.model_calls.specs.Signals.{Signal, signal_of}
 use Rattle.net_flatten.specs.TableNumbers.{tables_among}
-use Rattle.net_flatten.proofs.Apart.{each_in_order}
-use Rattle.net_flatten.proofs.EachPart.{each_itself}
+use Rattle.model_calls.proofs.Apart.{each_in_order}
+use Rattle.model_calls.proofs.EachPart.{each_itself}
 use Rattle.net_flatten.proofs.Kept.{same_each}
-use Rattle.net_flatten.proofs.Lists.{map_same}
+use Rattle.model_calls.proofs.Lists.{map_same}
 use Rattle.net_flatten.proofs.NetworkLevels.{Alike, latches_alike, ordered_alike, table_reads, tables_alike}
 use Rattle.net_flatten.proofs.NetworkOrder.{IsControlNumber, network_numbers, network_signals, numbers_stand, ordered, ordered_tables, output_stands, reads_stand}
-use Rattle.net_flatten.proofs.NumberedEnds.{Number, number_at, reads_number}
-use Rattle.net_flatten.proofs.Ranges.{map_map}
+use Rattle.part_numbers.proofs.NumberedEnds.{Number, number_at, reads_number}
+use Rattle.part_numbers.proofs.Ranges.{map_map}
 
 -- three lists that are alike, element by element
 three_alike : {X P U T Z C : Type 0} (h : P → T) (k : X → T) (F : P → Z) (G : U → Z) (a : X → C) (b : U → C) (Q : P → Type 0)

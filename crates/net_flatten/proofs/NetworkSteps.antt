@@ -12,8 +12,8 @@ use Rattle.net_flatten.specs.Dependences.{is_table}
 use Rattle.net_flatten.specs.NetworkData.{NetTableData}
 use Rattle.net_flatten.specs.NetworkNumbers.{latches_among}
 use Rattle.net_flatten.specs.NetworkParts.{latch_in_network, levelled_in_network, table_in_network}
-use Rattle.net_flatten.specs.NumberedFiles.{NumberedPartData}
-use Rattle.net_flatten.proofs.IndexedLists.{take_next}
+use Rattle.part_numbers.specs.NumberedFiles.{NumberedPartData}
+use Rattle.model_calls.proofs.IndexedLists.{take_next}
 use Rattle.net_flatten.proofs.NetworkOrder.{contains_kept}
 use Rattle.net_flatten.proofs.TableNumbers.{filter-append}
 

@@ -10,7 +10,7 @@ use Rattle.std.proofs.lemmas.Option.{get_or_from_slice_get, slice_get-get_or, sl
 use Rattle.blif_ast.specs.Cards.{same}
 use Rattle.blif_ast.specs.declared.instance.Binding.{Binding}
 use Rattle.blif_ast.specs.InstanceData.{InstanceData}
-use Rattle.net_flatten.specs.Signals.{Signal}
+use Rattle.model_calls.specs.Signals.{Signal}
 
 abbrev same_binding : Binding → Binding → Bool
 same_binding a b = same a.formal b.formal && same a.actual b.actual

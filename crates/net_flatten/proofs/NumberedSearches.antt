@@ -7,11 +7,11 @@ use Rattle.std.proofs.lemmas.Option.{slice_get_within}
 use Rattle.dom_base.proofs.Lists.{map-push}
 use Rattle.net_flatten.specs.DriverSearches.{IsSetOfDrivers}
 use Rattle.net_flatten.specs.FoundFirst.{HoldsOfNone, IsFirstAt}
-use Rattle.net_flatten.specs.NumberSets.{IsSetOf}
-use Rattle.net_flatten.specs.NumberedFaults.{IsDrivenAgain, driven_by}
-use Rattle.net_flatten.specs.NumberedFiles.{NumberedPartData}
-use Rattle.net_flatten.proofs.IndexedLists.{take_next}
-use Rattle.net_flatten.proofs.NumberSets.{set_with}
+use Rattle.model_calls.specs.NumberSets.{IsSetOf}
+use Rattle.part_numbers.specs.NumberedFaults.{IsDrivenAgain, driven_by}
+use Rattle.part_numbers.specs.NumberedFiles.{NumberedPartData}
+use Rattle.model_calls.proofs.IndexedLists.{take_next}
+use Rattle.model_calls.proofs.NumberSets.{set_with}
 
 -- this holds of no element before an index
 abbrev pub HoldsOfNoneBefore : {Element : Type 0} → (List Element → Element → Type 0) → List Element → ℕ → Type 0

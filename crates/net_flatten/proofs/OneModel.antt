@@ -15,10 +15,10 @@ use Rattle.net_flatten.specs.declared.network.NetLatch.{NetLatch}
 use Rattle.net_flatten.specs.NetworkData.{NetTableData, NetworkData}
 use Rattle.net_flatten.specs.Networks.{IsNetwork, first_table}
 use Rattle.net_flatten.specs.OneModel.{file_of, latch_at, name_at, table_at}
-use Rattle.net_flatten.specs.Occurrences.{main_model}
-use Rattle.net_flatten.proofs.Apart.{Apart, Apart-append, place_once}
-use Rattle.net_flatten.specs.OneModelParts.{latches_here, row, tables_here}
-use Rattle.net_flatten.proofs.Ranges.{each_enumerated, enumerated_row, map_map, row_apart, row_bounds}
+use Rattle.model_calls.specs.Occurrences.{main_model}
+use Rattle.model_calls.proofs.Apart.{Apart, Apart-append, place_once}
+use Rattle.net_flatten.specs.OneModelParts.{latches_here, tables_here}
+use Rattle.part_numbers.proofs.Ranges.{each_enumerated, enumerated_row, map_map, row_apart, row_bounds, row}
 
 distinct_apart : (names : List (List ℕ)) → IsDistinct same names → Apart names
 unfolding IsDistinct

@@ -1,18 +1,18 @@
 -- A file is refused for at most one thing.
 use Rattle.std.proofs.Common.{◌≡◌, ℕ, ◌-◌, ◌^◌, min, List, Some, ap, sym, ◌∙◌, subst, arith}
 use Rattle.blif_ast.specs.BlifFileData.{BlifFileData}
-use Rattle.net_flatten.specs.declared.fault.FlatKind.{FlatKind}
-use Rattle.net_flatten.specs.declared.fault.FlatKind.TheVariants.{DuplicateModel, DuplicatePort, UnknownModel, BadFormal, Recursion, DrivenTwice, Undriven, Cycle, TwoControls, ControlUsed}
-use Rattle.net_flatten.specs.declared.fault.Limit.{Limit}
-use Rattle.net_flatten.specs.Counts.{Counted, IsTooMany, counts}
-use Rattle.net_flatten.specs.Ends.{End, clockings, driven_end, readers}
-use Rattle.net_flatten.specs.Expanded.{expanded, tables}
-use Rattle.net_flatten.specs.ModelFaults.{IsBadFormal, IsDuplicateModel, IsDuplicatePort, IsRecursion, IsUnknownModel, formals, line_of_formal, name_of_formal, ports, uses}
-use Rattle.net_flatten.specs.Refusal.{Refusal, At, TooMany, refusal_order}
-use Rattle.net_flatten.specs.Refusals.{HasRefusal, IsControlUsed, IsCountReported, IsOfKind, IsRefusal, IsReported}
-use Rattle.net_flatten.specs.SignalFaults.{IsAtControl, IsOnCycle, IsDrivenTwice, IsOtherControl, IsUndriven, ends_but_inputs}
-use Rattle.net_flatten.proofs.Firsts.{first_once}
-use Rattle.net_flatten.proofs.KindOrders.{order_of_kind-injective, order_of_kind-six}
+use Rattle.model_calls.specs.declared.fault.FlatKind.{FlatKind}
+use Rattle.model_calls.specs.declared.fault.FlatKind.TheVariants.{DuplicateModel, DuplicatePort, UnknownModel, BadFormal, Recursion, DrivenTwice, Undriven, Cycle, TwoControls, ControlUsed}
+use Rattle.model_calls.specs.declared.fault.Limit.{Limit}
+use Rattle.model_calls.specs.Counts.{Counted, IsTooMany, counts}
+use Rattle.model_calls.specs.Ends.{End, clockings, driven_end, readers}
+use Rattle.model_calls.specs.Expanded.{expanded, tables}
+use Rattle.model_calls.specs.ModelFaults.{IsBadFormal, IsDuplicateModel, IsDuplicatePort, IsRecursion, IsUnknownModel, formals, line_of_formal, name_of_formal, ports, uses}
+use Rattle.model_calls.specs.Refusal.{Refusal, At, TooMany, refusal_order}
+use Rattle.model_calls.specs.Refusals.{HasRefusal, IsControlUsed, IsCountReported, IsOfKind, IsRefusal, IsReported}
+use Rattle.model_calls.specs.SignalFaults.{IsAtControl, IsOnCycle, IsDrivenTwice, IsOtherControl, IsUndriven, ends_but_inputs}
+use Rattle.model_calls.proofs.Firsts.{first_once}
+use Rattle.model_calls.proofs.KindOrders.{order_of_kind-injective, order_of_kind-six}
 
 -- lines and names that are the same
 abbrev Same : ℕ → List ℕ → ℕ → List ℕ → Type 0

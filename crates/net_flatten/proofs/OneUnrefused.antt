@@ -1,14 +1,12 @@
 -- The file of one model of a network is refused for nothing.
 use Rattle.std.proofs.Common.{◌≡◌, ℕ, zero, suc, ◌<◌, ◌≤◌, ◌+◌, ◌⊎◌, inl, inr, Bool, true, false, cond, List, [], ◌∷◌, ◌++◌, map, length, take, Some, refl, ap, sym, ◌∙◌, subst, arith, append-nil}
 use Rattle.std.specs.Prelude.{◌≢◌, Contains, nat_eq, slice_get}
-use Rattle.std.specs.List.{AllByRecursion, IsDistinct, count_by, enumerate_from, filter_map, flat_map, list_any, sum_by}
+use Rattle.std.specs.List.{AllByRecursion, IsDistinct, count_by, enumerate_from, filter_map, flat_map, sum_by}
 use Rattle.std.specs.Set.{distinct_count, unique_keys}
 use Rattle.std.specs.Cmp.Lexicographic.{same_text}
-use Rattle.std.proofs.lemmas.Bool.{eqb-false, true≢false}
-use Rattle.std.proofs.lemmas.Cmp.{nat_list_eq_equiv}
+use Rattle.std.proofs.lemmas.Bool.{eqb-false}
 use Rattle.std.proofs.lemmas.List.{length-map, map-append}
 use Rattle.std.proofs.lemmas.List.Elements.{Contains-append_right, recursion_from_All}
-use Rattle.std.proofs.lemmas.List.Folds.{list_any-from_Any}
 use Rattle.std.proofs.lemmas.List.FromFn.{length-enumerate_from}
 use Rattle.std.proofs.lemmas.List.Sums.{sum_by-cons}
 use Rattle.dom_base.proofs.Lists.{AllByRecursion-append, AllByRecursion-both, AllByRecursion-contains, AllByRecursion-every, AllByRecursion-map, AllByRecursion-take, AllByRecursion-weaker, Contains-slice_get}
@@ -16,29 +14,30 @@ use Rattle.blif_ast.specs.BlifFileData.{BlifFileData}
 use Rattle.blif_ast.specs.BlifModelData.{BlifModelData}
 use Rattle.blif_ast.specs.Cards.{same}
 use Rattle.blif_ast.specs.TableData.{TableData}
-use Rattle.net_flatten.specs.declared.fault.FlatKind.TheVariants.{DuplicateModel, DuplicatePort, UnknownModel, BadFormal, Recursion, DrivenTwice, Undriven, Cycle, TwoControls, ControlUsed}
+use Rattle.model_calls.specs.declared.fault.FlatKind.TheVariants.{DuplicateModel, DuplicatePort, UnknownModel, BadFormal, Recursion, DrivenTwice, Undriven, Cycle, TwoControls, ControlUsed}
 use Rattle.net_flatten.specs.declared.network.NetLatch.{NetLatch}
-use Rattle.net_flatten.specs.Counts.{Counted, counts, instance_count, letter_count, signal_count, sink_count}
-use Rattle.net_flatten.specs.Ends.{Clocking, End, controls, drivers, driven_end, main_inputs, readers}
-use Rattle.net_flatten.specs.Expanded.{expanded, tables}
-use Rattle.net_flatten.specs.Limits.{letters, most_instances, most_letters, most_signals, most_sinks}
-use Rattle.net_flatten.specs.ModelFaults.{Port, ports, ports_in, IsTwiceIn}
+use Rattle.model_calls.specs.Counts.{Counted, counts, instance_count, letter_count, signal_count, sink_count}
+use Rattle.model_calls.specs.Ends.{Clocking, End, controls, drivers, driven_end, main_inputs, readers}
+use Rattle.model_calls.specs.Expanded.{expanded, tables}
+use Rattle.model_calls.specs.Limits.{letters, most_instances, most_letters, most_signals, most_sinks}
+use Rattle.model_calls.specs.ModelFaults.{Port, ports, ports_in, IsTwiceIn}
 use Rattle.net_flatten.specs.NetworkData.{NetTableData, NetworkData}
 use Rattle.net_flatten.specs.Networks.{IsNetwork, first_table}
 use Rattle.net_flatten.specs.OneModel.{file_of, latch_at, name_at, table_at}
-use Rattle.net_flatten.specs.Occurrences.{main_model, names_of, names_of_latch, names_of_table}
-use Rattle.net_flatten.specs.Refusal.{Refusal, At, TooMany}
-use Rattle.net_flatten.specs.Refusals.{HasRefusal}
-use Rattle.net_flatten.specs.SignalFaults.{signals}
-use Rattle.net_flatten.proofs.Apart.{Apart}
-use Rattle.net_flatten.proofs.Drivers.{driven}
-use Rattle.net_flatten.proofs.EachPart.{each_flat, each_itself}
-use Rattle.net_flatten.proofs.Fitting.{contains_cons, fits}
+use Rattle.model_calls.specs.Occurrences.{main_model, names_of, names_of_latch, names_of_table}
+use Rattle.model_calls.specs.Refusal.{Refusal, At, TooMany}
+use Rattle.model_calls.specs.Refusals.{HasRefusal}
+use Rattle.model_calls.specs.SignalFaults.{signals}
+use Rattle.model_calls.proofs.Apart.{Apart}
+use Rattle.model_calls.proofs.Drivers.{driven}
+use Rattle.model_calls.proofs.EachPart.{each_flat, each_itself}
+use Rattle.model_calls.proofs.Fitting.{contains_cons, fits}
 use Rattle.net_flatten.proofs.OneAccepted.{SignalOf, all_read, drivers_apart, no_clockings, no_cycle}
 use Rattle.net_flatten.proofs.OneModel.{latch_number, name_once, names_apart, table_number}
-use Rattle.net_flatten.proofs.Pairs.{contains_to}
+use Rattle.model_calls.proofs.Pairs.{contains_to}
 use Rattle.std.proofs.lemmas.Option.{slice_get-get_or}
-use Rattle.net_flatten.proofs.Ranges.{each_enumerated, map_map}
+use Rattle.model_calls.proofs.UniqueNames.{unique_apart, unique_each}
+use Rattle.part_numbers.proofs.Ranges.{each_enumerated, map_map}
 
 -- where all elements differ, none stands at an earlier place
 no_earlier : {X Y : Type 0} (g : X → Y) (xs : List X) (k : ℕ) (x : X) → Apart (map g xs) → slice_get xs k ≡ Some x → Contains (map g (take k xs)) (g x) → ⊥
@@ -53,7 +52,7 @@ no_earlier g (y ∷ ys) (suc k) x a e c = by (no_earlier g ys k x a.1 e) (contai
     by deeper (inl same_one) = AllByRecursion-contains (λ z. g y ≢ z) (map g ys) (g x) a.0 there same_one
     by deeper (inr later) = deeper later
 
-no_earlier_behind : {X Y : Type 0} (g : X → Y) (front : List Y) (xs : List X) (k : ℕ) (x : X) → Apart (front ++ map g xs) → slice_get xs k ≡ Some x → Contains (front ++ map g (take k xs)) (g x) → ⊥
+pub no_earlier_behind : {X Y : Type 0} (g : X → Y) (front : List Y) (xs : List X) (k : ℕ) (x : X) → Apart (front ++ map g xs) → slice_get xs k ≡ Some x → Contains (front ++ map g (take k xs)) (g x) → ⊥
 no_earlier_behind g [] xs k x a e c = no_earlier g xs k x a e c
 no_earlier_behind g (y ∷ front) xs k x a e c = by (no_earlier_behind g front xs k x a.1 e) (contains_cons y (front ++ map g (take k xs)) (g x) c)
   where
@@ -84,27 +83,6 @@ count_apart x (y ∷ ys) a = by (count_apart x ys a.1) (same x y) refl
         let c : ◌≡◌ {A = ℕ} (cond (same x y) 1 0) 1 = ap (λ b. cond b 1 0) e in
         omega (arith, sum_by-cons (λ z. cond (same x z) 1 0) y ys, c, none)
     by rest false e = let c : ◌≡◌ {A = ℕ} (cond (same x y) 1 0) 0 = ap (λ b. cond b 1 0) e in omega (arith, sum_by-cons (λ z. cond (same x z) 1 0) y ys, c, rest)
-
--- each name once: all differ, and each is one of the names
-unique_each : (P : List ℕ → Type 0) (xs : List (List ℕ)) → AllByRecursion P xs → AllByRecursion P (unique_keys same xs)
-unique_each P [] h = tt
-unique_each P (x ∷ xs) h = by (unique_each P xs h.1) (list_any (same x) xs)
-  where
-    by : AllByRecursion P (unique_keys same xs) → (t : Bool) → AllByRecursion P (cond t (unique_keys same xs) (x ∷ unique_keys same xs))
-    by rest true = rest
-    by rest false = (h.0, rest)
-
-pub unique_apart : (xs : List (List ℕ)) → Apart (unique_keys same xs)
-unique_apart [] = tt
-unique_apart (x ∷ xs) = by (unique_apart xs) (list_any (same x) xs) refl
-  where
-    other : list_any (same x) xs ≡ false → AllByRecursion (λ y. x ≢ y) (unique_keys same xs)
-    other e = unique_each (λ y. x ≢ y) xs (AllByRecursion-weaker (Contains xs) (λ y. x ≢ y)
-        (λ y c d. true≢false (sym (list_any-from_Any (same x) xs (c.0, y, c.1, c.2, ap (same x) (sym d) ∙ nat_list_eq_equiv.refl x)) ∙ e)) xs (each_itself xs))
-
-    by : Apart (unique_keys same xs) → (t : Bool) → list_any (same x) xs ≡ t → Apart (cond t (unique_keys same xs) (x ∷ unique_keys same xs))
-    by rest true e = rest
-    by rest false e = (other e, rest)
 
 module _ (n : NetworkData) (is : IsNetwork n) where
   abbrev f : BlifFileData

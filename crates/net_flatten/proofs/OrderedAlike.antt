@@ -3,7 +3,7 @@ use Rattle.std.proofs.Common.{◌≡◌, ℕ, Bool, true, false, nat_lt, List, [
 use Rattle.std.specs.Prelude.{if◌then◌else◌}
 use Rattle.std.specs.List.{cons_option, filter_map}
 use Rattle.std.specs.Option.{option_map}
-use Rattle.net_flatten.specs.Ordered.{in_order, with_element}
+use Rattle.model_calls.specs.Ordered.{in_order, with_element}
 
 -- an element is put in at one place where all numbers are the same
 with_alike : {X Y Z : Type 0} (F : X → Z) (G : Y → Z) (n : X → ℕ) (m : Y → ℕ) (x : X) (y : Y) (xs : List X) (ys : List Y)

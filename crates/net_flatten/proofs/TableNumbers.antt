@@ -3,11 +3,11 @@ use Rattle.std.proofs.Common.{◌≡◌, ℕ, ◌+◌, Bool, true, false, List, 
 use Rattle.std.specs.Prelude.{slice_get}
 use Rattle.std.proofs.lemmas.List.{map-append}
 use Rattle.net_flatten.specs.Dependences.{is_table}
-use Rattle.net_flatten.specs.NumberSets.{IsSetOf}
-use Rattle.net_flatten.specs.NumberedFiles.{NumberedPartData}
+use Rattle.model_calls.specs.NumberSets.{IsSetOf}
+use Rattle.part_numbers.specs.NumberedFiles.{NumberedPartData}
 use Rattle.net_flatten.specs.TableNumbers.{driven_by_tables, tables_among}
-use Rattle.net_flatten.proofs.IndexedLists.{take_next}
-use Rattle.net_flatten.proofs.NumberSets.{set_with}
+use Rattle.model_calls.proofs.IndexedLists.{take_next}
+use Rattle.model_calls.proofs.NumberSets.{set_with}
 
 pub filter-append : {X : Type 0} (test : X → Bool) (xs ys : List X) → filter test (xs ++ ys) ≡ filter test xs ++ filter test ys
 filter-append test [] ys = refl

@@ -6,15 +6,15 @@ use Rattle.blif_ast.specs.BlifFileData.{BlifFileData}
 use Rattle.blif_ast.specs.BlifModelData.{BlifModelData}
 use Rattle.blif_ast.specs.declared.latch.Latch.{Latch}
 use Rattle.blif_ast.specs.TableData.{TableData}
-use Rattle.net_flatten.specs.declared.numbered.PartCard.{PartCard}
-use Rattle.net_flatten.specs.declared.numbered.PartCard.TheVariants.{Table, Latch as LatchAt}
+use Rattle.part_numbers.specs.declared.numbered.PartCard.{PartCard}
+use Rattle.part_numbers.specs.declared.numbered.PartCard.TheVariants.{Table, Latch as LatchAt}
 use Rattle.net_flatten.specs.Dependences.{is_table}
-use Rattle.net_flatten.specs.Ends.{End, inputs_of, read_ends, end_at}
-use Rattle.net_flatten.specs.Expanded.{LatchCard, LatchPart, PlacedLatch, PlacedPart, PlacedTable, TableCard, TablePart, part_table}
-use Rattle.net_flatten.specs.NumberedFiles.{NumberedPartData, PartBySignals, card_at, card_of_part, model_at, numbered_part, placed_part}
-use Rattle.net_flatten.specs.SignalFaults.{signals}
-use Rattle.net_flatten.specs.Signals.{Signal}
-use Rattle.net_flatten.proofs.Ranges.{map_map}
+use Rattle.model_calls.specs.Ends.{End, inputs_of, read_ends, end_at}
+use Rattle.model_calls.specs.Expanded.{LatchCard, LatchPart, PlacedLatch, PlacedPart, PlacedTable, TableCard, TablePart, part_table}
+use Rattle.part_numbers.specs.NumberedFiles.{NumberedPartData, PartBySignals, card_at, card_of_part, model_at, numbered_part, placed_part}
+use Rattle.model_calls.specs.SignalFaults.{signals}
+use Rattle.model_calls.specs.Signals.{Signal}
+use Rattle.part_numbers.proofs.Ranges.{map_map}
 
 -- a part is a table
 abbrev pub is_table_part : PlacedPart → Bool

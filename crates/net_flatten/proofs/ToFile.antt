@@ -9,10 +9,10 @@ use Rattle.blif_ast.specs.BlifModelData.{BlifModelData}
 use Rattle.blif_ast.specs.Good.{IsGoodFile}
 use Rattle.net_flatten.specs.NetworkData.{NetTableData, NetworkData}
 use Rattle.net_flatten.specs.Networks.{IsNetwork}
-use Rattle.net_flatten.specs.Occurrences.{main_model}
+use Rattle.model_calls.specs.Occurrences.{main_model}
 use Rattle.net_flatten.specs.OneModel.{file_of}
-use Rattle.net_flatten.specs.Refusal.{Refusal}
-use Rattle.net_flatten.specs.Refusals.{HasRefusal}
+use Rattle.model_calls.specs.Refusal.{Refusal}
+use Rattle.model_calls.specs.Refusals.{HasRefusal}
 use Rattle.net_flatten.proofs.OneModel.{good_one_model, table_number}
 use Rattle.net_flatten.proofs.OneUnrefused.{unrefused}
 

@@ -2,14 +2,14 @@
 use Rattle.std.proofs.Common.{◌≡◌, ℕ, ◌≤◌, ◌+◌, inl, inr, List, sym, ◌∙◌, subst, arith}
 use Rattle.std.proofs.lemmas.Bool.{cases_eq, cases_lt}
 use Rattle.blif_ast.specs.BlifFileData.{BlifFileData}
-use Rattle.net_flatten.proofs.KindOrders.{order_of_kind-injective}
-use Rattle.net_flatten.specs.declared.fault.FlatKind.{FlatKind}
-use Rattle.net_flatten.specs.declared.fault.FlatKind.TheVariants.{DuplicateModel, DuplicatePort, UnknownModel, BadFormal, Recursion, DrivenTwice, Undriven, Cycle, TwoControls, ControlUsed}
-use Rattle.net_flatten.specs.declared.fault.FlatFault.{FlatFault}
-use Rattle.net_flatten.specs.declared.fault.FlatFault.TheVariants.{At as FaultAt}
-use Rattle.net_flatten.specs.CheckOutcomes.{IsFaultOf}
-use Rattle.net_flatten.specs.Refusal.{At, Refusal, TooMany, flat_kind_order, refusal_order}
-use Rattle.net_flatten.specs.Refusals.{HasRefusal, IsOfKind, IsRefusal}
+use Rattle.model_calls.proofs.KindOrders.{order_of_kind-injective}
+use Rattle.model_calls.specs.declared.fault.FlatKind.{FlatKind}
+use Rattle.model_calls.specs.declared.fault.FlatKind.TheVariants.{DuplicateModel, DuplicatePort, UnknownModel, BadFormal, Recursion, DrivenTwice, Undriven, Cycle, TwoControls, ControlUsed}
+use Rattle.model_calls.specs.declared.fault.FlatFault.{FlatFault}
+use Rattle.model_calls.specs.declared.fault.FlatFault.TheVariants.{At as FaultAt}
+use Rattle.part_numbers.specs.CheckOutcomes.{IsFaultOf}
+use Rattle.model_calls.specs.Refusal.{At, Refusal, TooMany, flat_kind_order, refusal_order}
+use Rattle.model_calls.specs.Refusals.{HasRefusal, IsOfKind, IsRefusal}
 use Rattle.net_flatten.specs.Unrefused.{HasNoRefusal}
 
 module _ (f : BlifFileData) where

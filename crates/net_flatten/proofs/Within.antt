@@ -2,11 +2,11 @@
 use Rattle.std.proofs.Common.{◌≡◌, ℕ, ◌<◌, ◌≤◌, ◌-◌, ◌^◌, min, Some, refl, arith}
 use Rattle.std.specs.Prelude.{slice_get}
 use Rattle.blif_ast.specs.BlifFileData.{BlifFileData}
-use Rattle.net_flatten.specs.Counts.{Counted, IsTooMany, counts, letter_count, signal_count, sink_count}
-use Rattle.net_flatten.specs.Limits.{most_letters, most_signals, most_sinks}
-use Rattle.net_flatten.specs.Refusal.{Refusal, TooMany}
-use Rattle.net_flatten.specs.Refusals.{HasRefusal}
-use Rattle.net_flatten.proofs.Firsts.{none_holds}
+use Rattle.model_calls.specs.Counts.{Counted, IsTooMany, counts, letter_count, signal_count, sink_count}
+use Rattle.model_calls.specs.Limits.{most_letters, most_signals, most_sinks}
+use Rattle.model_calls.specs.Refusal.{Refusal, TooMany}
+use Rattle.model_calls.specs.Refusals.{HasRefusal}
+use Rattle.model_calls.proofs.Firsts.{none_holds}
 
 module _ (f : BlifFileData) (accepted : (r : Refusal) → HasRefusal f r → ⊥) where
   within : (k : ℕ) (c : Counted) → slice_get (counts f) k ≡ Some c → c.count ≤ c.most

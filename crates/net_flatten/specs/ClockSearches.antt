@@ -6,8 +6,8 @@ use Rattle.blif_ast.specs.declared.latch.Edge2.TheVariants.{Rising, Falling}
 use Rattle.net_flatten.specs.declared.clocking.Clock.{Clock}
 use Rattle.net_flatten.specs.declared.clocking.ControlAt.{ControlAt}
 use Rattle.net_flatten.specs.FoundFirst.{HoldsOfNone}
-use Rattle.net_flatten.specs.NumberedFiles.{NumberedPartData}
-use Rattle.net_flatten.specs.PartCards.{edge_of}
+use Rattle.part_numbers.specs.NumberedFiles.{NumberedPartData}
+use Rattle.part_numbers.specs.PartCards.{edge_of}
 
 abbrev pub same_edge : Edge2 → Edge2 → Bool
 same_edge Rising Rising = true

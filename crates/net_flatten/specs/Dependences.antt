@@ -2,9 +2,9 @@
 use Rattle.std.specs.Prelude.{ℕ, ◌≡◌, ◌+◌, max, Bool, true, false, List, length, map, Contains, slice_get, slice_index_or, Some}
 use Rattle.std.specs.List.{fold}
 use Rattle.graph_order.specs.Orders.{IsSuccessor, successors}
-use Rattle.net_flatten.specs.declared.numbered.PartCard.{PartCard}
-use Rattle.net_flatten.specs.declared.numbered.PartCard.TheVariants.{Table, Latch as LatchAt}
-use Rattle.net_flatten.specs.NumberedFiles.{NumberedPartData}
+use Rattle.part_numbers.specs.declared.numbered.PartCard.{PartCard}
+use Rattle.part_numbers.specs.declared.numbered.PartCard.TheVariants.{Table, Latch as LatchAt}
+use Rattle.part_numbers.specs.NumberedFiles.{NumberedPartData}
 
 -- a card is a table
 abbrev pub is_table : PartCard → Bool

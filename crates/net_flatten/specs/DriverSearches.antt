@@ -4,9 +4,9 @@ use Rattle.net_flatten.specs.declared.driven.Drivers.{Drivers}
 use Rattle.net_flatten.specs.declared.driven.Drivers.TheVariants.{Once, Twice}
 use Rattle.net_flatten.specs.declared.driven.ReadAt.{ReadAt}
 use Rattle.net_flatten.specs.FoundFirst.{HoldsOfNone, IsFirstAt}
-use Rattle.net_flatten.specs.NumberSets.{IsSetOf}
-use Rattle.net_flatten.specs.NumberedFaults.{IsDrivenAgain, driven_by}
-use Rattle.net_flatten.specs.NumberedFiles.{NumberedPartData}
+use Rattle.model_calls.specs.NumberSets.{IsSetOf}
+use Rattle.part_numbers.specs.NumberedFaults.{IsDrivenAgain, driven_by}
+use Rattle.part_numbers.specs.NumberedFiles.{NumberedPartData}
 
 -- the set of all that is driven where nothing is driven twice
 pub record IsSetOfDrivers (signals : ℕ) (inputs : List ℕ) (parts : List NumberedPartData) (set : List Bool) : Type 0 where

@@ -3,14 +3,14 @@ use Rattle.std.specs.Prelude.{ℕ, ◌≡◌, ◌==◌, Bool, List, [], length, 
 use Rattle.blif_ast.specs.declared.letter.Letter.{Letter}
 use Rattle.blif_ast.specs.BlifFileData.{BlifFileData}
 use Rattle.net_flatten.specs.declared.network.NetLatch.{NetLatch}
-use Rattle.net_flatten.specs.Ends.{inputs_of, next_of}
-use Rattle.net_flatten.specs.Expanded.{PlacedLatch, PlacedTable, latches}
+use Rattle.model_calls.specs.Ends.{inputs_of, next_of}
+use Rattle.model_calls.specs.Expanded.{PlacedLatch, PlacedTable, latches}
 use Rattle.net_flatten.specs.NetworkData.{NetTableData, NetworkData}
-use Rattle.net_flatten.specs.Numbering.{IsLeastPrefix, IsLevelling, by_level, letters_w, names_by_number, pins, signals_by_number}
-use Rattle.net_flatten.specs.Occurrences.{main_model}
-use Rattle.net_flatten.specs.Refusal.{Refusal}
-use Rattle.net_flatten.specs.Refusals.{HasRefusal}
-use Rattle.net_flatten.specs.Signals.{Signal, signal_of}
+use Rattle.model_calls.specs.Numbering.{IsLeastPrefix, IsLevelling, by_level, letters_w, names_by_number, pins, signals_by_number}
+use Rattle.model_calls.specs.Occurrences.{main_model}
+use Rattle.model_calls.specs.Refusal.{Refusal}
+use Rattle.model_calls.specs.Refusals.{HasRefusal}
+use Rattle.model_calls.specs.Signals.{Signal, signal_of}
 
 -- a table by the signals that it reads
 pub record TableBySignals : Type 0 where

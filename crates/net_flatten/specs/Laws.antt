@@ -1,5 +1,5 @@
 -- What holds of each file of BLIF, the Berkeley Logic Interchange Format, of what it is refused for and of its network.
-use Rattle.std.specs.Prelude.{◌≡◌, ◌↔◌, ◌<◌, ◌+◌, ℕ, suc, List, [], ◌∷◌, length, Contains, Some, slice_get}
+use Rattle.std.specs.Prelude.{◌≡◌, ◌<◌, ◌+◌, ℕ, List, [], length, Contains, Some, slice_get}
 use Rattle.std.specs.List.{sum_by}
 use Rattle.std.specs.List.Sorted.{IsSortedByKey, IsStableByKey}
 use Rattle.std.specs.Ordering.{nat_cmp}
@@ -7,20 +7,19 @@ use Rattle.blif_ast.specs.BlifFileData.{BlifFileData}
 use Rattle.blif_ast.specs.BlifModelData.{BlifModelData}
 use Rattle.blif_ast.specs.InstanceData.{InstanceData}
 use Rattle.blif_ast.specs.Good.{IsGoodFile}
-use Rattle.net_flatten.specs.declared.fault.FlatKind.TheVariants.{Recursion}
-use Rattle.net_flatten.specs.Expanded.{BodyCard, InstanceCard, ordered_cards, expanded, expanded_from, card_line}
+use Rattle.model_calls.specs.declared.fault.FlatKind.TheVariants.{Recursion}
+use Rattle.model_calls.specs.Expanded.{BodyCard, expanded, expanded_from, card_line}
 use Rattle.net_flatten.specs.Flattening.{IsNetworkOf}
 use Rattle.net_flatten.specs.NetworkData.{NetworkData}
 use Rattle.net_flatten.specs.Networks.{IsNetwork}
 use Rattle.net_flatten.specs.OneModel.{file_of}
-use Rattle.net_flatten.specs.Occurrences.{Occurrence, main_model, models_called, occurrences_from, occurrences}
-use Rattle.net_flatten.specs.Refusal.{Refusal, At}
-use Rattle.net_flatten.specs.Refusals.{HasRefusal, IsRefusal}
-use Rattle.net_flatten.specs.Ends.{End, drivers}
-use Rattle.net_flatten.specs.Ordered.{in_order}
-use Rattle.net_flatten.specs.Pairs.{pairs}
-use Rattle.net_flatten.specs.Signals.{IsOneSignal, Signal, signal_of}
-use Rattle.net_flatten.specs.Walks.{Frame, entered, rest, work}
+use Rattle.model_calls.specs.Occurrences.{Occurrence, main_model, models_called, occurrences_from, occurrences}
+use Rattle.model_calls.specs.Refusal.{Refusal, At}
+use Rattle.model_calls.specs.Refusals.{HasRefusal, IsRefusal}
+use Rattle.model_calls.specs.Ends.{End, drivers}
+use Rattle.model_calls.specs.Ordered.{in_order}
+use Rattle.model_calls.specs.Pairs.{pairs}
+use Rattle.model_calls.specs.Signals.{Signal}
 
 -- a file is refused for at most one thing, has at most one network, and never both
 pub record HasAtMostOneAnswer (f : BlifFileData) : Type 0 where
@@ -30,10 +29,6 @@ pub record HasAtMostOneAnswer (f : BlifFileData) : Type 0 where
 
 abbrev pub FileHasOneAnswer : Type 0
 FileHasOneAnswer = (f : BlifFileData) → HasAtMostOneAnswer f
-
--- two names at paths are one signal exactly where `signal_of` takes them to the same one
-abbrev pub SignalsAreClasses : Type 0
-SignalsAreClasses = (s t : Signal) → IsOneSignal s t ↔ (signal_of s.path s.name ≡ signal_of t.path t.name)
 
 -- the network of a good file keeps what a network keeps
 abbrev pub NetworkIsKept : Type 0
@@ -81,26 +76,6 @@ DepthIsEnough =
     (f : BlifFileData) → IsGoodFile f → ((line : ℕ) (name : List ℕ) → HasRefusal f (At Recursion line name) → ⊥) → (extra : ℕ)
     → (expanded_from f.models (length f.models + extra) [] (main_model f) ≡ expanded f)
     × (occurrences_from f.models (length f.models + extra) [] (main_model f) ≡ occurrences f)
-
--- a step of a walk that comes to an instance of a known model enters it: what is to come stays, and the work falls
-pub record EntersInstance (models : List BlifModelData) : Type 0 where
-  pub same_rest : (depth : ℕ) (path : List InstanceData) (i : InstanceData) (n : BlifModelData) (left : List BodyCard) (frames : List Frame)
-      → models_called models i.unit ≡ n ∷ []
-      → rest models (record { depth = suc depth; path = path; left = InstanceCard i ∷ left } ∷ frames)
-      ≡ rest models (entered depth path i n ∷ record { depth = suc depth; path = path; left = left } ∷ frames)
-  pub less_work : (depth : ℕ) (path : List InstanceData) (i : InstanceData) (n : BlifModelData) (left : List BodyCard) (frames : List Frame)
-      → models_called models i.unit ≡ n ∷ []
-      → work models (entered depth path i n ∷ record { depth = suc depth; path = path; left = left } ∷ frames)
-      < work models (record { depth = suc depth; path = path; left = InstanceCard i ∷ left } ∷ frames)
-
-abbrev pub WalkEntersInstances : Type 0
-WalkEntersInstances = (models : List BlifModelData) → EntersInstance models
-
--- a walk begins with the main model, and all parts are to come
-abbrev pub WalkBegins : Type 0
-WalkBegins =
-    (models : List BlifModelData) (depth : ℕ) (m : BlifModelData)
-    → rest models (record { depth = depth; path = []; left = ordered_cards m } ∷ []) ≡ expanded_from models (suc depth) [] m
 
 -- pairs of a path and a name differ, so that their indices in the list of all pairs can number them
 abbrev pub PairsDiffer : Type 0

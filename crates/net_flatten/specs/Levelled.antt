@@ -5,7 +5,7 @@ use Rattle.net_flatten.specs.declared.cycle_check.Levelled.TheVariants.{Levels, 
 use Rattle.net_flatten.specs.Dependences.{AreDependences, AreTableLevels}
 use Rattle.net_flatten.specs.FoundFirst.{HoldsOfNone, IsFirstAt}
 use Rattle.net_flatten.specs.Loops.{IsOnLoop}
-use Rattle.net_flatten.specs.NumberedFiles.{NumberedPartData}
+use Rattle.part_numbers.specs.NumberedFiles.{NumberedPartData}
 
 -- by what signals depend on, no table is on a loop
 pub record IsWithoutLoop (signals : ℕ) (parts : List NumberedPartData) : Type 0 where

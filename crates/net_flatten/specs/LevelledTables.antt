@@ -2,7 +2,7 @@
 use Rattle.std.specs.Prelude.{ℕ, ◌≡◌, List, map, Some, slice_get}
 use Rattle.net_flatten.specs.declared.table_order.LevelledTable.{LevelledTable}
 use Rattle.net_flatten.specs.Dependences.{level_at}
-use Rattle.net_flatten.specs.NumberedFiles.{NumberedPartData}
+use Rattle.part_numbers.specs.NumberedFiles.{NumberedPartData}
 
 -- the parts at these indices are these tables, and each has its level
 pub record AreLevelledTables (levels : List ℕ) (parts tables : List NumberedPartData) (levelled : List LevelledTable) : Type 0 where

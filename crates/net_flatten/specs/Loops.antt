@@ -2,7 +2,7 @@
 use Rattle.std.specs.Prelude.{◌≡◌, true, List, ℕ}
 use Rattle.graph_order.specs.Orders.{LeadsOn}
 use Rattle.net_flatten.specs.Dependences.{is_table}
-use Rattle.net_flatten.specs.NumberedFiles.{NumberedPartData}
+use Rattle.part_numbers.specs.NumberedFiles.{NumberedPartData}
 
 -- a part is a table whose signal depends on itself
 abbrev pub IsOnLoop : List (List ℕ) → List NumberedPartData → NumberedPartData → Type 0

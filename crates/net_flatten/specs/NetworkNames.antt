@@ -4,7 +4,7 @@ use Rattle.std.specs.Prelude.{ℕ, ◌≡◌, ◌++◌, Bool, true, List, map, C
 use Rattle.std.specs.Fmt.{decimal}
 use Rattle.std.specs.List.{enumerate_from}
 use Rattle.std.specs.Option.{unwrap_or}
-use Rattle.net_flatten.specs.Numbering.{IsLeastPrefixAmong, IsPrefixedNumber, letters_w}
+use Rattle.model_calls.specs.Numbering.{IsLeastPrefixAmong, IsPrefixedNumber, letters_w}
 
 -- one of these names is so many letters `w` followed by digits only
 abbrev pub IsTakenWidth : List (List ℕ) → ℕ → Type 0

@@ -1,7 +1,7 @@
 -- The numbers of a file's signals in the order in which its network has them.
 use Rattle.std.specs.Prelude.{ℕ, ◌≡◌, Bool, false, not, nat_eq, List, filter, length, Contains, Option, Some, None, slice_get, slice_index_or}
 use Rattle.net_flatten.specs.Dependences.{is_table}
-use Rattle.net_flatten.specs.NumberedFiles.{NumberedPartData}
+use Rattle.part_numbers.specs.NumberedFiles.{NumberedPartData}
 
 -- the signal that controls latches, if there is one, has this number
 abbrev pub is_number : Option ℕ → ℕ → Bool

@@ -3,9 +3,9 @@ use Rattle.std.specs.Prelude.{ℕ, ◌==◌, List, map, Option, Some, None, opti
 use Rattle.blif_ast.specs.BlifFileData.{BlifFileData}
 use Rattle.net_flatten.specs.declared.network.NetLatch.{NetLatch}
 use Rattle.net_flatten.specs.declared.table_order.LevelledTable.{LevelledTable}
-use Rattle.net_flatten.specs.Expanded.{BodyCard, LatchCard, TableCard}
+use Rattle.model_calls.specs.Expanded.{BodyCard, LatchCard, TableCard}
 use Rattle.net_flatten.specs.NetworkData.{NetTableData}
-use Rattle.net_flatten.specs.NumberedFiles.{NumberedPartData, card_at, model_at}
+use Rattle.part_numbers.specs.NumberedFiles.{NumberedPartData, card_at, model_at}
 
 -- the place of a number
 abbrev pub network_place : List ℕ → ℕ → ℕ

@@ -1,18 +1,13 @@
 -- What stands in the file of one model of a network: its tables, latches and signals, by their numbers.
-use Rattle.std.specs.Prelude.{◌≡◌, ◌+◌, ℕ, zero, suc, List, [], ◌∷◌, map, slice_get, Some}
+use Rattle.std.specs.Prelude.{◌≡◌, ℕ, List, [], map, slice_get, Some}
 use Rattle.std.specs.List.{enumerate_from}
 use Rattle.blif_ast.specs.declared.latch.Latch.{Latch}
 use Rattle.blif_ast.specs.TableData.{TableData}
 use Rattle.net_flatten.specs.declared.network.NetLatch.{NetLatch}
-use Rattle.net_flatten.specs.Expanded.{PlacedTable}
+use Rattle.model_calls.specs.Expanded.{PlacedTable}
 use Rattle.net_flatten.specs.NetworkData.{NetTableData, NetworkData}
 use Rattle.net_flatten.specs.OneModel.{latch_at, name_at, table_at}
-use Rattle.net_flatten.specs.Signals.{Signal}
-
--- so many numbers from one on
-abbrev pub row : ℕ → ℕ → List ℕ
-row a zero = []
-row a (suc m) = a ∷ row (a + 1) m
+use Rattle.model_calls.specs.Signals.{Signal}
 
 -- its tables and latches in order
 abbrev pub tables_here : NetworkData → List TableData

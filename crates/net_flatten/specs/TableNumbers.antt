@@ -1,7 +1,7 @@
 -- The tables among the parts of a file by numbers.
 use Rattle.std.specs.Prelude.{ℕ, List, filter, map}
 use Rattle.net_flatten.specs.Dependences.{is_table}
-use Rattle.net_flatten.specs.NumberedFiles.{NumberedPartData}
+use Rattle.part_numbers.specs.NumberedFiles.{NumberedPartData}
 
 -- the tables among some parts
 abbrev pub tables_among : List NumberedPartData → List NumberedPartData

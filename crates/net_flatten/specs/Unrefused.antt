@@ -1,8 +1,8 @@
 -- What refuses a file of BLIF, the Berkeley Logic Interchange Format, as far as it was looked for.
 use Rattle.std.specs.Prelude.{ℕ, ◌≤◌}
 use Rattle.blif_ast.specs.BlifFileData.{BlifFileData}
-use Rattle.net_flatten.specs.Refusal.{Refusal, refusal_order}
-use Rattle.net_flatten.specs.Refusals.{HasRefusal}
+use Rattle.model_calls.specs.Refusal.{Refusal, refusal_order}
+use Rattle.model_calls.specs.Refusals.{HasRefusal}
 
 -- nothing of the first so many orders refuses a file, counts among them
 abbrev pub HasNoRefusal : BlifFileData → ℕ → Type 0

@@ -6,21 +6,20 @@ ghost use Rattle.net_flatten.specs.declared.clocking.ControlAt.{ControlAt};
 ghost use Rattle.net_flatten.specs.ClockSearches.{IsControlFound};
 ghost use Rattle.net_flatten.specs.Dependences.{AreTableLevels};
 ghost use Rattle.net_flatten.specs.Flattening.{IsNetworkOf};
-ghost use Rattle.net_flatten.specs.NumberedFiles.{HasNumbers};
-ghost use Rattle.net_flatten.specs.Occurrences.{main_model};
-ghost use Rattle.net_flatten.specs.Refusal.{Refusal};
-ghost use Rattle.net_flatten.specs.Refusals.{HasRefusal};
+ghost use Rattle.part_numbers.specs.NumberedFiles.{HasNumbers};
+ghost use Rattle.model_calls.specs.Occurrences.{main_model};
+ghost use Rattle.model_calls.specs.Refusal.{Refusal};
+ghost use Rattle.model_calls.specs.Refusals.{HasRefusal};
 
 use crate::clocking::find_control;
 use crate::network::Network;
 use crate::network_names::names_of_network;
 use crate::network_parts::{net_latches, net_tables, places_of};
-use crate::numbered::{NumberedFile, NumberedPart};
 use crate::numbering::{add_outputs, add_pins, add_states, renumber};
-use crate::part_cards::main_model_of;
 use crate::table_order::tables_by_level;
 use blif_ast::BlifFile;
 use dom_base::{Name, OutOfMemory};
+use part_numbers::{NumberedFile, NumberedPart, main_model_of};
 use std::alloc::Global;
 
 /// The number of the signal that controls latches, if one does.

@@ -1,14 +1,13 @@
 //! Whether all latches are clocked alike, by a signal that nothing else uses.
 ghost use Rattle.std.specs.Prelude.{◌≢◌, []};
-ghost use Rattle.net_flatten.specs.declared.fault.FlatKind.TheVariants.{ControlUsed, TwoControls};
-ghost use Rattle.net_flatten.specs.CheckOutcomes.{IsCheckOf};
-ghost use Rattle.net_flatten.specs.NumberedFiles.{HasNumbers};
+ghost use Rattle.model_calls.specs.declared.fault.FlatKind.TheVariants.{ControlUsed, TwoControls};
+ghost use Rattle.part_numbers.specs.CheckOutcomes.{IsCheckOf};
+ghost use Rattle.part_numbers.specs.NumberedFiles.{HasNumbers};
 
 use crate::clocking::{find_control, find_number, find_other_clock, has};
-use crate::fault::{FlatFault, FlatKind};
-use crate::numbered::NumberedFile;
-use crate::part_cards::{fault_at_control, fault_at_main_control, fault_at_output};
 use blif_ast::BlifFile;
+use model_calls::{FlatFault, FlatKind};
+use part_numbers::{NumberedFile, fault_at_control, fault_at_main_control, fault_at_output};
 
 /// Looks for the first latch with an edge or a signal that is another than an earlier latch's.
 pub fn check_clocks(file: &BlifFile, numbered: &NumberedFile<'_>) -> Result<(), FlatFault>

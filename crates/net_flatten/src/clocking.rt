@@ -2,11 +2,10 @@
 ghost use Rattle.std.specs.Prelude.{◌≡◌, ◌∷◌, ◌++◌, [], Contains, false, true};
 ghost use Rattle.net_flatten.specs.ClockSearches.{IsAtNumber, IsControlFound, IsOtherClockFound, differs_from_clock, joined_clock};
 ghost use Rattle.net_flatten.specs.FoundFirst.{IsFoundFirst};
-ghost use Rattle.net_flatten.specs.NumberedFiles.{HasNumbers};
+ghost use Rattle.part_numbers.specs.NumberedFiles.{HasNumbers};
 
-use crate::numbered::{NumberedFile, NumberedPart};
-use crate::part_cards::edge_of;
 use blif_ast::{BlifFile, Edge2};
+use part_numbers::{NumberedFile, NumberedPart, edge_of};
 
 /// What latches are clocked by, as far as any says it: the edge, and the number of the signal.
 #[derive(Clone, Copy)]

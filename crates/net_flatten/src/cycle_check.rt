@@ -1,24 +1,23 @@
 //! Whether a signal depends on itself through tables.
 ghost use Rattle.std.specs.Prelude.{ℕ, List, All, IfOk, length};
 ghost use Rattle.graph_order.specs.Orders.{IsGraph};
-ghost use Rattle.net_flatten.specs.declared.fault.FlatKind.TheVariants.{Cycle, DrivenTwice};
-ghost use Rattle.net_flatten.specs.CheckOutcomes.{IsCheckOf};
+ghost use Rattle.model_calls.specs.declared.fault.FlatKind.TheVariants.{Cycle, DrivenTwice};
+ghost use Rattle.part_numbers.specs.CheckOutcomes.{IsCheckOf};
 ghost use Rattle.net_flatten.specs.Dependences.{AreDrivenOnce, AreTableLevels};
 ghost use Rattle.net_flatten.specs.FoundFirst.{IsFoundFirst};
 ghost use Rattle.net_flatten.specs.Levelled.{AreLevelled};
 ghost use Rattle.net_flatten.specs.Loops.{IsOnLoop};
-ghost use Rattle.net_flatten.specs.NumberedFaults.{IsPartWithin};
-ghost use Rattle.net_flatten.specs.NumberedFiles.{HasNumbers};
-ghost use Rattle.net_flatten.specs.Refusals.{IsOfKind};
+ghost use Rattle.part_numbers.specs.NumberedFaults.{IsPartWithin};
+ghost use Rattle.part_numbers.specs.NumberedFiles.{HasNumbers};
+ghost use Rattle.model_calls.specs.Refusals.{IsOfKind};
 
 use crate::dependence::dependences;
-use crate::fault::{FlatFault, FlatKind};
 use crate::levelling::find_levels;
-use crate::numbered::{NumberedFile, NumberedPart, PartCard};
-use crate::part_cards::fault_at_output;
 use blif_ast::BlifFile;
 use dom_base::OutOfMemory;
 use graph_order::{Node, Order, circle_marks, put_in_order};
+use model_calls::{FlatFault, FlatKind};
+use part_numbers::{NumberedFile, NumberedPart, PartCard, fault_at_output};
 use std::alloc::Global;
 
 /// The levels of all signals, or the index of the first table whose signal depends on itself.

@@ -1,11 +1,11 @@
 //! What the signals of a file depend on through its tables.
 ghost use Rattle.std.specs.Prelude.{◌≡◌, ◌<◌, All, IfOk, [], length, replicate, slice_set};
 ghost use Rattle.net_flatten.specs.Dependences.{AreDependences, AreDrivenOnce};
-ghost use Rattle.net_flatten.specs.NumberedFaults.{IsPartWithin};
+ghost use Rattle.part_numbers.specs.NumberedFaults.{IsPartWithin};
 
-use crate::numbered::{NumberedPart, PartCard};
 use dom_base::OutOfMemory;
 use graph_order::Node;
+use part_numbers::{NumberedPart, PartCard};
 use std::alloc::Global;
 
 /// A node without successors for each number below a bound. The one error is want of memory.

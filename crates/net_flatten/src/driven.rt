@@ -2,11 +2,11 @@
 ghost use Rattle.std.specs.Prelude.{◌<◌, All, IfOk, length};
 ghost use Rattle.net_flatten.specs.DriverSearches.{AreDrivers, IsFirstOutside, IsOutsideSet};
 ghost use Rattle.net_flatten.specs.FoundFirst.{IsFoundFirst};
-ghost use Rattle.net_flatten.specs.NumberedFaults.{IsPartWithin};
+ghost use Rattle.part_numbers.specs.NumberedFaults.{IsPartWithin};
 
-use crate::number_set::NumberSet;
-use crate::numbered::NumberedPart;
 use dom_base::OutOfMemory;
+use model_calls::NumberSet;
+use part_numbers::NumberedPart;
 use std::alloc::Global;
 
 /// The signals that are driven, each once, or the index of the first part that drives one with an

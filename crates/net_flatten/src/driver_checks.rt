@@ -1,17 +1,15 @@
 //! Whether each signal that is read has a driver, and none has two.
 ghost use Rattle.std.specs.Prelude.{IfOk};
-ghost use Rattle.net_flatten.specs.declared.fault.FlatKind.TheVariants.{DrivenTwice, Undriven};
-ghost use Rattle.net_flatten.specs.CheckOutcomes.{IsCheckOf};
-ghost use Rattle.net_flatten.specs.NumberSets.{IsSetOf};
-ghost use Rattle.net_flatten.specs.NumberedFaults.{driven_by};
-ghost use Rattle.net_flatten.specs.NumberedFiles.{HasNumbers};
+ghost use Rattle.model_calls.specs.declared.fault.FlatKind.TheVariants.{DrivenTwice, Undriven};
+ghost use Rattle.part_numbers.specs.CheckOutcomes.{IsCheckOf};
+ghost use Rattle.model_calls.specs.NumberSets.{IsSetOf};
+ghost use Rattle.part_numbers.specs.NumberedFaults.{driven_by};
+ghost use Rattle.part_numbers.specs.NumberedFiles.{HasNumbers};
 
 use crate::driven::{Drivers, find_drivers, find_outside, find_read_outside};
-use crate::fault::{FlatFault, FlatKind};
-use crate::number_set::NumberSet;
-use crate::numbered::NumberedFile;
-use crate::part_cards::{fault_at_input, fault_at_main_output, fault_at_output};
 use blif_ast::BlifFile;
+use model_calls::{FlatFault, FlatKind, NumberSet};
+use part_numbers::{NumberedFile, fault_at_input, fault_at_main_output, fault_at_output};
 use std::alloc::Global;
 
 /// Looks for the first part that drives a signal with an earlier driver, main inputs being earliest.

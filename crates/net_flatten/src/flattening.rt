@@ -1,21 +1,18 @@
 //! The network of a file of BLIF, or what refuses the file.
 ghost use Rattle.std.specs.Prelude.{ℕ, List, IfOk, IsErrOf};
 ghost use Rattle.blif_ast.specs.Good.{IsGoodFile};
-ghost use Rattle.net_flatten.specs.declared.fault.FlatKind.{FlatKind};
-ghost use Rattle.net_flatten.specs.declared.fault.Limit.{Limit};
+ghost use Rattle.model_calls.specs.declared.fault.FlatKind.{FlatKind};
+ghost use Rattle.model_calls.specs.declared.fault.Limit.{Limit};
 ghost use Rattle.net_flatten.specs.Flattening.{IsNetworkOf};
-ghost use Rattle.net_flatten.specs.Refusal.{At, TooMany};
-ghost use Rattle.net_flatten.specs.Refusals.{IsRefusal};
+ghost use Rattle.model_calls.specs.Refusal.{At, TooMany};
+ghost use Rattle.model_calls.specs.Refusals.{IsRefusal};
 
 use crate::building::network_of;
-use crate::check_sizes::check_sizes;
-use crate::expansion::number_planned_file;
-use crate::fault::FlatFault;
-use crate::models::plan_models;
 use crate::network::Network;
 use crate::signal_checks::check_signals;
-use crate::signals::first_tables;
 use blif_ast::BlifFile;
+use model_calls::{FlatFault, plan_models};
+use part_numbers::{check_sizes, first_tables, number_planned_file};
 use std::alloc::Global;
 
 /// The network of a good file, or its refusal. What can refuse a file is looked for in order, each

@@ -4,14 +4,14 @@ ghost use Rattle.std.specs.List.{fold};
 ghost use Rattle.graph_order.specs.Orders.{IsGraph, IsOrder};
 ghost use Rattle.net_flatten.specs.Dependences.{AreDependences, AreTableLevels, level_at};
 ghost use Rattle.net_flatten.specs.LevelSteps.{AreLevelsSoFar};
-ghost use Rattle.net_flatten.specs.NumberedFaults.{IsPartWithin};
-ghost use Rattle.net_flatten.specs.NumberSets.{IsSetOf};
+ghost use Rattle.part_numbers.specs.NumberedFaults.{IsPartWithin};
+ghost use Rattle.model_calls.specs.NumberSets.{IsSetOf};
 ghost use Rattle.net_flatten.specs.TableNumbers.{driven_by_tables};
 
-use crate::number_set::NumberSet;
-use crate::numbered::{NumberedPart, PartCard};
 use dom_base::OutOfMemory;
 use graph_order::Node;
+use model_calls::NumberSet;
+use part_numbers::{NumberedPart, PartCard};
 use std::alloc::Global;
 
 /// The greatest level of some signals, and 0 where there are none.

@@ -4,7 +4,7 @@ ghost use Rattle.std.specs.Char.{is_ascii_digit};
 ghost use Rattle.std.specs.Fmt.{decimal};
 ghost use Rattle.std.specs.List.{list_all};
 ghost use Rattle.net_flatten.specs.NetworkNames.{AreNetworkNames, MarksTaken, network_name};
-ghost use Rattle.net_flatten.specs.Numbering.{IsLeastPrefixAmong, IsPrefixedNumber, letters_w};
+ghost use Rattle.model_calls.specs.Numbering.{IsLeastPrefixAmong, IsPrefixedNumber, letters_w};
 
 use dom_base::{Name, NameBytes, OutOfMemory, append_number_to_name};
 use std::alloc::Global;

@@ -2,14 +2,13 @@
 ghost use Rattle.std.specs.Prelude.{◌≡◌, ◌<◌, All, IfOk, IsSome, Some, length, map};
 ghost use Rattle.net_flatten.specs.NetworkNumbers.{latches_among};
 ghost use Rattle.net_flatten.specs.NetworkParts.{latch_in_network, levelled_in_network, network_place, table_in_network};
-ghost use Rattle.net_flatten.specs.NumberedFaults.{IsPartWithin};
+ghost use Rattle.part_numbers.specs.NumberedFaults.{IsPartWithin};
 
 use crate::network::{NetLatch, NetTable};
-use crate::numbered::{NumberedPart, PartCard};
-use crate::part_cards::{latch_at, table_at};
 use crate::table_order::LevelledTable;
 use blif_ast::BlifFile;
 use dom_base::OutOfMemory;
+use part_numbers::{NumberedPart, PartCard, Reads, latch_at, table_at};
 use std::alloc::Global;
 
 /// The places of some numbers. The one error is want of memory.
@@ -18,6 +17,18 @@ pub fn places_of(alloc: Global, places: &[u32], numbers: &[u32]) -> Result<Vec<u
     ensures { IfOk result (λ found. found.items ≡ map (network_place places.now) numbers.now) }
 {
     let mut found = Vec::with_capacity(alloc, numbers.len())?;
+    for number in numbers {
+        found.push(places[*number as usize])?;
+    }
+    Ok(found)
+}
+
+/// The places of the numbers that a table reads. The one error is want of memory.
+fn places_read(alloc: Global, places: &[u32], numbers: &[u32]) -> Result<Reads, OutOfMemory>
+    requires within { All (λ number. number < length places.now) numbers.now }
+    ensures { IfOk result (λ found. found.items ≡ map (network_place places.now) numbers.now) }
+{
+    let mut found = Reads::with_capacity(alloc, numbers.len())?;
     for number in numbers {
         found.push(places[*number as usize])?;
     }
@@ -40,7 +51,7 @@ fn net_table(
     };
     let table = table_at(file, part.model, index);
     let rows = table.rows.clone()?;
-    let inputs = places_of(alloc, places, part.reads.as_slice())?;
+    let inputs = places_read(alloc, places, part.reads.as_slice())?;
     Ok(NetTable {
         inputs,
         on: table.on,

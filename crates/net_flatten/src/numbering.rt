@@ -3,11 +3,11 @@
 ghost use Rattle.std.specs.Prelude.{◌≡◌, ◌++◌, ◌<◌, ◌^◌, All, IfOk, List, OnOk, Some, length, map, slice_get};
 ghost use Rattle.net_flatten.specs.declared.table_order.LevelledTable.{LevelledTable};
 ghost use Rattle.net_flatten.specs.NetworkNumbers.{IsRenumbering, is_number, latches_among, pin_numbers};
-ghost use Rattle.net_flatten.specs.NumberedFiles.{NumberedPartData};
+ghost use Rattle.part_numbers.specs.NumberedFiles.{NumberedPartData};
 
-use crate::numbered::{NumberedPart, PartCard};
 use crate::table_order::LevelledTable;
 use dom_base::OutOfMemory;
+use part_numbers::{NumberedPart, PartCard};
 use std::alloc::Global;
 
 /// Whether the signal that controls latches, if there is one, has this number.

@@ -6,11 +6,11 @@ ghost use Rattle.net_flatten.specs.declared.network.NetLatch.{NetLatch};
 ghost use Rattle.net_flatten.specs.NetworkData.{NetTableData};
 ghost use Rattle.net_flatten.specs.Networks.{IsNetwork};
 ghost use Rattle.net_flatten.specs.OneModel.{file_of, latch_at, name_at, table_at};
-ghost use Rattle.net_flatten.specs.Refusal.{Refusal};
-ghost use Rattle.net_flatten.specs.Refusals.{HasRefusal};
+ghost use Rattle.model_calls.specs.Refusal.{Refusal};
+ghost use Rattle.model_calls.specs.Refusals.{HasRefusal};
 
 use crate::network::Network;
-use blif_ast::{BlifFile, BlifModel, Latch, Row, Table};
+use blif_ast::{BlifFile, BlifModel, InputNames, Latch, Row, Rows, Table};
 use dom_base::{Name, OutOfMemory};
 use std::alloc::Global;
 
@@ -52,6 +52,18 @@ pub fn names_of(alloc: Global, network: &Network, signals: &[u32]) -> Result<Vec
     Ok(names)
 }
 
+/// The names of the signals of these numbers, as a table reads them.
+fn names_read(alloc: Global, network: &Network, signals: &[u32]) -> Result<InputNames, OutOfMemory>
+    requires { All (λ signal. signal < length network.now.names) signals.now }
+    ensures { IfOk result (λ names. names.items ≡ map (name_at network.now) signals.now) }
+{
+    let mut names = InputNames::with_capacity(alloc, signals.len())?;
+    for signal in signals {
+        names.push(name_of(network, *signal as usize)?)?;
+    }
+    Ok(names)
+}
+
 /// The name of the signal of a number.
 fn name_of(network: &Network, signal: usize) -> Result<Name, OutOfMemory>
     requires { signal < length network.now.names }
@@ -79,7 +91,7 @@ fn table_of(alloc: Global, network: &Network, k: usize) -> Result<Table, OutOfMe
     let table = &network.tables[k];
     let first = network.inputs as usize + network.latches.len();
     Ok(Table {
-        inputs: names_of(alloc, network, &table.inputs)?,
+        inputs: names_read(alloc, network, &table.inputs)?,
         output: name_of(network, first + k)?,
         on: table.on,
         rows: copies(alloc, &table.rows)?,
@@ -88,10 +100,10 @@ fn table_of(alloc: Global, network: &Network, k: usize) -> Result<Table, OutOfMe
 }
 
 /// Copies of rows.
-fn copies(alloc: Global, rows: &[Row]) -> Result<Vec<Row>, OutOfMemory>
+fn copies(alloc: Global, rows: &[Row]) -> Result<Rows, OutOfMemory>
     ensures { IfOk result (λ copies. copies.items ≡ rows.now) }
 {
-    Ok(rows.to_vec(alloc)?)
+    Ok(Rows::from_clones(alloc, rows)?)
 }
 
 /// The latches of the file.

@@ -1,19 +1,19 @@
 //! Whether anything of the signals of a file refuses it.
 ghost use Rattle.std.specs.Prelude.{◌≢◌, ℕ, List, [], IfOk, IsErrOf};
-ghost use Rattle.net_flatten.specs.declared.fault.FlatKind.{FlatKind};
-ghost use Rattle.net_flatten.specs.declared.fault.Limit.{Limit};
+ghost use Rattle.model_calls.specs.declared.fault.FlatKind.{FlatKind};
+ghost use Rattle.model_calls.specs.declared.fault.Limit.{Limit};
 ghost use Rattle.net_flatten.specs.Dependences.{AreTableLevels};
-ghost use Rattle.net_flatten.specs.NumberedFiles.{HasNumbers};
-ghost use Rattle.net_flatten.specs.Refusal.{At, Refusal};
-ghost use Rattle.net_flatten.specs.Refusals.{HasRefusal, IsRefusal};
+ghost use Rattle.part_numbers.specs.NumberedFiles.{HasNumbers};
+ghost use Rattle.model_calls.specs.Refusal.{At, Refusal};
+ghost use Rattle.model_calls.specs.Refusals.{HasRefusal, IsRefusal};
 ghost use Rattle.net_flatten.specs.Unrefused.{HasNoRefusal};
 
 use crate::clock_checks::{check_clocks, check_control};
 use crate::cycle_check::check_cycles;
 use crate::driver_checks::{check_drivers, check_readers};
-use crate::fault::FlatFault;
-use crate::numbered::NumberedFile;
 use blif_ast::BlifFile;
+use model_calls::FlatFault;
+use part_numbers::NumberedFile;
 use std::alloc::Global;
 
 /// Looks for what refuses a file because of its signals, in order: drivers, readers, loops, clocks.

@@ -3,12 +3,12 @@ ghost use Rattle.std.specs.Prelude.{◌≡◌, All, IfOk, OnOk, Some, length, ma
 ghost use Rattle.net_flatten.specs.declared.table_order.LevelledTable.{LevelledTable};
 ghost use Rattle.net_flatten.specs.Dependences.{level_at};
 ghost use Rattle.net_flatten.specs.LevelledTables.{AreLevelledTables};
-ghost use Rattle.net_flatten.specs.NumberedFaults.{IsPartWithin};
-ghost use Rattle.net_flatten.specs.Ordered.{in_order};
+ghost use Rattle.part_numbers.specs.NumberedFaults.{IsPartWithin};
+ghost use Rattle.model_calls.specs.Ordered.{in_order};
 ghost use Rattle.net_flatten.specs.TableNumbers.{tables_among};
 
-use crate::numbered::{NumberedPart, PartCard};
 use dom_base::OutOfMemory;
+use part_numbers::{NumberedPart, PartCard};
 use std::alloc::Global;
 
 /// A table by its index among the parts, with its level.

@@ -5,7 +5,7 @@ use Rattle.net_flatten.specs.NetworkData.{NetworkData}
 use Rattle.net_flatten.specs.NetworkNames.{AreNetworkNames}
 use Rattle.net_flatten.specs.NetworkNumbers.{IsRenumbering, latches_among, pin_numbers}
 use Rattle.net_flatten.specs.NetworkParts.{latch_in_network, levelled_in_network, network_place}
-use Rattle.net_flatten.specs.NumberedFiles.{NumberedFileData}
+use Rattle.part_numbers.specs.NumberedFiles.{NumberedFileData}
 use Rattle.net_flatten.proofs.Kept.{network_kept}
 use Rattle.net_flatten.proofs.NetworkGathered.{gathered, gathered_numbers, latches_there, levelled_inside, levelled_there, made, numbers_few, numbers_inside, outputs_inside, parts_inside, pins_few}
 use Rattle.net_flatten.proofs.building.network_of.Goals as goal

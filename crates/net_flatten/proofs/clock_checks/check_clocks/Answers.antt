@@ -1,7 +1,7 @@
-use Rattle.net_flatten.specs.declared.fault.FlatKind.TheVariants.{TwoControls}
-use Rattle.net_flatten.specs.CheckOutcomes.{IsAtOutput}
-use Rattle.net_flatten.specs.Refusals.{IsOfKind}
-use Rattle.net_flatten.proofs.CardFaults.{IsFaultOf-weaker}
+use Rattle.model_calls.specs.declared.fault.FlatKind.TheVariants.{TwoControls}
+use Rattle.part_numbers.specs.CheckOutcomes.{IsAtOutput}
+use Rattle.model_calls.specs.Refusals.{IsOfKind}
+use Rattle.part_numbers.proofs.CardFaults.{IsFaultOf-weaker}
 use Rattle.net_flatten.proofs.ClockFaults.{first_other, none_other}
 use Rattle.net_flatten.proofs.clock_checks.check_clocks.Goals as goal
 

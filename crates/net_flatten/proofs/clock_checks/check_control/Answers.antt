@@ -1,13 +1,13 @@
 use Rattle.std.proofs.Common.{◌≡◌, ◌<◌, length, sym, subst}
 use Rattle.std.specs.Prelude.{Contains}
 use Rattle.std.proofs.lemmas.Option.{slice_get_within}
-use Rattle.net_flatten.specs.declared.fault.FlatKind.TheVariants.{ControlUsed}
-use Rattle.net_flatten.specs.CheckOutcomes.{IsAtControlOf, IsLineAt}
+use Rattle.model_calls.specs.declared.fault.FlatKind.TheVariants.{ControlUsed}
+use Rattle.part_numbers.specs.CheckOutcomes.{IsAtControlOf, IsLineAt}
 use Rattle.net_flatten.specs.ClockSearches.{HasControl, IsAtNumber, IsFirstControl}
 use Rattle.net_flatten.specs.FoundFirst.{HoldsOfNone, IsFirstAt}
-use Rattle.net_flatten.specs.Occurrences.{main_model}
-use Rattle.net_flatten.specs.Refusals.{IsOfKind}
-use Rattle.net_flatten.proofs.CardFaults.{IsFaultOf-weaker}
+use Rattle.model_calls.specs.Occurrences.{main_model}
+use Rattle.model_calls.specs.Refusals.{IsOfKind}
+use Rattle.part_numbers.proofs.CardFaults.{IsFaultOf-weaker}
 use Rattle.net_flatten.proofs.ControlFaults.{control_unused, no_control, none_controlled, none_found, used_at_output, used_at_part}
 use Rattle.net_flatten.proofs.clock_checks.check_control.Goals as goal
 

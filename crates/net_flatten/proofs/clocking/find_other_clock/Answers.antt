@@ -1,8 +1,8 @@
 use Rattle.std.proofs.Common.{◌≡◌, ◌<◌, ◌+◌, length, ap, sym, ◌∙◌, subst, refl, take}
 use Rattle.std.proofs.lemmas.Option.{slice_get_read}
 use Rattle.net_flatten.specs.ClockSearches.{IsClockOf, differs_from_clock, joined_clock}
-use Rattle.net_flatten.specs.NumberedFiles.{NumberedPartData}
-use Rattle.net_flatten.proofs.CardFaults.{card_there, part_there}
+use Rattle.part_numbers.specs.NumberedFiles.{NumberedPartData}
+use Rattle.part_numbers.proofs.CardFaults.{card_there, part_there}
 use Rattle.net_flatten.proofs.Clocks.{clock_at_latch, clock_at_other}
 use Rattle.net_flatten.proofs.clocking.find_other_clock.Goals as goal
 use Rattle.net_flatten.proofs.clocking.find_other_clock.Goals.{in-Some+else-differs, in_default}

@@ -1,16 +1,16 @@
 use Rattle.std.proofs.Common.{◌<◌, length, ap, sym, subst}
 use Rattle.std.specs.Prelude.{All}
 use Rattle.std.proofs.lemmas.Option.{slice_get_within}
-use Rattle.net_flatten.specs.declared.fault.FlatKind.TheVariants.{Cycle}
-use Rattle.net_flatten.specs.CheckOutcomes.{IsAtOutput}
+use Rattle.model_calls.specs.declared.fault.FlatKind.TheVariants.{Cycle}
+use Rattle.part_numbers.specs.CheckOutcomes.{IsAtOutput}
 use Rattle.net_flatten.specs.Dependences.{AreDrivenOnce}
 use Rattle.net_flatten.specs.Levelled.{AreLevelled, HaveLevels, IsFirstLoop}
-use Rattle.net_flatten.specs.NumberedFaults.{IsPartWithin}
-use Rattle.net_flatten.specs.NumberedFiles.{NumberedFileData}
-use Rattle.net_flatten.specs.Refusals.{IsOfKind}
-use Rattle.net_flatten.proofs.CardFaults.{IsFaultOf-weaker}
+use Rattle.part_numbers.specs.NumberedFaults.{IsPartWithin}
+use Rattle.part_numbers.specs.NumberedFiles.{NumberedFileData}
+use Rattle.model_calls.specs.Refusals.{IsOfKind}
+use Rattle.part_numbers.proofs.CardFaults.{IsFaultOf-weaker}
 use Rattle.net_flatten.proofs.CycleFaults.{driven_once, first_on_loop, none_on_loop}
-use Rattle.net_flatten.proofs.NumberedEnds.{parts_within}
+use Rattle.part_numbers.proofs.NumberedEnds.{parts_within}
 use Rattle.net_flatten.proofs.cycle_check.check_cycles.Goals as goal
 
 pub find_levelled-requires-clause-within : goal.find_levelled-requires-clause-within

@@ -1,8 +1,8 @@
 use Rattle.std.proofs.Common.{◌≡◌, ◌+◌, length, set, take, ap, sym, ◌∙◌, subst, refl}
 use Rattle.std.proofs.lemmas.Option.{slice_get_read}
 use Rattle.net_flatten.specs.Dependences.{AreDependences, is_table}
-use Rattle.net_flatten.specs.NumberedFaults.{IsPartWithin}
-use Rattle.net_flatten.specs.NumberedFiles.{NumberedPartData}
+use Rattle.part_numbers.specs.NumberedFaults.{IsPartWithin}
+use Rattle.part_numbers.specs.NumberedFiles.{NumberedPartData}
 use Rattle.net_flatten.proofs.Dependences.{dependences_at_latch, dependences_at_table}
 use Rattle.net_flatten.proofs.dependence.dependences.Goals as goal
 use Rattle.net_flatten.proofs.dependence.dependences.Goals.{in-Table, in_default}

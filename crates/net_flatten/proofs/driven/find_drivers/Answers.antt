@@ -1,8 +1,8 @@
 use Rattle.std.proofs.Common.{◌+◌, length, set, sym, ap, ◌∙◌, subst, arith, refl}
 use Rattle.std.specs.Prelude.{slice_get, Some, true}
 use Rattle.std.proofs.lemmas.Option.{slice_get_read}
-use Rattle.net_flatten.specs.NumberedFaults.{IsPartWithin}
-use Rattle.net_flatten.specs.NumberedFiles.{NumberedPartData}
+use Rattle.part_numbers.specs.NumberedFaults.{IsPartWithin}
+use Rattle.part_numbers.specs.NumberedFiles.{NumberedPartData}
 use Rattle.net_flatten.proofs.NumberedSearches.{AreOnceSoFar, once_at_end, once_at_next, once_at_start, twice_at}
 use Rattle.net_flatten.proofs.driven.find_drivers.Goals as goal
 use Rattle.dom_base.proofs.Lists.{All-at}

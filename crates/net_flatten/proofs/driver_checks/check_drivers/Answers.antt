@@ -1,16 +1,16 @@
 use Rattle.std.proofs.Common.{◌<◌, length, ap, sym, subst}
 use Rattle.std.specs.Prelude.{All}
 use Rattle.std.proofs.lemmas.Option.{slice_get_within}
-use Rattle.net_flatten.specs.declared.fault.FlatKind.TheVariants.{DrivenTwice}
-use Rattle.net_flatten.specs.CheckOutcomes.{IsAtOutput}
+use Rattle.model_calls.specs.declared.fault.FlatKind.TheVariants.{DrivenTwice}
+use Rattle.part_numbers.specs.CheckOutcomes.{IsAtOutput}
 use Rattle.net_flatten.specs.DriverSearches.{AreDrivers, IsSetOfDrivers}
 use Rattle.net_flatten.specs.FoundFirst.{HoldsOfNone, IsFirstAt}
-use Rattle.net_flatten.specs.NumberedFaults.{IsDrivenAgain, IsPartWithin}
-use Rattle.net_flatten.specs.NumberedFiles.{NumberedFileData}
-use Rattle.net_flatten.specs.Refusals.{IsOfKind}
-use Rattle.net_flatten.proofs.CardFaults.{IsFaultOf-weaker}
+use Rattle.part_numbers.specs.NumberedFaults.{IsDrivenAgain, IsPartWithin}
+use Rattle.part_numbers.specs.NumberedFiles.{NumberedFileData}
+use Rattle.model_calls.specs.Refusals.{IsOfKind}
+use Rattle.part_numbers.proofs.CardFaults.{IsFaultOf-weaker}
 use Rattle.net_flatten.proofs.DriverFaults.{first_twice, none_twice}
-use Rattle.net_flatten.proofs.NumberedEnds.{inputs_within, parts_within}
+use Rattle.part_numbers.proofs.NumberedEnds.{inputs_within, parts_within}
 use Rattle.net_flatten.proofs.driver_checks.check_drivers.Goals as goal
 
 pub find_drivers-requires-clause-inputs : goal.find_drivers-requires-clause-inputs

@@ -1,14 +1,14 @@
 use Rattle.std.proofs.Common.{◌<◌, sym, subst}
 use Rattle.std.specs.Prelude.{All}
-use Rattle.net_flatten.specs.declared.fault.FlatKind.TheVariants.{Undriven}
-use Rattle.net_flatten.specs.CheckOutcomes.{IsAtInput, IsAtMainOutput}
+use Rattle.model_calls.specs.declared.fault.FlatKind.TheVariants.{Undriven}
+use Rattle.part_numbers.specs.CheckOutcomes.{IsAtInput, IsAtMainOutput}
 use Rattle.net_flatten.specs.DriverSearches.{IsFirstOutside, IsFirstRead, IsOutsideSet}
 use Rattle.net_flatten.specs.FoundFirst.{HoldsOfNone, IsFirstAt}
-use Rattle.net_flatten.specs.NumberedFaults.{IsPartWithin}
-use Rattle.net_flatten.specs.Refusals.{IsOfKind}
-use Rattle.net_flatten.proofs.CardFaults.{IsFaultOf-weaker}
+use Rattle.part_numbers.specs.NumberedFaults.{IsPartWithin}
+use Rattle.model_calls.specs.Refusals.{IsOfKind}
+use Rattle.part_numbers.proofs.CardFaults.{IsFaultOf-weaker}
 use Rattle.net_flatten.proofs.DriverFaults.{all_read, first_undriven, first_undriven_output, none_undriven, output_there, read_is_there}
-use Rattle.net_flatten.proofs.NumberedEnds.{outputs_within, parts_within}
+use Rattle.part_numbers.proofs.NumberedEnds.{outputs_within, parts_within}
 use Rattle.net_flatten.proofs.driver_checks.check_readers.Goals as goal
 
 pub find_read_outside-requires : goal.find_read_outside-requires

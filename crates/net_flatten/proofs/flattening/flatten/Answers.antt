@@ -1,5 +1,5 @@
 use Rattle.std.proofs.Common.{◌≡◌, Err, rules, ap}
-use Rattle.net_flatten.specs.declared.fault.FlatFault.TheVariants.{At}
+use Rattle.model_calls.specs.declared.fault.FlatFault.TheVariants.{At}
 use Rattle.net_flatten.proofs.flattening.flatten.Goals as goal
 
 pub returns-in_err-calls-clause-refused : goal.returns-in_err-calls-clause-refused

@@ -1,5 +1,5 @@
-use Rattle.net_flatten.specs.Expanded.{card_line}
-use Rattle.net_flatten.proofs.StableSort.{sorted_in_order}
+use Rattle.model_calls.specs.Expanded.{card_line}
+use Rattle.model_calls.proofs.StableSort.{sorted_in_order}
 use Rattle.net_flatten.proofs.laws.card_sort_is_by_line.Goals as goal
 
 pub returns : goal.returns

@@ -1,4 +1,4 @@
-use Rattle.net_flatten.proofs.OccurrencesApart.{place_by_path}
+use Rattle.part_numbers.proofs.OccurrencesApart.{place_by_path}
 use Rattle.net_flatten.proofs.laws.paths_differ.Goals as goal
 
 pub returns : goal.returns

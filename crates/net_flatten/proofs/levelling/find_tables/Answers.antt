@@ -2,8 +2,8 @@ use Rattle.std.proofs.Common.{◌≡◌, ◌+◌, length, set, take, ap, sym, �
 use Rattle.std.specs.Prelude.{true}
 use Rattle.std.proofs.lemmas.Option.{slice_get_read}
 use Rattle.net_flatten.specs.Dependences.{is_table}
-use Rattle.net_flatten.specs.NumberSets.{IsSetOf}
-use Rattle.net_flatten.specs.NumberedFiles.{NumberedPartData}
+use Rattle.model_calls.specs.NumberSets.{IsSetOf}
+use Rattle.part_numbers.specs.NumberedFiles.{NumberedPartData}
 use Rattle.net_flatten.specs.TableNumbers.{driven_by_tables}
 use Rattle.net_flatten.proofs.TableNumbers.{set_at_latch, set_at_table}
 use Rattle.net_flatten.proofs.levelling.find_tables.Goals as goal

@@ -1,5 +1,5 @@
 use Rattle.std.proofs.Common.{take}
-use Rattle.net_flatten.specs.NumberSets.{IsSetOf}
+use Rattle.model_calls.specs.NumberSets.{IsSetOf}
 use Rattle.net_flatten.specs.TableNumbers.{driven_by_tables}
 use Rattle.net_flatten.proofs.levelling.find_tables.Given as goal
 

@@ -1,7 +1,7 @@
 use Rattle.std.proofs.Common.{ℕ, ◌≤◌, List, length, map, take, arith, rules}
 use Rattle.std.proofs.lemmas.List.{length-map, take_all}
 use Rattle.std.proofs.lemmas.List.Elements.{All-push, All-weaker}
-use Rattle.net_flatten.proofs.IndexedLists.{take_next}
+use Rattle.model_calls.proofs.IndexedLists.{take_next}
 use Rattle.net_flatten.proofs.network_names.longest.Goals as goal
 
 pub loop-index-preserved : goal.loop-index-preserved

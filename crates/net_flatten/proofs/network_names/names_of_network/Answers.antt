@@ -1,7 +1,7 @@
 use Rattle.std.proofs.Common.{ℕ, ◌∙◌, ap₂, sym, List, map, [], ◌∷◌, ◌++◌}
 use Rattle.std.specs.Prelude.{slice_index_or}
 use Rattle.std.proofs.lemmas.Option.{slice_get-get_or}
-use Rattle.net_flatten.specs.Numbering.{letters_w}
+use Rattle.model_calls.specs.Numbering.{letters_w}
 use Rattle.net_flatten.proofs.NetworkNames.{next_name}
 use Rattle.net_flatten.proofs.network_names.names_of_network.Goals as goal
 

@@ -1,6 +1,6 @@
 use Rattle.std.proofs.Common.{◌≡◌, map, take}
 use Rattle.net_flatten.specs.NetworkNames.{network_names}
-use Rattle.net_flatten.specs.Numbering.{letters_w}
+use Rattle.model_calls.specs.Numbering.{letters_w}
 use Rattle.net_flatten.proofs.network_names.names_of_network.Given as goal
 
 abbrev pub invariant-loop-index : goal.invariant-loop-index

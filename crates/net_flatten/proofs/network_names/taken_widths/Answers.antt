@@ -1,7 +1,7 @@
 use Rattle.std.proofs.Common.{ℕ, List, map, sym, subst, arith}
 use Rattle.std.proofs.lemmas.List.{length-map, take_all}
 use Rattle.net_flatten.specs.NetworkNames.{MarksTaken}
-use Rattle.net_flatten.specs.Numbering.{IsPrefixedNumber, letters_w}
+use Rattle.model_calls.specs.Numbering.{IsPrefixedNumber, letters_w}
 use Rattle.net_flatten.proofs.NetworkNames.{none_added, width_marked}
 use Rattle.net_flatten.proofs.network_names.taken_widths.Goals.{in-Some, in_default}
 use Rattle.net_flatten.proofs.network_names.taken_widths.Goals as goal

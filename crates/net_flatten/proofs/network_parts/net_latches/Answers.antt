@@ -4,7 +4,7 @@ use Rattle.net_flatten.specs.declared.network.NetLatch.{NetLatch}
 use Rattle.net_flatten.specs.Dependences.{is_table}
 use Rattle.net_flatten.specs.NetworkNumbers.{latches_among}
 use Rattle.net_flatten.specs.NetworkParts.{latch_in_network}
-use Rattle.net_flatten.specs.NumberedFiles.{NumberedPartData}
+use Rattle.part_numbers.specs.NumberedFiles.{NumberedPartData}
 use Rattle.net_flatten.proofs.NetworkSteps.{latch_there, latches_next, latches_stay}
 use Rattle.net_flatten.proofs.network_parts.net_latches.Goals as goal
 use Rattle.net_flatten.proofs.network_parts.net_latches.Goals.{in-Latch+in_ok-push, in_default}

@@ -4,7 +4,7 @@ use Rattle.std.proofs.lemmas.List.{take_all}
 use Rattle.std.proofs.lemmas.Option.{slice_get-get_or, slice_get_read}
 use Rattle.dom_base.proofs.Lists.{All-at}
 use Rattle.net_flatten.specs.declared.table_order.LevelledTable.{LevelledTable}
-use Rattle.net_flatten.specs.NumberedFiles.{NumberedPartData}
+use Rattle.part_numbers.specs.NumberedFiles.{NumberedPartData}
 use Rattle.net_flatten.proofs.TableOutputs.{AreOutputs, outputs_next}
 use Rattle.net_flatten.proofs.numbering.add_outputs.Goals as goal
 

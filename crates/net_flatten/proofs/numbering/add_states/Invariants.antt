@@ -1,6 +1,6 @@
 use Rattle.std.proofs.Common.{◌≡◌, ◌++◌, map, take}
 use Rattle.net_flatten.specs.NetworkNumbers.{latches_among}
-use Rattle.net_flatten.specs.NumberedFiles.{NumberedPartData}
+use Rattle.part_numbers.specs.NumberedFiles.{NumberedPartData}
 use Rattle.net_flatten.proofs.numbering.add_states.Given as goal
 
 abbrev pub invariant-loop-index : goal.invariant-loop-index

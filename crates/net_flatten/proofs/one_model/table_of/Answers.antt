@@ -7,11 +7,11 @@ use Rattle.net_flatten.specs.OneModel.{name_at}
 use Rattle.net_flatten.proofs.ToFile.{reads_within}
 use Rattle.net_flatten.proofs.one_model.table_of.Goals as goal
 
-pub names_of-requires : goal.names_of-requires
-names_of-requires c =
+pub names_read-requires : goal.names_read-requires
+names_read-requires c =
     let n : NetworkData = record { name = c.network.inside.name; names = c.network.inside.names.items; inputs = c.network.inside.inputs; outputs = c.network.inside.outputs.items; latches = c.network.inside.latches.items; tables = c.network.inside.tables.items } in
     let there : c.args.k < length n.tables = omega (arith, c.requires, ap (λ (n : NetworkData). length n.tables) c.network.view_is) in
-    let inputs = c.deref.ensures.value ∙ ap (λ (t : NetTableData). t.inputs) c.table.view_is in
+    let inputs = c.deref.ensures ∙ ap (λ (t : NetTableData). t.inputs) c.table.view_is in
     let reads = reads_within n c.network.invariant c.args.k c.index-table.result.now (slice_get-get_or n.tables c.args.k c.index-table.result.now there ∙ ap Some (sym c.index-table.ensures)) in
     subst (λ signals. All (λ signal. signal < length c.args.network.now.names) signals) (sym inputs)
     (subst (λ count. All (λ signal. signal < count) c.index-table.result.now.inputs) (ap (λ (n : NetworkData). length n.names) c.network.view_is) reads)
@@ -21,9 +21,9 @@ returns c = λ t e.
     let n = c.args.network.now in
     let table = c.index-table.ensures ∙ ap (λ (n : NetworkData). get_or n.tables c.args.k c.index-table.result.now) c.network.view_is ∙ get_or_from_slice_get n.tables c.args.k t c.index-table.result.now e in
     let whole = c.table.view_is ∙ table in
-    let inputs = c.in_ok-names_of.ensures ∙ ap (map (name_at n)) (c.deref.ensures.value ∙ ap (λ (t : NetTableData). t.inputs) whole) in
+    let inputs = c.in_ok-names_read.ensures ∙ ap (map (name_at n)) (c.deref.ensures ∙ ap (λ (t : NetTableData). t.inputs) whole) in
     let first : c.network.inside.inputs + c.len.result + c.args.k ≡ first_table n + c.args.k = search rules in
     let output = c.in_ok-name_of.ensures ∙ ap (name_at n) first in
-    let rows = c.in_ok-copies.ensures ∙ c.deref-2.ensures.value ∙ ap (λ (t : NetTableData). t.rows) whole in
+    let rows = c.in_ok-copies.ensures ∙ c.deref-2.ensures ∙ ap (λ (t : NetTableData). t.rows) whole in
     let on = ap (λ (t : NetTableData). t.on) whole in
     λ i. record { inputs = inputs i; output = output i; on = on i; rows = rows i; line = 2 + c.args.k }

@@ -15,7 +15,7 @@ pub put_card-requires-clause-inputs : goal.put_card-requires-clause-inputs
 put_card-requires-clause-inputs c =
     let n : NetworkData = record { name = c.network.inside.name; names = c.network.inside.names.items; inputs = c.network.inside.inputs; outputs = c.network.inside.outputs.items; latches = c.network.inside.latches.items; tables = c.network.inside.tables.items } in
     let there : c.args.k < length n.tables = omega (arith, c.requires, ap (λ (n : NetworkData). length n.tables) c.network.view_is) in
-    let inputs = c.deref.ensures.value ∙ ap (λ (t : NetTableData). t.inputs) c.table.view_is in
+    let inputs = c.deref.ensures ∙ ap (λ (t : NetTableData). t.inputs) c.table.view_is in
     let reads = reads_within n c.network.invariant c.args.k c.index-table.result.now (slice_get-get_or n.tables c.args.k c.index-table.result.now there ∙ ap Some (sym c.index-table.ensures)) in
     subst (λ signals. All (λ signal. signal < length c.args.network.now.names) signals) (sym inputs)
     (subst (λ count. All (λ signal. signal < count) c.index-table.result.now.inputs) (ap (λ (n : NetworkData). length n.names) c.network.view_is) reads)
@@ -26,8 +26,8 @@ returns c = on_ok_weaker c.put_rows.result (λ put t e.
     let old = c.args.text.now.items in
     let table = c.index-table.ensures ∙ ap (λ (n : NetworkData). get_or n.tables c.args.k c.index-table.result.now) c.network.view_is ∙ get_or_from_slice_get n.tables c.args.k t c.index-table.result.now e in
     let whole = c.table.view_is ∙ table in
-    let inputs = c.deref.ensures.value ∙ ap (λ (t : NetTableData). t.inputs) whole in
-    let rows = c.deref-2.ensures.value ∙ ap (λ (t : NetTableData). t.rows) whole in
+    let inputs = c.deref.ensures ∙ ap (λ (t : NetTableData). t.inputs) whole in
+    let rows = c.deref-2.ensures ∙ ap (λ (t : NetTableData). t.rows) whole in
     let first : c.network.inside.inputs + c.len.result + c.args.k ≡ first_table n + c.args.k = search rules in
     let card = c.in_ok-put_card.ensures
     ∙ ap (λ names. old ++ printed_line (codes ".names" ∷ map (name_at n) names ++ name_at n (c.network.inside.inputs + c.len.result + c.args.k) ∷ [])) inputs

@@ -1,6 +1,6 @@
 use Rattle.std.proofs.Common.{◌≡◌, rules, refl, arith}
-use Rattle.net_flatten.specs.declared.fault.FlatFault.TheVariants.{At}
-use Rattle.net_flatten.specs.declared.fault.FlatKind.TheVariants.{DrivenTwice, Undriven, Cycle, TwoControls, ControlUsed}
+use Rattle.model_calls.specs.declared.fault.FlatFault.TheVariants.{At}
+use Rattle.model_calls.specs.declared.fault.FlatKind.TheVariants.{DrivenTwice, Undriven, Cycle, TwoControls, ControlUsed}
 use Rattle.net_flatten.proofs.Unrefused.{none_of_all, none_with, refused_at}
 use Rattle.net_flatten.proofs.signal_checks.check_signals.Goals as goal
 

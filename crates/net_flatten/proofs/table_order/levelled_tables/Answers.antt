@@ -4,7 +4,7 @@ use Rattle.std.proofs.lemmas.List.{take_all}
 use Rattle.std.proofs.lemmas.Option.{slice_get_read}
 use Rattle.net_flatten.specs.Dependences.{is_table}
 use Rattle.net_flatten.specs.LevelledTables.{AreLevelledTables}
-use Rattle.net_flatten.specs.NumberedFiles.{NumberedPartData}
+use Rattle.part_numbers.specs.NumberedFiles.{NumberedPartData}
 use Rattle.net_flatten.specs.TableNumbers.{tables_among}
 use Rattle.net_flatten.proofs.LevelledTables.{levelled_with}
 use Rattle.net_flatten.proofs.TableNumbers.{tables_at_latch, tables_at_table}

@@ -1,6 +1,6 @@
 use Rattle.std.proofs.Common.{rules}
 use Rattle.std.proofs.lemmas.List.Sorted.{answers_always}
-use Rattle.net_flatten.proofs.StableSort.{sorted_in_order}
+use Rattle.model_calls.proofs.StableSort.{sorted_in_order}
 use Rattle.net_flatten.specs.declared.table_order.LevelledTable.{LevelledTable}
 use Rattle.net_flatten.proofs.table_order.sort_by_level.Goals as goal
 

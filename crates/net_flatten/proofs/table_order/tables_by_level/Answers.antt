@@ -3,8 +3,8 @@ use Rattle.std.specs.Prelude.{All, slice_get, Some}
 use Rattle.net_flatten.specs.declared.table_order.LevelledTable.{LevelledTable}
 use Rattle.net_flatten.specs.Dependences.{level_at}
 use Rattle.net_flatten.specs.LevelledTables.{AreLevelledTables}
-use Rattle.net_flatten.specs.NumberedFaults.{IsPartWithin}
-use Rattle.net_flatten.specs.Ordered.{in_order}
+use Rattle.part_numbers.specs.NumberedFaults.{IsPartWithin}
+use Rattle.model_calls.specs.Ordered.{in_order}
 use Rattle.net_flatten.specs.TableNumbers.{tables_among}
 use Rattle.net_flatten.proofs.LevelledTables.{levelled_in_order}
 use Rattle.net_flatten.proofs.table_order.tables_by_level.Goals as goal

@@ -1,0 +1,9 @@
+use Rattle.std.proofs.Common.{◌≡◌, ◌++◌, ℕ, List, map, take}
+use Rattle.blif_ast.specs.BlifModelData.{BlifModelData}
+use Rattle.model_calls.specs.Expanded.{BodyCard, TableCard}
+use Rattle.model_calls.specs.LinedCards.{AreLinedCards}
+use Rattle.model_calls.proofs.lined.add_tables.Given as goal
+
+abbrev pub invariant-loop-index : goal.invariant-loop-index
+invariant-loop-index l = (m : BlifModelData) (callees : List ℕ) (cards : List BodyCard) → m.tables ≡ l.tables
+    → AreLinedCards m callees l.fn.lined.items cards → AreLinedCards m callees l.lined.items (cards ++ map TableCard (take l.index l.tables))

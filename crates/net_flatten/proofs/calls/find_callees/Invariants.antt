@@ -1,7 +1,0 @@
-use Rattle.std.proofs.Common.{take}
-use Rattle.net_flatten.specs.CallNumbers.{AreCallees, IsOfNone}
-use Rattle.net_flatten.specs.Reports.{NoneHolds}
-use Rattle.net_flatten.proofs.calls.find_callees.Given as goal
-
-abbrev pub invariant-loop-instance : goal.invariant-loop-instance
-invariant-loop-instance l = AreCallees l.names (take l.instance-index l.instances) l.next.items × NoneHolds (IsOfNone l.names) (take l.instance-index l.instances)

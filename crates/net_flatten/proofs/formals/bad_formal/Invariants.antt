@@ -1,9 +1,0 @@
-use Rattle.std.proofs.Common.{take}
-use Rattle.std.specs.List.{flat_map}
-use Rattle.net_flatten.specs.Formals.{HavePorts, formals_in_model}
-use Rattle.net_flatten.specs.ModelFaults.{IsBadFormal}
-use Rattle.net_flatten.specs.Reports.{NoneHolds}
-use Rattle.net_flatten.proofs.formals.bad_formal.Given as goal
-
-abbrev pub invariant-loop-index : goal.invariant-loop-index
-invariant-loop-index l = NoneHolds IsBadFormal (flat_map (formals_in_model l.models) (take l.index l.models)) × HavePorts l.models l.tables

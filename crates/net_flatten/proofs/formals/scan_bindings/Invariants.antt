@@ -1,8 +1,0 @@
-use Rattle.std.proofs.Common.{take}
-use Rattle.std.specs.Prelude.{Contains}
-use Rattle.net_flatten.specs.Formals.{bound_formals, names_of_ports}
-use Rattle.net_flatten.specs.Scans.{IsScan}
-use Rattle.net_flatten.proofs.formals.scan_bindings.Given as goal
-
-abbrev pub invariant-loop-binding : goal.invariant-loop-binding
-invariant-loop-binding l = IsScan (Contains (names_of_ports l.unit)) (bound_formals l.bindings) (take l.binding-index (bound_formals l.bindings)) l.scan

@@ -1,6 +1,0 @@
-use Rattle.std.proofs.Common.{take}
-use Rattle.net_flatten.specs.ModelCalls.{HavePlans}
-use Rattle.net_flatten.proofs.models.plan_all.Given as goal
-
-abbrev pub invariant-loop-index : goal.invariant-loop-index
-invariant-loop-index l = HavePlans (take l.index l.models) l.nodes l.plans.items

@@ -1,6 +1,0 @@
-use Rattle.std.proofs.Common.{take}
-use Rattle.net_flatten.specs.NumberSets.{IsSetOf}
-use Rattle.net_flatten.proofs.number_set.NumberSet.of.Given as goal
-
-abbrev pub invariant-loop-number : goal.invariant-loop-number
-invariant-loop-number l = IsSetOf l.bound (take l.number-index l.numbers) l.set

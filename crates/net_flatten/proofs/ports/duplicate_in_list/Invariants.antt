@@ -1,6 +1,0 @@
-use Rattle.std.proofs.Common.{take}
-use Rattle.net_flatten.specs.Scans.{IsScan}
-use Rattle.net_flatten.proofs.ports.duplicate_in_list.Given as goal
-
-abbrev pub invariant-loop-name : goal.invariant-loop-name
-invariant-loop-name l = IsScan (λ x. Unit {0}) l.names (take l.name-index l.names) l.scan

@@ -1,0 +1,10 @@
+pub mod Expansions
+pub mod LineOccurrences
+pub mod NumberedFiles
+pub mod SignalNumbers
+pub mod PartNumbers
+pub mod Walks
+pub mod NumberedFaults
+pub mod PartCards
+pub mod CheckOutcomes
+pub mod NetworkSizes
