@@ -1,7 +1,6 @@
 -- The network that is generated keeps what a network keeps.
-use Rattle.std.proofs.Common.{◌≡◌, ℕ, zero, suc, ◌<◌, ◌≤◌, ◌+◌, ◌-◌, ◌*◌, ◌/◌, ◌%◌, ◌^◌, min, Bool, true, false, List, [], ◌∷◌, ◌++◌, map, length, Some, slice_get, get_or, refl, ap, sym, ◌∙◌, subst, arith, ne_eqb, length-append}
+use Rattle.std.proofs.Common.{◌≡◌, ℕ, zero, suc, ◌<◌, ◌≤◌, ◌+◌, ◌-◌, ◌*◌, ◌/◌, ◌%◌, ◌^◌, min, false, List, [], ◌∷◌, ◌++◌, map, length, Some, slice_get, get_or, refl, ap, sym, ◌∙◌, subst, arith, ne_eqb, length-append}
 use Rattle.std.specs.Prelude.{◌≢◌, All, nat_eq, codes}
-use Rattle.std.specs.Cmp.Lexicographic.{same_text}
 use Rattle.std.specs.Fmt.{decimal}
 use Rattle.std.specs.List.{AllByRecursion, IsDistinct, range_with_len, sum_by}
 use Rattle.std.proofs.lemmas.Fmt.{decimal_by_steps, decimal_injective}
@@ -9,16 +8,17 @@ use Rattle.std.proofs.lemmas.List.Elements.{All-append, All-cons, All-from_recur
 use Rattle.std.proofs.lemmas.List.FromFn.{get_or-map-range_with_len, length-map-range_with_len, length-range_with_len}
 use Rattle.std.proofs.lemmas.List.Sums.{sum_by-cons}
 use Rattle.std.proofs.lemmas.Option.{get_or_from_slice_get, slice_get_within}
-use Rattle.dom_base.proofs.Lists.{AllByRecursion-append, AllByRecursion-both, AllByRecursion-every, AllByRecursion-map, AllByRecursion-weaker, head_same, tail_same}
+use Rattle.dom_base.proofs.Lists.{AllByRecursion-append, AllByRecursion-both, AllByRecursion-every, AllByRecursion-map, head_same, tail_same}
 use Rattle.blif_ast.specs.Cards.{same}
 use Rattle.blif_ast.specs.Good.{IsGoodName, IsNameByte}
 use Rattle.net_flatten.specs.declared.network.NetLatch.{NetLatch}
-use Rattle.net_flatten.specs.Limits.{letters}
+use Rattle.model_calls.specs.Limits.{letters}
 use Rattle.net_flatten.specs.NetworkData.{NetTableData, NetworkData}
 use Rattle.net_flatten.specs.Networks.{IsNetTable, IsNetwork, first_table}
-use Rattle.net_flatten.proofs.Apart.{Across, Apart, Apart-append}
+use Rattle.model_calls.proofs.Apart.{Across, Apart, Apart-append}
+use Rattle.net_flatten.proofs.NamesKept.{apart_same}
 use Rattle.net_gen.specs.Draws.{drawn}
-use Rattle.net_gen.specs.Generated.{generated_latch, generated_network, generated_table, input_of, latch_count, numbered, reach, state_before, table_signal}
+use Rattle.net_gen.specs.Generated.{generated_latch, generated_network, generated_table, input_of, latch_count, numbered_names, reach, draw_state_before, table_signal}
 
 -- names of a letter and a number are good
 
@@ -63,15 +63,6 @@ across_both : {X : Type 0} (xs ys zs : List X) → Across xs ys → Across xs zs
 across_both [] ys zs a b = tt
 across_both (x ∷ xs) ys zs a b = (AllByRecursion-append (λ y. x ≢ y) ys zs a.0 b.0, across_both xs ys zs a.1 b.1)
 
-distinct_names : (names : List (List ℕ)) → Apart names → IsDistinct same names
-unfolding IsDistinct
-distinct_names [] a = tt
-distinct_names (x ∷ xs) a = (AllByRecursion-weaker (λ y. x ≢ y) (λ y. same x y ≡ false) (λ y h. by y h (same x y) refl) xs a.0, distinct_names xs a.1)
-  where
-    by : (y : List ℕ) → x ≢ y → (t : Bool) → same x y ≡ t → same x y ≡ false
-    by y h true e = absurd (h (same_text x y (sym e)))
-    by y h false e = e
-
 -- rows of signals
 
 later_signals : (tables j a n : ℕ) → j < a → AllByRecursion (λ y. nat_eq (table_signal tables j) y ≡ false) (map (table_signal tables) (range_with_len a n))
@@ -104,8 +95,8 @@ table_fits seed tables k below same = record {
   on = λ e. absurd cc;
 }
   where
-    input : (j : ℕ) → input_of (table_signal tables k) (drawn (state_before seed k) j (reach (table_signal tables k))) j < below
-    input j = input_is_low (table_signal tables k) (drawn (state_before seed k) j (reach (table_signal tables k))) j below (omega arith) same
+    input : (j : ℕ) → input_of (table_signal tables k) (drawn (draw_state_before seed k) j (reach (table_signal tables k))) j < below
+    input j = input_is_low (table_signal tables k) (drawn (draw_state_before seed k) j (reach (table_signal tables k))) j below (omega arith) same
 
 -- an element of a row of numbers
 row_at : {X : Type 0} (f : ℕ → X) (n k : ℕ) (x : X) → slice_get (map f (range_with_len 0 n)) k ≡ Some x → f k ≡ x
@@ -124,13 +115,13 @@ module _ (seed tables : ℕ) (some : 1 ≤ tables) (few : tables ≤ 30000) wher
   n = generated_network seed tables
 
   abbrev a_names : List (List ℕ)
-  a_names = numbered (codes "a") 16
+  a_names = numbered_names (codes "a") 16
 
   abbrev q_names : List (List ℕ)
-  q_names = numbered (codes "q") (latch_count tables)
+  q_names = numbered_names (codes "q") (latch_count tables)
 
   abbrev t_names : List (List ℕ)
-  t_names = numbered (codes "t") tables
+  t_names = numbered_names (codes "t") tables
 
   good_names : AllByRecursion IsGoodName (a_names ++ q_names ++ t_names)
   good_names = AllByRecursion-append IsGoodName (a_names ++ q_names) t_names
@@ -181,7 +172,7 @@ module _ (seed tables : ℕ) (some : 1 ≤ tables) (few : tables ≤ 30000) wher
       );
     };
     names = All-from_recursion IsGoodName n.names good_names;
-    apart = distinct_names n.names apart_names;
+    apart = apart_same n.names apart_names;
     count = omega (arith, names_count, latches_count, tables_count);
     tables = λ k t at. subst (IsNetTable (first_table n + k)) (row_at (generated_table seed tables) tables k t at)
         (table_fits seed tables k (first_table n + k) (omega (arith, latches_count)));

@@ -1,17 +1,14 @@
 -- Lists in another order, and lists whose elements are taken to the same.
-use Rattle.std.proofs.Common.{◌≡◌, ℕ, ◌+◌, List, [], ◌∷◌, ◌++◌, map, length, take, drop, Some, slice_get, ap, sym, ◌∙◌, subst, arith, append_assoc, length-append}
+use Rattle.std.proofs.Common.{◌≡◌, ℕ, List, [], ◌∷◌, map, ap, sym, ◌∙◌, subst}
 use Rattle.std.specs.Prelude.{Contains}
 use Rattle.std.specs.List.{AllByRecursion, flat_map, sum, sum_by}
-use Rattle.std.proofs.lemmas.List.{length-map, length-take, map-append, take-append-drop}
 use Rattle.std.proofs.lemmas.List.Folds.{flat_map-map}
 use Rattle.std.proofs.lemmas.List.Sums.{sum-map}
-use Rattle.std.proofs.lemmas.Option.{slice_get_within}
-use Rattle.dom_base.proofs.Lists.{AllByRecursion-contains, AllByRecursion-map, AllByRecursion-unmap, AllByRecursion-weaker, slice_get-append, slice_get-behind, slice_get-contained}
-use Rattle.net_flatten.proofs.Apart.{Apart, ApartBy, place_once}
-use Rattle.net_flatten.proofs.EachPart.{each_itself}
-use Rattle.net_flatten.proofs.Lists.{get_map}
-use Rattle.net_flatten.proofs.Permuted.{Permuted, both, keep, none, permuted_contains, swap}
-use Rattle.net_flatten.proofs.Ranges.{map_map}
+use Rattle.dom_base.proofs.Lists.{AllByRecursion-contains, AllByRecursion-map, AllByRecursion-unmap, AllByRecursion-weaker}
+use Rattle.model_calls.proofs.Apart.{Apart, ApartBy}
+use Rattle.model_calls.proofs.EachPart.{each_itself}
+use Rattle.part_numbers.proofs.Permuted.{Permuted, both, keep, none, permuted_contains, swap}
+use Rattle.part_numbers.proofs.Ranges.{map_map}
 
 pub permuted_back : {X : Type 0} {xs ys : List X} → Permuted xs ys → Permuted ys xs
 permuted_back none = none
@@ -35,18 +32,6 @@ by_itself (x ∷ xs) a = (a.0, by_itself xs a.1)
 pub from_itself : {X : Type 0} (xs : List X) → ApartBy (λ (x : X). x) xs → Apart xs
 from_itself [] a = tt
 from_itself (x ∷ xs) a = (a.0, from_itself xs a.1)
-
--- where all elements differ, none stands at an earlier place
-pub none_before : {X Y : Type 0} (g : X → Y) (front : List Y) (xs : List X) (k : ℕ) (x : X) → Apart (front ++ map g xs) → slice_get xs k ≡ Some x → Contains (front ++ map g (take k xs)) (g x) → ⊥
-none_before g front xs k x apart there c =
-    let p = slice_get-contained (front ++ map g (take k xs)) (g x) c in
-    let early = slice_get_within (front ++ map g (take k xs)) p.0 (g x) p.1 in
-    let whole : (front ++ map g (take k xs)) ++ map g (drop k xs) ≡ front ++ map g xs =
-    append_assoc front (map g (take k xs)) (map g (drop k xs)) ∙ ap (λ l. front ++ l) (sym (map-append g (take k xs) (drop k xs)) ∙ ap (map g) (take-append-drop k xs)) in
-    let first = ap (λ l. slice_get l p.0) (sym whole) ∙ slice_get-append (front ++ map g (take k xs)) (map g (drop k xs)) p.0 (g x) p.1 in
-    let second = slice_get-behind front (map g xs) k ∙ get_map g xs k x there in
-    let once = place_once (front ++ map g xs) p.0 (length front + k) (g x) apart first second in
-    omega (arith, once, early, length-append front (map g (take k xs)), length-map (take k xs) g, length-take k xs)
 
 -- what is the same of elements that are taken to the same
 

@@ -13,36 +13,37 @@ use Rattle.blif_ast.specs.InstanceData.{InstanceData}
 use Rattle.blif_ast.specs.TableData.{TableData}
 use Rattle.blif_ast.specs.declared.latch.Latch.{Latch}
 use Rattle.blif_read.specs.ReadsBack.{instance_unlined, latch_unlined, model_unlined, table_unlined}
-use Rattle.net_flatten.specs.declared.fault.FlatKind.TheVariants.{DuplicateModel, DuplicatePort, UnknownModel, BadFormal, Recursion, DrivenTwice, Undriven, Cycle, TwoControls, ControlUsed}
-use Rattle.net_flatten.specs.declared.fault.Limit.TheVariants.{Signals, Instances, Letters, Sinks}
+use Rattle.model_calls.specs.declared.fault.FlatKind.TheVariants.{DuplicateModel, DuplicatePort, UnknownModel, BadFormal, Recursion, DrivenTwice, Undriven, Cycle, TwoControls, ControlUsed}
+use Rattle.model_calls.specs.declared.fault.Limit.TheVariants.{Signals, Instances, Letters, Sinks}
 use Rattle.net_flatten.specs.declared.network.NetLatch.{NetLatch}
-use Rattle.net_flatten.specs.Counts.{IsTooMany, counts, signal_count}
-use Rattle.net_flatten.specs.Ends.{Clocking, End, clocking_of, clockings, controls, driven_end, drivers, end_at, inputs_of, main_inputs, main_outputs, output_of, read_ends, readers}
-use Rattle.net_flatten.specs.Expanded.{BodyCard, LatchCard, LatchPart, PlacedLatch, PlacedPart, PlacedTable, TableCard, TablePart, card_line, expanded, expanded_from, latches, part_latch, part_table, parts_of_card, tables}
-use Rattle.net_flatten.specs.First.{IsFirst}
-use Rattle.net_flatten.specs.Limits.{letters, most_instances, most_letters, most_signals, most_sinks}
-use Rattle.net_flatten.specs.ModelFaults.{IsDuplicatePort, Port, ports, ports_in}
+use Rattle.model_calls.specs.Counts.{IsTooMany, counts, signal_count}
+use Rattle.model_calls.specs.Ends.{Clocking, End, clocking_of, clockings, controls, driven_end, drivers, end_at, inputs_of, main_inputs, main_outputs, output_of, read_ends, readers}
+use Rattle.model_calls.specs.Expanded.{BodyCard, LatchCard, LatchPart, PlacedLatch, PlacedPart, PlacedTable, TableCard, TablePart, card_line, expanded, expanded_from, latches, part_latch, part_table, parts_of_card, tables}
+use Rattle.model_calls.specs.First.{IsFirst}
+use Rattle.model_calls.specs.Limits.{letters, most_instances, most_letters, most_signals, most_sinks}
+use Rattle.model_calls.specs.ModelFaults.{IsDuplicatePort, Port, ports, ports_in}
 use Rattle.net_flatten.specs.NetworkData.{NetworkData}
 use Rattle.net_flatten.specs.Networks.{IsNetwork}
-use Rattle.net_flatten.specs.Occurrences.{main_model, models_called, names_of, names_of_latch, names_of_table}
+use Rattle.model_calls.specs.Occurrences.{main_model, models_called, names_of, names_of_latch, names_of_table}
 use Rattle.net_flatten.specs.OneModel.{file_of, latch_at}
 use Rattle.net_flatten.specs.OneModelParts.{latches_here, tables_here}
-use Rattle.net_flatten.specs.Reaches.{Reaches, more, step}
-use Rattle.net_flatten.specs.Refusal.{Refusal, At, TooMany}
-use Rattle.net_flatten.specs.Refusals.{HasRefusal}
-use Rattle.net_flatten.specs.SignalFaults.{IsFedBy, signals}
-use Rattle.net_flatten.specs.Signals.{Signal, signal_of}
-use Rattle.net_flatten.proofs.Apart.{Apart}
-use Rattle.net_flatten.proofs.Drivers.{driven}
-use Rattle.net_flatten.proofs.EachPart.{each_flat, each_itself}
-use Rattle.net_flatten.proofs.Firsts.{none_holds}
-use Rattle.net_flatten.proofs.Lists.{contains_map, each_of_flat, get_map}
+use Rattle.model_calls.specs.Reaches.{Reaches}
+use Rattle.model_calls.specs.Refusal.{Refusal, At, TooMany}
+use Rattle.model_calls.specs.Refusals.{HasRefusal}
+use Rattle.model_calls.specs.SignalFaults.{IsFedBy, signals}
+use Rattle.model_calls.specs.Signals.{Signal, signal_of}
+use Rattle.model_calls.proofs.Apart.{Apart}
+use Rattle.model_calls.proofs.Drivers.{driven}
+use Rattle.model_calls.proofs.EachPart.{each_flat, each_itself}
+use Rattle.model_calls.proofs.Firsts.{none_holds}
+use Rattle.model_calls.proofs.Lists.{contains_map, each_of_flat, get_map}
 use Rattle.net_flatten.proofs.OneAccepted.{SignalOf, all_read, drivers_apart, expanded_is, no_cycle, tables_are}
-use Rattle.net_flatten.proofs.OneUnrefused.{unrefused}
-use Rattle.net_flatten.proofs.Pairs.{contains_to}
-use Rattle.net_flatten.proofs.Permuted.{Permuted, permuted_append, permuted_apart, permuted_contains, permuted_flat, permuted_order, permuted_same}
-use Rattle.net_flatten.proofs.Ranges.{map_map}
-use Rattle.net_gen.proofs.OtherOrders.{by_itself, each_same, from_itself, kept_by, none_before, permuted_map, same_flat, same_map, same_sum}
+use Rattle.net_flatten.proofs.OneUnrefused.{unrefused, no_earlier_behind}
+use Rattle.model_calls.proofs.Pairs.{contains_to}
+use Rattle.part_numbers.proofs.Permuted.{Permuted, permuted_append, permuted_apart, permuted_contains, permuted_flat, permuted_order, permuted_same}
+use Rattle.part_numbers.proofs.Ranges.{map_map}
+use Rattle.model_calls.proofs.Reaching.{reaches_by}
+use Rattle.net_gen.proofs.OtherOrders.{by_itself, each_same, from_itself, kept_by, permuted_map, same_flat, same_map, same_sum}
 
 -- the parts of tables and latches of the main model
 
@@ -89,11 +90,6 @@ each_latch_of : (P : PlacedLatch → Type 0) (xs : List PlacedPart) → AllByRec
 each_latch_of P [] h = tt
 each_latch_of P (TablePart t ∷ xs) h = each_latch_of P xs h.1
 each_latch_of P (LatchPart l ∷ xs) h = (h.0, each_latch_of P xs h.1)
-
--- steps that are other steps
-other_steps : {X : Type 0} {S T : X → X → Type 0} → ((a b : X) → S a b → T a b) → {a b : X} → Reaches S a b → Reaches T a b
-other_steps f (step {a} {b} s) = step (f a b s)
-other_steps f (more {a} {b} {c} s rest) = more (f a b s) (other_steps f rest)
 
 module _ (n : NetworkData) (is : IsNetwork n) (ts : List TableData) (ls : List Latch) (line : ℕ)
     (ts_same : map table_unlined ts ≡ map table_unlined (tables_here n)) (ls_same : map latch_unlined ls ≡ map latch_unlined (latches_here n)) where
@@ -252,7 +248,7 @@ module _ (n : NetworkData) (is : IsNetwork n) (ts : List TableData) (ls : List L
   no_cycle_here : (t : PlacedTable) → Contains (tables g) t → Reaches (IsFedBy g) (output_of t) (output_of t) → ⊥
   no_cycle_here t c steps =
       let u = like t c in
-      no_cycle n is u.0 u.1 (subst (λ s. Reaches (IsFedBy f) s s) (sym u.2) (other_steps fed_there steps))
+      no_cycle n is u.0 u.1 (subst (λ s. Reaches (IsFedBy f) s s) (sym u.2) (reaches_by fed_there steps))
 
   -- no latch has a control
 
@@ -322,7 +318,7 @@ module _ (n : NetworkData) (is : IsNetwork n) (ts : List TableData) (ls : List L
   relined_unrefused (At UnknownModel at name) h = let z = h.first.there in absurd cc
   relined_unrefused (At BadFormal at name) h = let z = h.first.there in absurd cc
   relined_unrefused (At Recursion at name) h = let z = h.first.there in absurd cc
-  relined_unrefused (At DrivenTwice at name) h = none_before driven (map SignalOf (main_inputs g)) (expanded g) h.first.index h.element apart_here h.first.there
+  relined_unrefused (At DrivenTwice at name) h = no_earlier_behind driven (map SignalOf (main_inputs g)) (expanded g) h.first.index h.element apart_here h.first.there
       (subst (λ s. Contains s (driven h.element))
       (map-append SignalOf (main_inputs g) (map driven_end (take h.first.index (expanded g))) ∙ ap (λ s. map SignalOf (main_inputs g) ++ s) (map_map SignalOf driven_end (take h.first.index (expanded g)))) h.first.holds)
   relined_unrefused (At Undriven at name) h = h.first.holds (AllByRecursion-contains IsRead (readers g) h.element all_read_here (Contains-slice_get (readers g) h.first.index h.element h.first.there))

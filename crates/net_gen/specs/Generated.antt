@@ -8,7 +8,7 @@ use Rattle.blif_ast.specs.BlifFileData.{BlifFileData}
 use Rattle.net_flatten.specs.declared.network.NetLatch.{NetLatch}
 use Rattle.net_flatten.specs.NetworkData.{NetTableData, NetworkData}
 use Rattle.net_flatten.specs.OneModel.{file_of}
-use Rattle.net_gen.specs.Draws.{drawn, seed_state, state_after}
+use Rattle.net_gen.specs.Draws.{drawn, seed_state, draw_state_after}
 
 -- Signals are numbered: 16 inputs first, then the outputs of the latches, one for each 16 tables, then the outputs of the tables.
 abbrev pub latch_count : ℕ → ℕ
@@ -50,25 +50,25 @@ table_behind signals state = record {
 }
 
 -- the state before the draws of a table
-abbrev pub state_before : ℕ → ℕ → ℕ
-state_before seed table = state_after (10 * table) (seed_state seed)
+abbrev pub draw_state_before : ℕ → ℕ → ℕ
+draw_state_before seed table = draw_state_after (10 * table) (seed_state seed)
 
 abbrev pub generated_table : ℕ → ℕ → ℕ → NetTableData
-generated_table seed tables table = table_behind (table_signal tables table) (state_before seed table)
+generated_table seed tables table = table_behind (table_signal tables table) (draw_state_before seed table)
 
 -- the latch of each 16 tables takes the first of them, and starts at 0
 abbrev pub generated_latch : ℕ → ℕ → NetLatch
 generated_latch tables latch = record { input = table_signal tables (16 * latch); init = false }
 
 -- a letter with the numbers from 0 on
-abbrev pub numbered : List ℕ → ℕ → List (List ℕ)
-numbered letter count = map (λ number. letter ++ decimal number) (range_with_len 0 count)
+abbrev pub numbered_names : List ℕ → ℕ → List (List ℕ)
+numbered_names letter count = map (λ number. letter ++ decimal number) (range_with_len 0 count)
 
 -- The network: its outputs are the last 16 tables, or all where there are fewer.
 abbrev pub generated_network : ℕ → ℕ → NetworkData
 generated_network seed tables = record {
   name = codes "gen";
-  names = numbered (codes "a") 16 ++ numbered (codes "q") (latch_count tables) ++ numbered (codes "t") tables;
+  names = numbered_names (codes "a") 16 ++ numbered_names (codes "q") (latch_count tables) ++ numbered_names (codes "t") tables;
   inputs = 16;
   outputs = map (table_signal tables) (range_with_len (tables - 16) (min tables 16));
   latches = map (generated_latch tables) (range_with_len 0 (latch_count tables));

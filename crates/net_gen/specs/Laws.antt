@@ -6,8 +6,8 @@ use Rattle.blif_ast.specs.Printed.{printed}
 use Rattle.blif_ast.specs.Reading.{IsFileOf}
 use Rattle.blif_read.specs.ReadsBack.{unlined}
 use Rattle.net_flatten.specs.Networks.{IsNetwork}
-use Rattle.net_flatten.specs.Refusal.{Refusal}
-use Rattle.net_flatten.specs.Refusals.{HasRefusal}
+use Rattle.model_calls.specs.Refusal.{Refusal}
+use Rattle.model_calls.specs.Refusals.{HasRefusal}
 use Rattle.net_gen.specs.Generated.{generated, generated_network}
 use Rattle.net_gen.specs.Stimulus.{stimulus_cycles, stimulus_text}
 use Rattle.stim_text.specs.Stimuli.{IsStimulusOf}

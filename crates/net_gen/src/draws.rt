@@ -1,6 +1,6 @@
 //! Draws of numbers.
 ghost use Rattle.std.specs.Prelude.{◌≡◌, ◌≤◌, ◌%◌};
-ghost use Rattle.net_gen.specs.Draws.{next_state, seed_state};
+ghost use Rattle.net_gen.specs.Draws.{next_draw_state, seed_state};
 
 use std::marker::Model;
 
@@ -34,7 +34,7 @@ impl Draws {
     /// A number below `n`, by the next state.
     pub fn draw(&mut self, n: u32) -> u32
         requires { 1 ≤ n }
-        ensures state { self.new ≡ next_state self.old }
+        ensures state { self.new ≡ next_draw_state self.old }
         ensures drawn { result ≡ self.new % n }
     {
         self.state = (75 * self.state + 74) % 65_537;

@@ -1,7 +1,7 @@
 //! Names of the signals of a network that is generated.
 ghost use Rattle.std.specs.Prelude.{◌≡◌, ◌++◌, IfOk, OnOk, codes};
 ghost use Rattle.std.specs.Fmt.{decimal};
-ghost use Rattle.net_gen.specs.Generated.{latch_count, numbered};
+ghost use Rattle.net_gen.specs.Generated.{latch_count, numbered_names};
 
 use dom_base::{Name, NameBytes, OutOfMemory, append_number_to_name, append_to_name};
 use std::alloc::Global;
@@ -23,7 +23,7 @@ fn push_numbered(
     letter: &[u8],
     count: u32,
 ) -> Result<(), OutOfMemory>
-    ensures { OnOk result (names.new.items ≡ names.old.items ++ numbered letter.now count) }
+    ensures { OnOk result (names.new.items ≡ names.old.items ++ numbered_names letter.now count) }
 {
     'numbers: for number in 0..count {
         names.push(numbered_name(alloc, letter, number)?)?;
@@ -34,7 +34,7 @@ fn push_numbered(
 /// The names of 16 inputs, of the outputs of the latches and of the outputs of so many tables.
 pub fn names_of(alloc: Global, tables: u32) -> Result<Vec<Name>, OutOfMemory>
     ensures { IfOk result (λ names. names.items
-        ≡ numbered (codes "a") 16 ++ numbered (codes "q") (latch_count tables) ++ numbered (codes "t") tables) }
+        ≡ numbered_names (codes "a") 16 ++ numbered_names (codes "q") (latch_count tables) ++ numbered_names (codes "t") tables) }
 {
     let mut names = Vec::new(alloc);
     push_numbered(alloc, &mut names, b"a", 16)?;

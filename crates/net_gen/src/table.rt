@@ -1,12 +1,12 @@
 //! Tables of a network that is generated.
 ghost use Rattle.std.specs.Prelude.{◌≡◌, ◌≤◌, ◌%◌, IfOk, OnOk, map};
-ghost use Rattle.net_gen.specs.Draws.{next_state, state_after};
+ghost use Rattle.net_gen.specs.Draws.{next_draw_state, draw_state_after};
 ghost use Rattle.net_gen.specs.Generated.{drawn_letter, input_behind, input_of, reach, row_at, table_behind, three_from};
 
 use crate::draws::Draws;
-use blif_ast::{Letter, Letters, Row};
+use blif_ast::{Letter, Letters, Row, Rows};
 use dom_base::OutOfMemory;
-use net_flatten::NetTable;
+use net_flatten::{NetTable, Reads};
 use std::alloc::Global;
 
 /// How many of the last signals an input is drawn from.
@@ -16,27 +16,27 @@ const LAST: u32 = 60;
 fn input(draws: &mut Draws, signals: u32, k: u32) -> u32
     requires some { 16 ≤ signals }
     requires few { k ≤ 2 }
-    ensures state { draws.new ≡ next_state draws.old }
+    ensures state { draws.new ≡ next_draw_state draws.old }
     ensures input { result ≡ input_of signals (draws.new % reach signals) k }
 {
     signals - 1 - (3 * draws.draw(signals.min(LAST) / 3) + k)
 }
 
 /// The inputs of a table behind so many signals, by three draws.
-fn inputs_behind(alloc: Global, draws: &mut Draws, signals: u32) -> Result<Vec<u32>, OutOfMemory>
+fn inputs_behind(alloc: Global, draws: &mut Draws, signals: u32) -> Result<Reads, OutOfMemory>
     requires some { 16 ≤ signals }
-    ensures state { OnOk result (draws.new ≡ state_after 3 draws.old) }
+    ensures state { OnOk result (draws.new ≡ draw_state_after 3 draws.old) }
     ensures inputs { IfOk result (λ inputs. inputs.items ≡ map (input_behind signals draws.old) (three_from 0)) }
 {
     let first = input(draws, signals, 0);
     let second = input(draws, signals, 1);
     let third = input(draws, signals, 2);
-    Ok(vec![in alloc; first, second, third]?)
+    Ok(Reads::from_array(alloc, [first, second, third])?)
 }
 
 /// The letter of a draw.
 fn letter(draws: &mut Draws) -> Letter
-    ensures state { draws.new ≡ next_state draws.old }
+    ensures state { draws.new ≡ next_draw_state draws.old }
     ensures letter { result ≡ drawn_letter (draws.new % 3) }
 {
     match draws.draw(3) {
@@ -48,7 +48,7 @@ fn letter(draws: &mut Draws) -> Letter
 
 /// A row of three letters, by three draws.
 fn row(alloc: Global, draws: &mut Draws) -> Result<Row, OutOfMemory>
-    ensures state { OnOk result (draws.new ≡ state_after 3 draws.old) }
+    ensures state { OnOk result (draws.new ≡ draw_state_after 3 draws.old) }
     ensures row { IfOk result (λ row. row ≡ row_at draws.old 0) }
 {
     let first = letter(draws);
@@ -63,16 +63,13 @@ fn row(alloc: Global, draws: &mut Draws) -> Result<Row, OutOfMemory>
 /// three for the letters of each of its two rows.
 pub fn table_of(alloc: Global, draws: &mut Draws, signals: u32) -> Result<NetTable, OutOfMemory>
     requires some { 16 ≤ signals }
-    ensures state { OnOk result (draws.new ≡ state_after 10 draws.old) }
+    ensures state { OnOk result (draws.new ≡ draw_state_after 10 draws.old) }
     ensures table { IfOk result (λ table. table ≡ table_behind signals draws.old) }
 {
     let inputs = inputs_behind(alloc, draws, signals)?;
     let on = draws.draw(4) != 0;
     let first = row(alloc, draws)?;
     let second = row(alloc, draws)?;
-    Ok(NetTable {
-        inputs,
-        on,
-        rows: vec![in alloc; first, second]?,
-    })
+    let rows = Rows::from_array(alloc, [first, second])?;
+    Ok(NetTable { inputs, on, rows })
 }

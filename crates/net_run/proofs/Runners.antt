@@ -5,12 +5,12 @@ use Rattle.std.proofs.Math.Seq.{drop-append_seam, take-append_seam}
 use Rattle.std.proofs.lemmas.List.{length-append, length-map, take-append-drop}
 use Rattle.std.proofs.lemmas.List.Elements.{All-from_recursion, recursion_from_All}
 use Rattle.dom_base.proofs.Lists.{AllByRecursion-map}
-use Rattle.net_flatten.proofs.Ranges.{map_map}
+use Rattle.part_numbers.proofs.Ranges.{map_map}
 use Rattle.blif_ast.specs.TableValue.{IsOneAt}
 use Rattle.net_flatten.specs.declared.network.NetLatch.{NetLatch}
 use Rattle.net_flatten.specs.NetworkData.{NetTableData, NetworkData}
 use Rattle.net_flatten.specs.Networks.{first_table}
-use Rattle.net_run.specs.RunnerData.{AreTablesFrom, AreValuesOf, IsRunner, RunnerData, RunsNetwork, signal_count}
+use Rattle.net_run.specs.RunnerData.{AreTablesFrom, AreValuesOf, IsRunner, RunnerData, RunsNetwork, runner_signal_count}
 use Rattle.net_run.specs.Runs.{Cycle, IsNetworkCycle, value_at}
 
 -- a list whose elements are all replaced
@@ -24,10 +24,10 @@ module _ (n : NetworkData) (r : RunnerData) (runs : RunsNetwork n r) where
   first : r.inputs + length r.latches ≡ first_table n
   first = omega (arith, latch_count, runs.inputs_are)
 
-  signals : signal_count r ≡ length n.names
+  signals : runner_signal_count r ≡ length n.names
   signals = omega (arith, first, ap length runs.tables_are, runs.network.count)
 
-  within : (xs : List ℕ) → All (λ s. s < length n.names) xs → All (λ s. s < signal_count r) xs
+  within : (xs : List ℕ) → All (λ s. s < length n.names) xs → All (λ s. s < runner_signal_count r) xs
   within xs all = subst (λ m. All (λ s. s < m) xs) (sym signals) all
 
   pub runner_of_network : (values outs : List Bool) → length r.state ≡ length n.latches → length values ≡ length n.names → length outs ≡ length r.outputs → IsRunner r values outs

@@ -10,8 +10,9 @@ use Rattle.std.proofs.lemmas.Bool.{cases_eq}
 use Rattle.blif_ast.specs.TableValue.{IsOneAt}
 use Rattle.net_flatten.specs.NetworkData.{NetTableData, NetworkData}
 use Rattle.net_flatten.specs.Networks.{IsNetTable, IsNetwork, first_table}
-use Rattle.net_flatten.proofs.Lists.{map_same}
+use Rattle.model_calls.proofs.Lists.{map_same}
 use Rattle.dom_base.proofs.Lists.{AllByRecursion-weaker}
+use Rattle.dom_base.proofs.Bools.{same_truth}
 use Rattle.net_run.specs.Laws.{IsOneValuation}
 use Rattle.net_run.specs.Runs.{IsValuation, value_at}
 use Rattle.net_run.proofs.TableValues.{table_value, table_value-one}
@@ -69,11 +70,6 @@ extended_hold (t ∷ ts) v reads =
       subst (λ n. Hold (extended ts more) n ts) count (extended_hold ts more (subst (λ n. ReadsBefore n ts) (sym count) reads.1)),
     )
 
-same_bits : (a b : Bool) → (a ≡ true → b ≡ true) → (b ≡ true → a ≡ true) → a ≡ b
-same_bits true b f g = sym (f refl)
-same_bits false true f g = g refl
-same_bits false false f g = refl
-
 -- other values that hold agree
 agree : (ts : List NetTableData) (v w : List Bool) → ReadsBefore (length v) ts → ((s : ℕ) → s < length v → value_at w s ≡ value_at v s) → Hold w (length v) ts
     → (s : ℕ) → s < length v + length ts → value_at w s ≡ value_at (extended ts v) s
@@ -84,7 +80,7 @@ agree (t ∷ ts) v w reads same hold =
     let count : length more ≡ length v + 1 = length-append v (b ∷ []) in
     let ins : map (value_at w) t.inputs ≡ map (value_at v) t.inputs = inputs_same w v (length v) t reads.0 same in
     let one = table_value-one t.on t.rows (map (value_at v) t.inputs) in
-    let here : value_at w (length v) ≡ b = same_bits (value_at w (length v)) b
+    let here : value_at w (length v) ≡ b = same_truth (value_at w (length v)) b
     (λ e. one.1 (subst (IsOneAt t.on t.rows) ins (hold.0.0 e))) (λ e. hold.0.1 (subst (IsOneAt t.on t.rows) (sym ins) (one.0 e))) in
     λ s l. agree ts more w (subst (λ n. ReadsBefore n ts) (sym count) reads.1)
     (λ k lt. elim (cases_eq k (length v)) [

@@ -17,8 +17,8 @@ pub record RunnerData : Type 0 where
   pub tables : List NetTableData
   pub state : List Bool
 
-abbrev pub signal_count : RunnerData → ℕ
-signal_count r = r.inputs + length r.latches + length r.tables
+abbrev pub runner_signal_count : RunnerData → ℕ
+runner_signal_count r = r.inputs + length r.latches + length r.tables
 
 -- each table reads only signals before its own, where the first table's signal has this number
 abbrev pub AreTablesFrom : ℕ → List NetTableData → Type 0
@@ -29,9 +29,9 @@ AreTablesFrom first tables = (k : ℕ) (t : NetTableData) → slice_get tables k
 pub record IsRunner (r : RunnerData) (values outs : List Bool) : Type 0 where
   pub state : length r.state ≡ length r.latches
   pub tables : AreTablesFrom (r.inputs + length r.latches) r.tables
-  pub latches : All (λ signal. signal < signal_count r) r.latches
-  pub outputs : All (λ signal. signal < signal_count r) r.outputs
-  pub room : length values ≡ signal_count r
+  pub latches : All (λ signal. signal < runner_signal_count r) r.latches
+  pub outputs : All (λ signal. signal < runner_signal_count r) r.outputs
+  pub room : length values ≡ runner_signal_count r
   pub outs_room : length outs ≡ length r.outputs
 
 -- it is the network that the runner runs

@@ -9,8 +9,9 @@ ghost use Rattle.net_run.specs.RunnerData.{RunsNetwork};
 ghost use Rattle.net_run.specs.Runs.{IsNetworkCycle, start};
 
 use crate::values::{evaluate, read};
+use blif_ast::Rows;
 use dom_base::OutOfMemory;
-use net_flatten::{NetLatch, NetTable, Network};
+use net_flatten::{NetLatch, NetTable, Network, Reads};
 use std::alloc::Global;
 use std::marker::Model;
 
@@ -120,8 +121,8 @@ fn copy(alloc: Global, table: &NetTable) -> Result<NetTable, OutOfMemory>
     ensures { IfOk result (λ copy. copy ≡ table.now) }
 {
     Ok(NetTable {
-        inputs: table.inputs.as_slice().to_vec(alloc)?,
+        inputs: Reads::from_slice(alloc, table.inputs.as_slice())?,
         on: table.on,
-        rows: table.rows.as_slice().to_vec(alloc)?,
+        rows: Rows::from_clones(alloc, table.rows.as_slice())?,
     })
 }

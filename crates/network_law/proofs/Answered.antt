@@ -3,13 +3,13 @@ use Rattle.std.proofs.Common.{◌≡◌, ℕ, ◌<◌, ◌≤◌, ◌+◌, ◌�
 use Rattle.std.proofs.lemmas.Bool.{cases_eq}
 use Rattle.dom_base.proofs.Decided.{lt_or_ge}
 use Rattle.blif_ast.specs.BlifFileData.{BlifFileData}
-use Rattle.net_flatten.specs.declared.fault.FlatKind.{FlatKind}
-use Rattle.net_flatten.specs.declared.fault.FlatKind.TheVariants.{DuplicateModel, DuplicatePort, UnknownModel, BadFormal, Recursion, DrivenTwice, Undriven, Cycle, TwoControls, ControlUsed}
-use Rattle.net_flatten.specs.declared.fault.Limit.{Limit}
-use Rattle.net_flatten.specs.Refusal.{At, Refusal, TooMany, flat_kind_order, refusal_order}
-use Rattle.net_flatten.specs.Refusals.{HasRefusal, IsOfKind, IsRefusal}
-use Rattle.net_flatten.proofs.Accepted.{nothing_yet}
-use Rattle.net_flatten.proofs.KindOrders.{order_of_kind-injective, order_of_kind-six}
+use Rattle.model_calls.specs.declared.fault.FlatKind.{FlatKind}
+use Rattle.model_calls.specs.declared.fault.FlatKind.TheVariants.{DuplicateModel, DuplicatePort, UnknownModel, BadFormal, Recursion, DrivenTwice, Undriven, Cycle, TwoControls, ControlUsed}
+use Rattle.model_calls.specs.declared.fault.Limit.{Limit}
+use Rattle.model_calls.specs.Refusal.{At, Refusal, TooMany, flat_kind_order, refusal_order}
+use Rattle.model_calls.specs.Refusals.{HasRefusal, IsOfKind, IsRefusal}
+use Rattle.model_calls.proofs.Accepted.{nothing_yet}
+use Rattle.model_calls.proofs.KindOrders.{order_of_kind-injective, order_of_kind-six}
 use Rattle.network_law.specs.Laws.{HasAnswer}
 use Rattle.network_law.proofs.KindDecisions.{counts_decided, kind_decided}
 use Rattle.network_law.proofs.NetworkExists.{network_exists}

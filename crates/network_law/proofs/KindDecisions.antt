@@ -8,19 +8,20 @@ use Rattle.dom_base.proofs.Lists.{Contains-first}
 use Rattle.blif_ast.specs.BlifFileData.{BlifFileData}
 use Rattle.blif_ast.specs.BlifModelData.{BlifModelData}
 use Rattle.blif_ast.specs.Cards.{same}
-use Rattle.net_flatten.specs.declared.fault.FlatKind.{FlatKind}
-use Rattle.net_flatten.specs.declared.fault.FlatKind.TheVariants.{DuplicateModel, DuplicatePort, UnknownModel, BadFormal, Recursion, DrivenTwice, Undriven, Cycle, TwoControls, ControlUsed}
-use Rattle.net_flatten.specs.declared.fault.Limit.{Limit}
-use Rattle.net_flatten.specs.Counts.{IsTooMany, counts}
-use Rattle.net_flatten.specs.Ends.{Clocking, End, clockings, controls, driven_end, drivers, inputs_of, main_inputs, output_of, readers}
-use Rattle.net_flatten.specs.Expanded.{expanded, tables}
-use Rattle.net_flatten.specs.ModelFaults.{BoundFormal, Formal, HasInstance, InputFormal, IsBadFormal, IsDuplicateModel, IsDuplicatePort, IsRecursion, IsTwiceIn, IsUnknownModel, Use, formals, formals_of, line_of_formal, name_of_formal, ports, uses}
-use Rattle.net_flatten.specs.Refusals.{IsCountReported, IsOfKind, IsReported}
-use Rattle.net_flatten.specs.SignalFaults.{IsAtControl, IsDrivenTwice, IsOnCycle, IsOther, IsOtherControl, IsUndriven, ends_but_inputs, signals}
-use Rattle.net_flatten.specs.Signals.{Signal}
-use Rattle.net_flatten.proofs.Fitting.{contains_cons}
+use Rattle.model_calls.specs.declared.fault.FlatKind.{FlatKind}
+use Rattle.model_calls.specs.declared.fault.FlatKind.TheVariants.{DuplicateModel, DuplicatePort, UnknownModel, BadFormal, Recursion, DrivenTwice, Undriven, Cycle, TwoControls, ControlUsed}
+use Rattle.model_calls.specs.declared.fault.Limit.{Limit}
+use Rattle.model_calls.specs.Counts.{IsTooMany, counts}
+use Rattle.model_calls.specs.Ends.{Clocking, End, clockings, controls, driven_end, drivers, inputs_of, main_inputs, output_of, readers}
+use Rattle.model_calls.specs.Expanded.{expanded, tables}
+use Rattle.model_calls.specs.ModelFaults.{BoundFormal, Formal, HasInstance, InputFormal, IsBadFormal, IsDuplicateModel, IsDuplicatePort, IsRecursion, IsTwiceIn, IsUnknownModel, Use, formals, formals_of, line_of_formal, name_of_formal, ports, uses}
+use Rattle.model_calls.specs.Refusals.{IsCountReported, IsOfKind, IsReported}
+use Rattle.model_calls.specs.SignalFaults.{IsAtControl, IsDrivenTwice, IsOnCycle, IsOther, IsOtherControl, IsUndriven, ends_but_inputs, signals}
+use Rattle.model_calls.specs.Signals.{Signal}
+use Rattle.model_calls.proofs.Fitting.{contains_cons}
+use Rattle.model_calls.proofs.Reaching.{reaches_by}
 use Rattle.network_law.proofs.ListDecisions.{dec_contains, dec_less, dec_list, first_or_none, reported_or_none}
-use Rattle.network_law.proofs.Reaching.{IsStep, dec_reaches, reaches_by}
+use Rattle.network_law.proofs.Reaching.{IsStep, dec_reaches}
 use Rattle.network_law.proofs.SameSignals.{dec_edge, dec_signal}
 
 named : (names : List (List ℕ)) (name : List ℕ) → Decided (Contains names name)

@@ -5,22 +5,22 @@ use Rattle.std.specs.List.{AllByRecursion, fold}
 use Rattle.std.proofs.lemmas.List.Elements.{All-from_recursion}
 use Rattle.dom_base.proofs.Lists.{AllByRecursion-contains, AllByRecursion-weaker, Contains-slice_get, slice_get-contained}
 use Rattle.blif_ast.specs.BlifFileData.{BlifFileData}
-use Rattle.net_flatten.specs.declared.fault.FlatKind.TheVariants.{Cycle}
-use Rattle.net_flatten.specs.Ends.{End, end_at, inputs_of, main_inputs, output_of, state_of}
-use Rattle.net_flatten.specs.Expanded.{LatchPart, PlacedLatch, PlacedPart, PlacedTable, TablePart, expanded, latches, part_latch, part_table, tables}
-use Rattle.net_flatten.specs.Numbering.{IsLevelling}
-use Rattle.net_flatten.specs.Occurrences.{main_model}
-use Rattle.net_flatten.specs.Reaches.{Reaches, more, step}
-use Rattle.net_flatten.specs.Refusal.{At, Refusal}
-use Rattle.net_flatten.specs.Refusals.{HasRefusal}
-use Rattle.net_flatten.specs.SignalFaults.{IsFedBy, IsOnCycle}
-use Rattle.net_flatten.specs.Signals.{Signal, signal_of}
-use Rattle.net_flatten.proofs.Apart.{ApartBy}
-use Rattle.net_flatten.proofs.Drivers.{driven, mains_apart, parts_apart}
-use Rattle.net_flatten.proofs.EachPart.{each_itself}
-use Rattle.net_flatten.proofs.Firsts.{none_holds}
-use Rattle.net_flatten.proofs.Fitting.{contains_cons}
-use Rattle.net_flatten.proofs.Lists.{contains_map}
+use Rattle.model_calls.specs.declared.fault.FlatKind.TheVariants.{Cycle}
+use Rattle.model_calls.specs.Ends.{End, end_at, inputs_of, main_inputs, output_of, state_of}
+use Rattle.model_calls.specs.Expanded.{LatchPart, PlacedLatch, PlacedPart, PlacedTable, TablePart, expanded, latches, part_latch, part_table, tables}
+use Rattle.model_calls.specs.Numbering.{IsLevelling}
+use Rattle.model_calls.specs.Occurrences.{main_model}
+use Rattle.model_calls.specs.Reaches.{Reaches, more, step}
+use Rattle.model_calls.specs.Refusal.{At, Refusal}
+use Rattle.model_calls.specs.Refusals.{HasRefusal}
+use Rattle.model_calls.specs.SignalFaults.{IsFedBy, IsOnCycle}
+use Rattle.model_calls.specs.Signals.{Signal, signal_of}
+use Rattle.model_calls.proofs.Apart.{ApartBy}
+use Rattle.model_calls.proofs.Drivers.{driven, mains_apart, parts_apart}
+use Rattle.model_calls.proofs.EachPart.{each_itself}
+use Rattle.model_calls.proofs.Firsts.{none_holds}
+use Rattle.model_calls.proofs.Fitting.{contains_cons}
+use Rattle.model_calls.proofs.Lists.{contains_map}
 use Rattle.net_flatten.proofs.Splits.{kept_from}
 use Rattle.net_flatten.proofs.TablesAlike.{part_of_table}
 use Rattle.network_law.proofs.Heights.{HasEdge, height, height_elsewhere, height_of_edge}

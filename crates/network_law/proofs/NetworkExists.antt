@@ -6,20 +6,20 @@ use Rattle.std.proofs.lemmas.List.Elements.{Contains-append_left, Contains-appen
 use Rattle.dom_base.proofs.Lists.{AllByRecursion-contains, Contains-first, Contains-later, slice_get-contained}
 use Rattle.blif_ast.specs.BlifFileData.{BlifFileData}
 use Rattle.net_flatten.specs.declared.network.NetLatch.{NetLatch}
-use Rattle.net_flatten.specs.Ends.{End, end_at, inputs_of, main_outputs, output_of, read_ends, readers}
-use Rattle.net_flatten.specs.Expanded.{LatchPart, PlacedLatch, PlacedPart, PlacedTable, TablePart, expanded, latches, tables}
+use Rattle.model_calls.specs.Ends.{End, end_at, inputs_of, main_outputs, output_of, read_ends, readers}
+use Rattle.model_calls.specs.Expanded.{LatchPart, PlacedLatch, PlacedPart, PlacedTable, TablePart, expanded, latches, tables}
 use Rattle.net_flatten.specs.Flattening.{IsNetworkOf, numbered_latch, numbered_table, placed_latch, placed_table}
 use Rattle.net_flatten.specs.NetworkData.{NetTableData, NetworkData}
-use Rattle.net_flatten.specs.Numbering.{by_level, letters_w, names_by_number, pins, signals_by_number}
-use Rattle.net_flatten.specs.Occurrences.{main_model}
-use Rattle.net_flatten.specs.Refusal.{Refusal}
-use Rattle.net_flatten.specs.Refusals.{HasRefusal}
-use Rattle.net_flatten.specs.Signals.{Signal, signal_of}
-use Rattle.net_flatten.proofs.Apart.{each_in_order}
-use Rattle.net_flatten.proofs.EachPart.{each_itself}
-use Rattle.net_flatten.proofs.Lists.{contains_map}
-use Rattle.net_flatten.proofs.MainNames.{contains_flat}
-use Rattle.net_flatten.proofs.Pairs.{contains_to}
+use Rattle.model_calls.specs.Numbering.{by_level, letters_w, names_by_number, pins, signals_by_number}
+use Rattle.model_calls.specs.Occurrences.{main_model}
+use Rattle.model_calls.specs.Refusal.{Refusal}
+use Rattle.model_calls.specs.Refusals.{HasRefusal}
+use Rattle.model_calls.specs.Signals.{Signal, signal_of}
+use Rattle.model_calls.proofs.Apart.{each_in_order}
+use Rattle.model_calls.proofs.EachPart.{each_itself}
+use Rattle.model_calls.proofs.Lists.{contains_map}
+use Rattle.model_calls.proofs.MainNames.{contains_flat}
+use Rattle.model_calls.proofs.Pairs.{contains_to}
 use Rattle.network_law.proofs.FreePrefixes.{least_prefix}
 use Rattle.network_law.proofs.LevelsExist.{latch_placed, level, levels, table_placed}
 use Rattle.network_law.proofs.ReadSignals.{read_there}

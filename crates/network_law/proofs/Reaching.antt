@@ -5,14 +5,10 @@ use Rattle.std.specs.List.{fold}
 use Rattle.dom_base.specs.Decided.{Decided}
 use Rattle.dom_base.proofs.Decided.{dec_and, dec_any, dec_map, dec_or}
 use Rattle.dom_base.proofs.Lists.{AllByRecursion-contains, AllByRecursion-unmap, Contains-first, Contains-later}
-use Rattle.net_flatten.specs.Reaches.{Reaches, more, step}
-use Rattle.net_flatten.proofs.Fitting.{contains_cons}
-use Rattle.net_flatten.proofs.Lists.{each_le_greatest}
-
-pub reaches_by : {Node : Type 0} {Step Other : Node → Node → Type 0} → ((a b : Node) → Step a b → Other a b)
-    → {a b : Node} → Reaches Step a b → Reaches Other a b
-reaches_by turned (step {a} {b} s) = step (turned a b s)
-reaches_by turned (more {a} {b} {c} s rest) = more (turned a b s) (reaches_by turned rest)
+use Rattle.model_calls.specs.Reaches.{Reaches, more, step}
+use Rattle.model_calls.proofs.Fitting.{contains_cons}
+use Rattle.model_calls.proofs.Lists.{each_le_greatest}
+use Rattle.model_calls.proofs.Reaching.{reaches_by}
 
 pub reaches_then : {Node : Type 0} {Step : Node → Node → Type 0} {a b c : Node} → Reaches Step a b → Reaches Step b c → Reaches Step a c
 reaches_then (step s) then = more s then

@@ -9,22 +9,22 @@ use Rattle.dom_base.proofs.Lists.{AllByRecursion-contains, Contains-first, Conta
 use Rattle.blif_ast.specs.BlifFileData.{BlifFileData}
 use Rattle.blif_ast.specs.Cards.{same}
 use Rattle.blif_ast.specs.InstanceData.{InstanceData}
-use Rattle.net_flatten.specs.declared.fault.FlatKind.TheVariants.{ControlUsed}
-use Rattle.net_flatten.specs.Ends.{End, controls, driven_end, drivers, main_outputs, output_of, read_ends, readers, state_of}
-use Rattle.net_flatten.specs.Expanded.{LatchPart, PlacedPart, PlacedTable, TablePart, expanded, latches, part_latch, part_table, tables}
-use Rattle.net_flatten.specs.Numbering.{is_control_name, is_main, pins, signals_by_number}
-use Rattle.net_flatten.specs.Occurrences.{main_model}
-use Rattle.net_flatten.specs.Ordered.{in_order, with_element}
-use Rattle.net_flatten.specs.Refusal.{At, Refusal}
-use Rattle.net_flatten.specs.Refusals.{HasRefusal}
-use Rattle.net_flatten.specs.SignalFaults.{IsAtControl, ends_but_inputs, part_ends, signals}
-use Rattle.net_flatten.specs.Signals.{Signal, signal_of}
+use Rattle.model_calls.specs.declared.fault.FlatKind.TheVariants.{ControlUsed}
+use Rattle.model_calls.specs.Ends.{End, controls, driven_end, drivers, main_outputs, output_of, read_ends, readers, state_of}
+use Rattle.model_calls.specs.Expanded.{LatchPart, PlacedPart, PlacedTable, TablePart, expanded, latches, part_latch, part_table, tables}
+use Rattle.model_calls.specs.Numbering.{is_control_name, is_main, pins, signals_by_number}
+use Rattle.model_calls.specs.Occurrences.{main_model}
+use Rattle.model_calls.specs.Ordered.{in_order, with_element}
+use Rattle.model_calls.specs.Refusal.{At, Refusal}
+use Rattle.model_calls.specs.Refusals.{HasRefusal}
+use Rattle.model_calls.specs.SignalFaults.{IsAtControl, ends_but_inputs, part_ends, signals}
+use Rattle.model_calls.specs.Signals.{Signal, signal_of}
 use Rattle.net_flatten.proofs.ClockFaults.{kept_contains}
-use Rattle.net_flatten.proofs.Drivers.{driven, driver_cases, readers_driven}
-use Rattle.net_flatten.proofs.Firsts.{none_holds}
-use Rattle.net_flatten.proofs.Fitting.{contains_cons}
+use Rattle.model_calls.proofs.Drivers.{driven, driver_cases, readers_driven}
+use Rattle.model_calls.proofs.Firsts.{none_holds}
+use Rattle.model_calls.proofs.Fitting.{contains_cons}
 use Rattle.net_flatten.proofs.NetworkOrder.{contains_kept}
-use Rattle.net_flatten.proofs.Pairs.{contains_to}
+use Rattle.model_calls.proofs.Pairs.{contains_to}
 use Rattle.network_law.proofs.ListDecisions.{dec_contains}
 use Rattle.network_law.proofs.SameSignals.{dec_signal}
 

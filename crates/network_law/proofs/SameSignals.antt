@@ -6,7 +6,7 @@ use Rattle.blif_ast.specs.declared.instance.Binding.{Binding}
 use Rattle.blif_ast.specs.declared.latch.Edge2.{Edge2}
 use Rattle.blif_ast.specs.declared.latch.Edge2.TheVariants.{Falling, Rising}
 use Rattle.blif_ast.specs.InstanceData.{InstanceData}
-use Rattle.net_flatten.specs.Signals.{Signal}
+use Rattle.model_calls.specs.Signals.{Signal}
 use Rattle.network_law.proofs.ListDecisions.{dec_list}
 
 dec_binding : (a b : Binding) → Decided (a ≡ b)

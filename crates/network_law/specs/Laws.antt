@@ -3,8 +3,8 @@ use Rattle.std.specs.Prelude.{◌⊎◌}
 use Rattle.blif_ast.specs.BlifFileData.{BlifFileData}
 use Rattle.net_flatten.specs.Flattening.{IsNetworkOf}
 use Rattle.net_flatten.specs.NetworkData.{NetworkData}
-use Rattle.net_flatten.specs.Refusal.{Refusal}
-use Rattle.net_flatten.specs.Refusals.{IsRefusal}
+use Rattle.model_calls.specs.Refusal.{Refusal}
+use Rattle.model_calls.specs.Refusals.{IsRefusal}
 
 -- a file is refused for something, or has a network
 abbrev pub HasAnswer : BlifFileData → Type 0

@@ -10,8 +10,8 @@ use Rattle.net_run.proofs.table.is_one.Goals as goal
 
 pub returns : goal.returns
 returns c =
-    let rows = c.deref.ensures.value ∙ ap (λ (t : NetTableData). t.rows) c.table.view_is in
-    let inputs = c.deref-2.ensures.value ∙ ap (λ (t : NetTableData). t.inputs) c.table.view_is in
+    let rows = c.deref.ensures ∙ ap (λ (t : NetTableData). t.rows) c.table.view_is in
+    let inputs = c.deref-2.ensures ∙ ap (λ (t : NetTableData). t.inputs) c.table.view_is in
     let Is : Bool → List (List Letter) → List ℕ → Type 0 =
     λ on rows inputs. (beq c.any_matches.result c.table.inside.on ≡ true) ↔ IsOneAt on rows (map (value_at c.args.values.now) inputs) in
     subst (λ on. Is on c.args.table.now.rows c.args.table.now.inputs) (ap (λ (t : NetTableData). t.on) c.table.view_is)
