@@ -1,6 +1,7 @@
 -- Ends for what sinks ask for.
 use Rattle.std.proofs.Common.{◌≡◌, ◌⊎◌, inl, inr, refl, sym, ap, subst, ◌∙◌, ℕ, ◌<◌, Bool, true, false, not, List, [], ◌∷◌, ◌++◌, length, get_or, Some, slice_get, arith}
 use Rattle.std.proofs.lemmas.Option.{get_or_from_slice_get, slice_get-get_or}
+use Rattle.dom_base.proofs.Lists.{slice_get-push_cases}
 use Rattle.gate_decompose.specs.declared.gates.Node.{Node}
 use Rattle.gate_decompose.specs.declared.gates.Node.TheVariants.{Not}
 use Rattle.gate_decompose.specs.declared.gates.Ref.{Ref}
@@ -15,7 +16,7 @@ use Rattle.dual_rail.specs.Places.{place_at}
 use Rattle.dual_rail.specs.WantedNodes.{AreOrderedNodes, IsNodeThere}
 use Rattle.dual_rail.proofs.ArmsOf.{plain_place}
 use Rattle.dual_rail.proofs.Marks.{sink_there}
-use Rattle.dual_rail.proofs.TargetsOf.{asks_opposite, get_pushed}
+use Rattle.dual_rail.proofs.TargetsOf.{asks_opposite}
 use Rattle.dual_rail.specs.declared.forest.End.{End}
 use Rattle.dual_rail.specs.declared.pairs_needed.Places.{Places}
 
@@ -50,7 +51,7 @@ end_is nodes origin places r false (Pair m t) end asks is stand =
 pub ends_next : (gates : GatesData) (signs : List Bool) (origin : List (ℕ × Bool)) (places : List Places) (sinks : List Ref) (ends new : List End) (end : End) (i : ℕ) (x : Asked) → sinks ≡ gates.sinks
     → length ends ≡ i → new ≡ ends ++ (end ∷ []) → AsksFor gates.nodes (get_or sinks i (constant_ref false)) true x → IsEndFor places x (get_or signs i false) end
     → SinksHavePlaces gates signs origin places → AreEndsSoFar gates signs origin ends → AreEndsSoFar gates signs origin new
-ends_next gates signs origin places sinks ends new end i x same count next asks is stand before k r sign e at sign_at end_at = by (get_pushed ends end k e (ap (λ xs. slice_get xs k) (sym next) ∙ end_at))
+ends_next gates signs origin places sinks ends new end i x same count next asks is stand before k r sign e at sign_at end_at = by (slice_get-push_cases ends end k e (ap (λ xs. slice_get xs k) (sym next) ∙ end_at))
   where
     by : (slice_get ends k ≡ Some e) ⊎ ((k ≡ length ends) × (end ≡ e)) → IsEndOf gates.nodes origin r sign e
     by (inl f) = before k r sign e at sign_at f

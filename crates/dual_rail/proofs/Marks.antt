@@ -9,7 +9,7 @@ use Rattle.gate_decompose.specs.declared.gates.Ref.TheVariants.{Const, Leaf, Nod
 use Rattle.gate_decompose.specs.GatesData.{GatesData}
 use Rattle.gate_decompose.specs.GatesOrder.{HasParts, IsTermPart, IsThere}
 use Rattle.gate_decompose.specs.Needed.{signed}
-use Rattle.gate_decompose.specs.NeededPass.{asked_by, asked_by_sinks, names_node, pass, wanted_by_pass}
+use Rattle.gate_decompose.specs.NeededPass.{is_asked_by, is_asked_by_sinks, names_node, pass, wanted_by_pass}
 use Rattle.dual_rail.specs.WantedNodes.{ArePartsThere, IsNodeThere, has_sign, holds}
 use Rattle.dual_rail.specs.declared.wanted.Wanted.{Wanted}
 
@@ -35,29 +35,29 @@ sign_held signs false true e = rw e refl
 sign_held signs false false e = rw e refl
 
 sinks_next : (sinks : List Ref) (signs : List Bool) (i : ℕ) (n : ℕ) (s : Bool) → i < length sinks → length signs ≡ length sinks
-    → asked_by_sinks (take (i + 1) sinks) (take (i + 1) signs) n s
-    ≡ (asked_by_sinks (take i sinks) (take i signs) n s || (names_node n (get_or sinks i (Const false)) && signed (get_or signs i false) s))
+    → is_asked_by_sinks (take (i + 1) sinks) (take (i + 1) signs) n s
+    ≡ (is_asked_by_sinks (take i sinks) (take i signs) n s || (names_node n (get_or sinks i (Const false)) && signed (get_or signs i false) s))
 sinks_next sinks signs i n s lt count = rw (add-one) (step sinks signs i lt count)
   where
     step : (sinks : List Ref) (signs : List Bool) (i : ℕ) → i < length sinks → length signs ≡ length sinks
-        → asked_by_sinks (take (suc i) sinks) (take (suc i) signs) n s
-        ≡ (asked_by_sinks (take i sinks) (take i signs) n s || (names_node n (get_or sinks i (Const false)) && signed (get_or signs i false) s))
+        → is_asked_by_sinks (take (suc i) sinks) (take (suc i) signs) n s
+        ≡ (is_asked_by_sinks (take i sinks) (take i signs) n s || (names_node n (get_or sinks i (Const false)) && signed (get_or signs i false) s))
     step [] signs i lt count = absurd (omega arith)
     step (r ∷ sinks) [] i lt count = absurd (omega arith)
     step (r ∷ sinks) (b ∷ signs) zero lt count = or_false (names_node n r && signed b s)
     step (r ∷ sinks) (b ∷ signs) (suc i) lt count =
         ap (λ x. (names_node n r && signed b s) || x) (step sinks signs i (omega arith) (omega arith))
-        ∙ sym (or_assoc (names_node n r && signed b s) (asked_by_sinks (take i sinks) (take i signs) n s) (names_node n (get_or sinks i (Const false)) && signed (get_or signs i false) s))
+        ∙ sym (or_assoc (names_node n r && signed b s) (is_asked_by_sinks (take i sinks) (take i signs) n s) (names_node n (get_or sinks i (Const false)) && signed (get_or signs i false) s))
 
 -- one sink more
 pub sink_marked : (old mid new : List Wanted) (signs : Wanted) (sinks : List Ref) (bits : List Bool) (i n : ℕ) (s : Bool) → i < length sinks → length bits ≡ length sinks
     → signs ≡ record { plus = get_or bits i false; minus = not (get_or bits i false) }
-    → holds mid n s ≡ (holds old n s || asked_by_sinks (take i sinks) (take i bits) n s)
+    → holds mid n s ≡ (holds old n s || is_asked_by_sinks (take i sinks) (take i bits) n s)
     → holds new n s ≡ (holds mid n s || (names_node n (get_or sinks i (Const false)) && has_sign signs s))
-    → holds new n s ≡ (holds old n s || asked_by_sinks (take (i + 1) sinks) (take (i + 1) bits) n s)
+    → holds new n s ≡ (holds old n s || is_asked_by_sinks (take (i + 1) sinks) (take (i + 1) bits) n s)
 sink_marked old mid new signs sinks bits i n s lt count is before added =
     added ∙ ap₂ (λ x y. x || (names_node n (get_or sinks i (Const false)) && y)) before (sign_held signs (get_or bits i false) s is)
-    ∙ or_assoc (holds old n s) (asked_by_sinks (take i sinks) (take i bits) n s) (names_node n (get_or sinks i (Const false)) && signed (get_or bits i false) s)
+    ∙ or_assoc (holds old n s) (is_asked_by_sinks (take i sinks) (take i bits) n s) (names_node n (get_or sinks i (Const false)) && signed (get_or bits i false) s)
     ∙ ap (λ x. holds old n s || x) (sym (sinks_next sinks bits i n s lt count))
 
 -- the pass over marks that hold the same
@@ -87,22 +87,22 @@ sink_there leaves nodes (node_ref n) h = h
 pub parts_marked : (old mid new : List Wanted) (signs : Wanted) (node : Node) (left right : Ref) → (node ≡ And left right) ⊎ (node ≡ Or left right)
     → ((n : ℕ) (s : Bool) → holds mid n s ≡ (holds old n s || (names_node n left && has_sign signs s)))
     → ((n : ℕ) (s : Bool) → holds new n s ≡ (holds mid n s || (names_node n right && has_sign signs s)))
-    → (n : ℕ) (s : Bool) → holds new n s ≡ (holds old n s || asked_by (has_sign signs) (Some node) n s)
+    → (n : ℕ) (s : Bool) → holds new n s ≡ (holds old n s || is_asked_by (has_sign signs) (Some node) n s)
 parts_marked old mid new signs node left right is first second n s =
     second n s ∙ two_marks (holds mid n s) (holds old n s) (names_node n left) (names_node n right) (has_sign signs s) (first n s) ∙ by is
   where
     by : (node ≡ And left right) ⊎ (node ≡ Or left right)
-        → (holds old n s || (has_sign signs s && (names_node n left || names_node n right))) ≡ (holds old n s || asked_by (has_sign signs) (Some node) n s)
-    by (inl e) = ap (λ x. holds old n s || asked_by (has_sign signs) (Some x) n s) (sym e)
-    by (inr e) = ap (λ x. holds old n s || asked_by (has_sign signs) (Some x) n s) (sym e)
+        → (holds old n s || (has_sign signs s && (names_node n left || names_node n right))) ≡ (holds old n s || is_asked_by (has_sign signs) (Some node) n s)
+    by (inl e) = ap (λ x. holds old n s || is_asked_by (has_sign signs) (Some x) n s) (sym e)
+    by (inr e) = ap (λ x. holds old n s || is_asked_by (has_sign signs) (Some x) n s) (sym e)
 
 -- a node less
 pub node_marked : (nodes : List Node) (i j : ℕ) (mid new : List Wanted) (node : Node) (goal : ℕ → Bool → Bool) → i ≡ suc j → slice_get nodes j ≡ Some node
-    → ((n : ℕ) (s : Bool) → holds new n s ≡ (holds mid n s || asked_by (holds mid j) (Some node) n s))
+    → ((n : ℕ) (s : Bool) → holds new n s ≡ (holds mid n s || is_asked_by (holds mid j) (Some node) n s))
     → ((n : ℕ) (s : Bool) → pass nodes (holds mid) i n s ≡ goal n s) → (n : ℕ) (s : Bool) → pass nodes (holds new) j n s ≡ goal n s
 node_marked nodes i j mid new node goal e at added before n s =
-    pass_same nodes j (holds new) (λ m t. holds mid m t || asked_by (holds mid j) (slice_get nodes j) m t)
-    (λ m t. added m t ∙ ap (λ o. holds mid m t || asked_by (holds mid j) o m t) (sym at)) n s
+    pass_same nodes j (holds new) (λ m t. holds mid m t || is_asked_by (holds mid j) (slice_get nodes j) m t)
+    (λ m t. added m t ∙ ap (λ o. holds mid m t || is_asked_by (holds mid j) o m t) (sym at)) n s
     ∙ ap (λ k. pass nodes (holds mid) k n s) (sym e) ∙ before n s
 
 -- what was written over a whole list
@@ -127,9 +127,9 @@ unmarked n k s = ap (λ (w : Wanted). has_sign w s) (none n k) ∙ by s
 
 -- all sinks and all nodes
 pub all_marked : (gates : GatesData) (signs : List Bool) (n : ℕ) (old mid end : List Wanted) → old ≡ replicate n unwanted
-    → ((n : ℕ) (s : Bool) → holds mid n s ≡ (holds old n s || asked_by_sinks gates.sinks signs n s))
+    → ((n : ℕ) (s : Bool) → holds mid n s ≡ (holds old n s || is_asked_by_sinks gates.sinks signs n s))
     → ((n : ℕ) (s : Bool) → holds end n s ≡ pass gates.nodes (holds mid) (length gates.nodes) n s) → (n : ℕ) (s : Bool) → holds end n s ≡ wanted_by_pass gates signs n s
 all_marked gates signs count old mid end none sinks nodes n s =
     nodes n s
-    ∙ pass_same gates.nodes (length gates.nodes) (holds mid) (asked_by_sinks gates.sinks signs)
-    (λ m t. sinks m t ∙ ap (λ x. x || asked_by_sinks gates.sinks signs m t) (ap (λ ws. holds ws m t) none ∙ unmarked count m t)) n s
+    ∙ pass_same gates.nodes (length gates.nodes) (holds mid) (is_asked_by_sinks gates.sinks signs)
+    (λ m t. sinks m t ∙ ap (λ x. x || is_asked_by_sinks gates.sinks signs m t) (ap (λ ws. holds ws m t) none ∙ unmarked count m t)) n s

@@ -1,6 +1,7 @@
 -- What is asked for with the other sign, and the target of one node more.
-use Rattle.std.proofs.Common.{◌≡◌, ◌⊎◌, inl, inr, refl, sym, ap, subst, ◌∙◌, ℕ, zero, suc, ◌<◌, Bool, true, false, not, List, [], ◌∷◌, ◌++◌, length, Some, slice_get, get_or, arith}
-use Rattle.std.proofs.lemmas.Option.{same_Some, slice_get-get_or}
+use Rattle.std.proofs.Common.{◌≡◌, ◌⊎◌, inl, inr, sym, ap, subst, ◌∙◌, ℕ, ◌<◌, Bool, true, false, not, List, [], ◌∷◌, ◌++◌, length, Some, slice_get, get_or, arith}
+use Rattle.std.proofs.lemmas.Option.{slice_get-get_or}
+use Rattle.dom_base.proofs.Lists.{slice_get-push_cases}
 use Rattle.gate_decompose.specs.declared.gates.Node.{Node}
 use Rattle.gate_decompose.specs.declared.gates.Node.TheVariants.{And, Or, Not}
 use Rattle.gate_decompose.specs.declared.gates.Ref.{Ref}
@@ -19,15 +20,8 @@ asks_opposite nodes leaf = leaf
 asks_opposite nodes (gate is) = gate is
 asks_opposite nodes (under at more) = under at (asks_opposite nodes more)
 
--- an item at the end of a list
-pub get_pushed : {X : Type 0} (xs : List X) (y : X) (i : ℕ) (x : X) → slice_get (xs ++ (y ∷ [])) i ≡ Some x → (slice_get xs i ≡ Some x) ⊎ ((i ≡ length xs) × (y ≡ x))
-get_pushed [] y zero x e = inr (refl, same_Some y x e)
-get_pushed [] y (suc i) x e = absurd (cc)
-get_pushed (z ∷ xs) y zero x e = inl e
-get_pushed (z ∷ xs) y (suc i) x e = elim (get_pushed xs y i x e) [ inl f ↦ inl f | inr f ↦ inr (ap suc f.0, f.1) ]
-
 pub target_next : (nodes : List Node) (targets : List Target) (t : Target) → AreTargets nodes targets → AsksFor nodes (node_ref (length targets)) true (asked_target t) → AreTargets nodes (targets ++ (t ∷ []))
-target_next nodes targets t are own n u e = by (get_pushed targets t n u e)
+target_next nodes targets t are own n u e = by (slice_get-push_cases targets t n u e)
   where
     by : (slice_get targets n ≡ Some u) ⊎ ((n ≡ length targets) × (t ≡ u)) → AsksFor nodes (node_ref n) true (asked_target u)
     by (inl f) = are n u f

@@ -94,7 +94,7 @@ pub fn pairs_of(
     requires closed { All (λ p. HasPlacesOf nodes.now origin.now places.now p.0 p.1) origin.now }
     ensures { IfOk result (λ v. AllZip (IsPairOf nodes.now origin.now) origin.now v.items) }
 {
-    let mut pairs = Vec::new(alloc);
+    let mut pairs = Vec::with_capacity(alloc, origin.len())?;
     for (node, plus) in origin {
         pairs.push(pair_of(nodes, targets, places, *node, *plus))?;
     }

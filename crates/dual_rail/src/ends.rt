@@ -48,7 +48,7 @@ pub fn ends_of(
     ensures ends { IfOk result (λ v. (origin : List (ℕ × Bool)) → SinksHavePlaces gates.now signs.now origin places.now
         → AreEndsSoFar gates.now signs.now origin v.items) }
 {
-    let mut ends = Vec::new(alloc);
+    let mut ends = Vec::with_capacity(alloc, gates.sinks.len())?;
     for (index, sink) in gates.sinks.iter().enumerate() {
         let target = target_of(targets, *sink, true);
         ends.push(end_for(target, places, signs[index]))?;

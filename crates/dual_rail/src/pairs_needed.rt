@@ -64,8 +64,8 @@ pub fn needed_pairs(
     ensures count { IfOk result (λ o. length o.places.items ≡ length nodes.now) }
     ensures few { IfOk result (λ o. length o.pairs.items ≤ 2 * count_by is_operator nodes.now) }
 {
-    let mut pairs = Vec::new(alloc);
-    let mut places = Vec::new(alloc);
+    let mut pairs = Vec::with_capacity(alloc, nodes.len())?;
+    let mut places = Vec::with_capacity(alloc, nodes.len())?;
     for (index, node) in nodes.iter().enumerate() {
         let signs = pair_signs(*node, wanted[index]);
         let own = push_pairs(&mut pairs, index as u32, signs)?;

@@ -78,7 +78,7 @@ pub fn node_targets(alloc: Global, nodes: &[Node]) -> Result<Vec<Target>, OutOfM
     ensures count { IfOk result (λ v. length v.items ≡ length nodes.now) }
     ensures targets { IfOk result (λ v. AreTargets nodes.now v.items) }
 {
-    let mut targets = Vec::new(alloc);
+    let mut targets = Vec::with_capacity(alloc, nodes.len())?;
     for node in nodes {
         let target = next_target(targets.as_slice(), *node);
         targets.push(target)?;

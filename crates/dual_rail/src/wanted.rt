@@ -1,6 +1,6 @@
 //! Which nodes are wanted with which signs: one pass over the nodes, from the last to the first.
 ghost use Rattle.std.specs.Prelude.{IfOk, All, ℕ, Bool, ◌≡◌, ◌<◌, ◌||◌, ◌&&◌, Some, length};
-ghost use Rattle.gate_decompose.specs.NeededPass.{asked_by, asked_by_sinks, names_node, pass, wanted_by_pass};
+ghost use Rattle.gate_decompose.specs.NeededPass.{is_asked_by, is_asked_by_sinks, names_node, pass, wanted_by_pass};
 ghost use Rattle.dual_rail.specs.WantedNodes.{ArePartsThere, IsNodeThere, has_sign, holds};
 
 use dom_base::OutOfMemory;
@@ -37,7 +37,7 @@ fn mark(wanted: &mut [Wanted], part: Ref, signs: Wanted)
 /// Adds the signs with which a node that is itself wanted with some wants its parts.
 fn mark_parts(wanted: &mut [Wanted], node: Node, signs: Wanted)
     requires { ArePartsThere (length wanted.old) node }
-    ensures { (n : ℕ) (s : Bool) → holds wanted.new n s ≡ (holds wanted.old n s || asked_by (has_sign signs) (Some node) n s) }
+    ensures { (n : ℕ) (s : Bool) → holds wanted.new n s ≡ (holds wanted.old n s || is_asked_by (has_sign signs) (Some node) n s) }
 {
     match node {
         Node::Not(part) => {
@@ -58,7 +58,7 @@ fn mark_parts(wanted: &mut [Wanted], node: Node, signs: Wanted)
 fn mark_sinks(wanted: &mut [Wanted], sinks: &[Ref], signs: &[bool])
     requires count { length signs.now ≡ length sinks.now }
     requires there { All (IsNodeThere (length wanted.old)) sinks.now }
-    ensures { (n : ℕ) (s : Bool) → holds wanted.new n s ≡ (holds wanted.old n s || asked_by_sinks sinks.now signs.now n s) }
+    ensures { (n : ℕ) (s : Bool) → holds wanted.new n s ≡ (holds wanted.old n s || is_asked_by_sinks sinks.now signs.now n s) }
 {
     for (place, sink) in sinks.iter().enumerate() {
         let sign = Wanted {

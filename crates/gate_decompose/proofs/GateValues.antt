@@ -1,5 +1,5 @@
 -- The gates of a network keep the values of its signals.
-use Rattle.net_flatten.proofs.Lists.{get_map}
+use Rattle.model_calls.proofs.Lists.{get_map}
 use Rattle.std.proofs.Common.{◌≡◌, ◌⊎◌, ◌↔◌, inl, inr, refl, sym, ap, ap₂, subst, ◌∙◌, ℕ, zero, suc, ◌+◌, ◌-◌, ◌≤◌, ◌<◌, Bool, true, false, not, cond, ◌&&◌, ◌||◌, List, [], ◌∷◌, ◌++◌, length, Some, slice_get, All, zero-add, arith}
 use Rattle.std.specs.List.{enumerate_from, position_or_len}
 use Rattle.std.proofs.lemmas.Bool.{cases_lt}

@@ -1,5 +1,5 @@
 -- The gates of a network read only what is there, and nodes that stand before.
-use Rattle.net_flatten.proofs.Lists.{get_map, get_of_map}
+use Rattle.model_calls.proofs.Lists.{get_map, get_of_map}
 use Rattle.std.proofs.Common.{◌≡◌, ◌⊎◌, inl, inr, sym, ap, subst, ◌∙◌, ℕ, ◌+◌, ◌<◌, List, [], length, Some, slice_get, All, arith, zero-add}
 use Rattle.std.specs.List.{position_or_len}
 use Rattle.std.proofs.lemmas.List.{length-map}

@@ -10,7 +10,7 @@ use Rattle.gate_decompose.specs.declared.gates.Ref.TheVariants.{Const, Leaf, Nod
 use Rattle.gate_decompose.specs.GatesData.{GatesData}
 use Rattle.gate_decompose.specs.Needed.{Asked, Pair, AsksFor, constant, leaf, gate, under, IsGateNode, IsClosed, IsNeeded, signed}
 use Rattle.gate_decompose.specs.GatesOrder.{AreOrderedGates, NodeReadsEarlier, ReadsEarlier}
-use Rattle.gate_decompose.specs.NeededPass.{asked_by, asked_by_sinks, names_node, pass, wanted_by_pass}
+use Rattle.gate_decompose.specs.NeededPass.{is_asked_by, is_asked_by_sinks, names_node, pass, wanted_by_pass}
 use Rattle.dom_base.proofs.Bools.{and_both, or_one}
 
 -- a set of nodes with signs holds what a reference asks for
@@ -88,7 +88,7 @@ reads_lower n m (Leaf k) h e = absurd (cc)
 reads_lower n m (node_ref k) h e = let same = eqb-true k m e in omega arith
 
 -- a node is asked for by nodes behind it alone
-asked_lower : (n m : ℕ) (x : Node) (wanted : Bool → Bool) (s : Bool) → NodeReadsEarlier n x → asked_by wanted (Some x) m s ≡ true → m < n
+asked_lower : (n m : ℕ) (x : Node) (wanted : Bool → Bool) (s : Bool) → NodeReadsEarlier n x → is_asked_by wanted (Some x) m s ≡ true → m < n
 asked_lower n m (Not a) wanted s h e = reads_lower n m a h (and_both (wanted (not s)) (names_node m a) e).1
 asked_lower n m (And a b) wanted s h e =
     elim (or_one (names_node m a) (names_node m b) (and_both (wanted s) (names_node m a || names_node m b) e).1) [ inl x ↦ reads_lower n m a h.0 x | inr x ↦ reads_lower n m b h.1 x ]
@@ -96,7 +96,7 @@ asked_lower n m (Or a b) wanted s h e =
     elim (or_one (names_node m a) (names_node m b) (and_both (wanted s) (names_node m a || names_node m b) e).1) [ inl x ↦ reads_lower n m a h.0 x | inr x ↦ reads_lower n m b h.1 x ]
 
 -- a node that is wanted more asks for more
-asked_more : (o : Option Node) (v w : Bool → Bool) (m : ℕ) (s : Bool) → ((t : Bool) → v t ≡ true → w t ≡ true) → asked_by v o m s ≡ true → asked_by w o m s ≡ true
+asked_more : (o : Option Node) (v w : Bool → Bool) (m : ℕ) (s : Bool) → ((t : Bool) → v t ≡ true → w t ≡ true) → is_asked_by v o m s ≡ true → is_asked_by w o m s ≡ true
 asked_more None v w m s h e = absurd (cc)
 asked_more (Some (Not a)) v w m s h e =
     let p = and_both (v (not s)) (names_node m a) e in rw (h (not s) p.0) p.1
@@ -109,12 +109,12 @@ module _ (nodes : List Node) (order : (n : ℕ) (x : Node) → slice_get nodes n
   -- marks are only added, and none to the nodes behind
   pass_adds : (k : ℕ) (wanted : ℕ → Bool → Bool) (m : ℕ) (s : Bool) → wanted m s ≡ true → pass nodes wanted k m s ≡ true
   pass_adds zero wanted m s e = e
-  pass_adds (suc k) wanted m s e = pass_adds k (λ n t. wanted n t || asked_by (wanted k) (slice_get nodes k) n t) m s (or_left (wanted m s) (asked_by (wanted k) (slice_get nodes k) m s) e)
+  pass_adds (suc k) wanted m s e = pass_adds k (λ n t. wanted n t || is_asked_by (wanted k) (slice_get nodes k) n t) m s (or_left (wanted m s) (is_asked_by (wanted k) (slice_get nodes k) m s) e)
 
-  not_asked : (k m : ℕ) (wanted : ℕ → Bool → Bool) (s : Bool) → k ≤ m → asked_by (wanted k) (slice_get nodes k) m s ≡ true → ⊥
+  not_asked : (k m : ℕ) (wanted : ℕ → Bool → Bool) (s : Bool) → k ≤ m → is_asked_by (wanted k) (slice_get nodes k) m s ≡ true → ⊥
   not_asked k m wanted s le e = by (slice_get nodes k) refl e
     where
-      by : (o : Option Node) → slice_get nodes k ≡ o → asked_by (wanted k) o m s ≡ true → ⊥
+      by : (o : Option Node) → slice_get nodes k ≡ o → is_asked_by (wanted k) o m s ≡ true → ⊥
       by None at f = cc
       by (Some x) at f = let low = asked_lower k m x (wanted k) s (order k x at) f in omega arith
 
@@ -122,48 +122,48 @@ module _ (nodes : List Node) (order : (n : ℕ) (x : Node) → slice_get nodes n
   pass_stays : (k : ℕ) (wanted : ℕ → Bool → Bool) (m : ℕ) (s : Bool) → k ≤ m → pass nodes wanted k m s ≡ true → wanted m s ≡ true
   pass_stays zero wanted m s le e = e
   pass_stays (suc k) wanted m s le e =
-      elim (or_one (wanted m s) (asked_by (wanted k) (slice_get nodes k) m s)
-      (pass_stays k (λ n t. wanted n t || asked_by (wanted k) (slice_get nodes k) n t) m s (omega arith) e)) [
+      elim (or_one (wanted m s) (is_asked_by (wanted k) (slice_get nodes k) m s)
+      (pass_stays k (λ n t. wanted n t || is_asked_by (wanted k) (slice_get nodes k) n t) m s (omega arith) e)) [
         | inl x ↦ x
         | inr x ↦ absurd (not_asked k m wanted s (omega arith) x)
       ]
 
   -- a mark was there, or its node is asked for by a marked node of the first k
   pass_from : (k : ℕ) (wanted : ℕ → Bool → Bool) (m : ℕ) (s : Bool) → pass nodes wanted k m s ≡ true
-      → (wanted m s ≡ true) ⊎ ((n : ℕ) × (n < k) × (asked_by (pass nodes wanted k n) (slice_get nodes n) m s ≡ true))
+      → (wanted m s ≡ true) ⊎ ((n : ℕ) × (n < k) × (is_asked_by (pass nodes wanted k n) (slice_get nodes n) m s ≡ true))
   pass_from zero wanted m s e = inl e
-  pass_from (suc k) wanted m s e = by (pass_from k (λ n t. wanted n t || asked_by (wanted k) (slice_get nodes k) n t) m s e)
+  pass_from (suc k) wanted m s e = by (pass_from k (λ n t. wanted n t || is_asked_by (wanted k) (slice_get nodes k) n t) m s e)
     where
-      by : ((wanted m s || asked_by (wanted k) (slice_get nodes k) m s) ≡ true)
-          ⊎ ((n : ℕ) × (n < k) × (asked_by (pass nodes wanted (suc k) n) (slice_get nodes n) m s ≡ true))
-          → (wanted m s ≡ true) ⊎ ((n : ℕ) × (n < suc k) × (asked_by (pass nodes wanted (suc k) n) (slice_get nodes n) m s ≡ true))
+      by : ((wanted m s || is_asked_by (wanted k) (slice_get nodes k) m s) ≡ true)
+          ⊎ ((n : ℕ) × (n < k) × (is_asked_by (pass nodes wanted (suc k) n) (slice_get nodes n) m s ≡ true))
+          → (wanted m s ≡ true) ⊎ ((n : ℕ) × (n < suc k) × (is_asked_by (pass nodes wanted (suc k) n) (slice_get nodes n) m s ≡ true))
       by (inr (n, lt, f)) = inr (n, omega arith, f)
       by (inl f) =
-          elim (or_one (wanted m s) (asked_by (wanted k) (slice_get nodes k) m s) f) [
+          elim (or_one (wanted m s) (is_asked_by (wanted k) (slice_get nodes k) m s) f) [
             | inl x ↦ inl x
             | inr x ↦ inr (k, omega arith, asked_more (slice_get nodes k) (wanted k) (pass nodes wanted (suc k) k) m s (λ t g. pass_adds (suc k) wanted k t g) x)
           ]
 
   -- what a marked node of the first k asks for is marked
-  pass_closed : (k : ℕ) (wanted : ℕ → Bool → Bool) (n m : ℕ) (s : Bool) → n < k → asked_by (pass nodes wanted k n) (slice_get nodes n) m s ≡ true → pass nodes wanted k m s ≡ true
+  pass_closed : (k : ℕ) (wanted : ℕ → Bool → Bool) (n m : ℕ) (s : Bool) → n < k → is_asked_by (pass nodes wanted k n) (slice_get nodes n) m s ≡ true → pass nodes wanted k m s ≡ true
   pass_closed zero wanted n m s lt e = absurd (omega arith)
-  pass_closed (suc k) wanted n m s lt e = by (cases_lt n k) (λ lower. pass_closed k (λ i t. wanted i t || asked_by (wanted k) (slice_get nodes k) i t) n m s lower e)
+  pass_closed (suc k) wanted n m s lt e = by (cases_lt n k) (λ lower. pass_closed k (λ i t. wanted i t || is_asked_by (wanted k) (slice_get nodes k) i t) n m s lower e)
     where
       step : ℕ → Bool → Bool
-      step i t = wanted i t || asked_by (wanted k) (slice_get nodes k) i t
+      step i t = wanted i t || is_asked_by (wanted k) (slice_get nodes k) i t
 
       by : (n < k) ⊎ (k ≤ n) → (n < k → pass nodes wanted (suc k) m s ≡ true) → pass nodes wanted (suc k) m s ≡ true
       by (inl lower) more = more lower
       by (inr last) more =
           let same : n ≡ k = omega arith in
-          let at_k : asked_by (pass nodes wanted (suc k) k) (slice_get nodes k) m s ≡ true = subst (λ i. asked_by (pass nodes wanted (suc k) i) (slice_get nodes i) m s ≡ true) same e in
-          let first : asked_by (wanted k) (slice_get nodes k) m s ≡ true =
+          let at_k : is_asked_by (pass nodes wanted (suc k) k) (slice_get nodes k) m s ≡ true = subst (λ i. is_asked_by (pass nodes wanted (suc k) i) (slice_get nodes i) m s ≡ true) same e in
+          let first : is_asked_by (wanted k) (slice_get nodes k) m s ≡ true =
           asked_more (slice_get nodes k) (pass nodes wanted (suc k) k) (wanted k) m s (λ t g. pass_kept t g) at_k in
-          pass_adds k (λ i t. wanted i t || asked_by (wanted k) (slice_get nodes k) i t) m s (or_right (wanted m s) (asked_by (wanted k) (slice_get nodes k) m s) first)
+          pass_adds k (λ i t. wanted i t || is_asked_by (wanted k) (slice_get nodes k) i t) m s (or_right (wanted m s) (is_asked_by (wanted k) (slice_get nodes k) m s) first)
         where
           pass_kept : (t : Bool) → pass nodes wanted (suc k) k t ≡ true → wanted k t ≡ true
           pass_kept t g =
-              elim (or_one (wanted k t) (asked_by (wanted k) (slice_get nodes k) k t) (pass_stays k (λ i u. wanted i u || asked_by (wanted k) (slice_get nodes k) i u) k t (omega arith) g)) [
+              elim (or_one (wanted k t) (is_asked_by (wanted k) (slice_get nodes k) k t) (pass_stays k (λ i u. wanted i u || is_asked_by (wanted k) (slice_get nodes k) i u) k t (omega arith) g)) [
                 | inl x ↦ x
                 | inr x ↦ absurd (not_asked k k wanted t (omega arith) x)
               ]
@@ -179,24 +179,24 @@ signed-self : (a : Bool) → signed a a ≡ true
 signed-self true = refl
 signed-self false = refl
 
-sinks_ask : (sinks : List Ref) (signs : List Bool) (n : ℕ) (s : Bool) → asked_by_sinks sinks signs n s ≡ true
+sinks_ask : (sinks : List Ref) (signs : List Bool) (n : ℕ) (s : Bool) → is_asked_by_sinks sinks signs n s ≡ true
     → (k : ℕ) × (slice_get sinks k ≡ Some (node_ref n)) × (slice_get signs k ≡ Some s)
 sinks_ask [] signs n s e = absurd (cc)
 sinks_ask (r ∷ sinks) [] n s e = absurd (cc)
 sinks_ask (r ∷ sinks) (sign ∷ signs) n s e =
-    elim (or_one (names_node n r && signed sign s) (asked_by_sinks sinks signs n s) e) [
+    elim (or_one (names_node n r && signed sign s) (is_asked_by_sinks sinks signs n s) e) [
       | inl x ↦ let p = and_both (names_node n r) (signed sign s) x in (0, ap Some (names-is n r p.0), ap Some (signed-is sign s p.1))
       | inr x ↦ let p = sinks_ask sinks signs n s x in (suc p.0, p.1, p.2)
     ]
 
-asked_sink : (sinks : List Ref) (signs : List Bool) (k n : ℕ) (s : Bool) → slice_get sinks k ≡ Some (node_ref n) → slice_get signs k ≡ Some s → asked_by_sinks sinks signs n s ≡ true
+asked_sink : (sinks : List Ref) (signs : List Bool) (k n : ℕ) (s : Bool) → slice_get sinks k ≡ Some (node_ref n) → slice_get signs k ≡ Some s → is_asked_by_sinks sinks signs n s ≡ true
 asked_sink [] signs k n s e f = absurd (cc)
 asked_sink (r ∷ sinks) [] k n s e f = absurd (cc)
 asked_sink (r ∷ sinks) (sign ∷ signs) zero n s e f =
     let one : r ≡ node_ref n = cc in
     let two : sign ≡ s = cc in
     rw (one, two, names-self n, signed-self s) refl
-asked_sink (r ∷ sinks) (sign ∷ signs) (suc k) n s e f = or_right (names_node n r && signed sign s) (asked_by_sinks sinks signs n s) (asked_sink sinks signs k n s e f)
+asked_sink (r ∷ sinks) (sign ∷ signs) (suc k) n s e f = or_right (names_node n r && signed sign s) (is_asked_by_sinks sinks signs n s) (asked_sink sinks signs k n s e f)
 
 -- the pass marks exactly the needed pairs
 pub pass_is_needed : (gates : GatesData) (signs : List Bool) → AreOrderedGates gates → (n : ℕ) (s : Bool) (a b : Ref) → IsGateNode gates.nodes n a b
@@ -207,12 +207,12 @@ pass_is_needed gates signs order n s a b is = (needed_where_held gates signs wan
     wanted = wanted_by_pass gates signs
 
     start : ℕ → Bool → Bool
-    start = asked_by_sinks gates.sinks signs
+    start = is_asked_by_sinks gates.sinks signs
 
     supported : (m : ℕ) (t : Bool) → wanted m t ≡ true → IsAsked gates signs wanted m t
     supported m t e = by (pass_from gates.nodes order.nodes (length gates.nodes) start m t e)
       where
-        node_case : (k : ℕ) → k < length gates.nodes → (x : Node) → slice_get gates.nodes k ≡ Some x → asked_by (wanted k) (Some x) m t ≡ true → IsAsked gates signs wanted m t
+        node_case : (k : ℕ) → k < length gates.nodes → (x : Node) → slice_get gates.nodes k ≡ Some x → is_asked_by (wanted k) (Some x) m t ≡ true → IsAsked gates signs wanted m t
         node_case k lt (Not c) at f =
             let p = and_both (wanted k (not t)) (names_node m c) f in
             inr (k, asked_lower k m (Not c) (wanted k) t (order.nodes k (Not c) at) f, lt, inl (p.0, at ∙ ap (λ r. Some (Not r)) (names-is m c p.1)))
@@ -245,15 +245,15 @@ pass_is_needed gates signs order n s a b is = (needed_where_held gates signs wan
               ),
             )
 
-        here : (k : ℕ) → k < length gates.nodes → (o : Option Node) → slice_get gates.nodes k ≡ o → asked_by (wanted k) o m t ≡ true → IsAsked gates signs wanted m t
+        here : (k : ℕ) → k < length gates.nodes → (o : Option Node) → slice_get gates.nodes k ≡ o → is_asked_by (wanted k) o m t ≡ true → IsAsked gates signs wanted m t
         here k lt None at f = absurd (cc)
         here k lt (Some x) at f = node_case k lt x at f
 
-        by : (start m t ≡ true) ⊎ ((k : ℕ) × (k < length gates.nodes) × (asked_by (wanted k) (slice_get gates.nodes k) m t ≡ true)) → IsAsked gates signs wanted m t
+        by : (start m t ≡ true) ⊎ ((k : ℕ) × (k < length gates.nodes) × (is_asked_by (wanted k) (slice_get gates.nodes k) m t ≡ true)) → IsAsked gates signs wanted m t
         by (inl f) = let p = sinks_ask gates.sinks signs m t f in inl (p.0, p.1, p.2)
         by (inr (k, lt, f)) = here k lt (slice_get gates.nodes k) refl f
 
-    closed_at : (k m : ℕ) (t : Bool) (x : Node) → slice_get gates.nodes k ≡ Some x → asked_by (wanted k) (Some x) m t ≡ true → wanted m t ≡ true
+    closed_at : (k m : ℕ) (t : Bool) (x : Node) → slice_get gates.nodes k ≡ Some x → is_asked_by (wanted k) (Some x) m t ≡ true → wanted m t ≡ true
     closed_at k m t x at f = pass_closed gates.nodes order.nodes (length gates.nodes) start k m t (slice_get_within gates.nodes k x at) (rw at f)
 
     held : HoldsAsked gates signs wanted

@@ -10,8 +10,8 @@ use Rattle.std.proofs.lemmas.List.FromFn.{get_or-enumerate_from, length-enumerat
 use Rattle.std.proofs.lemmas.Option.{slice_get-get_or}
 use Rattle.net_flatten.specs.NetworkData.{NetTableData, NetworkData}
 use Rattle.std.proofs.lemmas.List.Sums.{sum_by-take-le}
-use Rattle.net_flatten.proofs.Lists.{get_map}
-use Rattle.net_flatten.specs.Limits.{letters}
+use Rattle.model_calls.proofs.Lists.{get_map}
+use Rattle.model_calls.specs.Limits.{letters}
 use Rattle.net_flatten.specs.Networks.{IsNetwork}
 use Rattle.net_flatten.specs.declared.network.NetLatch.{NetLatch}
 use Rattle.gate_decompose.specs.GatesOrder.{AreGates, is_operator}

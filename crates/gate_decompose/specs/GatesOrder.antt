@@ -1,7 +1,7 @@
 -- What gates keep: nodes read leaves that are there and nodes that stand before them, sinks read what is there, and all is
 -- within limits.
 use Rattle.std.specs.Prelude.{ℕ, ◌+◌, ◌≤◌, ◌<◌, ◌≡◌, Bool, true, false, Some, slice_get, length, count_by}
-use Rattle.net_flatten.specs.Limits.{most_letters, most_signals, most_sinks}
+use Rattle.model_calls.specs.Limits.{most_letters, most_signals, most_sinks}
 use Rattle.gate_decompose.specs.declared.gates.Node.{Node}
 use Rattle.gate_decompose.specs.declared.gates.Node.TheVariants.{And, Or, Not}
 use Rattle.gate_decompose.specs.declared.gates.Ref.{Ref}

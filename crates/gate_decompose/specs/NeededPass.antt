@@ -17,25 +17,25 @@ names_node n (Leaf k) = false
 names_node n (node_ref m) = m == n
 
 -- the node with this sign is asked for by a node, where it says which signs that node itself is wanted with
-abbrev pub asked_by : (Bool → Bool) → Option Node → ℕ → Bool → Bool
-asked_by wanted None m s = false
-asked_by wanted (Some (Not a)) m s = wanted (not s) && names_node m a
-asked_by wanted (Some (And a b)) m s = wanted s && (names_node m a || names_node m b)
-asked_by wanted (Some (Or a b)) m s = wanted s && (names_node m a || names_node m b)
+abbrev pub is_asked_by : (Bool → Bool) → Option Node → ℕ → Bool → Bool
+is_asked_by wanted None m s = false
+is_asked_by wanted (Some (Not a)) m s = wanted (not s) && names_node m a
+is_asked_by wanted (Some (And a b)) m s = wanted s && (names_node m a || names_node m b)
+is_asked_by wanted (Some (Or a b)) m s = wanted s && (names_node m a || names_node m b)
 
 -- and by a sink, with its sign
-abbrev pub asked_by_sinks : List Ref → List Bool → ℕ → Bool → Bool
-asked_by_sinks [] signs m s = false
-asked_by_sinks (r ∷ sinks) [] m s = false
-asked_by_sinks (r ∷ sinks) (sign ∷ signs) m s = (names_node m r && signed sign s) || asked_by_sinks sinks signs m s
+abbrev pub is_asked_by_sinks : List Ref → List Bool → ℕ → Bool → Bool
+is_asked_by_sinks [] signs m s = false
+is_asked_by_sinks (r ∷ sinks) [] m s = false
+is_asked_by_sinks (r ∷ sinks) (sign ∷ signs) m s = (names_node m r && signed sign s) || is_asked_by_sinks sinks signs m s
 
 -- the pass over the first k nodes, from the last of them on
 abbrev pub pass : List Node → (ℕ → Bool → Bool) → ℕ → ℕ → Bool → Bool
 pass nodes wanted zero m s = wanted m s
-pass nodes wanted (suc k) m s = pass nodes (λ n t. wanted n t || asked_by (wanted k) (slice_get nodes k) n t) k m s
+pass nodes wanted (suc k) m s = pass nodes (λ n t. wanted n t || is_asked_by (wanted k) (slice_get nodes k) n t) k m s
 
 abbrev pub wanted_by_pass : GatesData → List Bool → ℕ → Bool → Bool
-wanted_by_pass gates signs = pass gates.nodes (asked_by_sinks gates.sinks signs) (length gates.nodes)
+wanted_by_pass gates signs = pass gates.nodes (is_asked_by_sinks gates.sinks signs) (length gates.nodes)
 
 -- whether a node is an And or an Or
 abbrev pub is_gate : Option Node → Bool

@@ -1,5 +1,5 @@
 //! The expression of a row.
-ghost use Rattle.std.specs.Prelude.{IfOk, All, List, ℕ, ◌≡◌, ◌≤◌, ◌<◌, ◌+◌, ◌*◌, ◌^◌, length, count_by, map};
+ghost use Rattle.std.specs.Prelude.{IfOk, OnOk, All, List, ℕ, ◌≡◌, ◌≤◌, ◌<◌, ◌+◌, ◌*◌, ◌^◌, length, count_by, map};
 ghost use Rattle.gate_decompose.specs.GateNodes.{NodeName, Operand, Turn};
 ghost use Rattle.gate_decompose.specs.GatesOrder.{is_operator};
 ghost use Rattle.gate_decompose.specs.RowItems.{AreRefs, row_made, row_signals, signal_item};
@@ -11,20 +11,20 @@ use crate::gates::{Node, Ref};
 use crate::operator::Operator;
 use blif_ast::{Letter, Row};
 use dom_base::OutOfMemory;
-use std::alloc::Global;
 
-/// The items of a row, in the order of its inputs, where `refs` has what each signal comes to.
-fn row_items(
-    alloc: Global,
+/// Puts the items of a row, in the order of its inputs, in place of these items, where `refs` has what
+/// each signal comes to.
+fn put_row_items(
+    items: &mut Vec<Item>,
     refs: &[Ref],
     inputs: &[u32],
     row: &Row,
-) -> Result<Vec<Item>, OutOfMemory>
+) -> Result<(), OutOfMemory>
     requires below { All (λ signal. signal < length refs.now) inputs.now }
     requires fits { length row.now ≡ length inputs.now }
-    ensures { IfOk result (λ v. v.items ≡ map (signal_item refs.now) (row_signals inputs.now row.now)) }
+    ensures { OnOk result (items.new.items ≡ map (signal_item refs.now) (row_signals inputs.now row.now)) }
 {
-    let mut items = Vec::new(alloc);
+    items.clear();
     for (place, letter) in row.letters.iter().enumerate() {
         let part = refs[inputs[place] as usize];
         match letter {
@@ -33,13 +33,13 @@ fn row_items(
             Letter::Any => {}
         }
     }
-    Ok(items)
+    Ok(())
 }
 
-/// What a row comes to: the And of its items.
+/// What a row comes to: the And of its items, which are put in place of these items.
 pub fn row_part(
-    alloc: Global,
     nodes: &mut Vec<Node>,
+    items: &mut Vec<Item>,
     refs: &[Ref],
     inputs: &[u32],
     row: &Row,
@@ -52,6 +52,6 @@ pub fn row_part(
     ensures few { IfOk result (λ r. length nodes.new.items ≤ length nodes.old.items + 2 * length inputs.now) }
     ensures operators { IfOk result (λ r. count_by is_operator nodes.new.items ≤ count_by is_operator nodes.old.items + length inputs.now) }
 {
-    let items = row_items(alloc, refs, inputs, row)?;
+    put_row_items(items, refs, inputs, row)?;
     join_all(nodes, Operator::And, items.as_slice())
 }

@@ -1,5 +1,5 @@
 //! The gates of a network, table by table.
-ghost use Rattle.std.specs.Prelude.{IfOk, All, List, ℕ, ◌≡◌, ◌≤◌, ◌<◌, ◌+◌, ◌*◌, ◌^◌, length, count_by, map};
+ghost use Rattle.std.specs.Prelude.{IfOk, OnOk, All, List, ℕ, ◌≡◌, ◌≤◌, ◌<◌, ◌+◌, ◌*◌, ◌^◌, length, count_by, map};
 ghost use Rattle.std.specs.List.{range_with_len};
 ghost use Rattle.gate_decompose.specs.GateNodes.{AreGatesOf, NodeName, Operand, Turn};
 ghost use Rattle.gate_decompose.specs.GatesOrder.{is_operator};
@@ -7,7 +7,7 @@ ghost use Rattle.gate_decompose.specs.RowItems.{AreRefs, ref_at, table_made};
 ghost use Rattle.gate_decompose.specs.RowsMade.{MakesRows};
 ghost use Rattle.gate_decompose.specs.Sinks.{sink_signals};
 ghost use Rattle.gate_decompose.specs.TermNodes.{Makes};
-ghost use Rattle.net_flatten.specs.Limits.{letters};
+ghost use Rattle.model_calls.specs.Limits.{letters};
 
 use crate::expression::{Item, join_all};
 use crate::gates::{Gates, Node, Ref};
@@ -17,35 +17,38 @@ use dom_base::OutOfMemory;
 use net_flatten::{NetTable, Network};
 use std::alloc::Global;
 
-/// What the rows of a table come to, in order.
-fn row_parts(
-    alloc: Global,
+/// Puts what the rows of a table come to, in order, in place of the items of rows.
+fn put_row_parts(
     nodes: &mut Vec<Node>,
+    rows: &mut Vec<Item>,
+    items: &mut Vec<Item>,
     refs: &[Ref],
     table: &NetTable,
-) -> Result<Vec<Item>, OutOfMemory>
+) -> Result<(), OutOfMemory>
     requires below { All (λ signal. signal < length refs.now) table.now.inputs }
     requires fits { All (λ row. length row ≡ length table.now.inputs) table.now.rows }
     requires room { length nodes.old.items + 2 * (length table.now.rows * length table.now.inputs) ≤ 2 ^ 32 }
-    ensures makes { IfOk result (λ v. (names : List NodeName) (of : ℕ → Operand) (number : ℕ) (way : List Turn) → AreRefs names of refs.now
-        → MakesRows names of number way table.now nodes.old.items nodes.new.items v.items) }
-    ensures count { IfOk result (λ v. length v.items ≡ length table.now.rows) }
-    ensures few { IfOk result (λ v. length nodes.new.items ≤ length nodes.old.items + 2 * (length table.now.rows * length table.now.inputs)) }
-    ensures operators { IfOk result (λ v. count_by is_operator nodes.new.items
+    ensures makes { OnOk result ((names : List NodeName) (of : ℕ → Operand) (number : ℕ) (way : List Turn) → AreRefs names of refs.now
+        → MakesRows names of number way table.now nodes.old.items nodes.new.items rows.new.items) }
+    ensures count { OnOk result (length rows.new.items ≡ length table.now.rows) }
+    ensures few { OnOk result (length nodes.new.items ≤ length nodes.old.items + 2 * (length table.now.rows * length table.now.inputs)) }
+    ensures operators { OnOk result (count_by is_operator nodes.new.items
         ≤ count_by is_operator nodes.old.items + length table.now.rows * length table.now.inputs) }
 {
-    let mut parts = Vec::new(alloc);
+    rows.clear();
     for row in table.rows.iter() {
-        let part = row_part(alloc, nodes, refs, table.inputs.as_slice(), row)?;
-        parts.push(Item { part, plus: true })?;
+        let part = row_part(nodes, items, refs, table.inputs.as_slice(), row)?;
+        rows.push(Item { part, plus: true })?;
     }
-    Ok(parts)
+    Ok(())
 }
 
-/// What a table comes to: the Or of its rows, under Not where they end in 0.
+/// What a table comes to: the Or of its rows, under Not where they end in 0. The items of its rows and
+/// of their letters are put in place of these items.
 fn table_part(
-    alloc: Global,
     nodes: &mut Vec<Node>,
+    rows: &mut Vec<Item>,
+    items: &mut Vec<Item>,
     refs: &[Ref],
     table: &NetTable,
 ) -> Result<Ref, OutOfMemory>
@@ -58,7 +61,7 @@ fn table_part(
     ensures operators { IfOk result (λ r. count_by is_operator nodes.new.items
         ≤ count_by is_operator nodes.old.items + letters (length table.now.inputs) table.now.rows) }
 {
-    let rows = row_parts(alloc, nodes, refs, table)?;
+    put_row_parts(nodes, rows, items, refs, table)?;
     let part = join_all(nodes, Operator::Or, rows.as_slice())?;
     if table.on {
         Ok(part)
@@ -71,7 +74,7 @@ fn table_part(
 fn leaf_refs(alloc: Global, leaves: u32) -> Result<Vec<Ref>, OutOfMemory>
     ensures { IfOk result (λ v. v.items ≡ map Ref.Leaf (range_with_len 0 leaves)) }
 {
-    let mut refs = Vec::new(alloc);
+    let mut refs = Vec::with_capacity(alloc, leaves as usize)?;
     for leaf in 0..leaves {
         refs.push(Ref::Leaf(leaf))?;
     }
@@ -102,8 +105,10 @@ pub fn decompose(alloc: Global, network: &Network) -> Result<Gates, OutOfMemory>
     let leaves = network.inputs + network.latches.len() as u32;
     let mut refs = leaf_refs(alloc, leaves)?;
     let mut nodes = Vec::new(alloc);
+    let mut rows = Vec::new(alloc);
+    let mut items = Vec::new(alloc);
     for table in network.tables.iter() {
-        let part = table_part(alloc, &mut nodes, refs.as_slice(), table)?;
+        let part = table_part(&mut nodes, &mut rows, &mut items, refs.as_slice(), table)?;
         refs.push(part)?;
     }
     let sinks = sink_refs(alloc, network, refs.as_slice())?;

@@ -1,7 +1,7 @@
 -- Pairs that are used are the needed ones, where all uses are counted; and needed ones, where some are.
 use Rattle.std.proofs.Common.{◌≡◌, inl, inr, refl, sym, ap, ap₂, subst, ◌∙◌, ℕ, zero, suc, ◌+◌, ◌≤◌, ◌<◌, Bool, true, false, cond, List, [], ◌∷◌, ◌++◌, length, length-append, Option, Some, None, slice_get, get_or, arith}
 use Rattle.std.proofs.lemmas.Option.{same_Some, slice_get_within, slice_get-get_or}
-use Rattle.dom_base.proofs.Bools.{and_both}
+use Rattle.dom_base.proofs.Bools.{and_both, same_truth}
 use Rattle.gate_decompose.specs.declared.gates.Node.TheVariants.{And, Or}
 use Rattle.gate_decompose.specs.declared.gates.Ref.{Ref}
 use Rattle.gate_decompose.specs.declared.gates.Ref.TheVariants.{Const}
@@ -36,11 +36,6 @@ one_le : (a b : Bool) → (a ≡ true → b ≡ true) → one_if a ≤ one_if b
 one_le true b h = let e : one_if b ≡ 1 = ap one_if (h refl) in omega arith
 one_le false true h = omega arith
 one_le false false h = omega arith
-
-same_bool : (a b : Bool) → (a ≡ true → b ≡ true) → (b ≡ true → a ≡ true) → a ≡ b
-same_bool true b h k = sym (h refl)
-same_bool false true h k = k refl
-same_bool false false h k = refl
 
 -- what sinks ask for
 sinks_some : (ends : List (Option Pair)) (signs : List Bool) (n : ℕ) (s : Bool) → 0 < times n s (asked_by_sinks ends signs)
@@ -211,7 +206,7 @@ module _ (gates : GatesData) (order : AreOrderedGates gates) (arms : List Arms) 
     uses_size u =
         let same : living count (length arms) ≡ total (λ m t. one_if (marked m t)) 0 (length gates.nodes) =
         ap (λ n. total (λ m t. one_if (is_live count m t)) 0 n) wired.arms_count
-        ∙ ap (λ (f : ℕ → Bool → Bool). total (λ m t. one_if (f m t)) 0 (length gates.nodes)) (λ i m t. same_bool (is_live count m t) (marked m t) (live_marked [] u m t) (marked_live u m t) i) in
+        ∙ ap (λ (f : ℕ → Bool → Bool). total (λ m t. one_if (f m t)) 0 (length gates.nodes)) (λ i m t. same_truth (is_live count m t) (marked m t) (live_marked [] u m t) (marked_live u m t) i) in
         subst (HasSize gates signs) (sym same) all_size
 
     -- where some are, they are no more

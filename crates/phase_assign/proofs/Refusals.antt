@@ -1,6 +1,6 @@
 -- A trial that lowered nothing holds as long as the uses that it looked at stay.
 use Rattle.std.proofs.Common.{◌≡◌, ◌⊎◌, inl, inr, refl, sym, ap, ap₂, ◌∙◌, ℕ, zero, suc, ◌+◌, ◌<◌, Bool, true, false, not, cond, List, [], length, Option, arith}
-use Rattle.phase_assign.specs.Refusals.{IsRefused}
+use Rattle.phase_assign.specs.Refusals.{IsSignChangeRefused}
 use Rattle.phase_assign.specs.Uses.{AreTried, AreUses, HasRoots, asked, asked_by_pair, is_live, is_some_use, living, one_if, times, total, uses_by_pairs}
 use Rattle.phase_assign.specs.declared.pairs.Arms.{Arms}
 use Rattle.phase_assign.specs.declared.pairs.Pair.{Pair}
@@ -48,7 +48,7 @@ module _ (arms : List Arms) (old new : ℕ → Bool → ℕ) (looked : List Pair
           ap (λ x. cond (is_some_use x) (w m t) 0 + cond (is_some_use (old m t)) (w m t) 0) a ∙ swap
           ∙ ap (λ x. cond (is_some_use x) (w m t) 0 + cond (is_some_use (new m t)) (w m t) 0) (sym b)
 
-  pub refused_still : (target : Option Pair) (sign : Bool) → IsRefused arms old target sign looked → IsRefused arms new target sign looked
+  pub refused_still : (target : Option Pair) (sign : Bool) → IsSignChangeRefused arms old target sign looked → IsSignChangeRefused arms new target sign looked
   unfolding moved
   refused_still target sign r = record {
     without = moved r.without;
@@ -103,7 +103,7 @@ module _ (arms : List Arms) (old new : ℕ → Bool → ℕ) (looked : List Pair
               omega arith
 
 -- what it shows
-pub refused_tried : (arms : List Arms) (count : ℕ → Bool → ℕ) (target : Option Pair) (sign : Bool) (looked others roots : List Pair) → IsRefused arms count target sign looked
+pub refused_tried : (arms : List Arms) (count : ℕ → Bool → ℕ) (target : Option Pair) (sign : Bool) (looked others roots : List Pair) → IsSignChangeRefused arms count target sign looked
     → AreUses arms count others [] (asked target sign) → HasRoots others (asked target (not sign)) roots → (size : ℕ) → size ≡ living count (length arms) → AreTried arms roots size
 refused_tried arms count target sign looked others roots r u h size is = record {
   count = r.tried;

@@ -1,5 +1,6 @@
 -- What the search keeps, at its start and at a sink's turn.
 use Rattle.std.proofs.Common.{◌≡◌, refl, sym, ap, subst, ◌∙◌, ℕ, zero, suc, ◌+◌, ◌*◌, ◌≤◌, ◌<◌, Bool, true, false, not, List, [], ◌∷◌, ◌++◌, length, flat_map, take, replicate, length-set, set, get_or, Option, Some, None, slice_get, arith}
+use Rattle.std.proofs.lemmas.List.{take_all}
 use Rattle.gate_decompose.specs.GatesData.{GatesData}
 use Rattle.gate_decompose.specs.GatesOrder.{AreOrderedGates}
 use Rattle.gate_decompose.specs.Needed.{HasSize}
@@ -76,18 +77,12 @@ sinks_below n [] signs low = tt
 sinks_below n (e ∷ ends) [] low = tt
 sinks_below n (e ∷ ends) (b ∷ signs) low = below_append n (asked e b) (asked_by_sinks ends signs) (low 0 e b refl) (sinks_below n ends signs (λ k d s at. low (suc k) d s at))
 
-take_past : {X : Type 0} (xs : List X) (i : ℕ) → length xs ≤ i → take i xs ≡ xs
-take_past [] zero le = refl
-take_past [] (suc i) le = refl
-take_past (x ∷ xs) zero le = absurd (omega arith)
-take_past (x ∷ xs) (suc i) le = ap (λ ys. x ∷ ys) (take_past xs i (omega arith))
-
 all_plus : (ends : List (Option Pair)) → flat_map (λ (e : Option Pair). asked e true) ends ≡ asked_by_sinks ends (replicate (length ends) true)
 all_plus [] = refl
 all_plus (e ∷ ends) = ap (λ ps. asked e true ++ ps) (all_plus ends)
 
 pub at_first : (ends : List (Option Pair)) (i : ℕ) (work : List Pair) → length ends ≤ i → work ≡ flat_map (λ (e : Option Pair). asked e true) (take i ends) → work ≡ asked_by_sinks ends (replicate (length ends) true)
-at_first ends i work le e = e ∙ ap (flat_map (λ (o : Option Pair). asked o true)) (take_past ends i le) ∙ all_plus ends
+at_first ends i work le e = e ∙ ap (flat_map (λ (o : Option Pair). asked o true)) (take_all i ends le) ∙ all_plus ends
 
 pub few_living : (count : ℕ → Bool → ℕ) (nodes : ℕ) → living count nodes ≤ nodes * 2
 few_living count nodes = total_few (λ m t. one_if (is_live count m t)) 1 (λ m t. one_le (is_live count m t)) 0 nodes

@@ -1,6 +1,8 @@
 -- What references ask for with each sign, and what nodes and sinks ask for, one after another.
 use Rattle.std.proofs.Common.{◌≡◌, ◌⊎◌, inl, inr, refl, sym, ap, subst, ◌∙◌, ℕ, ◌<◌, Bool, true, false, not, List, [], ◌∷◌, ◌++◌, length, Option, Some, None, slice_get, get_or, arith}
 use Rattle.std.proofs.lemmas.Option.{same_Some, slice_get_within, slice_get-get_or}
+use Rattle.std.proofs.Math.Bool.{not-not}
+use Rattle.dom_base.proofs.Lists.{slice_get-push_cases}
 use Rattle.gate_decompose.specs.declared.gates.Node.{Node}
 use Rattle.gate_decompose.specs.declared.gates.Node.TheVariants.{And, Or, Not}
 use Rattle.gate_decompose.specs.declared.gates.Ref.{Ref}
@@ -8,9 +10,8 @@ use Rattle.gate_decompose.specs.declared.gates.Ref.TheVariants.{Const, Leaf, Nod
 use Rattle.gate_decompose.specs.GatesData.{GatesData}
 use Rattle.gate_decompose.specs.GatesOrder.{AreGates, AreOrderedGates, NodeReadsEarlier, ReadsEarlier}
 use Rattle.gate_decompose.specs.Needed.{Asked, AsksFor, IsGateNode, Pair as asked_pair, constant, gate, leaf, under}
-use Rattle.dual_rail.proofs.TargetsOf.{get_pushed}
 use Rattle.phase_assign.specs.Uses.{AreBelow, asked, asked_by_arms, asked_by_pair, is_pair, one_if, times, with_sign}
-use Rattle.phase_assign.specs.Wiring.{AreArmsOf, AreTargets, AreWired, IsAskedBy, IsWiring}
+use Rattle.phase_assign.specs.Wiring.{AreArmsOf, AreAskedByNodes, AreWired, IsAskedBy, IsWiring}
 use Rattle.phase_assign.specs.declared.pairs.Arms.{Arms}
 use Rattle.phase_assign.specs.declared.pairs.Pair.{Pair}
 use Rattle.phase_assign.proofs.Totals.{below_append, pair_is, pair_self}
@@ -98,10 +99,6 @@ abbrev turned : Option Pair → Option Pair
 turned None = None
 turned (Some p) = Some (with_sign p false)
 
-not-not : (b : Bool) → not (not b) ≡ b
-not-not true = refl
-not-not false = refl
-
 turned_asked : (o : Option Pair) (s : Bool) → asked (turned o) s ≡ asked o (not s)
 turned_asked None s = refl
 turned_asked (Some p) true = refl
@@ -120,16 +117,16 @@ pub not_some : (nodes : List Node) (m : ℕ) (c : Ref) (o : Option Pair) (p q : 
 not_some nodes m c o p q at e f is = not_target nodes m c o (Some q) at (ap Some f ∙ sym (ap turned e)) is
 
 -- a node's target after those of the nodes before it
-pub next_targets : (nodes : List Node) (targets seen new : List (Option Pair)) (t : Option Pair) (i : ℕ) (d : Node) → AreTargets nodes targets → seen ≡ targets → length targets ≡ i → i < length nodes
-    → new ≡ targets ++ (t ∷ []) → (AreTargets nodes seen → slice_get nodes (length seen) ≡ Some (get_or nodes i d) → IsAskedBy nodes (node_ref (length seen)) t) → AreTargets nodes new
-next_targets nodes targets seen new t i d are same count lt next own = subst (AreTargets nodes) (sym next) all
+pub next_targets : (nodes : List Node) (targets seen new : List (Option Pair)) (t : Option Pair) (i : ℕ) (d : Node) → AreAskedByNodes nodes targets → seen ≡ targets → length targets ≡ i → i < length nodes
+    → new ≡ targets ++ (t ∷ []) → (AreAskedByNodes nodes seen → slice_get nodes (length seen) ≡ Some (get_or nodes i d) → IsAskedBy nodes (node_ref (length seen)) t) → AreAskedByNodes nodes new
+next_targets nodes targets seen new t i d are same count lt next own = subst (AreAskedByNodes nodes) (sym next) all
   where
     last : IsAskedBy nodes (node_ref (length targets)) t
     last = subst (λ xs. IsAskedBy nodes (node_ref (length xs)) t) same
-        (own (subst (AreTargets nodes) (sym same) are) (ap (λ xs. slice_get nodes (length xs)) same ∙ ap (slice_get nodes) count ∙ slice_get-get_or nodes i d lt))
+        (own (subst (AreAskedByNodes nodes) (sym same) are) (ap (λ xs. slice_get nodes (length xs)) same ∙ ap (slice_get nodes) count ∙ slice_get-get_or nodes i d lt))
 
-    all : AreTargets nodes (targets ++ (t ∷ []))
-    all n u e = by (get_pushed targets t n u e)
+    all : AreAskedByNodes nodes (targets ++ (t ∷ []))
+    all n u e = by (slice_get-push_cases targets t n u e)
       where
         by : (slice_get targets n ≡ Some u) ⊎ ((n ≡ length targets) × (t ≡ u)) → IsAskedBy nodes (node_ref n) u
         by (inl f) = are n u f
@@ -139,7 +136,7 @@ next_targets nodes targets seen new t i d are same count lt next own = subst (Ar
 pub zip_next : {X Y : Type 0} (P : X → Y → Type 0) (xs : List X) (ys new : List Y) (i : ℕ) (d : X) (y : Y) → length ys ≡ i → i < length xs → new ≡ ys ++ (y ∷ [])
     → ((n : ℕ) (a : X) (b : Y) → slice_get xs n ≡ Some a → slice_get ys n ≡ Some b → P a b) → P (get_or xs i d) y
     → (n : ℕ) (a : X) (b : Y) → slice_get xs n ≡ Some a → slice_get new n ≡ Some b → P a b
-zip_next P xs ys new i d y count lt next are own n a b e f = by (get_pushed ys y n b (ap (λ zs. slice_get zs n) (sym next) ∙ f))
+zip_next P xs ys new i d y count lt next are own n a b e f = by (slice_get-push_cases ys y n b (ap (λ zs. slice_get zs n) (sym next) ∙ f))
   where
     by : (slice_get ys n ≡ Some b) ⊎ ((n ≡ length ys) × (y ≡ b)) → P a b
     by (inl g) = are n a b e g

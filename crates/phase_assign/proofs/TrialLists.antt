@@ -1,6 +1,7 @@
 -- Lists of the pairs that a trial looked at, one after another.
-use Rattle.std.proofs.Common.{◌≡◌, ◌⊎◌, inl, inr, refl, sym, ap, subst, ◌∙◌, ℕ, zero, suc, ◌+◌, ◌≤◌, ◌<◌, Bool, true, false, List, [], ◌∷◌, length, take, set, get_or, get_or-set_other, get_or-set_same, arith}
+use Rattle.std.proofs.Common.{◌≡◌, ◌⊎◌, inl, inr, refl, sym, ap, subst, ◌∙◌, ℕ, ◌+◌, ◌≤◌, ◌<◌, Bool, true, false, List, length, take, set, get_or, get_or-set_other, get_or-set_same, arith}
 use Rattle.std.proofs.lemmas.Bool.{cases_eq}
+use Rattle.std.proofs.lemmas.List.{take_all}
 use Rattle.phase_assign.specs.Uses.{AreBelow, is_pair, one_if, times}
 use Rattle.phase_assign.specs.declared.pairs.Pair.{Pair}
 use Rattle.phase_assign.proofs.Totals.{below_at, item_next, pair_is}
@@ -34,16 +35,10 @@ noted_next looked i d first changed size lt below so_far n = by (cases_eq n (get
               omega arith,
         )
 
-take_past : (xs : List Pair) (i : ℕ) → length xs ≤ i → take i xs ≡ xs
-take_past [] zero le = refl
-take_past [] (suc i) le = refl
-take_past (x ∷ xs) zero le = absurd (omega arith)
-take_past (x ∷ xs) (suc i) le = ap (λ ys. x ∷ ys) (take_past xs i (omega arith))
-
 pub noted_all : (looked : List Pair) (i : ℕ) (first changed : List ℕ) (size : ℕ) → length looked ≤ i
     → ((n : ℕ) → (get_or changed n 0 ≡ size) ⊎ ((get_or changed n 0 ≡ get_or first n 0) × ((s : Bool) → times n s (take i looked) ≡ 0)))
     → (n : ℕ) → (get_or changed n 0 ≡ size) ⊎ ((get_or changed n 0 ≡ get_or first n 0) × ((s : Bool) → times n s looked ≡ 0))
-noted_all looked i first changed size le h = subst (λ xs. (n : ℕ) → (get_or changed n 0 ≡ size) ⊎ ((get_or changed n 0 ≡ get_or first n 0) × ((s : Bool) → times n s xs ≡ 0))) (take_past looked i le) h
+noted_all looked i first changed size le h = subst (λ xs. (n : ℕ) → (get_or changed n 0 ≡ size) ⊎ ((get_or changed n 0 ≡ get_or first n 0) × ((s : Bool) → times n s xs ≡ 0))) (take_all i looked le) h
 
 -- one pair more at which nothing has changed
 pub current_next : (looked : List Pair) (i : ℕ) (d : Pair) (changed : List ℕ) (size : ℕ) → i < length looked → ((n : ℕ) (s : Bool) → 0 < times n s (take i looked) → size ≤ get_or changed n 0)
@@ -56,4 +51,4 @@ current_next looked i d changed size lt so_far own n s some = by (cases_eq (get_
 
 pub current_all : (looked : List Pair) (i : ℕ) (changed : List ℕ) (size : ℕ) → length looked ≤ i → ((n : ℕ) (s : Bool) → 0 < times n s (take i looked) → size ≤ get_or changed n 0)
     → (n : ℕ) (s : Bool) → 0 < times n s looked → size ≤ get_or changed n 0
-current_all looked i changed size le h = subst (λ xs. (n : ℕ) (s : Bool) → 0 < times n s xs → size ≤ get_or changed n 0) (take_past looked i le) h
+current_all looked i changed size le h = subst (λ xs. (n : ℕ) (s : Bool) → 0 < times n s xs → size ≤ get_or changed n 0) (take_all i looked le) h

@@ -2,10 +2,10 @@
 use Rattle.std.proofs.Common.{◌≡◌, ◌⊎◌, inl, inr, refl, sym, ap, subst, ◌∙◌, ℕ, zero, suc, ◌+◌, ◌≤◌, ◌<◌, Bool, true, not, List, [], ◌∷◌, ◌++◌, length, length-append, length-set, set, get_or, Option, Some, None, slice_get, arith}
 use Rattle.std.proofs.lemmas.Bool.{cases_eq}
 use Rattle.std.proofs.lemmas.Option.{same_Some, slice_get-get_or}
+use Rattle.dom_base.proofs.Lists.{slice_get-push_cases, slice_get-set_other}
 use Rattle.gate_decompose.specs.GatesData.{GatesData}
 use Rattle.gate_decompose.specs.GatesOrder.{AreOrderedGates}
-use Rattle.dual_rail.proofs.TargetsOf.{get_pushed}
-use Rattle.phase_assign.specs.Refusals.{IsRefused}
+use Rattle.phase_assign.specs.Refusals.{IsSignChangeRefused}
 use Rattle.phase_assign.specs.Search.{IsSearch}
 use Rattle.phase_assign.specs.Signs.{Lowers, with_sign_changed}
 use Rattle.phase_assign.specs.Trials.{AreTrials, HasNoTrials, IsTrial}
@@ -19,13 +19,6 @@ use Rattle.phase_assign.proofs.Exchanges.{sinks_with, uses_without}
 use Rattle.phase_assign.proofs.Refusals.{refused_still, refused_tried}
 use Rattle.phase_assign.proofs.Searches.{tried_none}
 
-get_set_other : {X : Type 0} (xs : List X) (k j : ℕ) (y : X) → (j ≡ k → ⊥) → slice_get (set xs k y) j ≡ slice_get xs j
-get_set_other [] k j y other = refl
-get_set_other (x ∷ xs) zero zero y other = absurd (other refl)
-get_set_other (x ∷ xs) zero (suc j) y other = refl
-get_set_other (x ∷ xs) (suc k) zero y other = refl
-get_set_other (x ∷ xs) (suc k) (suc j) y other = get_set_other xs k j y (λ e. other (ap suc e))
-
 get_set_same : {X : Type 0} (xs : List X) (k : ℕ) (x y : X) → slice_get (set xs k y) k ≡ Some x → y ≡ x
 get_set_same [] k x y e = absurd (cc)
 get_set_same (z ∷ xs) zero x y e = same_Some y x e
@@ -34,7 +27,7 @@ get_set_same (z ∷ xs) (suc k) x y e = get_set_same xs k x y e
 -- no trials
 pub no_trials_next : (trials new : List (Option Trial)) (i : ℕ) → HasNoTrials i trials → new ≡ trials ++ (None ∷ []) → HasNoTrials (i + 1) new
 no_trials_next trials new i has e =
-    (ap length e ∙ length-append trials (None ∷ []) ∙ ap (λ n. n + 1) has.0, λ k trial at. by k trial (get_pushed trials None k (Some trial) (ap (λ ts. slice_get ts k) (sym e) ∙ at)))
+    (ap length e ∙ length-append trials (None ∷ []) ∙ ap (λ n. n + 1) has.0, λ k trial at. by k trial (slice_get-push_cases trials None k (Some trial) (ap (λ ts. slice_get ts k) (sym e) ∙ at)))
   where
     by : (k : ℕ) (trial : Trial) → (slice_get trials k ≡ Some (Some trial)) ⊎ ((k ≡ length trials) × (None ≡ Some trial)) → ⊥
     by k trial (inl at) = has.1 k trial at
@@ -42,7 +35,7 @@ no_trials_next trials new i has e =
 
 -- a sink whose use with the other sign was refused
 pub refused_none : (gates : GatesData) → AreOrderedGates gates → (arms : List Arms) (ends : List (Option Pair)) → IsWiring arms ends → AreWired gates arms ends → (signs : List Bool) (uses : List Uses) (size k : ℕ)
-    → IsSearch arms ends signs uses size → k < length signs → (e : Option Pair) (b : Bool) → slice_get ends k ≡ Some e → b ≡ get_or signs k true → (looked : List Pair) → IsRefused arms (used uses) e b looked → Lowers gates signs k → ⊥
+    → IsSearch arms ends signs uses size → k < length signs → (e : Option Pair) (b : Bool) → slice_get ends k ≡ Some e → b ≡ get_or signs k true → (looked : List Pair) → IsSignChangeRefused arms (used uses) e b looked → Lowers gates signs k → ⊥
 refused_none gates order arms ends wiring wired signs uses size k is lt e b at own looked refused =
     tried_none gates order arms ends wiring wired signs uses size k is
     (refused_tried arms (used uses) e b looked (asked_by_sinks (set ends k None) signs) (asked_by_sinks ends (with_sign_changed signs k)) refused
@@ -85,7 +78,7 @@ trials_changed arms ends signs uses new size after k changed noted trials looked
         let is : None ≡ Some trial = get_set_same trials k (Some trial) None (subst (λ i. slice_get (set trials k None) i ≡ Some (Some trial)) here at) in
         absurd (cc)
     by j trial e b at at_e at_b (inr other) =
-        let t = are.each j trial e b (sym (get_set_other trials k j None other) ∙ at) at_e (sym (get_set_other signs k j c other) ∙ at_b) in
+        let t = are.each j trial e b (sym (slice_get-set_other trials k j None other) ∙ at) at_e (sym (slice_get-set_other signs k j c other) ∙ at_b) in
         record { count = t.count; refused = t.refused; same = λ n s le. same n s le t (notes n); later = let l = t.later in omega arith; below = t.below }
       where
         same : (n : ℕ) (s : Bool) → trial.size ≤ get_or noted n 0 → (t : IsTrial arms e b uses changed size trial)
@@ -95,7 +88,7 @@ trials_changed arms ends signs uses new size after k changed noted trials looked
 
 -- after a trial that lowered nothing
 pub trials_kept : (arms : List Arms) (ends : List (Option Pair)) (signs : List Bool) (uses new : List Uses) (size after k : ℕ) (changed : List ℕ) (trials : List (Option Trial)) (own : Trial) (d : Option Pair) (c : Bool)
-    → AreTrials arms ends signs uses size changed trials → after ≤ size → own.size ≡ size → ((n : ℕ) (s : Bool) → used new n s ≡ used uses n s) → IsRefused arms (used uses) d c own.looked.items
+    → AreTrials arms ends signs uses size changed trials → after ≤ size → own.size ≡ size → ((n : ℕ) (s : Bool) → used new n s ≡ used uses n s) → IsSignChangeRefused arms (used uses) d c own.looked.items
     → AreBelow (length arms) own.looked.items → slice_get ends k ≡ Some d → slice_get signs k ≡ Some c → AreTrials arms ends signs new after changed (set trials k (Some own))
 trials_kept arms ends signs uses new size after k changed trials own d c are low at_size kept refused below at_d at_c = record {
   one_each = length-set trials k (Some own) ∙ are.one_each;
@@ -114,5 +107,5 @@ trials_kept arms ends signs uses new size after k changed trials own d c are low
         let same_c : c ≡ b = same_Some c b (sym at_c ∙ ap (slice_get signs) (sym here) ∙ at_b) in
         subst (λ t. IsTrial arms e b new changed after t) (same_Some own trial is) (subst (λ o. IsTrial arms o b new changed after own) same_d (subst (λ q. IsTrial arms d q new changed after own) same_c mine))
     by j trial e b at at_e at_b (inr other) =
-        let t = are.each j trial e b (sym (get_set_other trials k j (Some own) other) ∙ at) at_e at_b in
+        let t = are.each j trial e b (sym (slice_get-set_other trials k j (Some own) other) ∙ at) at_e at_b in
         record { count = t.count; refused = t.refused; same = λ n s le. kept n s ∙ t.same n s le; later = let l = t.later in omega arith; below = t.below }

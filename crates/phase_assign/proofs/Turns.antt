@@ -2,7 +2,7 @@
 use Rattle.std.proofs.Common.{◌≡◌, ◌≢◌, ◌⊎◌, inl, inr, refl, sym, ap, subst, ◌∙◌, ℕ, zero, suc, ◌+◌, ◌≤◌, ◌<◌, Bool, true, not, List, [], ◌∷◌, ◌++◌, length, replicate, set, Some, slice_get, get_or, length-append, arith}
 use Rattle.std.proofs.lemmas.List.{get_or_default, set-set, set-get_or}
 use Rattle.std.proofs.lemmas.Option.{slice_get_within, same_Some}
-use Rattle.dom_base.proofs.Lists.{slice_get-append}
+use Rattle.dom_base.proofs.Lists.{slice_get-append, slice_get-push_cases}
 use Rattle.gate_decompose.proofs.NeededLists.{size_one}
 use Rattle.gate_decompose.specs.GatesData.{GatesData}
 use Rattle.gate_decompose.specs.Needed.{HasSize}
@@ -32,13 +32,6 @@ no_lower gates signs changed k before after has has' e le (b, a, has_b, has_a, l
     let y = size_one gates (with_sign_changed signs k) after a (subst (λ s. HasSize gates s after) e has') has_a in
     absurd (omega arith)
 
--- an item at the end of a list
-get_pushed : {X : Type 0} (xs : List X) (y : X) (i : ℕ) (x : X) → slice_get (xs ++ (y ∷ [])) i ≡ Some x → (slice_get xs i ≡ Some x) ⊎ ((i ≡ length xs) × (y ≡ x))
-get_pushed [] y zero x e = inr (refl, same_Some y x e)
-get_pushed [] y (suc i) x e = absurd (cc)
-get_pushed (z ∷ xs) y zero x e = inl e
-get_pushed (z ∷ xs) y (suc i) x e = elim (get_pushed xs y i x e) [ inl f ↦ inl f | inr f ↦ inr (ap suc f.0, f.1) ]
-
 get_last : {X : Type 0} (xs : List X) (y : X) (n : ℕ) → length xs ≡ n → slice_get (xs ++ (y ∷ [])) n ≡ Some y
 get_last [] y n e = subst (λ i. slice_get (y ∷ []) i ≡ Some y) e refl
 get_last (x ∷ xs) y zero e = absurd (omega arith)
@@ -48,7 +41,7 @@ get_last (x ∷ xs) y (suc n) e = get_last xs y n (omega arith)
 chain_pushed : {X : Type 0} (R : ℕ → X → X → Type 0) (xs : List X) (end : ℕ) (mid after : X) → length xs ≡ end + 1 → slice_get xs end ≡ Some mid
     → ((k : ℕ) (a b : X) → slice_get xs k ≡ Some a → slice_get xs (k + 1) ≡ Some b → R k a b) → R end mid after
     → (k : ℕ) (a b : X) → slice_get (xs ++ (after ∷ [])) k ≡ Some a → slice_get (xs ++ (after ∷ [])) (k + 1) ≡ Some b → R k a b
-chain_pushed R xs end mid after count last steps next k a b e f = by (get_pushed xs after k a e) (get_pushed xs after (k + 1) b f)
+chain_pushed R xs end mid after count last steps next k a b e f = by (slice_get-push_cases xs after k a e) (slice_get-push_cases xs after (k + 1) b f)
   where
     by : (slice_get xs k ≡ Some a) ⊎ ((k ≡ length xs) × (after ≡ a)) → (slice_get xs (k + 1) ≡ Some b) ⊎ ((k + 1 ≡ length xs) × (after ≡ b)) → R k a b
     by (inl x) (inl y) = steps k a b x y

@@ -6,7 +6,7 @@ use Rattle.phase_assign.specs.declared.pairs.Pair.{Pair}
 
 -- a sink's use with the other sign in place of that with this sign leaves no fewer pairs used, by counts that differ from
 -- these for pairs of the list alone
-pub record IsRefused (arms : List Arms) (count : ℕ → Bool → ℕ) (target : Option Pair) (sign : Bool) (looked : List Pair) : Type 0 where
+pub record IsSignChangeRefused (arms : List Arms) (count : ℕ → Bool → ℕ) (target : Option Pair) (sign : Bool) (looked : List Pair) : Type 0 where
   pub without : ℕ → Bool → ℕ
   pub tried : ℕ → Bool → ℕ
   pub uncounted : List Pair

@@ -1,6 +1,6 @@
 -- Trials of sinks that lowered nothing, and which later states they still hold for.
 use Rattle.std.specs.Prelude.{ℕ, ◌≤◌, ◌≡◌, Bool, List, Option, Some, length, slice_get, get_or}
-use Rattle.phase_assign.specs.Refusals.{IsRefused}
+use Rattle.phase_assign.specs.Refusals.{IsSignChangeRefused}
 use Rattle.phase_assign.specs.Uses.{AreBelow, used}
 use Rattle.phase_assign.specs.declared.needed.Uses.{Uses}
 use Rattle.phase_assign.specs.declared.pairs.Arms.{Arms}
@@ -11,7 +11,7 @@ use Rattle.phase_assign.specs.declared.trials.Trial.{Trial}
 pub record IsTrial (arms : List Arms) (target : Option Pair) (sign : Bool) (uses : List Uses) (changed : List ℕ) (size : ℕ)
     (trial : Trial) : Type 0 where
   pub count : ℕ → Bool → ℕ
-  pub refused : IsRefused arms count target sign trial.looked.items
+  pub refused : IsSignChangeRefused arms count target sign trial.looked.items
   pub same : (n : ℕ) (s : Bool) → trial.size ≤ get_or changed n 0 → used uses n s ≡ count n s
   pub later : size ≤ trial.size
   pub below : AreBelow (length arms) trial.looked.items

@@ -16,8 +16,8 @@ pub record IsAskedBy (nodes : List Node) (r : Ref) (target : Option Pair) : Type
   pub only : (s : Bool) (n : ℕ) (t : Bool) → 0 < times n t (asked target s) → AsksFor nodes r s (asked_pair n t)
 
 -- what each node so far asks for
-abbrev pub AreTargets : List Node → List (Option Pair) → Type 0
-AreTargets nodes targets = (n : ℕ) (e : Option Pair) → slice_get targets n ≡ Some e → IsAskedBy nodes (node_ref n) e
+abbrev pub AreAskedByNodes : List Node → List (Option Pair) → Type 0
+AreAskedByNodes nodes targets = (n : ℕ) (e : Option Pair) → slice_get targets n ≡ Some e → IsAskedBy nodes (node_ref n) e
 
 -- what the parts of a gate node ask for; a Not has no arms
 abbrev pub AreArmsOf : List Node → Node → Arms → Type 0

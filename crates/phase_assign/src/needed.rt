@@ -1,7 +1,7 @@
 //! Needed pairs by counts of their uses: a pair is needed where it is used.
 ghost use Rattle.std.specs.Prelude.{IfOk, List, ℕ, Bool, true, false, not, cond, ◌++◌, ◌≡◌, ◌<◌, ◌≤◌, ◌+◌, ◌*◌, ◌^◌, [], length};
 ghost use Rattle.phase_assign.specs.declared.pairs.Pair.{Pair as PairData};
-ghost use Rattle.phase_assign.specs.Refusals.{IsRefused};
+ghost use Rattle.phase_assign.specs.Refusals.{IsSignChangeRefused};
 ghost use Rattle.phase_assign.specs.Uses.{AreArms, AreBelow, AreUses, HasFewRoots, HasRoots, IsSupplied, asked, is_pair, living, one_if, same_sign, sign_uses, times, used};
 
 use crate::pairs::{Arms, Pair, asked_for};
@@ -268,7 +268,7 @@ impl Needed {
         ensures kept { IfOk result (λ x. x.fewer ≡ false → (n : ℕ) (s : Bool)
             → used self.new.uses.items n s ≡ used self.old.uses.items n s) }
         ensures refused { IfOk result (λ x. x.fewer ≡ false
-            → IsRefused arms.now (used self.old.uses.items) target sign x.looked.items) }
+            → IsSignChangeRefused arms.now (used self.old.uses.items) target sign x.looked.items) }
     {
         let before = self.size;
         let mut gone = asked_for(alloc, target, sign)?;

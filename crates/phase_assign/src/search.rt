@@ -43,7 +43,7 @@ fn asked_at_first(alloc: Global, ends: &[Option<Pair>]) -> Result<Vec<Pair>, Out
 fn no_trials(alloc: Global, sinks: usize) -> Result<Vec<Option<Trial>>, OutOfMemory>
     ensures { IfOk result (λ v. HasNoTrials sinks v.items) }
 {
-    let mut trials = Vec::new(alloc);
+    let mut trials = Vec::with_capacity(alloc, sinks)?;
     for _ in 0..sinks {
         trials.push(None)?;
     }

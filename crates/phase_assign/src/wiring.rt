@@ -4,7 +4,7 @@ ghost use Rattle.gate_decompose.specs.declared.gates.Node.{Node as NodeData};
 ghost use Rattle.gate_decompose.specs.declared.gates.Ref.{Ref as RefData};
 ghost use Rattle.gate_decompose.specs.GatesOrder.{AreOrderedGates};
 ghost use Rattle.dual_rail.specs.WantedNodes.{AreOrderedNodes, ArePartsThere, IsNodeThere};
-ghost use Rattle.phase_assign.specs.Wiring.{AreArmsOf, AreEnds, AreNodeArms, AreTargets, AreWired, IsAskedBy, IsWiring};
+ghost use Rattle.phase_assign.specs.Wiring.{AreArmsOf, AreEnds, AreNodeArms, AreAskedByNodes, AreWired, IsAskedBy, IsWiring};
 
 use crate::pairs::{Arms, Pair};
 use dom_base::OutOfMemory;
@@ -14,7 +14,7 @@ use std::alloc::Global;
 /// What a part asks for with the sign plus, where `targets` has what each node asks for.
 fn target_of(targets: &[Option<Pair>], part: Ref) -> Option<Pair>
     requires { IsNodeThere (length targets.now) part }
-    ensures { (nodes : List NodeData) → AreTargets nodes targets.now → IsAskedBy nodes part result }
+    ensures { (nodes : List NodeData) → AreAskedByNodes nodes targets.now → IsAskedBy nodes part result }
 {
     match part {
         Ref::Const(_) | Ref::Leaf(_) => None,
@@ -26,7 +26,7 @@ fn target_of(targets: &[Option<Pair>], part: Ref) -> Option<Pair>
 fn next_target(targets: &[Option<Pair>], node: Node) -> Option<Pair>
     requires fits { length targets.now < 2 ^ 32 }
     requires there { ArePartsThere (length targets.now) node }
-    ensures { (nodes : List NodeData) → AreTargets nodes targets.now → slice_get nodes (length targets.now) ≡ Some node
+    ensures { (nodes : List NodeData) → AreAskedByNodes nodes targets.now → slice_get nodes (length targets.now) ≡ Some node
         → IsAskedBy nodes (Ref.Node (length targets.now)) result }
 {
     match node {
@@ -46,9 +46,9 @@ fn node_targets(alloc: Global, nodes: &[Node]) -> Result<Vec<Option<Pair>>, OutO
     requires fits { length nodes.now ≤ 2 ^ 32 }
     requires order { AreOrderedNodes nodes.now }
     ensures count { IfOk result (λ v. length v.items ≡ length nodes.now) }
-    ensures targets { IfOk result (λ v. AreTargets nodes.now v.items) }
+    ensures targets { IfOk result (λ v. AreAskedByNodes nodes.now v.items) }
 {
-    let mut targets = Vec::new(alloc);
+    let mut targets = Vec::with_capacity(alloc, nodes.len())?;
     for node in nodes {
         let target = next_target(targets.as_slice(), *node);
         targets.push(target)?;
@@ -59,7 +59,7 @@ fn node_targets(alloc: Global, nodes: &[Node]) -> Result<Vec<Option<Pair>>, OutO
 /// What the parts of a node ask for.
 fn arms_of(targets: &[Option<Pair>], node: Node) -> Arms
     requires { ArePartsThere (length targets.now) node }
-    ensures { (nodes : List NodeData) → AreTargets nodes targets.now → AreArmsOf nodes node result }
+    ensures { (nodes : List NodeData) → AreAskedByNodes nodes targets.now → AreArmsOf nodes node result }
 {
     match node {
         Node::Not(_) => Arms {
@@ -81,11 +81,11 @@ fn node_arms(
 ) -> Result<Vec<Arms>, OutOfMemory>
     requires count { length targets.now ≡ length nodes.now }
     requires there { All (ArePartsThere (length nodes.now)) nodes.now }
-    requires targets { AreTargets nodes.now targets.now }
+    requires targets { AreAskedByNodes nodes.now targets.now }
     ensures count { IfOk result (λ v. length v.items ≡ length nodes.now) }
     ensures arms { IfOk result (λ v. AreNodeArms nodes.now v.items) }
 {
-    let mut arms = Vec::new(alloc);
+    let mut arms = Vec::with_capacity(alloc, nodes.len())?;
     for node in nodes {
         arms.push(arms_of(targets, *node))?;
     }
@@ -100,9 +100,9 @@ fn sink_targets(
 ) -> Result<Vec<Option<Pair>>, OutOfMemory>
     requires { All (IsNodeThere (length targets.now)) sinks.now }
     ensures count { IfOk result (λ v. length v.items ≡ length sinks.now) }
-    ensures ends { IfOk result (λ v. (nodes : List NodeData) → AreTargets nodes targets.now → AreEnds nodes sinks.now v.items) }
+    ensures ends { IfOk result (λ v. (nodes : List NodeData) → AreAskedByNodes nodes targets.now → AreEnds nodes sinks.now v.items) }
 {
-    let mut ends = Vec::new(alloc);
+    let mut ends = Vec::with_capacity(alloc, sinks.len())?;
     for sink in sinks {
         ends.push(target_of(targets, *sink))?;
     }

@@ -4,7 +4,7 @@ use Rattle.std.specs.Prelude.{All}
 use Rattle.std.proofs.lemmas.Grind.{common_steps}
 use Rattle.std.proofs.lemmas.Option.{slice_get_within}
 use Rattle.gate_decompose.specs.GatesData.{GatesData}
-use Rattle.gate_decompose.specs.NeededPass.{asked_by_sinks, pass}
+use Rattle.gate_decompose.specs.NeededPass.{is_asked_by_sinks, pass}
 use Rattle.dual_rail.proofs.Marks.{all_marked, parts_there, sink_there, written_over}
 use Rattle.dual_rail.proofs.Zips.{all_from}
 use Rattle.dual_rail.specs.WantedNodes.{ArePartsThere, IsNodeThere, holds}
@@ -34,6 +34,6 @@ returns-clause-marks c =
     λ n s. ap (λ ws. holds ws n s) second
     ∙ all_marked c.args.gates.now c.args.signs.now _ c.as_mut_slice.result.now c.mark_sinks.new.wanted c.mark_nodes.new.wanted
     (c.as_mut_slice.ensures.value ∙ c.in_ok-wanted.ensures.items_if_clones_equal (λ y e. e))
-    (λ m t. c.mark_sinks.ensures m t ∙ ap (λ xs. holds c.as_mut_slice.result.now m t || asked_by_sinks xs c.args.signs.now m t) (c.as_slice.ensures.value ∙ ap (λ (g : GatesData). g.sinks) c.gates.view_is))
+    (λ m t. c.mark_sinks.ensures m t ∙ ap (λ xs. holds c.as_mut_slice.result.now m t || is_asked_by_sinks xs c.args.signs.now m t) (c.as_slice.ensures.value ∙ ap (λ (g : GatesData). g.sinks) c.gates.view_is))
     (λ m t. c.mark_nodes.ensures m t ∙ ap₂ (λ xs ws. pass xs (holds ws) (length xs) m t) (c.as_slice-2.ensures.value ∙ ap (λ (g : GatesData). g.nodes) c.gates.view_is) mid)
     n s

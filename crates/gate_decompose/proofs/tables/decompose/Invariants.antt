@@ -1,6 +1,6 @@
 use Rattle.std.proofs.Common.{◌≡◌, ◌≤◌, ◌+◌, ◌*◌, length, map, flat_map, take, count_by}
 use Rattle.std.specs.List.{enumerate_from, sum_by}
-use Rattle.net_flatten.specs.Limits.{letters}
+use Rattle.model_calls.specs.Limits.{letters}
 use Rattle.net_flatten.specs.NetworkData.{NetTableData}
 use Rattle.gate_decompose.specs.GateNodes.{NamedNode, node_names, node_of, table_nodes}
 use Rattle.gate_decompose.specs.GatesOrder.{is_operator}

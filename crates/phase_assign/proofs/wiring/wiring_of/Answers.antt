@@ -9,7 +9,7 @@ use Rattle.dual_rail.proofs.Marks.{parts_there, sink_there}
 use Rattle.dual_rail.proofs.RailsOf.{nodes_ordered}
 use Rattle.dual_rail.proofs.Zips.{all_from}
 use Rattle.dual_rail.specs.WantedNodes.{AreOrderedNodes, ArePartsThere, IsNodeThere}
-use Rattle.phase_assign.specs.Wiring.{AreEnds, AreNodeArms, AreTargets}
+use Rattle.phase_assign.specs.Wiring.{AreEnds, AreNodeArms, AreAskedByNodes}
 use Rattle.phase_assign.proofs.Targets.{wiring_there}
 use Rattle.phase_assign.proofs.wiring.wiring_of.Goals as goal
 
@@ -51,7 +51,7 @@ returns-clause-wired c =
       ends_count = c.in_ok-ends.ensures.count ∙ ap length sinks;
       arms_are = subst (λ ns. AreNodeArms ns c.in_ok-arms.arms.items) nodes c.in_ok-arms.ensures.arms;
       ends_are = subst (λ xs. AreEnds c.args.gates.now.nodes xs c.in_ok-ends.ends.items) sinks
-          (c.in_ok-ends.ensures.ends c.args.gates.now.nodes (subst (AreTargets c.args.gates.now.nodes) (sym c.as_slice-3.ensures.value) (subst (λ ns. AreTargets ns c.in_ok-targets.targets.items) nodes c.in_ok-targets.ensures.targets)));
+          (c.in_ok-ends.ensures.ends c.args.gates.now.nodes (subst (AreAskedByNodes c.args.gates.now.nodes) (sym c.as_slice-3.ensures.value) (subst (λ ns. AreAskedByNodes ns c.in_ok-targets.targets.items) nodes c.in_ok-targets.ensures.targets)));
     }
 
 pub returns-clause-wiring : goal.returns-clause-wiring
@@ -65,5 +65,5 @@ returns-clause-wiring c =
       ends_count = c.in_ok-ends.ensures.count ∙ ap length sinks;
       arms_are = subst (λ ns. AreNodeArms ns c.in_ok-arms.arms.items) nodes c.in_ok-arms.ensures.arms;
       ends_are = subst (λ xs. AreEnds c.args.gates.now.nodes xs c.in_ok-ends.ends.items) sinks
-          (c.in_ok-ends.ensures.ends c.args.gates.now.nodes (subst (AreTargets c.args.gates.now.nodes) (sym c.as_slice-3.ensures.value) (subst (λ ns. AreTargets ns c.in_ok-targets.targets.items) nodes c.in_ok-targets.ensures.targets)));
+          (c.in_ok-ends.ensures.ends c.args.gates.now.nodes (subst (AreAskedByNodes c.args.gates.now.nodes) (sym c.as_slice-3.ensures.value) (subst (λ ns. AreAskedByNodes ns c.in_ok-targets.targets.items) nodes c.in_ok-targets.ensures.targets)));
     })

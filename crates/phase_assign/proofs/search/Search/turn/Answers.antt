@@ -3,7 +3,7 @@ use Rattle.std.proofs.Common.{◌≡◌, ◌<◌, ◌++◌, ◌∙◌, ℕ, Bool
 use Rattle.std.proofs.lemmas.List.{get_or_default}
 use Rattle.std.proofs.lemmas.Option.{slice_get-get_or}
 use Rattle.dual_rail.proofs.Marks.{written_over}
-use Rattle.phase_assign.specs.Refusals.{IsRefused}
+use Rattle.phase_assign.specs.Refusals.{IsSignChangeRefused}
 use Rattle.phase_assign.specs.Trials.{AreTrials}
 use Rattle.phase_assign.specs.Uses.{AreBelow, AreUses, HasFewRoots, asked, asked_by_sinks, living, times, used}
 use Rattle.phase_assign.specs.declared.pairs.Arms.{Arms}
@@ -101,7 +101,7 @@ returns-else-exchange-clause-trials c =
     trials_kept c.args.wiring.now.arms.items c.args.wiring.now.ends.items c.args.self.now.signs.items c.args.self.now.needed.uses.items c.exchange.new.self.uses.items c.args.self.now.needed.size c.exchange.new.self.size
     c.args.sink c.args.self.now.changed.items c.args.self.now.trials.items (record { size = c.args.self.now.needed.size; looked = c.in_ok-exchange.exchange.looked }) c.index.result.now
     c.index-sign.result.now c.requires.trials (omega (arith, c.requires.search.size_is)) refl (c.in_ok-exchange.ensures.kept c.if-exchange.false)
-    (subst (λ (arms : List Arms). IsRefused arms (used c.args.self.now.needed.uses.items) c.index.result.now c.index-sign.result.now c.in_ok-exchange.exchange.looked.items)
+    (subst (λ (arms : List Arms). IsSignChangeRefused arms (used c.args.self.now.needed.uses.items) c.index.result.now c.index-sign.result.now c.in_ok-exchange.exchange.looked.items)
     c.as_slice-arms.ensures.value (c.in_ok-exchange.ensures.refused c.if-exchange.false))
     (subst (λ (arms : List Arms). AreBelow (length arms) c.in_ok-exchange.exchange.looked.items) c.as_slice-arms.ensures.value c.in_ok-exchange.ensures.below) at own
 
@@ -114,5 +114,5 @@ returns-else-exchange-clause-turn c = λ gates order wired.
     (refused_none gates order c.args.wiring.now.arms.items c.args.wiring.now.ends.items c.requires.wiring wired c.args.self.now.signs.items c.args.self.now.needed.uses.items c.args.self.now.needed.size
     c.args.sink c.requires.search within c.index.result.now c.index-sign.result.now at
     (c.index-sign.ensures ∙ get_or_default c.args.self.now.signs.items c.args.sink c.index-sign.result.now true within) c.in_ok-exchange.exchange.looked.items
-    (subst (λ (arms : List Arms). IsRefused arms (used c.args.self.now.needed.uses.items) c.index.result.now c.index-sign.result.now c.in_ok-exchange.exchange.looked.items)
+    (subst (λ (arms : List Arms). IsSignChangeRefused arms (used c.args.self.now.needed.uses.items) c.index.result.now c.index-sign.result.now c.in_ok-exchange.exchange.looked.items)
     c.as_slice-arms.ensures.value (c.in_ok-exchange.ensures.refused c.if-exchange.false))) refl

@@ -2,8 +2,8 @@
 use Rattle.std.proofs.Common.{ap, sym, ◌∙◌, append-nil}
 use Rattle.blif_ast.specs.declared.letter.Letter.TheVariants.{Zero, One, Any}
 use Rattle.gate_decompose.proofs.RowParts.{letter_made}
-use Rattle.gate_decompose.proofs.row.row_items.Goals as goal
-use Rattle.gate_decompose.proofs.row.row_items.Goals.{in-One+in_ok-push-in-One, in-Zero+in_ok-push-in-Zero, in-Any}
+use Rattle.gate_decompose.proofs.row.put_row_items.Goals as goal
+use Rattle.gate_decompose.proofs.row.put_row_items.Goals.{in-One+in_ok-push-in-One, in-Zero+in_ok-push-in-Zero, in-Any}
 
 pub loop-place-preserved : goal.loop-place-preserved
 loop-place-preserved c =
