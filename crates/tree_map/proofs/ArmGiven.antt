@@ -19,7 +19,7 @@ use Rattle.tree_map.specs.LeastPlans.{IsPartOf, literal, shared, free, operator_
 use Rattle.tree_map.specs.Plans.{IsFree, is_free}
 use Rattle.tree_map.proofs.ArmEntries.{arm_same}
 use Rattle.tree_map.proofs.PlanCovers.{is_free-of, is_free-true}
-use Rattle.tree_map.proofs.ReadEntries.{sum_in}
+use Rattle.tree_map.proofs.HadShapes.{sum_in}
 use Rattle.tree_map.proofs.Tables.{lowest_reached}
 
 -- the entries that are read are those of the table

@@ -13,7 +13,8 @@ use Rattle.dual_rail.specs.ForestData.{ForestData}
 use Rattle.dual_rail.specs.ForestOrder.{IsForest, ReadsBefore}
 use Rattle.dual_rail.specs.Forests.{left_arm, right_arm}
 use Rattle.tree_map.specs.Plans.{IsArmTree, cut, series, parallel, IsTreeOf, cell_of, is_kept}
-use Rattle.tree_map.specs.MappedCover.{IsArmThere, cells_of}
+use Rattle.tree_map.specs.MappedCover.{IsArmInForest, root_cell_numbers}
+use Rattle.tree_map.proofs.SumBounds.{reads_later}
 
 -- how far the pairs below an arm go back, twice
 abbrev pub arm_room : Arm → ℕ
@@ -25,19 +26,15 @@ room_less place (Literal rail) low = omega arith
 room_less place (pair_arm other) low = let lt : other < place = low in omega arith
 
 -- the arms of a pair are there
-before_length : (place n : ℕ) (arm : Arm) → place < n → ReadsBefore place arm → ReadsBefore n arm
-before_length place n (Literal rail) lt low = tt
-before_length place n (pair_arm other) lt low = let less : other < place = low in (let fine : other < n = omega arith in fine)
-
-pub left_there : (forest : ForestData) (place : ℕ) (pair : Pair) → IsForest forest → slice_get forest.pairs place ≡ Some pair → IsArmThere forest (left_arm pair)
+pub left_there : (forest : ForestData) (place : ℕ) (pair : Pair) → IsForest forest → slice_get forest.pairs place ≡ Some pair → IsArmInForest forest (left_arm pair)
 left_there forest place pair is at = (
-  before_length place (length forest.pairs) (left_arm pair) (slice_get_within forest.pairs place pair at) (is.in_place.in_order place pair at).0,
+  reads_later place (length forest.pairs) (left_arm pair) (slice_get_within forest.pairs place pair at) (is.in_place.in_order place pair at).0,
   (is.in_place.has_leaves place pair at).0,
 )
 
-pub right_there : (forest : ForestData) (place : ℕ) (pair : Pair) → IsForest forest → slice_get forest.pairs place ≡ Some pair → IsArmThere forest (right_arm pair)
+pub right_there : (forest : ForestData) (place : ℕ) (pair : Pair) → IsForest forest → slice_get forest.pairs place ≡ Some pair → IsArmInForest forest (right_arm pair)
 right_there forest place pair is at = (
-  before_length place (length forest.pairs) (right_arm pair) (slice_get_within forest.pairs place pair at) (is.in_place.in_order place pair at).1,
+  reads_later place (length forest.pairs) (right_arm pair) (slice_get_within forest.pairs place pair at) (is.in_place.in_order place pair at).1,
   (is.in_place.has_leaves place pair at).1,
 )
 
@@ -49,7 +46,7 @@ tree_below forest kept place (Series l r) k (a, b, at, x, y) = series k at x y
 tree_below forest kept place (Parallel l r) k (a, b, at, x, y) = parallel k at x y
 
 -- the number of the cell of a pair stands at its place, and it is at most the place
-pub cell_at : (kept : List Bool) (cells : List ℕ) (place : ℕ) → cells ≡ cells_of kept → place < length kept → get_or cells place 0 ≡ cell_of kept place
+pub cell_at : (kept : List Bool) (cells : List ℕ) (place : ℕ) → cells ≡ root_cell_numbers kept → place < length kept → get_or cells place 0 ≡ cell_of kept place
 cell_at kept cells place same lt =
     ap (λ (numbers : List ℕ). get_or numbers place 0) same ∙ get_or-map-range_with_len (cell_of kept) 0 (length kept) place place 0 lt (omega arith)
 
@@ -74,10 +71,10 @@ pub pair_at : (forest : ForestData) (pairs : List Pair) (place : ℕ) (found pai
 pair_at forest pairs place found pair same lt is e =
     slice_get-get_or forest.pairs place found lt ∙ ap Some (ap (λ (ps : List Pair). get_or ps place found) (sym same) ∙ sym is ∙ e)
 
-pub leaf_tree : (forest : ForestData) (kept : List Bool) (cells : List ℕ) (place leaves : ℕ) (tree : Tree ℕ) → cells ≡ cells_of kept → place < length kept
+pub leaf_tree : (forest : ForestData) (kept : List Bool) (cells : List ℕ) (place leaves : ℕ) (tree : Tree ℕ) → cells ≡ root_cell_numbers kept → place < length kept
     → leaves ≡ forest.leaves → is_kept kept place ≡ false → tree ≡ Leaf (2 * leaves + get_or cells place 0) → IsArmTree forest kept (pair_arm place) tree
 leaf_tree forest kept cells place leaves tree same lt few k is =
     rw (is, few, cell_at kept cells place same lt) (cut k)
 
-pub length-cells : (kept : List Bool) → length (cells_of kept) ≡ length kept
+pub length-cells : (kept : List Bool) → length (root_cell_numbers kept) ≡ length kept
 length-cells kept = length-map-range_with_len (cell_of kept) 0 (length kept)

@@ -7,8 +7,10 @@ pub mod DecidedCover
 pub mod DecidedLists
 pub mod DecidedPlan
 pub mod FirstOffers
+pub mod FirstShapes
 pub mod Firsts
 pub mod FreeEdges
+pub mod HadShapes
 pub mod KeptOffers
 pub mod LeastPlan
 pub mod Marks
@@ -20,7 +22,7 @@ pub mod PlanOne
 pub mod PlanShapes
 pub mod PlanThere
 pub mod PlanValues
-pub mod ReadEntries
+pub mod ReadRows
 pub mod Recurrence
 pub mod RootShapes
 pub mod RootTrees

@@ -5,7 +5,7 @@ use Rattle.std.specs.Prelude.{slice_index_or}
 use Rattle.std.proofs.lemmas.Bool.{cases_lt}
 use Rattle.std.proofs.lemmas.List.FromFn.{get_or-map-range_with_len, length-map-range_with_len}
 use Rattle.std.proofs.lemmas.Option.{same_Some, slice_get_within}
-use Rattle.dom_base.proofs.Lists.{slice_get-append}
+use Rattle.dom_base.proofs.Lists.{slice_get-append, slice_get-push, slice_get-push_cases}
 use Rattle.dual_rail.specs.declared.forest.Arm.{Arm}
 use Rattle.dual_rail.specs.declared.forest.Pair.{Pair}
 use Rattle.dual_rail.specs.ForestData.{ForestData}
@@ -17,11 +17,11 @@ use Rattle.tree_map.specs.LeastPlans.{IsPartOf, free, literal, operator_of, shar
 use Rattle.tree_map.specs.Offers.{AreInTurn, AreKeptBefore, AreOffers, HasNoFreePair, IsArmWithin, IsBefore, IsFirstLeast, IsFirstShape, IsFreePair, IsOffered, choice_of}
 use Rattle.tree_map.specs.Plans.{is_free}
 use Rattle.tree_map.proofs.Chosen.{least_of_all_one}
-use Rattle.tree_map.proofs.KeptOffers.{get_push, get_pushed, sum_within}
 use Rattle.tree_map.proofs.PlanCovers.{is_free-of, is_free-true}
+use Rattle.tree_map.proofs.HadShapes.{sum_in}
 use Rattle.tree_map.proofs.Recurrence.{arm_bounded, table_bounds, table_least}
 
-before_lower : (a b : TreeShape) → IsBefore a b → Lower a b
+pub before_lower : (a b : TreeShape) → IsBefore a b → Lower a b
 before_lower a b (inl lt) = inl lt
 before_lower a b (inr (same, lt)) = inr (same, omega arith)
 
@@ -68,7 +68,7 @@ module _ (t : SumsData) (place : ℕ) (op : Operator) (l r : CoverPart) (wide : 
 module _ (t : SumsData) (place : ℕ) (xs : List Offer) (are : AreKeptBefore (sum_at t place) (record { height = t.h + 1; width = 1 }) xs) where
   -- each shape that a pair can have is offered
   pub all_kept : (s : TreeShape) (n : ℕ) → sum_at t place s ≡ Some n → IsOffered xs (Keep s) s n
-  all_kept s n e = let g = sum_within t place s n e in are.complete s n e (inl (omega (arith, g.low)))
+  all_kept s n e = let g = sum_in t place s n e in are.complete s n e (inl (omega (arith, g.high)))
 
   -- the first offer of least sum has the shape of a root
   pub first_shape : (o : Offer) → IsFirstLeast xs (length xs) o → IsFirstShape (sum_at t place) o.shape
@@ -116,7 +116,7 @@ module _ (t : SumsData) (place : ℕ) (xs : List Offer) (are : AreKeptBefore (su
 
         sound : (k : ℕ) (x : Offer) → slice_get (xs ++ cut ∷ []) k ≡ Some x → IsChoice t.w t.h (Join op l r) (choice_of x.choice) x.shape x.sum
         sound k x at =
-            elim (get_push xs cut k x at) [
+            elim (slice_get-push_cases xs cut k x at) [
               | inl old ↦ rw (are.keeps k x old) (refl, (sums x.shape x.sum).0 (are.sums k x old))
               | inr new ↦ subst (λ (y : Offer). IsChoice t.w t.h (Join op l r) (choice_of y.choice) y.shape y.sum) new.1 (rw choice_is (shape_is, (o.sum, least, sum_is)))
             ]
@@ -127,14 +127,14 @@ module _ (t : SumsData) (place : ℕ) (xs : List Offer) (are : AreKeptBefore (su
         complete CutOff s n (leaf, (below, is, sum)) = record {
           place = length xs;
           offer = cut;
-          at = get_pushed xs cut;
+          at = slice_get-push xs cut;
           choice_is = choice_is;
           shape_is = shape_is ∙ sym leaf;
           sum_is = sum_is ∙ ap (λ m. 1 + (m + 5)) (least_of_all_one t.w t.h (Join op l r) o.sum below least is) ∙ sym sum;
         }
 
         turn : AreInTurn (xs ++ cut ∷ [])
-        turn i k a b lt at too = by (get_push xs cut i a at) (get_push xs cut k b too)
+        turn i k a b lt at too = by (slice_get-push_cases xs cut i a at) (slice_get-push_cases xs cut k b too)
           where
             by : (slice_get xs i ≡ Some a) ⊎ ((i ≡ length xs) × (cut ≡ a)) → (slice_get xs k ≡ Some b) ⊎ ((k ≡ length xs) × (cut ≡ b)) → Earlier (choice_of a.choice) (choice_of b.choice)
             by (inl x) (inl y) = are.in_turn i k a b lt x y

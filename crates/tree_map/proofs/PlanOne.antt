@@ -5,6 +5,7 @@ use Rattle.std.proofs.lemmas.Bool.{cases_lt}
 use Rattle.std.proofs.lemmas.List.{ext_get_or}
 use Rattle.std.proofs.lemmas.List.Sums.{sum_by-cons}
 use Rattle.std.proofs.lemmas.Option.{slice_get_within, slice_get-get_or, slice_get_cases, same_Some}
+use Rattle.dom_base.proofs.Lists.{AllZip-one}
 use Rattle.sp_network.specs.Tree.{Tree, Leaf, Series, Parallel}
 use Rattle.dual_rail.specs.declared.forest.Arm.{Arm}
 use Rattle.dual_rail.specs.declared.forest.Arm.TheVariants.{Literal, Pair as pair_arm}
@@ -202,20 +203,12 @@ tree_one forest kept p (Parallel l r) (Parallel l' r') (a, b, e, x, y) (a', b', 
     let two : b ≡ b' = cc in
     ap₂ Parallel (arm_tree_one forest kept x x' one) (arm_tree_one forest kept y y' two)
 
-pub zip_one : {X Y : Type 0} (R : X → Y → Type 0) → ((x : X) (y z : Y) → R x y → R x z → y ≡ z) → (xs : List X) (ys zs : List Y) → AllZip R xs ys → AllZip R xs zs → ys ≡ zs
-zip_one R one [] [] [] a b = refl
-zip_one R one [] [] (z ∷ zs) a b = absurd b
-zip_one R one [] (y ∷ ys) zs a b = absurd a
-zip_one R one (x ∷ xs) [] zs a b = absurd a
-zip_one R one (x ∷ xs) (y ∷ ys) [] a b = absurd b
-zip_one R one (x ∷ xs) (y ∷ ys) (z ∷ zs) a b = ap₂ (λ u us. u ∷ us) (one x y z a.0 b.0) (zip_one R one xs ys zs a.1 b.1)
-
 -- the chosen plan is one, and so are its trees
 pub chosen_plan_one : (forest : ForestData) (w h : ℕ) (kept other : List Bool) (trees more : List (Tree ℕ)) → AreInOrder forest.pairs
     → IsChosenPlan forest w h kept trees → IsChosenPlan forest w h other more → (kept ≡ other) × (trees ≡ more)
 chosen_plan_one forest w h kept other trees more order a b =
     let same = kept_same forest w h order kept other trees more a b in (
       same,
-      zip_one (IsTreeOf forest other) (λ p s t x y. tree_one forest other p s t x y) (roots other) trees more
+      AllZip-one (IsTreeOf forest other) (λ p s t x y. tree_one forest other p s t x y) (roots other) trees more
           (subst (λ ks. AllZip (IsTreeOf forest ks) (roots ks) trees) same a.plan.trees_are) b.plan.trees_are,
     )

@@ -1,10 +1,10 @@
 -- Entries one by one, as loops over them go.
-use Rattle.std.proofs.Common.{◌≡◌, min, Some, None, inl, inr, refl, sym, ap, ◌∙◌, ℕ, zero, suc, ◌+◌, ◌<◌, List, [], ◌∷◌, ◌++◌, length, map, take, get_or, append_assoc, append-nil, add-one, arith, Option}
+use Rattle.std.proofs.Common.{◌≡◌, min, Some, None, sym, ap, ◌∙◌, ℕ, suc, ◌+◌, ◌<◌, List, [], ◌∷◌, ◌++◌, length, map, take, get_or, append_assoc, append-nil, add-one, Option}
 use Rattle.std.proofs.Math.Seq.{take-suc}
 use Rattle.std.proofs.lemmas.Grind.{flat_map-append}
 use Rattle.dom_base.proofs.Lists.{map-push}
-use Rattle.gate_decompose.specs.Items.{Among}
 use Rattle.gate_decompose.proofs.Among.{among_map}
+use Rattle.gate_decompose.proofs.Rising.{among_get}
 use Rattle.tree_map.specs.declared.shape_sum.ShapeSum.{ShapeSum}
 use Rattle.tree_map.specs.Covers.{Operator}
 use Rattle.tree_map.specs.CoverRows.{AreSmall, IsSmall, entry_of, joined_entry}
@@ -14,13 +14,8 @@ use Rattle.tree_map.proofs.Rows.{lowest-push}
 pub entries_step : (xs : List ShapeSum) (i : ℕ) (d : ShapeSum) → i < length xs → map entry_of (take (i + 1) xs) ≡ map entry_of (take i xs) ++ entry_of (get_or xs i d) ∷ []
 entries_step xs i d lt = rw (add-one, take-suc xs i d lt) (map-push entry_of (take i xs) (get_or xs i d))
 
-among_at : {X : Type 0} (xs : List X) (i : ℕ) (d : X) → i < length xs → Among (get_or xs i d) xs
-among_at [] i d lt = absurd (omega arith)
-among_at (x ∷ xs) zero d lt = inl refl
-among_at (x ∷ xs) (suc i) d lt = inr (among_at xs i d (omega arith))
-
 pub small_at : (xs : List ShapeSum) (i : ℕ) (d : ShapeSum) → AreSmall (map entry_of xs) → i < length xs → IsSmall (entry_of (get_or xs i d))
-small_at xs i d small lt = small (entry_of (get_or xs i d)) (among_map entry_of (get_or xs i d) xs (among_at xs i d lt))
+small_at xs i d small lt = small (entry_of (get_or xs i d)) (among_map entry_of (get_or xs i d) xs (among_get xs i d lt))
 
 lowest_step : (xs : List ShapeSum) (i : ℕ) (d : ShapeSum) (o : Option ℕ) → i < length xs → o ≡ lowest (map entry_of (take i xs))
     → lower_of (get_or xs i d).sum o ≡ lowest (map entry_of (take (i + 1) xs))

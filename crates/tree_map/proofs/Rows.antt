@@ -3,6 +3,7 @@ use Rattle.std.proofs.lemmas.Option.{same_Some, slice_get-get_or, slice_get_with
 use Rattle.std.proofs.lemmas.List.{get_or-replicate, length-replicate, length-set}
 use Rattle.std.proofs.Math.Nat.{mul-le-mul_right}
 use Rattle.std.proofs.Common.{◌≡◌, inl, inr, refl, sym, ap, subst, ◌∙◌, ℕ, zero, suc, ◌+◌, ◌*◌, ◌-◌, ◌≤◌, ◌<◌, min, Bool, true, false, cond, List, [], ◌∷◌, ◌++◌, length, set, replicate, Option, Some, None, slice_get, arith}
+use Rattle.dom_base.proofs.Lists.{slice_get-set_other}
 use Rattle.gate_decompose.specs.Items.{Among}
 use Rattle.gate_decompose.proofs.Among.{among_either}
 use Rattle.tree_map.proofs.Tables.{best_reached, same_shape-is, same_shape-self}
@@ -15,13 +16,6 @@ set_here : {X : Type 0} (xs : List X) (k : ℕ) (y : X) → k < length xs → sl
 set_here [] k y h = absurd (omega arith)
 set_here (x ∷ xs) zero y h = refl
 set_here (x ∷ xs) (suc k) y h = set_here xs k y (omega arith)
-
-set_elsewhere : {X : Type 0} (xs : List X) (i j : ℕ) (y : X) → (j ≡ i → ⊥) → slice_get (set xs i y) j ≡ slice_get xs j
-set_elsewhere [] i j y h = refl
-set_elsewhere (x ∷ xs) zero zero y h = absurd (h refl)
-set_elsewhere (x ∷ xs) zero (suc j) y h = refl
-set_elsewhere (x ∷ xs) (suc i) zero y h = refl
-set_elsewhere (x ∷ xs) (suc i) (suc j) y h = set_elsewhere xs i j y (λ e. h (ap suc e))
 
 -- the least of numbers doesn't depend on their order
 lower_twice : (m n : ℕ) (o : Option ℕ) → lower_of m (lower_of n o) ≡ lower_of n (lower_of m o)
@@ -51,7 +45,7 @@ index_parts w zero b (suc c) d e low high = absurd (omega arith)
 index_parts w (suc a) b zero d e low high = absurd (omega arith)
 index_parts w (suc a) b (suc c) d e low high = let more = index_parts w a b c d (omega arith) low high in (ap suc more.0, more.1)
 
-index_shape : (w h : ℕ) (a b : TreeShape) → IsShapeIn w h a → IsShapeIn w h b → row_index w a ≡ row_index w b → a ≡ b
+pub index_shape : (w h : ℕ) (a b : TreeShape) → IsShapeIn w h a → IsShapeIn w h b → row_index w a ≡ row_index w b → a ≡ b
 index_shape w h a b is_a is_b e =
     let parts = index_parts w (a.height - 1) (a.width - 1) (b.height - 1) (b.width - 1) e (omega (arith, is_a.wide, is_a.broad)) (omega (arith, is_b.wide, is_b.broad)) in
     let tall : a.height ≡ b.height = omega (arith, is_a.tall, is_b.tall, parts.0) in
@@ -125,4 +119,4 @@ row_put w h es e row number least is in_ one at less = record {
         subst (λ s. slice_get (set row (row_index w e.shape) least) (row_index w s) ≡ Some (sum_or_zero (lower_of e.sum (best es s)))) (same_shape-is e.shape shape t)
         (set_here row (row_index w e.shape) least (slice_get_within row (row_index w e.shape) number at) ∙ ap Some (lesser_is (best es e.shape) e.sum least some (subst (λ n. IsLesser n e.sum least) was less)))
     by shape here false t =
-        set_elsewhere row (row_index w e.shape) (row_index w shape) least (λ same. apart t (index_shape w h shape e.shape here in_ same)) ∙ is.each shape here
+        slice_get-set_other row (row_index w e.shape) (row_index w shape) least (λ same. apart t (index_shape w h shape e.shape here in_ same)) ∙ is.each shape here

@@ -23,7 +23,7 @@ total_at f r a (suc n) low high = elim (cases_lt a r) [
   | inr le ↦ (let same : r ≡ a = omega arith in rw same (omega arith))
 ]
 
-reads_later : (q p : ℕ) (arm : Arm) → q < p → ReadsBefore q arm → ReadsBefore p arm
+pub reads_later : (q p : ℕ) (arm : Arm) → q < p → ReadsBefore q arm → ReadsBefore p arm
 reads_later q p (Literal rail) lt before = tt
 reads_later q p (pair_arm place) lt before = omega arith
 

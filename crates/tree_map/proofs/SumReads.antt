@@ -9,7 +9,7 @@ pub shape_had : (t : SumsData) (shape : TreeShape) → 1 ≤ shape.height → sh
 shape_had t shape a b c d = rw (le-leb 1 shape.height a, le-leb shape.height t.h b, le-leb 1 shape.width c, le-leb shape.width t.w d) refl
 
 -- a number that is there is had where it isn't 0
-above_zero-some : (o : Option ℕ) (n : ℕ) → o ≡ Some n → 0 < n → Some n ≡ above_zero o
+pub above_zero-some : (o : Option ℕ) (n : ℕ) → o ≡ Some n → 0 < n → Some n ≡ above_zero o
 above_zero-some o zero e some = absurd (omega (arith, some))
 above_zero-some o (suc n) e some = rw e refl
 

@@ -7,7 +7,7 @@ use Rattle.std.specs.List.{range_with_len}
 use Rattle.std.proofs.lemmas.List.{length-map}
 use Rattle.std.proofs.lemmas.List.FromFn.{length-range_with_len}
 use Rattle.tree_map.specs.Plans.{is_free}
-use Rattle.dom_base.proofs.Lists.{slice_get-append, slice_get-behind}
+use Rattle.dom_base.proofs.Lists.{slice_get-behind, slice_get-left}
 use Rattle.dual_rail.specs.declared.forest.Arm.{Arm}
 use Rattle.dual_rail.specs.declared.forest.Arm.TheVariants.{Literal, Pair as pair_arm}
 use Rattle.dual_rail.specs.declared.forest.Pair.{Pair}
@@ -22,7 +22,7 @@ use Rattle.tree_map.specs.CoverSums.{AreSumsOf, SumsData, above_zero, has_shape,
 use Rattle.tree_map.specs.CoverTables.{Entry, arm_entries, best, combined, table}
 use Rattle.tree_map.specs.LeastPlans.{IsPartOf, operator_of}
 use Rattle.tree_map.proofs.ArmEntries.{best_same, combined_same, shape_in}
-use Rattle.tree_map.proofs.ReadEntries.{shape_had_in, sum_in}
+use Rattle.tree_map.proofs.HadShapes.{shape_had_in, sum_in}
 use Rattle.tree_map.proofs.Recurrence.{arm_reached, shape_some, table_least}
 use Rattle.tree_map.proofs.RootShapes.{arm_part}
 use Rattle.tree_map.proofs.Rows.{index_in}
@@ -32,9 +32,6 @@ use Rattle.tree_map.proofs.Tables.{among_shapes, among_table, best_reached, tabl
 
 index_before : (other m k i : ℕ) → other < m → i < k → other * k + i < m * k
 index_before other m k i lt low = let more = mul-le-mul_right {m = other + 1} {n = m} k (omega arith) in omega arith
-
-left_of : (xs ys : List ℕ) (i : ℕ) → i < length xs → slice_get (xs ++ ys) i ≡ slice_get xs i
-left_of xs ys i lt = slice_get-append xs ys i (get_or xs i 0) (slice_get-get_or xs i 0 lt) ∙ sym (slice_get-get_or xs i 0 lt)
 
 -- sums with one more row
 abbrev pub with_row : SumsData → List ℕ → SumsData
@@ -47,7 +44,7 @@ module _ (t : SumsData) (row : List ℕ) (m : ℕ) (count : length t.sums ≡ m 
       by : (b : Bool) → has_shape t shape ≡ b
           → cond b (above_zero (slice_get (t.sums ++ row) (sum_index t other shape))) None ≡ cond b (above_zero (slice_get t.sums (sum_index t other shape))) None
       by false had = refl
-      by true had = ap above_zero (left_of t.sums row (sum_index t other shape) (rw count (index_before other m (t.w * t.h) (row_index t.w shape) lt (index_in t.w t.h shape (shape_had_in t shape had)))))
+      by true had = ap above_zero (slice_get-left t.sums row (sum_index t other shape) (rw count (index_before other m (t.w * t.h) (row_index t.w shape) lt (index_in t.w t.h shape (shape_had_in t shape had)))))
 
   there_or_not : (o : Option ℕ) → ((n : ℕ) → o ≡ Some n → 1 ≤ n) → above_zero (Some (sum_or_zero o)) ≡ o
   there_or_not None some = refl

@@ -17,9 +17,9 @@ abbrev pub HaveFirstClock : List GatePlan → Type 0
 HaveFirstClock plans = All (λ (p : GatePlan). p.clock ≡ 1) plans
 
 -- for each pair the number of the cell that it would be the root of
-abbrev pub cells_of : List Bool → List ℕ
-cells_of kept = map (cell_of kept) (range_with_len 0 (length kept))
+abbrev pub root_cell_numbers : List Bool → List ℕ
+root_cell_numbers kept = map (cell_of kept) (range_with_len 0 (length kept))
 
 -- the arm is a leaf or a pair of the forest
-abbrev pub IsArmThere : ForestData → Arm → Type 0
-IsArmThere forest arm = ReadsBefore (length forest.pairs) arm × ReadsLeaves forest.leaves arm
+abbrev pub IsArmInForest : ForestData → Arm → Type 0
+IsArmInForest forest arm = ReadsBefore (length forest.pairs) arm × ReadsLeaves forest.leaves arm

@@ -1,5 +1,5 @@
 //! Offers for an arm: its choices in order, with the shape and the sum that each gives.
-ghost use Rattle.std.specs.Prelude.{◌+◌, ◌^◌, ◌≤◌, ◌<◌, ◌≡◌, IfOk, MatchOption, length, map};
+ghost use Rattle.std.specs.Prelude.{◌+◌, ◌^◌, ◌≤◌, ◌<◌, ◌≡◌, MatchOption, OnOk, false, length, map, true};
 ghost use Rattle.std.specs.List.{range_with_len};
 ghost use Rattle.dual_rail.specs.ForestData.{ForestData};
 ghost use Rattle.tree_map.specs.Covers.{CoverPart};
@@ -12,7 +12,6 @@ use crate::shape::{LEAF, Shape};
 use crate::sums::Sums;
 use dom_base::OutOfMemory;
 use dual_rail::Arm;
-use std::alloc::Global;
 
 /// What is done with the pair below an arm: it is kept in a shape, or cut off. Nothing is done where
 /// no free edge leads to a pair.
@@ -47,20 +46,18 @@ fn roomy(sum: u32) -> u64
     u64::from(sum)
 }
 
-/// Adds the offers to keep a pair in a shape of this height, by rising width.
-fn offer_height(
-    offers: &mut Vec<Offer>,
-    sums: &Sums,
-    place: usize,
-    height: u32,
-) -> Result<(), OutOfMemory>
-    requires width { sums.now.w ≤ 8 }
-    requires lower { AreKeptBefore (sum_at sums.now place) (record { height = height; width = 1 }) offers.old.items }
-    ensures { IfOk result (λ _. AreKeptBefore (sum_at sums.now place) (record { height = height + 1; width = 1 }) offers.new.items) }
+/// Puts the offers to keep a pair in place of these, by rising height, and those of one height by
+/// rising width.
+fn kept_offers(sums: &Sums, place: usize, offers: &mut Vec<Offer>) -> Result<(), OutOfMemory>
+    ensures { OnOk result (AreKeptBefore (sum_at sums.now place) (record { height = sums.now.h + 1; width = 1 }) offers.new.items) }
 {
-    for width in 1..sums.bounds().w + 1 {
-        if let Some(sum) = sums.sum(place, height, width) {
-            let shape = Shape { height, width };
+    offers.clear();
+    let bounds = sums.bounds();
+    let row = sums.row(place);
+    for index in 0..row.len() {
+        let sum = row[index];
+        if sum != 0 {
+            let shape = Shape::at(bounds, index);
             offers.push(Offer {
                 choice: Choice::Keep(shape),
                 shape,
@@ -69,19 +66,6 @@ fn offer_height(
         }
     }
     Ok(())
-}
-
-/// The offers to keep a pair, by rising height, and those of one height by rising width.
-fn kept_offers(alloc: Global, sums: &Sums, place: usize) -> Result<Vec<Offer>, OutOfMemory>
-    requires width { sums.now.w ≤ 8 }
-    requires height { sums.now.h ≤ 6 }
-    ensures { IfOk result (λ v. AreKeptBefore (sum_at sums.now place) (record { height = sums.now.h + 1; width = 1 }) v.items) }
-{
-    let mut offers = Vec::new(alloc);
-    for height in 1..sums.bounds().h + 1 {
-        offer_height(&mut offers, sums, place, height)?;
-    }
-    Ok(offers)
 }
 
 /// The first of the offers of least sum, where there are any.
@@ -98,17 +82,30 @@ fn first_least(offers: &[Offer]) -> Option<Offer>
 }
 
 /// The shape that a root takes: of the shapes of least sum the lowest, and of these the narrowest.
-pub(crate) fn root_shape(alloc: Global, sums: &Sums, place: usize) -> Result<Shape, OutOfMemory>
-    requires width { sums.now.w ≤ 8 }
-    requires height { sums.now.h ≤ 6 }
+pub(crate) fn root_shape(sums: &Sums, place: usize) -> Shape
     requires some { HasSums (sum_at sums.now place) }
-    ensures { IfOk result (IsFirstShape (sum_at sums.now place)) }
+    ensures { IsFirstShape (sum_at sums.now place) result }
 {
-    let offers = kept_offers(alloc, sums, place)?;
-    match first_least(offers.as_slice()) {
-        Some(least) => Ok(least.shape),
-        None => unreachable!(),
+    let bounds = sums.bounds();
+    let row = sums.row(place);
+    let mut first = 0;
+    let mut least = 0;
+    for index in 0..row.len() {
+        let sum = row[index];
+        if is_less(sum, least) {
+            first = index;
+            least = sum;
+        }
     }
+    Shape::at(bounds, first)
+}
+
+/// Whether a number of a row is less than another, where 0 is none.
+fn is_less(sum: u32, other: u32) -> bool
+    ensures less { result ≡ true → (0 < sum) × (0 < other → sum < other) }
+    ensures not_less { result ≡ false → 0 < sum → (0 < other) × (other ≤ sum) }
+{
+    sum != 0 && (other == 0 || sum < other)
 }
 
 /// The pair that a free edge from an arm leads to.
@@ -122,25 +119,28 @@ fn free_pair(free: &[bool], arm: Arm) -> Option<usize>
     }
 }
 
-/// The offers for an arm: to keep the pair that a free edge leads to in each of its shapes, and last to
-/// cut it off, which brings the whole cost of its tree. Without a free edge the arm is a leaf.
+/// Puts the offers for an arm in place of these: to keep the pair that a free edge leads to in each of
+/// its shapes, and last to cut it off, which brings the whole cost of its tree. Without a free edge the
+/// arm is a leaf.
 pub(crate) fn offers_of(
-    alloc: Global,
     sums: &Sums,
     free: &[bool],
     arm: Arm,
-) -> Result<Vec<Offer>, OutOfMemory>
-    requires width { (1 ≤ sums.now.w) × (sums.now.w ≤ 8) }
-    requires height { (1 ≤ sums.now.h) × (sums.now.h ≤ 6) }
+    offers: &mut Vec<Offer>,
+) -> Result<(), OutOfMemory>
+    requires width { 1 ≤ sums.now.w }
+    requires height { 1 ≤ sums.now.h }
     requires there { IsArmWithin (length free.now) arm }
-    ensures { IfOk result (λ v. (forest : ForestData) (part : CoverPart) → AreSumsOf forest sums.now
+    ensures { OnOk result ((forest : ForestData) (part : CoverPart) → AreSumsOf forest sums.now
         → free.now ≡ map (is_free forest) (range_with_len 0 (length forest.pairs)) → IsPartOf forest arm part
-        → AreOffers sums.now.w sums.now.h part v.items) }
+        → AreOffers sums.now.w sums.now.h part offers.new.items) }
 {
     let Some(place) = free_pair(free, arm) else {
-        return Ok(vec![in alloc; NOTHING; 1]?);
+        offers.clear();
+        offers.push(NOTHING)?;
+        return Ok(());
     };
-    let mut offers = kept_offers(alloc, sums, place)?;
+    kept_offers(sums, place, offers)?;
     if let Some(least) = first_least(offers.as_slice()) {
         let cut = Offer {
             choice: Choice::CutOff,
@@ -149,5 +149,5 @@ pub(crate) fn offers_of(
         };
         offers.push(cut)?;
     }
-    Ok(offers)
+    Ok(())
 }

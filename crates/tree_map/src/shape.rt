@@ -1,7 +1,9 @@
 //! Shapes of trees: a height and a width.
-ghost use Rattle.std.specs.Prelude.{◌≡◌, ◌+◌, ◌<◌, ◌^◌};
+ghost use Rattle.std.specs.Prelude.{◌≡◌, ◌+◌, ◌*◌, ◌<◌, ◌^◌};
+ghost use Rattle.tree_map.specs.CoverRows.{IsShapeIn, row_index};
 ghost use Rattle.tree_map.specs.Covers.{InParallel, InSeries, joined_shape, leaf_shape};
 
+use crate::Bounds;
 use std::marker::Model;
 
 /// The height of a tree, its most switches in series, and its width, its most branches in parallel.
@@ -28,6 +30,19 @@ pub(crate) const LEAF: Shape = Shape {
 };
 
 impl Shape {
+    /// The shape whose number stands here in the row of each pair.
+    pub(crate) fn at(bounds: Bounds, index: usize) -> Shape
+        requires within { index < bounds.w * bounds.h }
+        ensures within { IsShapeIn bounds.w bounds.h result }
+        ensures index { row_index bounds.w result ≡ index }
+    {
+        let width = bounds.w as usize;
+        Shape {
+            height: (index / width) as u32 + 1,
+            width: (index % width) as u32 + 1,
+        }
+    }
+
     /// The shape of two trees in series.
     pub(crate) fn in_series(self, below: Shape) -> Shape
         requires { self.height + below.height < 2 ^ 32 }

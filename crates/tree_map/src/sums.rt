@@ -1,5 +1,5 @@
 //! The least sums of the parts below the pairs of a forest, joined up pair by pair (Zhao, Sapatnekar 1998).
-ghost use Rattle.std.specs.Prelude.{ℕ, ◌≡◌, ◌≤◌, ◌*◌, ◌++◌, IfOk, OnOk, length, map};
+ghost use Rattle.std.specs.Prelude.{ℕ, ◌≡◌, ◌≤◌, ◌*◌, ◌++◌, IfOk, OnOk, drop, length, map, take};
 ghost use Rattle.std.specs.List.{range_with_len};
 ghost use Rattle.dual_rail.specs.ForestData.{ForestData};
 ghost use Rattle.dual_rail.specs.ForestOrder.{ReadsBefore};
@@ -12,6 +12,7 @@ ghost use Rattle.tree_map.specs.CoverSums.{AreSumsOf, sum_at};
 ghost use Rattle.tree_map.specs.Plans.{is_free};
 
 use crate::Bounds;
+use crate::shape::Shape;
 use crate::shape_sum::{ShapeSum, cheapest, join_arms};
 use dom_base::OutOfMemory;
 use dual_rail::{Arm, Forest, Pair};
@@ -62,20 +63,28 @@ impl Sums {
         if sum == 0 { None } else { Some(sum) }
     }
 
+    /// The numbers of a pair, by rising height and then by rising width.
+    pub(crate) fn row(&self, place: usize) -> &[u32]
+        ensures { result.now ≡ take (self.now.w * self.now.h) (drop (place * (self.now.w * self.now.h)) self.now.sums) }
+    {
+        let count = self.width as usize * self.height as usize;
+        let start = place.saturating_mul(count).min(self.sums.len());
+        let rest = &self.sums[start..];
+        &rest[..count.min(rest.len())]
+    }
+
     /// Puts the shapes that a pair can have, with their sums, in place of these entries.
     fn read_entries(&self, place: usize, entries: &mut Vec<ShapeSum>) -> Result<(), OutOfMemory>
         ensures { OnOk result (AreReadUpTo self.now place self.now.h 0 (map entry_of entries.new.items)) }
     {
         entries.clear();
-        for row in 0..self.height {
-            for column in 0..self.width {
-                if let Some(sum) = self.sum(place, row + 1, column + 1) {
-                    entries.push(ShapeSum {
-                        height: row + 1,
-                        width: column + 1,
-                        sum,
-                    })?;
-                }
+        let bounds = self.bounds();
+        let row = self.row(place);
+        for index in 0..row.len() {
+            let sum = row[index];
+            if sum != 0 {
+                let Shape { height, width } = Shape::at(bounds, index);
+                entries.push(ShapeSum { height, width, sum })?;
             }
         }
         Ok(())

@@ -55,9 +55,9 @@ impl Wanted {
         ensures given { result ≡ true → Give self.now left.now right.now }
         ensures not_given { result ≡ false → Give self.now left.now right.now → ⊥ }
     {
-        joined(self.pair, left.shape, right.shape) == self.shape
-            && left.sum <= self.sum
+        left.sum <= self.sum
             && right.sum == self.sum - left.sum
+            && joined(self.pair, left.shape, right.shape) == self.shape
     }
 
     /// The first offer for the right arm that gives it with an offer for the left arm.
@@ -92,32 +92,27 @@ impl Wanted {
 }
 
 /// The shape of a pair: the one that it has where it is kept, else that of a root.
-fn shape_of(
-    alloc: Global,
-    sums: &Sums,
-    place: usize,
-    kept: Option<Shape>,
-) -> Result<Shape, OutOfMemory>
-    requires width { sums.now.w ≤ 8 }
-    requires height { sums.now.h ≤ 6 }
+fn shape_of(sums: &Sums, place: usize, kept: Option<Shape>) -> Shape
     requires some { HasSums (sum_at sums.now place) }
-    ensures stays { IfOk result (λ s. IfSome kept (λ before. s ≡ before)) }
-    ensures root { IfOk result (λ s. kept ≡ None → IsFirstShape (sum_at sums.now place) s) }
+    ensures stays { IfSome kept (λ before. result ≡ before) }
+    ensures root { kept ≡ None → IsFirstShape (sum_at sums.now place) result }
 {
     match kept {
-        Some(shape) => Ok(shape),
-        None => root_shape(alloc, sums, place),
+        Some(shape) => shape,
+        None => root_shape(sums, place),
     }
 }
 
-/// The shape of a pair and the choices for its arms, where `kept` is its shape if it is kept.
+/// The shape of a pair and the choices for its arms, where `kept` is its shape if it is kept. The two
+/// lists are for the offers.
 fn decision_of(
-    alloc: Global,
     forest: &Forest,
     free: &[bool],
     sums: &Sums,
     place: usize,
     kept: Option<Shape>,
+    lefts: &mut Vec<Offer>,
+    rights: &mut Vec<Offer>,
 ) -> Result<Decision, OutOfMemory>
     requires width { (2 ≤ sums.now.w) × (sums.now.w ≤ 8) }
     requires height { (2 ≤ sums.now.h) × (sums.now.h ≤ 6) }
@@ -130,12 +125,12 @@ fn decision_of(
 {
     let pair = forest.pairs[place];
     let (left_arm, right_arm) = arms_of(pair);
-    let shape = shape_of(alloc, sums, place, kept)?;
+    let shape = shape_of(sums, place, kept);
     let Some(sum) = sums.sum(place, shape.height, shape.width) else {
         unreachable!()
     };
-    let lefts = offers_of(alloc, sums, free, left_arm)?;
-    let rights = offers_of(alloc, sums, free, right_arm)?;
+    offers_of(sums, free, left_arm, lefts)?;
+    offers_of(sums, free, right_arm, rights)?;
     let wanted = Wanted {
         pair,
         shape,
@@ -172,9 +167,19 @@ pub(crate) fn decisions(
         → IsDecided forest.now sums.now.w sums.now.h d.kept.items d.shapes.items place pair shape) }
 {
     let mut decisions = Decisions::none(alloc, forest.pairs.len())?;
+    let mut lefts = Vec::new(alloc);
+    let mut rights = Vec::new(alloc);
     for place in (0..forest.pairs.len()).rev() {
         let kept = decisions.kept_shape(place);
-        let Decision { shape, left, right } = decision_of(alloc, forest, free, sums, place, kept)?;
+        let Decision { shape, left, right } = decision_of(
+            forest,
+            free,
+            sums,
+            place,
+            kept,
+            &mut lefts,
+            &mut rights,
+        )?;
         decisions.decide(place, forest.pairs[place], shape, left, right);
     }
     Ok(decisions)

@@ -4,7 +4,7 @@ ghost use Rattle.std.specs.List.{AllZip};
 ghost use Rattle.dual_rail.specs.ForestOrder.{IsForest};
 ghost use Rattle.sp_network.specs.Tree.{Leaf};
 ghost use Rattle.sp_network.specs.TypedTree.{tree_of};
-ghost use Rattle.tree_map.specs.MappedCover.{HaveFirstClock, IsArmThere, cells_of, plan_trees};
+ghost use Rattle.tree_map.specs.MappedCover.{HaveFirstClock, IsArmInForest, root_cell_numbers, plan_trees};
 ghost use Rattle.tree_map.specs.Plans.{IsArmTree, IsTreeOf, rail_gate, roots};
 
 use dom_base::{OutOfMemory, ToVss};
@@ -46,9 +46,9 @@ pub(crate) fn trees_of(
 /// For each pair the number of the cell that it would be the root of.
 fn cell_numbers(alloc: Global, kept: &[bool]) -> Result<Vec<u32>, OutOfMemory>
     requires few { length kept.now < 2 ^ 32 }
-    ensures { IfOk result (λ cells. cells.items ≡ cells_of kept.now) }
+    ensures { IfOk result (λ cells. cells.items ≡ root_cell_numbers kept.now) }
 {
-    let mut cells = Vec::new(alloc);
+    let mut cells = Vec::with_capacity(alloc, kept.len())?;
     let mut next = 0;
     for keep in kept {
         cells.push(next)?;
@@ -70,7 +70,7 @@ fn pair_tree(
 ) -> Result<Sp<ToVss>, OutOfMemory>
     requires forest { IsForest forest.now }
     requires one_each { length kept.now ≡ length forest.now.pairs }
-    requires cells { cells.now ≡ cells_of kept.now }
+    requires cells { cells.now ≡ root_cell_numbers kept.now }
     requires there { place < length forest.now.pairs }
     ensures { IfOk result (λ tree. IsTreeOf forest.now kept.now place (tree_of tree)) }
 {
@@ -99,8 +99,8 @@ fn arm_tree(
 ) -> Result<Sp<ToVss>, OutOfMemory>
     requires forest { IsForest forest.now }
     requires one_each { length kept.now ≡ length forest.now.pairs }
-    requires cells { cells.now ≡ cells_of kept.now }
-    requires there { IsArmThere forest.now arm }
+    requires cells { cells.now ≡ root_cell_numbers kept.now }
+    requires there { IsArmInForest forest.now arm }
     ensures { IfOk result (λ tree. IsArmTree forest.now kept.now arm (tree_of tree)) }
 {
     match arm {

@@ -9,11 +9,11 @@ use Rattle.tree_map.specs.Ties.{AreFirstOffers, AreSmall, IsDecision, SomeGive}
 use Rattle.tree_map.proofs.FirstOffers.{decided, given, has_sums, left_within, pair_read, right_within, small_left, small_right}
 use Rattle.tree_map.proofs.ties.decision_of.Goals as goal
 
-pub shape_of-requires-clause-some : goal.shape_of-requires-clause-some
-shape_of-requires-clause-some c =
+pub shape_of-shape-requires : goal.shape_of-shape-requires
+shape_of-shape-requires c =
     let forest = subst IsForest c.forest.view_is c.forest.invariant in
     let at = pair_read c.args.forest.now c.forest.inside.pairs.items (ap (λ (g : ForestData). g.pairs) c.forest.view_is) c.args.place c.index-pair.result.now c.requires.place c.index-pair.ensures in
-    has_sums c.args.forest.now c.args.sums.now c.requires.width.0 c.requires.height.0 forest.in_place.in_order c.requires.sums c.args.place c.index-pair.result.now at
+    record { some = has_sums c.args.forest.now c.args.sums.now c.requires.width.0 c.requires.height.0 forest.in_place.in_order c.requires.sums c.args.place c.index-pair.result.now at }
 
 pub offers_of-requires-clause-there : goal.offers_of-requires-clause-there
 offers_of-requires-clause-there c =
@@ -35,7 +35,7 @@ first_offers-left-requires-clause-lefts c =
     let at = pair_read c.args.forest.now c.forest.inside.pairs.items (ap (λ (g : ForestData). g.pairs) c.forest.view_is) c.args.place c.index-pair.result.now c.requires.place c.index-pair.ensures in
     subst AreSmall (sym c.as_slice.ensures.value)
     (small_left c.args.forest.now c.args.sums.now c.args.free.now c.requires.width c.requires.height forest.in_place.in_order c.requires.sums c.requires.free c.args.place c.index-pair.result.now at
-    c.arms_of-left_arm.result.0 c.in_ok-lefts.lefts.items c.arms_of-left_arm.ensures.left c.in_ok-lefts.ensures)
+    c.arms_of-left_arm.result.0 c.offers_of.new.offers.items c.arms_of-left_arm.ensures.left c.in_ok-offers_of.ensures)
 
 pub first_offers-left-requires-clause-rights : goal.first_offers-left-requires-clause-rights
 first_offers-left-requires-clause-rights c =
@@ -43,30 +43,30 @@ first_offers-left-requires-clause-rights c =
     let at = pair_read c.args.forest.now c.forest.inside.pairs.items (ap (λ (g : ForestData). g.pairs) c.forest.view_is) c.args.place c.index-pair.result.now c.requires.place c.index-pair.ensures in
     subst AreSmall (sym c.as_slice-2.ensures.value)
     (small_right c.args.forest.now c.args.sums.now c.args.free.now c.requires.width c.requires.height forest.in_place.in_order c.requires.sums c.requires.free c.args.place c.index-pair.result.now at
-    c.arms_of-left_arm.result.1 c.in_ok-rights.rights.items c.arms_of-left_arm.ensures.right c.in_ok-rights.ensures)
+    c.arms_of-left_arm.result.1 c.offers_of-2.new.offers.items c.arms_of-left_arm.ensures.right c.in_ok-offers_of-2.ensures)
 
 pub first_offers-left-requires-clause-some : goal.first_offers-left-requires-clause-some
 first_offers-left-requires-clause-some c =
     let forest = subst IsForest c.forest.view_is c.forest.invariant in
     let at = pair_read c.args.forest.now c.forest.inside.pairs.items (ap (λ (g : ForestData). g.pairs) c.forest.view_is) c.args.place c.index-pair.result.now c.requires.place c.index-pair.ensures in
-    let wanted : Wanted = record { pair = c.index-pair.result.now; shape = c.in_ok-shape.shape; sum = c.from.result } in
+    let wanted : Wanted = record { pair = c.index-pair.result.now; shape = c.shape_of-shape.result; sum = c.from.result } in
     subst (λ xs. SomeGive wanted xs c.as_slice-2.result.now) (sym c.as_slice.ensures.value)
-    (subst (SomeGive wanted c.in_ok-lefts.lefts.items) (sym c.as_slice-2.ensures.value)
+    (subst (SomeGive wanted c.offers_of.new.offers.items) (sym c.as_slice-2.ensures.value)
     (given c.args.forest.now c.args.sums.now c.args.free.now c.requires.width c.requires.height forest.in_place.in_order c.requires.sums c.requires.free c.args.place c.index-pair.result.now at
-    c.arms_of-left_arm.result.0 c.arms_of-left_arm.result.1 c.in_ok-lefts.lefts.items c.in_ok-rights.rights.items c.arms_of-left_arm.ensures.left c.arms_of-left_arm.ensures.right c.in_ok-lefts.ensures c.in_ok-rights.ensures
-    c.in_ok-shape.shape c.from.result (ap (sum_at c.args.sums.now c.args.place) (sym c.shape.view_is) ∙ sym c.sum.ensures ∙ c.in-Some.is ∙ ap Some (sym c.from.ensures))))
+    c.arms_of-left_arm.result.0 c.arms_of-left_arm.result.1 c.offers_of.new.offers.items c.offers_of-2.new.offers.items c.arms_of-left_arm.ensures.left c.arms_of-left_arm.ensures.right c.in_ok-offers_of.ensures c.in_ok-offers_of-2.ensures
+    c.shape_of-shape.result c.from.result (ap (sum_at c.args.sums.now c.args.place) (sym c.shape.view_is) ∙ sym c.sum.ensures ∙ c.in-Some.is ∙ ap Some (sym c.from.ensures))))
 
 pub returns : goal.returns
 returns c = λ pair at.
     let forest = subst IsForest c.forest.view_is c.forest.invariant in
     let here = pair_read c.args.forest.now c.forest.inside.pairs.items (ap (λ (g : ForestData). g.pairs) c.forest.view_is) c.args.place c.index-pair.result.now c.requires.place c.index-pair.ensures in
     let same = same_Some c.index-pair.result.now pair (sym here ∙ at) in
-    let wanted : Wanted = record { pair = c.index-pair.result.now; shape = c.in_ok-shape.shape; sum = c.from.result } in
-    subst (λ p. IsDecision c.args.forest.now c.args.sums.now.w c.args.sums.now.h p c.args.kept c.in_ok-shape.shape c.first_offers-left.result.0.choice c.first_offers-left.result.1.choice) same
+    let wanted : Wanted = record { pair = c.index-pair.result.now; shape = c.shape_of-shape.result; sum = c.from.result } in
+    subst (λ p. IsDecision c.args.forest.now c.args.sums.now.w c.args.sums.now.h p c.args.kept c.shape_of-shape.result c.first_offers-left.result.0.choice c.first_offers-left.result.1.choice) same
     (decided c.args.forest.now c.args.sums.now c.args.free.now c.requires.width c.requires.height forest.in_place.in_order c.requires.sums c.requires.free c.args.place c.index-pair.result.now here
-    c.arms_of-left_arm.result.0 c.arms_of-left_arm.result.1 c.in_ok-lefts.lefts.items c.in_ok-rights.rights.items c.arms_of-left_arm.ensures.left c.arms_of-left_arm.ensures.right c.in_ok-lefts.ensures c.in_ok-rights.ensures
-    c.in_ok-shape.shape c.from.result (ap (sum_at c.args.sums.now c.args.place) (sym c.shape.view_is) ∙ sym c.sum.ensures ∙ c.in-Some.is ∙ ap Some (sym c.from.ensures))
+    c.arms_of-left_arm.result.0 c.arms_of-left_arm.result.1 c.offers_of.new.offers.items c.offers_of-2.new.offers.items c.arms_of-left_arm.ensures.left c.arms_of-left_arm.ensures.right c.in_ok-offers_of.ensures c.in_ok-offers_of-2.ensures
+    c.shape_of-shape.result c.from.result (ap (sum_at c.args.sums.now c.args.place) (sym c.shape.view_is) ∙ sym c.sum.ensures ∙ c.in-Some.is ∙ ap Some (sym c.from.ensures))
     c.first_offers-left.result.0 c.first_offers-left.result.1 c.args.kept
-    (subst (λ xs. AreFirstOffers wanted xs c.in_ok-rights.rights.items c.first_offers-left.result.0 c.first_offers-left.result.1) c.as_slice.ensures.value
+    (subst (λ xs. AreFirstOffers wanted xs c.offers_of-2.new.offers.items c.first_offers-left.result.0 c.first_offers-left.result.1) c.as_slice.ensures.value
     (subst (λ xs. AreFirstOffers wanted c.as_slice.result.now xs c.first_offers-left.result.0 c.first_offers-left.result.1) c.as_slice-2.ensures.value c.first_offers-left.ensures))
-    c.in_ok-shape.ensures.stays c.in_ok-shape.ensures.root)
+    c.shape_of-shape.ensures.stays c.shape_of-shape.ensures.root)

@@ -1,36 +1,40 @@
-use Rattle.std.proofs.Common.{◌≡◌, ◌≤◌, sym, ap, subst, ◌∙◌, ◌+◌, ◌++◌, ◌∷◌, [], map, arith}
-use Rattle.tree_map.specs.ArmEntries.{AreReadUpTo}
-use Rattle.tree_map.specs.CoverRows.{entry_of}
-use Rattle.tree_map.specs.CoverSums.{SumsData}
+-- An entry more, or a place without one.
+use Rattle.std.proofs.Common.{◌≡◌, sym, ap, subst, ◌∙◌, ◌+◌, ◌++◌, ◌∷◌, [], ◌<◌, length, map, get_or, slice_get, Some, arith}
+use Rattle.std.proofs.lemmas.Option.{slice_get-get_or}
+use Rattle.tree_map.specs.CoverRows.{IsShapeIn, entry_of, row_index}
 use Rattle.tree_map.specs.declared.shape_sum.ShapeSum.{ShapeSum}
 use Rattle.dom_base.proofs.Lists.{map-push}
-use Rattle.tree_map.proofs.ReadEntries.{read_past, read_row, read_some}
-use Rattle.tree_map.proofs.sums.Sums.read_entries.Goals.{in-Some+in_ok-push, in_default}
+use Rattle.tree_map.proofs.ReadRows.{AreReadBelow, below_all, below_past, below_some, row_of}
+use Rattle.tree_map.proofs.sums.Sums.read_entries.Goals.{then-sum-ne0+in_ok-push, else-sum-ne0}
 use Rattle.tree_map.proofs.sums.Sums.read_entries.Goals as goal
 
-pub loop-column-preserved : goal.loop-column-preserved
-loop-column-preserved c =
-    let old = map entry_of c.loop-column.entries.items in
-    let row = c.loop-row.row in
-    let column = c.loop-column.column in
-    elim c.match-sum.branch [
-      | in-Some+in_ok-push w ↦
-          (let x : ShapeSum = record { height = row + 1; width = column + 1; sum = w.in-Some.sum } in
-          let items : c.match-sum.entries.items ≡ c.loop-column.entries.items ++ x ∷ [] = ap (λ v. v.items) w.entries-is ∙ w.in_ok-push.ensures.items in
-          subst (AreReadUpTo c.args.self.now c.args.place row (column + 1)) (sym (ap (map entry_of) items ∙ map-push entry_of c.loop-column.entries.items x))
-          (read_some c.args.self.now c.args.place row column w.in-Some.sum old c.loop-column.invariant (sym w.in-Some.is ∙ c.sum.ensures)))
-      | in_default w ↦
-          subst (AreReadUpTo c.args.self.now c.args.place row (column + 1)) (sym (ap (λ v. map entry_of v.items) w.entries-is))
-          (read_past c.args.self.now c.args.place row column old c.loop-column.invariant (sym w.in_default.is ∙ c.sum.ensures))
+pub loop-index-preserved : goal.loop-index-preserved
+loop-index-preserved c =
+    let t = c.args.self.now in
+    let row : c.row-row.result.now ≡ row_of t c.args.place = c.row-row.ensures in
+    let old = map entry_of c.loop-index.entries.items in
+    let k = c.loop-index.index in
+    let sum = get_or c.row-row.result.now k 0 in
+    let at : slice_get (row_of t c.args.place) k ≡ Some sum = subst (λ xs. slice_get xs k ≡ Some sum) row (slice_get-get_or c.row-row.result.now k 0 (omega (arith, c.loop-index-test.true, c.loop-index.auto.index-end))) in
+    elim c.if-sum-ne0.branch [
+      | then-sum-ne0+in_ok-push w ↦
+          (let x : ShapeSum = record { height = w.height.inside.height; width = w.height.inside.width; sum = sum } in
+          let in_ : IsShapeIn t.w t.h (entry_of x).shape = subst (IsShapeIn t.w t.h) (sym w.height.view_is) (rw (c.bounds-bounds.ensures.width, c.bounds-bounds.ensures.height) at w.at.ensures.within) in
+          let here : row_index t.w (entry_of x).shape ≡ k = ap (row_index t.w) w.height.view_is ∙ (rw c.bounds-bounds.ensures.width at w.at.ensures.index) in
+          let some : 0 < sum = omega (arith, w.if-sum-ne0.true) in
+          let items : c.if-sum-ne0.entries.items ≡ c.loop-index.entries.items ++ x ∷ [] = ap (λ v. v.items) w.entries-is ∙ w.in_ok-push.ensures.items in
+          subst (AreReadBelow t c.args.place (k + 1)) (sym (ap (map entry_of) items ∙ map-push entry_of c.loop-index.entries.items x))
+          (below_some t c.args.place k old (entry_of x) c.loop-index.invariant in_ here at some))
+      | else-sum-ne0 w ↦
+          (let none : sum ≡ 0 = omega (arith, w.if-sum-ne0.false) in
+          subst (AreReadBelow t c.args.place (k + 1)) (sym (ap (λ v. map entry_of v.items) w.entries-is))
+          (below_past t c.args.place k old c.loop-index.invariant (at ∙ ap Some none)))
     ]
-
-pub loop-row-preserved : goal.loop-row-preserved
-loop-row-preserved c =
-    let wide = ap (λ (v : SumsData). v.w) c.self.view_is in
-    read_row c.args.self.now c.args.place c.loop-row.row c.loop-column.column (map entry_of c.loop-column.entries.items) c.loop-column.invariant (subst (λ n. n ≤ c.loop-column.column) wide c.loop-column-test.false)
 
 pub returns : goal.returns
 returns c =
-    let tall = ap (λ (v : SumsData). v.h) c.self.view_is in
-    let all : c.loop-row.row ≡ c.args.self.now.h = omega arith in
-    subst (λ n. AreReadUpTo c.args.self.now c.args.place n 0 (map entry_of c.loop-row.entries.items)) all c.loop-row.invariant
+    let row = c.row-row.ensures in
+    let t = c.args.self.now in
+    let long : c.row-row.result.now ≡ row_of t c.args.place = row in
+    let len = ap length long in
+    below_all t c.args.place c.loop-index.index (map entry_of c.loop-index.entries.items) c.loop-index.invariant (omega (arith, len, c.loop-index-test.false, c.loop-index.auto.index-end))
