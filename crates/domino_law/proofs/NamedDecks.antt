@@ -4,7 +4,7 @@ use Rattle.std.specs.Prelude.{Some, slice_get, ◌≢◌}
 use Rattle.std.proofs.Common.{List, [], add-zero, ap, arith, inl, inr, length, length-append, map, refl, subst, suc, sym, zero, zero-add, ℕ, ◌++◌, ◌+◌, ◌<◌, ◌∙◌, ◌∷◌, ◌≡◌, ◌≤◌, take, ap₂}
 use Rattle.dom_base.specs.declared.kind.Kind.{Kind}
 use Rattle.dom_base.specs.declared.kind.Kind.TheVariants.{N as nch, P as pch}
-use Rattle.dom_base.proofs.Lists.{AllByRecursion-contains, AllByRecursion-left, AllByRecursion-right, AllByRecursion-weaker}
+use Rattle.dom_base.proofs.Lists.{AllByRecursion-contains, AllByRecursion-left, AllByRecursion-right, AllByRecursion-weaker, slice_get-left}
 use Rattle.deck.specs.CircuitData.{CircuitData}
 use Rattle.deck.specs.Nets.{net_number}
 use Rattle.deck.specs.declared.role.Roles.{Roles}
@@ -31,11 +31,6 @@ use Rattle.domino_law.proofs.SpelledParts.{named_is_spelled}
 use Rattle.domino_law.specs.DominoDeck.{IsLooseDominoDeck}
 use Rattle.deck.specs.Roles.{AreRoles, ports_of}
 use Rattle.std.proofs.Math.Seq.{take-append_seam}
-
-slice_get-first : {X : Type 0} (xs ys : List X) (i : ℕ) → i < length xs → slice_get (xs ++ ys) i ≡ slice_get xs i
-slice_get-first [] ys i l = absurd (omega arith)
-slice_get-first (x ∷ xs) ys zero l = refl
-slice_get-first (x ∷ xs) ys (suc i) l = slice_get-first xs ys i (omega arith)
 
 -- what holds of the sources of the cards of a tree holds of its bottom and of its inner nets
 spell_nets : (P : Net → Type 0) (kind : Kind) (inner : ℕ → Net) (t : Tree Net) (top bottom : Net) (k : ℕ) → AllByRecursion (λ c. P c.source) (spell kind inner t top bottom k)
@@ -264,7 +259,7 @@ module _ (ports : CircuitData) (roles : Roles) (name : Net → List ℕ) (s : Sh
   other_number part spot i = (
     elim (lt_or_ge (net_number (named_circuit ports name s).nets (name (At part spot))) (source_count roles)) [
       | inr g ↦ g
-      | inl l ↦ absurd (h.others part spot i _ l (sym (slice_get-first ports.nets more _ (before l h.few)) ∙ (ap (λ ns. slice_get ns (net_number (named_circuit ports name s).nets (name (At part spot)))) (sym nets_are) ∙ part_stands part spot i)))
+      | inl l ↦ absurd (h.others part spot i _ l (sym (slice_get-left ports.nets more _ (before l h.few)) ∙ (ap (λ ns. slice_get ns (net_number (named_circuit ports name s).nets (name (At part spot)))) (sym nets_are) ∙ part_stands part spot i)))
     ],
     below_length (named_circuit ports name s).nets _ (name (At part spot)) (part_stands part spot i),
   )

@@ -7,14 +7,14 @@ use Rattle.deck.specs.Nets.{IsCircuit}
 use Rattle.deck.specs.Ports.{leading_ports}
 use Rattle.deck.specs.Roles.{AreRoles, ports_of}
 use Rattle.deck.specs.declared.role.Roles.{Roles}
-use Rattle.deck.proofs.DeviceNumbers.{used-le}
+use Rattle.deck.proofs.DeviceNumbers.{numbers_used-le}
 use Rattle.deck.proofs.PortLayout.{joined, length-leading}
 use Rattle.deck.specs.PortLayout.{source_count}
 use Rattle.switch_model.specs.Power.{source_values}
 
 -- a circuit has at most 2^26 nets
 pub few_nets : (c : CircuitData) → IsCircuit c.ports c.nets c.devices → length c.nets ≤ 2 ^ 26
-few_nets c is = omega (arith, is.all_used, used-le c.ports c.devices is.in_order, is.few_ports, is.few_devices)
+few_nets c is = omega (arith, is.all_used, numbers_used-le c.ports c.devices is.in_order, is.few_ports, is.few_devices)
 
 pub joined_length : (l xs ys zs : List (List ℕ)) → l ≡ xs ++ (ys ++ zs) → length xs + (length ys + length zs) ≡ length l
 joined_length l xs ys zs e = rw e (omega (arith, length-append xs (ys ++ zs), length-append ys zs))

@@ -13,13 +13,13 @@ use Rattle.deck.specs.declared.phase.Phase.{Phase}
 use Rattle.deck.specs.CircuitData.{CircuitData}
 use Rattle.deck.specs.DeckText.{deck_cards, deck_phases, deck_card_lines, cards_of, is_skipped, phase_of, bare_circuit, BeginsACard, HasNoEquals, IsDeckOf, IsGoodCircuit, HasNetNames}
 use Rattle.deck.specs.NamedDevices.{with_devices, named_device}
-use Rattle.deck.specs.Nets.{ends, used, IsCircuit}
+use Rattle.deck.specs.Nets.{ends, numbers_used, IsCircuit}
 use Rattle.deck.specs.Ports.{leading_ports, HasRoles, HasSomeRoles}
 use Rattle.deck.proofs.DeckCircuits.{IsDeckOf-circuit, IsDeckOf-good}
 use Rattle.deck.proofs.DeckNames.{IsDeckOf-names}
 use Rattle.spice_text.specs.Text.{sign_of, eights, text_with, IsWritten}
 use Rattle.spice_text.proofs.DeviceRows.{all_cards, cards_plain, cards_are}
-use Rattle.deck.proofs.DeviceNumbers.{used-ge, devices_in_range, with_devices-named}
+use Rattle.deck.proofs.DeviceNumbers.{numbers_used-ge, devices_in_range, with_devices-named}
 use Rattle.deck.proofs.NetNumbers.{IsDistinct-take}
 use Rattle.spice_text.proofs.ReadRows.{row_line, text_of_rows, IsPlainRow, IsNoEnd, IsComment, IsOfCard, Begins, plus_rows, deck_phases-rows, card_lines-rows, cards_of-rows}
 use Rattle.deck.proofs.PortDecisions.{has_roles}
@@ -170,9 +170,9 @@ written_begins c leading groups text r e =
 same_circuit : (c : CircuitData) → IsCircuit c.ports c.nets c.devices → (phases : List Phase) → phases ≡ c.phases
     → c ≡ with_devices (bare_circuit c.name phases (take c.ports c.nets)) (map (named_device c.nets) c.devices)
 same_circuit c is phases e =
-    let within : c.ports ≤ length c.nets = omega (arith, is.all_used, used-ge c.ports (ends c.devices)) in
+    let within : c.ports ≤ length c.nets = omega (arith, is.all_used, numbers_used-ge c.ports (ends c.devices)) in
     let count : length (take c.ports c.nets) ≡ c.ports = length-take-le c.ports c.nets within in
-    let all : take (used c.ports (ends c.devices)) c.nets ≡ c.nets = take_all (used c.ports (ends c.devices)) c.nets (omega (arith, is.all_used)) in
+    let all : take (numbers_used c.ports (ends c.devices)) c.nets ≡ c.nets = take_all (numbers_used c.ports (ends c.devices)) c.nets (omega (arith, is.all_used)) in
     let low = devices_in_range (length c.nets) c.ports c.devices (omega (arith, is.all_used)) in
     let bare : List Phase → ℕ → CircuitData = λ list n. record { name = c.name; phases = list; ports = n; nets = take c.ports c.nets; devices = [] } in
     sym (
@@ -191,7 +191,7 @@ read_back_with c w leading groups e text t =
     let r = written_rows c w leading groups p in
     let rows = t ∙ text_with-rows c leading groups in
     let cards = written_cards c w leading groups text p r rows in
-    let within : c.ports ≤ length c.nets = omega (arith, w.is.all_used, used-ge c.ports (ends c.devices)) in
+    let within : c.ports ≤ length c.nets = omega (arith, w.is.all_used, numbers_used-ge c.ports (ends c.devices)) in
     let count : length (take c.ports c.nets) ≡ c.ports = length-take-le c.ports c.nets within in
     let ports_plain : AllByRecursion IsNetName (take c.ports c.nets) = recursion_from_All IsNetName (take c.ports c.nets) (All-take IsNetName c.ports c.nets w.names.nets_are) in
     let visible : All (All (All (λ b. is_control b ≡ false))) (opening_row c.name (take c.ports c.nets) ∷ rows_behind c) =

@@ -6,7 +6,7 @@ use Rattle.deck.specs.Nets.{IsCircuit, IsInRange}
 use Rattle.deck.specs.Paths.{Ends}
 use Rattle.deck.specs.Switches.{value_of}
 use Rattle.deck.specs.declared.device.Device.{Device}
-use Rattle.deck.proofs.DeviceNumbers.{used-le}
+use Rattle.deck.proofs.DeviceNumbers.{numbers_used-le}
 use Rattle.switch_model.specs.Laws.{EndsAt}
 use Rattle.switch_model.specs.LinksData.{is_first}
 
@@ -43,4 +43,4 @@ other_at d a b (inr z) = inl z.1
 
 -- a circuit has at most so many nets
 pub few-nets : (ports : ℕ) (nets : List (List ℕ)) (devices : List Device) → IsCircuit ports nets devices → length nets ≤ 2 ^ 26
-few-nets ports nets devices c = omega (arith, c.all_used, used-le ports devices c.in_order, c.few_ports, c.few_devices)
+few-nets ports nets devices c = omega (arith, c.all_used, numbers_used-le ports devices c.in_order, c.few_ports, c.few_devices)

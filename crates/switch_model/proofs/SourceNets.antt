@@ -12,7 +12,7 @@ use Rattle.deck.specs.Ports.{IsOutput, clock_ports, latch_ports, leading_ports, 
 use Rattle.deck.specs.Roles.{AreRoles, ports_of}
 use Rattle.deck.specs.Sources.{is_source}
 use Rattle.deck.specs.declared.role.Roles.{Roles}
-use Rattle.deck.proofs.DeviceNumbers.{used-ge}
+use Rattle.deck.proofs.DeviceNumbers.{numbers_used-ge}
 use Rattle.deck.proofs.PortLayout.{joined, length-leading, length-ports_of, length-roles, pin-no_output, ports-count}
 use Rattle.deck.specs.PortLayout.{source_count}
 use Rattle.switch_model.specs.LinksData.{is_first}
@@ -23,7 +23,7 @@ use Rattle.dom_base.proofs.Lists.{AllByRecursion-append, AllByRecursion-take}
 
 -- a circuit has at least as many nets as ports
 pub ports-few : (c : CircuitData) → IsCircuit c.ports c.nets c.devices → c.ports ≤ length c.nets
-ports-few c h = omega (arith, h.all_used, used-ge c.ports (ends c.devices))
+ports-few c h = omega (arith, h.all_used, numbers_used-ge c.ports (ends c.devices))
 
 abbrev NoOutput : List ℕ → Type 0
 NoOutput name = starts_with nat_eq name (codes "o_") ≡ false
