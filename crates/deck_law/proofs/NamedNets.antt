@@ -30,7 +30,7 @@ use Rattle.deck_law.proofs.Names.{read, signal_fits, read-clock, read-complement
 use Rattle.deck_law.proofs.Numbers.{cell_in, complement_in, devices_are, grew, latch_in, name_of, nets_are, of_cells, of_complements, of_latches, of_sinks, out_at, source_at, the_net, the_roles, the_shape}
 use Rattle.deck_law.proofs.PortNumbers.{number_is}
 use Rattle.deck_law.proofs.DeviceLists.{flat_longer, flat_many, enumerated, spell_longer}
-use Rattle.net_flatten.proofs.Lists.{get_of_map}
+use Rattle.model_calls.proofs.Lists.{get_of_map}
 use Rattle.synth_flow.proofs.BareDecks.{begins}
 use Rattle.synth_flow.proofs.DeckForms.{zipped_get, length_map}
 use Rattle.synth_flow.specs.DeckNets as named

@@ -7,7 +7,7 @@ use Rattle.std.proofs.Common.{◌≡◌, ℕ, suc, ◌+◌, ◌-◌, ◌<◌, �
 use Rattle.std.proofs.lemmas.Bool.{eqb-true, le-ltb, lt-ltb, ltb-true}
 use Rattle.std.proofs.lemmas.Fmt.{decimal_is_IsNumeral}
 use Rattle.deck.specs.Nets.{net_number}
-use Rattle.synth_flow.specs.NameParts.{NoDigit, behind, front, letter_of}
+use Rattle.synth_flow.specs.NameParts.{NoDigit, behind, front, leading_letter}
 use Rattle.synth_flow.proofs.NameParts.{behind-digits, front-digits}
 use Rattle.domino_cell.specs.Stage.{Inside, Top}
 use Rattle.domino_law.specs.Nets.{At, Clock, Complement, Dynamic, FromLatch, FromPin, Lm, Lmb, Ls, Lsb, Master, Net, Next, Output, Part, Pin, Rs, Rsb, DeckSignal, Sink, Slave, Vdd, Vss}
@@ -24,10 +24,10 @@ module _ (pins outs : List (List ℕ)) where
   spot_of (c ∷ cs) part = cond (c == 112) (At part (Inside 0 0)) (At part (Inside 1 0))
 
   abbrev pub read_c : List ℕ → Net
-  read_c xs = cond (letter_of xs == 107) (Clock (digits_value 10 (drop 1 xs) - 1)) (At (Complement (leaf_signal (length pins) (digits_value 10 xs))) Top)
+  read_c xs = cond (leading_letter xs == 107) (Clock (digits_value 10 (drop 1 xs) - 1)) (At (Complement (leaf_signal (length pins) (digits_value 10 xs))) Top)
 
   abbrev pub read_l : List ℕ → Net
-  read_l xs = cond (letter_of xs == 109) (cond (is_none (drop 1 xs)) Lm Lmb) (cond (is_none (drop 1 xs)) Ls Lsb)
+  read_l xs = cond (leading_letter xs == 109) (cond (is_none (drop 1 xs)) Lm Lmb) (cond (is_none (drop 1 xs)) Ls Lsb)
 
   abbrev pub read_from : ℕ → List ℕ → Net
   read_from b xs =
@@ -42,7 +42,7 @@ module _ (pins outs : List (List ℕ)) where
       (cond (b == 111) (At (Sink (net_number outs (b ∷ xs))) Top)
       (cond (b == 99) (read_c xs)
       (cond (b == 108) (read_l xs)
-      (cond (b == 118) (cond (letter_of xs == 100) Vdd Vss)
+      (cond (b == 118) (cond (leading_letter xs == 100) Vdd Vss)
       (cond (is_none (drop 1 xs)) Rs Rsb))))))))))))
 
   abbrev pub read : List ℕ → Net
@@ -92,10 +92,10 @@ module _ (pins outs : List (List ℕ)) where
       less n = omega arith
 
   -- a number begins with no `k`
-  no_k : (n : ℕ) → IsSmall n → (letter_of (decimal n) == 107) ≡ false
+  no_k : (n : ℕ) → IsSmall n → (leading_letter (decimal n) == 107) ≡ false
   no_k n small = by (decimal n) (decimal_is_IsNumeral n small).0
     where
-      by : (ds : List ℕ) → (0 < length ds) × AllDigits 10 ds → (letter_of ds == 107) ≡ false
+      by : (ds : List ℕ) → (0 < length ds) × AllDigits 10 ds → (leading_letter ds == 107) ≡ false
       by [] h = absurd (omega (arith, h.0))
       by (c ∷ ds) h = other (c == 107) refl
         where

@@ -3,6 +3,7 @@ use Rattle.std.specs.Prelude.{◌==◌, slice_index_or}
 use Rattle.std.specs.List.{range_with_len, zip}
 use Rattle.std.proofs.Common.{Bool, List, [], ap, ap₂, arith, cond, false, true, length, map, not, refl, subst, suc, sym, take, drop, zero, ℕ, ◌*◌, ◌/◌, ◌%◌, ◌++◌, ◌+◌, ◌-◌, ◌<◌, ◌≤◌, ◌∙◌, ◌∷◌, ◌≡◌, Some, slice_get, nat_lt, ltb-true, ltb-false, eq-eqb, length-append, length-take, length-drop}
 use Rattle.std.proofs.lemmas.Option.{get_or_from_slice_get, slice_get_within}
+use Rattle.std.proofs.Math.Bool.{not-not}
 use Rattle.dom_base.proofs.Lists.{slice_get-append, slice_get-behind, All-at}
 use Rattle.deck.specs.CircuitData.{CircuitData}
 use Rattle.sp_network.specs.Tree.{EachLeaf, Leaf, Parallel, Series, Tree, joins, map_tree}
@@ -37,7 +38,7 @@ use Rattle.deck_law.specs.NetNames.{cell_shape, deck_shape, end_gate, gate_of, l
 use Rattle.deck_law.proofs.ForestBits.{gate_value, gate_values, nodes_there, pairs_there, root_back, root_of}
 use Rattle.deck_law.proofs.BitsInTurn.{filled, filled-at}
 use Rattle.deck_law.proofs.SpelledDecks.{taken_get}
-use Rattle.net_flatten.proofs.Lists.{get_of_map, get_map}
+use Rattle.model_calls.proofs.Lists.{get_of_map, get_map}
 use Rattle.gate_decompose.specs.GatesOrder.{AreInPlace, AreOrderedGates}
 use Rattle.gate_decompose.proofs.GatesOrder.{gates_are_ordered, network_gates_are_in_place}
 use Rattle.gate_decompose.proofs.NetworkOrder.{networks_are_ordered}
@@ -62,10 +63,6 @@ each_more P Q (Parallel l r) h e = (each_more P Q l h e.0, each_more P Q r h e.1
 cell_filled : (signal : DeckSignal → Bool) (cs : List DominoCell) (before : List Bool) → cell_bits signal cs before ≡ filled (λ l (c : DominoCell). joins (gate_bit signal l) c.tree) cs before
 cell_filled signal [] before = refl
 cell_filled signal (c ∷ cs) before = cell_filled signal cs (before ++ joins (gate_bit signal before) c.tree ∷ [])
-
-twice : (b : Bool) → not (not b) ≡ b
-twice true = refl
-twice false = refl
 
 pub map_ext : {X Y Z : Type 0} (f : X → Z) (g : Y → Z) (xs : List X) (ys : List Y) → length xs ≡ length ys
     → ((k : ℕ) (x : X) (y : Y) → slice_get xs k ≡ Some x → slice_get ys k ≡ Some y → f x ≡ g y) → map f xs ≡ map g ys
@@ -305,9 +302,9 @@ module _ (network : NetworkData) (w h phases : ℕ) (circuit : CircuitData) (is 
       low = All-at (IsEndOfForest is.forest) is.forest.ends k (Literal rail) forest_is.has_ends at
 
       by : (b : Bool) → not (gate_bit signal bits (cond b (Minus (leaf_signal P rail.leaf)) (Plus (leaf_signal P rail.leaf)))) ≡ signed b (value rail.leaf)
-      by true = twice (signal (leaf_signal P rail.leaf)) ∙ signal_value rail.leaf low
+      by true = not-not (signal (leaf_signal P rail.leaf)) ∙ signal_value rail.leaf low
       by false = ap not (signal_value rail.leaf low)
-  end_value k (end_dynamic place) at = twice (bit_at bits (cell_of is.kept place)) ∙ dynamic_bit k place at
+  end_value k (end_dynamic place) at = not-not (bit_at bits (cell_of is.kept place)) ∙ dynamic_bit k place at
   end_value k (end_output place) at = ap not (output_bit k place at)
 
   sink_count : length is.gates.sinks ≡ length (sink_signals network)

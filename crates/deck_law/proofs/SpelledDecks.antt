@@ -22,7 +22,7 @@ use Rattle.deck_law.specs.NetNames.{cell_shape, end_gate, gate_of, latch_shape, 
 use Rattle.deck_law.proofs.NamedNets.{apart, named_net}
 use Rattle.deck_law.proofs.Numbers.{grew, lead_count, name_of, nets_are, parts_are, source_at, the_net, the_roles, the_shape, out_at}
 use Rattle.deck_law.proofs.PortNumbers.{number_is}
-use Rattle.net_flatten.proofs.Lists.{get_of_map, get_map}
+use Rattle.model_calls.proofs.Lists.{get_of_map, get_map}
 use Rattle.synth_flow.proofs.DeckForms.{zipped_get, length_map}
 use Rattle.domino_law.specs.DominoDeck.{IsLooseDominoDeck}
 use Rattle.deck.specs.PortLayout.{first_output}

@@ -6,7 +6,7 @@ use Rattle.std.proofs.lemmas.List.{get_or_past}
 use Rattle.std.proofs.lemmas.Option.{get_or_from_slice_get, slice_get-get_or, slice_get_cases, slice_get_within}
 use Rattle.dom_base.proofs.Lists.{AllByRecursion-append, AllByRecursion-weaker}
 use Rattle.sp_network.specs.Tree.{Tree, EachLeaf, Leaf, Series, Parallel}
-use Rattle.net_flatten.proofs.Lists.{map_same}
+use Rattle.model_calls.proofs.Lists.{map_same}
 use Rattle.clock_phase.specs.Levels.{AreLevels, cells_read, greatest}
 use Rattle.plan_law.specs.Laws.{LevelsAreThere, TreesReadBelow}
 use Rattle.plan_law.proofs.BuiltLists.{lists_same, values_there}

@@ -4,8 +4,8 @@ use Rattle.blif_ast.specs.BlifFileData.{BlifFileData}
 use Rattle.blif_ast.specs.Good.{IsGoodFile}
 use Rattle.net_flatten.specs.Flattening.{IsNetworkOf}
 use Rattle.net_flatten.specs.NetworkData.{NetworkData}
-use Rattle.net_flatten.specs.Refusal.{Refusal}
-use Rattle.net_flatten.specs.Refusals.{IsRefusal}
+use Rattle.model_calls.specs.Refusal.{Refusal}
+use Rattle.model_calls.specs.Refusals.{IsRefusal}
 use Rattle.net_flatten.proofs.Kept.{network_kept}
 use Rattle.network_law.specs.Laws.{HasAnswer}
 use Rattle.network_law.proofs.Answered.{has_answer}

@@ -4,6 +4,7 @@ use Rattle.std.specs.Prelude.{AllPairs}
 use Rattle.std.specs.List.{AllZip, range_with_len}
 use Rattle.std.proofs.lemmas.Bool.{cases_lt}
 use Rattle.std.proofs.lemmas.Option.{get_or_from_slice_get, same_Some, slice_get_within}
+use Rattle.dom_base.proofs.Lists.{AllZip-one}
 use Rattle.gate_decompose.specs.declared.gates.Node.{Node}
 use Rattle.gate_decompose.specs.declared.gates.Node.TheVariants.{And as and_node, Not as not_node, Or as or_node}
 use Rattle.gate_decompose.specs.declared.gates.Ref.{Ref}
@@ -22,7 +23,6 @@ use Rattle.dual_rail.specs.ForestData.{ForestData}
 use Rattle.dual_rail.specs.Forests.{IsArm, IsEndOf, IsForestOf, IsPairOf, arm_uses, end_uses}
 use Rattle.dual_rail.proofs.TargetsOf.{asks_opposite}
 use Rattle.dual_rail.proofs.Zips.{get_some}
-use Rattle.tree_map.proofs.PlanOne.{zip_one}
 use Rattle.plan_law.proofs.BuiltLists.{lists_same}
 
 -- an operator isn't a Not
@@ -155,7 +155,7 @@ forest_one gates signs a b is are =
     let leaves = is.leaves_are ∙ sym are.leaves_are in
     let origin : a.origin ≡ b.origin = needed_one gates signs a.origin b.origin is.origin_is are.origin_is in
     let pairs : a.pairs ≡ b.pairs =
-    zip_one (IsPairOf gates.nodes b.origin) (pair_one b.origin are.origin_is.in_order gates.nodes) b.origin a.pairs b.pairs
+    AllZip-one (IsPairOf gates.nodes b.origin) (pair_one b.origin are.origin_is.in_order gates.nodes) b.origin a.pairs b.pairs
     (subst (λ o. AllZip (IsPairOf gates.nodes o) o a.pairs) origin is.pairs_are) are.pairs_are in
     let ends : a.ends ≡ b.ends = lists_same a.ends b.ends (is.ends_count ∙ sym are.ends_count) (λ k x y e f.
     let lt : k < length gates.sinks = subst (λ n. k < n) is.ends_count (slice_get_within a.ends k x e) in

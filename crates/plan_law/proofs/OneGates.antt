@@ -12,7 +12,7 @@ use Rattle.gate_decompose.specs.Terms.{And, Constant, Not, Or, Signal, Term, row
 use Rattle.gate_decompose.proofs.Operands.{folded_same}
 use Rattle.gate_decompose.proofs.TermShapes.{SignalsBelow, rows_are, table_signals}
 use Rattle.net_flatten.specs.NetworkData.{NetTableData, NetworkData}
-use Rattle.net_flatten.proofs.Lists.{map_same}
+use Rattle.model_calls.proofs.Lists.{map_same}
 
 -- a term whose signals come to the same has the same nodes
 module _ (of other : ℕ → Operand) (table m : ℕ) (same : (s : ℕ) → s < m → of s ≡ other s) where

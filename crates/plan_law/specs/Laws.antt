@@ -9,8 +9,8 @@ use Rattle.sp_network.specs.Tree.{Tree, EachLeaf}
 use Rattle.net_flatten.specs.Flattening.{IsNetworkOf}
 use Rattle.net_flatten.specs.NetworkData.{NetworkData}
 use Rattle.net_flatten.specs.Networks.{IsNetwork}
-use Rattle.net_flatten.specs.Refusal.{Refusal}
-use Rattle.net_flatten.specs.Refusals.{IsRefusal}
+use Rattle.model_calls.specs.Refusal.{Refusal}
+use Rattle.model_calls.specs.Refusals.{IsRefusal}
 use Rattle.gate_decompose.specs.GateNodes.{AreGatesOf}
 use Rattle.gate_decompose.specs.GatesData.{GatesData}
 use Rattle.gate_decompose.specs.GatesOrder.{AreInPlace}

@@ -19,6 +19,7 @@ use Rattle.deck.proofs.NetNumbers.{HasNumber-from}
 use Rattle.sp_network.specs.Tree.{Tree, Leaf, Series, Parallel, EachLeaf, map_tree}
 use Rattle.sp_network.specs.TypedTree.{tree_of}
 use Rattle.sp_network.specs.declared.plan.GatePlan.{GatePlan}
+use Rattle.clock_phase.proofs.Greatest.{each_leaf_weaker}
 use Rattle.domino_cell.specs.Cell.{cell}
 use Rattle.domino_cell.specs.NamedTrees.{named_tree}
 use Rattle.domino_cell.specs.PushedNames.{IsPort, numbered_cell}
@@ -119,11 +120,6 @@ gate_has P pins lc gate all own opposite out = by (nat_lt gate (2 * lc)) refl
 pub gate_net : (pins : List (List ℕ)) (lc n gate : ℕ) → gate < n → net_name (gate_nets pins lc n) gate ≡ named_gate pins lc gate
 gate_net pins lc n gate lt = get_or-map-range_with_len (named_gate pins lc) 0 n gate gate [] lt (zero-add gate)
 
-pub each_gate : (P Q : ℕ → Type 0) → ((gate : ℕ) → P gate → Q gate) → (t : Tree ℕ) → EachLeaf P t → EachLeaf Q t
-each_gate P Q f (Leaf gate) h = f gate h
-each_gate P Q f (Series l r) h = (each_gate P Q f l h.0, each_gate P Q f r h.1)
-each_gate P Q f (Parallel l r) h = (each_gate P Q f l h.0, each_gate P Q f r h.1)
-
 -- plans that read cells before them are gated by nets before their cells
 pub are_gated : (pins : List (List ℕ)) (lc : ℕ) (plans : List GatePlan) → length plans < 2 ^ 32 → AllByRecursion IsPin pins
     → ((k : ℕ) (p : GatePlan) → slice_get plans k ≡ Some p → EachLeaf (λ gate. gate < 2 * lc + k) (tree_of p.tree)) → AreGated (gate_nets pins lc (2 * lc + length plans)) 0 plans
@@ -131,7 +127,7 @@ are_gated pins lc plans few pins_are earlier i p at =
     let n : ℕ = 2 * lc + length plans in
     let lt = slice_get_within plans i p at in
     let long = length-map-range_with_len (named_gate pins lc) 0 n in
-    each_gate (λ gate. gate < 2 * lc + i) (λ gate. (gate < length (gate_nets pins lc n)) × IsBeforeCell (0 + i) (net_name (gate_nets pins lc n) gate))
+    each_leaf_weaker (λ gate. gate < 2 * lc + i) (λ gate. (gate < length (gate_nets pins lc n)) × IsBeforeCell (0 + i) (net_name (gate_nets pins lc n) gate))
     (λ gate low. (omega (arith, long, lt, low), subst (IsBeforeCell (0 + i)) (sym (gate_net pins lc n gate (omega (arith, lt, low)))) (before gate low lt)))
     (tree_of p.tree) (earlier i p at)
   where
@@ -163,5 +159,5 @@ gates_are pins lc plans earlier =
     recursion_from_All P plans
     (all_from P plans
     (λ k p at. let lt = slice_get_within plans k p at in
-    each_gate (λ gate. gate < 2 * lc + k) (λ gate. net_name (gate_nets pins lc (2 * lc + length plans)) gate ≡ named_gate pins lc gate)
+    each_leaf_weaker (λ gate. gate < 2 * lc + k) (λ gate. net_name (gate_nets pins lc (2 * lc + length plans)) gate ≡ named_gate pins lc gate)
     (λ gate low. gate_net pins lc (2 * lc + length plans) gate (omega (arith, lt, low))) (tree_of p.tree) (earlier k p at)))

@@ -4,7 +4,7 @@ use Rattle.std.proofs.lemmas.List.Elements.{recursion_from_All}
 use Rattle.latch_bind.proofs.LatchParts.{two_parts}
 use Rattle.synth_flow.proofs.LoopItems.{count_with}
 use Rattle.std.proofs.lemmas.List.Sums.{sum_by-cons}
-use Rattle.net_flatten.proofs.IndexedLists.{take_get}
+use Rattle.model_calls.proofs.IndexedLists.{take_get}
 use Rattle.std.specs.Prelude.{codes}
 use Rattle.std.specs.Fmt.{decimal}
 use Rattle.std.specs.List.{AllByRecursion}
@@ -30,6 +30,7 @@ use Rattle.tree_map.specs.Plans.{cost, tree_cost}
 use Rattle.synth_flow.specs.MadeDecks.{AreGated, HasRoomForCells, IsBeforeCell, cells_from}
 use Rattle.synth_flow.specs.NameParts.{number_of}
 use Rattle.synth_flow.proofs.NameParts.{HasNames, all_nets, bare_number_is, none_named, number_is}
+use Rattle.synth_flow.proofs.FigureLoops.{cost_room}
 
 -- a port stays one
 pub port_stays : (c : CircuitData) (ds : List (NamedDevice (List ℕ))) (name : List ℕ) → c.ports ≤ length c.nets → IsPort c name → IsPort (with_devices c ds) name
@@ -166,15 +167,6 @@ cells_length names k (p ∷ plans) =
       sum_by-cons tree_cost (tree_of p.tree) (plan_trees plans),
     )
 
--- the cost of the first plans and of the next
-pub cost_more : (plans : List GatePlan) (i : ℕ) (p : GatePlan) → slice_get plans i ≡ Some p → cost (plan_trees (take i plans)) + (leaves (tree_of p.tree) + 5) ≤ cost (plan_trees plans)
-cost_more [] i p e = absurd (cc)
-cost_more (x ∷ plans) zero p e =
-    let same : x ≡ p = cc in
-    omega (arith, sum_by-cons tree_cost (tree_of x.tree) (plan_trees plans), ap (λ (q : GatePlan). leaves (tree_of q.tree)) same)
-cost_more (x ∷ plans) (suc i) p e =
-    omega (arith, sum_by-cons tree_cost (tree_of x.tree) (plan_trees plans), sum_by-cons tree_cost (tree_of x.tree) (plan_trees (take i plans)), cost_more plans i p e)
-
 -- the gates of a plan have names
 pub each_named : (names : List (List ℕ)) (k : ℕ) (t : Tree ℕ) → EachLeaf (λ gate. (gate < length names) × IsBeforeCell k (net_name names gate)) t → EachLeaf (λ gate. gate < length names) t
 each_named names k (Leaf gate) h = h.0
@@ -199,7 +191,7 @@ pub room_in_circuit : (old between : CircuitData) (names : List (List ℕ)) (pla
     → between ≡ with_devices old (cells_from names 0 (take k plans)) → length between.devices + leaves (tree_of p.tree) + 5 ≤ length old.devices + cost (plan_trees plans)
 room_in_circuit old between names plans k p at one =
     let first = cells_from names 0 (take k plans) in
-    omega (arith, ap (λ (c : CircuitData). length c.devices) one, count_with old first, cells_length names 0 (take k plans), cost_more plans k p at)
+    omega (arith, ap (λ (c : CircuitData). length c.devices) one, count_with old first, cells_length names 0 (take k plans), cost_room plans k p at)
 
 -- the cells so far and one more
 pub next_cell : (old between new : CircuitData) (names : List (List ℕ)) (plans : List GatePlan) (k : ℕ) (p : GatePlan) → slice_get plans k ≡ Some p

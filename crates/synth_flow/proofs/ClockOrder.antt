@@ -9,7 +9,7 @@ use Rattle.gate_decompose.specs.Sinks.{leaf_count}
 use Rattle.gate_decompose.specs.Items.{Among}
 use Rattle.gate_decompose.proofs.Among.{among_map, contains-among}
 use Rattle.synth_flow.proofs.DeckForms.{zipped_get}
-use Rattle.net_flatten.proofs.Lists.{get_of_map}
+use Rattle.model_calls.proofs.Lists.{get_of_map}
 use Rattle.clock_phase.proofs.Levels.{clock_rises, level_at_most}
 
 greatest_among : (x : ℕ) (xs : List ℕ) → Among x xs → x ≤ greatest xs

@@ -38,7 +38,7 @@ use Rattle.tree_map.specs.Plans.{cost, tree_cost}
 use Rattle.synth_flow.specs.BareDecks.{named_leaves}
 use Rattle.synth_flow.specs.ChosenDecks.{IsChosenDeck, end_at_cell}
 use Rattle.synth_flow.specs.DeckNets.{CellPlan, SinkEnd, named_cell, named_complement, named_gate, named_sink, sink_nets}
-use Rattle.synth_flow.specs.DominoDecks.{cells_of, complements_of, deck_circuit, outs_of, phases_of, pins_of, signal_name, starts_of}
+use Rattle.synth_flow.specs.DominoDecks.{cells_of, complements_of, deck_circuit, outs_of, phases_of_sinks, pins_of, signal_name, starts_of}
 use Rattle.synth_flow.specs.NamedComplements.{are_read, is_plus_end}
 use Rattle.synth_flow.specs.NamedDecks.{is_plus_literal, names_complement, reads}
 use Rattle.synth_flow.specs.Summaries.{IsSummaryOf, both_nodes, clock_counts, figures}
@@ -141,7 +141,7 @@ module _ (network : NetworkData) (phases : ℕ) (trees : List (Tree ℕ)) (level
       let d = flat_map (named_sink pins) (zip (sink_nets outs starts) ends) in
       omega (
         arith,
-        count_with (new_circuit (escaped network.name) (phases_of network signs) phases pins outs) (a ++ b ++ c ++ d),
+        count_with (new_circuit (escaped network.name) (phases_of_sinks network signs) phases pins outs) (a ++ b ++ c ++ d),
         length-append (a ++ b ++ c) d,
         length-append (a ++ b) c,
         length-append a b,

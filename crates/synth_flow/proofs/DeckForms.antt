@@ -1,6 +1,6 @@
 -- The circuit of synthesis is a domino deck, and a domino deck is a loose one.
 use Rattle.gate_decompose.proofs.GatesOrder.{network_gates_are_in_place}
-use Rattle.net_flatten.proofs.Lists.{get_of_map}
+use Rattle.model_calls.proofs.Lists.{get_of_map}
 use Rattle.gate_decompose.specs.NetworkOrder.{IsOrderedNetwork}
 use Rattle.dual_rail.proofs.ForestOrders.{forests_are_in_place}
 use Rattle.dual_rail.proofs.Zips.{all_from, all_zip_back}
@@ -24,7 +24,7 @@ use Rattle.gate_decompose.specs.declared.gates.Ref.{Ref}
 use Rattle.synth_flow.specs.ChosenDecks.{IsPlannedDeck, end_at_cell, planned}
 use Rattle.synth_flow.specs.DeckLaws.{ChosenDecksAreDomino, PlannedDecksAreDomino, DominoDecksAreLoose}
 use Rattle.synth_flow.specs.DeckNets.{CellPlan, named_devices}
-use Rattle.synth_flow.specs.DominoDecks.{HasSign, IsDominoDeck, cells_of, complements_of, outs_of, phases_of, pins_of, signal_name, starts_of}
+use Rattle.synth_flow.specs.DominoDecks.{HasSign, IsDominoDeck, cells_of, complements_of, outs_of, phases_of_sinks, pins_of, signal_name, starts_of}
 use Rattle.dual_rail.specs.Forests.{IsEndOf, end_uses, is_end_from}
 use Rattle.clock_phase.specs.Levels.{clock_of, greatest}
 use Rattle.synth_flow.specs.NamedDecks.{IsEndIn, ReadsBelow, names_complement}
@@ -214,10 +214,10 @@ domino_decks_are_loose = λ network w h phases circuit is.
     let sinks : length (sink_signals network) ≡ length network.outputs + length network.latches =
     length-append network.outputs (map (λ l. l.input) network.latches) ∙ ap (λ n. length network.outputs + n) (length_map (λ l. l.input) network.latches) in
     let ends_count = all_zip_length HasSign is.signs is.ends is.signs_are in
-    let bare = new_circuit (escaped network.name) (phases_of network is.signs) phases pins outs in
+    let bare = new_circuit (escaped network.name) (phases_of_sinks network is.signs) phases pins outs in
     let cards = named_devices pins outs starts cells complements is.ends in
     let same_name : circuit.name ≡ escaped network.name = ap (λ (c : CircuitData). c.name) is.circuit_is ∙ (named_cards bare cards).0 in
-    let same_phases : circuit.phases ≡ phases_of network is.signs = ap (λ (c : CircuitData). c.phases) is.circuit_is ∙ (named_cards bare cards).1 in
+    let same_phases : circuit.phases ≡ phases_of_sinks network is.signs = ap (λ (c : CircuitData). c.phases) is.circuit_is ∙ (named_cards bare cards).1 in
     record {
       clocks = phases;
       pins = pins;

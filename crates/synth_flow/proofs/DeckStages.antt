@@ -22,25 +22,26 @@ use Rattle.domino_cell.specs.NamedTrees.{named_tree}
 use Rattle.domino_cell.proofs.CellCircuits.{with_devices-append}
 use Rattle.dual_rail.proofs.Zips.{all_from}
 use Rattle.std.proofs.lemmas.Option.{slice_get_within}
+use Rattle.clock_phase.proofs.Greatest.{each_leaf_weaker}
 use Rattle.synth_flow.specs.BareDecks.{gate_nets}
 use Rattle.synth_flow.specs.DeckNets.{complement_net, data_net, named_gate, own_net}
 use Rattle.synth_flow.specs.MadeDecks.{EndsApart, HasRoomForInverters, IsBeforeLatch, cells_from, inverters, latches_from}
-use Rattle.synth_flow.specs.NameParts.{letter_of, rest_of}
-use Rattle.synth_flow.proofs.BareDecks.{begins, each_gate, gate_has, gate_net, own_has, is_port, outs_have, pins_have, ports_have}
+use Rattle.synth_flow.specs.NameParts.{leading_letter, rest_of}
+use Rattle.synth_flow.proofs.BareDecks.{begins, gate_has, gate_net, own_has, is_port, outs_have, pins_have, ports_have}
 use Rattle.synth_flow.proofs.DeckRooms.{HasEnds, HoldsOfCells, cells_end, cells_named, ends_apart, inverters_end, inverters_named, latches_end, new_no_source, numbered_apart, output_no_source}
 use Rattle.synth_flow.proofs.LatchNets.{other}
 use Rattle.synth_flow.proofs.NameParts.{all_nets, bare_rest_is}
 
 -- no complement: a name with the letter `c` has more than a number behind it
 abbrev IsNoComplement : List ℕ → Type 0
-IsNoComplement name = letter_of name ≡ 99 → rest_of name ≢ []
+IsNoComplement name = leading_letter name ≡ 99 → rest_of name ≢ []
 
 -- no sink: neither `x` nor `o`
 abbrev IsNoData : List ℕ → Type 0
-IsNoData name = letter_of name ≢ 120
+IsNoData name = leading_letter name ≢ 120
 
 abbrev IsNoSink : List ℕ → Type 0
-IsNoSink name = (letter_of name ≢ 120) × (letter_of name ≢ 111)
+IsNoSink name = (leading_letter name ≢ 120) × (leading_letter name ≢ 111)
 
 -- numbers in a row rise
 range_above : (a n y : ℕ) → Among y (range_with_len a n) → a ≤ y
@@ -181,7 +182,7 @@ module _ (name : List ℕ) (phases : List Phase) (clocks : ℕ) (pins outs : Lis
       r rest e = omega (arith, e)
 
   out_is_sink : (out : List ℕ) → IsOutput out → IsNoSink out → ⊥
-  out_is_sink out is none = let b = begins 111 95 out is in none.1 (ap letter_of b.1)
+  out_is_sink out is none = let b = begins 111 95 out is in none.1 (ap leading_letter b.1)
 
   data_is_sink : (j : ℕ) → IsNoSink (data_net j) → ⊥
   data_is_sink j none = none.0 refl
@@ -251,7 +252,7 @@ gates_before pins lc plans few not_many pins_are earlier =
     let names = gate_nets pins lc (2 * lc + length plans) in
     let P : GatePlan → Type 0 = λ (p : GatePlan). EachLeaf (IsBeforeLatch 0) (named_tree names (tree_of p.tree)) in
     recursion_from_All P plans
-    (all_from P plans (λ k p at. let lt = slice_get_within plans k p at in each names (tree_of p.tree) (each_gate (λ gate. gate < 2 * lc + k) (λ gate. IsBeforeLatch 0 (net_name names gate))
+    (all_from P plans (λ k p at. let lt = slice_get_within plans k p at in each names (tree_of p.tree) (each_leaf_weaker (λ gate. gate < 2 * lc + k) (λ gate. IsBeforeLatch 0 (net_name names gate))
     (λ gate low. subst (IsBeforeLatch 0) (sym (gate_net pins lc (2 * lc + length plans) gate (omega (arith, lt, low)))) (net_of gate (omega (arith, lt, low))))
     (tree_of p.tree) (earlier k p at))))
   where

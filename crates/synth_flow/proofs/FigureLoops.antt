@@ -4,6 +4,7 @@ use Rattle.std.specs.List.{enumerate_from, flat_map, range_with_len}
 use Rattle.std.proofs.lemmas.Grind.{flat_map-append}
 use Rattle.std.proofs.lemmas.List.{take_more, length-take}
 use Rattle.std.proofs.lemmas.List.Sums.{sum_by-cons}
+use Rattle.dom_base.proofs.Lists.{enumerate_from-push}
 use Rattle.sp_network.specs.Tree.{leaves}
 use Rattle.sp_network.specs.TypedTree.{tree_of}
 use Rattle.sp_network.specs.declared.plan.GatePlan.{GatePlan}
@@ -20,22 +21,13 @@ cost_room (x ∷ plans) zero p e =
 cost_room (x ∷ plans) (suc i) p e =
     omega (arith, sum_by-cons tree_cost (tree_of x.tree) (plan_trees (take i plans)), sum_by-cons tree_cost (tree_of x.tree) (plan_trees plans), cost_room plans i p e)
 
--- numbered elements and one more
-numbered_push : {X : Type 0} (a : ℕ) (xs : List X) (x : X) → enumerate_from a (xs ++ x ∷ []) ≡ enumerate_from a xs ++ (a + length xs, x) ∷ []
-numbered_push a [] x =
-    let at : a ≡ a + 0 = omega arith in
-    ap (λ n. (n, x) ∷ []) at
-numbered_push a (y ∷ xs) x =
-    let at : a + 1 + length xs ≡ a + suc (length xs) = omega arith in
-    ap (λ l. (a, y) ∷ l) (numbered_push (a + 1) xs x) ∙ ap (λ n. (a, y) ∷ (enumerate_from (a + 1) xs ++ (n, x) ∷ [])) at
-
 -- the lines of the clocks and one more
 pub clock_lines_next : (cells : List ℕ) (k : ℕ) → k < length cells
     → flat_map clock_line (enumerate_from 1 (take (k + 1) cells)) ≡ flat_map clock_line (enumerate_from 1 (take k cells)) ++ clock_line (k + 1, get_or cells k 0)
 clock_lines_next cells k lt =
     let at : 1 + length (take k cells) ≡ k + 1 = omega (arith, length-take k cells, lt) in
     ap (λ l. flat_map clock_line (enumerate_from 1 l)) (take_more cells k 0 lt)
-    ∙ ap (flat_map clock_line) (numbered_push 1 (take k cells) (get_or cells k 0) ∙ ap (λ n. enumerate_from 1 (take k cells) ++ (n, get_or cells k 0) ∷ []) at)
+    ∙ ap (flat_map clock_line) (enumerate_from-push 1 (take k cells) (get_or cells k 0) ∙ ap (λ n. enumerate_from 1 (take k cells) ++ (n, get_or cells k 0) ∷ []) at)
     ∙ flat_map-append clock_line (enumerate_from 1 (take k cells)) ((k + 1, get_or cells k 0) ∷ [])
     ∙ ap (λ l. flat_map clock_line (enumerate_from 1 (take k cells)) ++ l) (append-nil (clock_line (k + 1, get_or cells k 0)))
 

@@ -7,19 +7,8 @@ use Rattle.std.proofs.lemmas.Grind.{get_or-set_at}
 use Rattle.std.proofs.lemmas.List.{get_or-replicate, get_or-set_other, length-replicate, take_more}
 use Rattle.std.proofs.lemmas.List.Folds.{list_any-append}
 use Rattle.std.proofs.lemmas.List.FromFn.{filter_of_map_range_with_len_more}
+use Rattle.dom_base.proofs.Bools.{or_false, or_true, or_assoc}
 use Rattle.synth_flow.specs.NamedComplements.{MarksAlso}
-
-pub or_true : (b : Bool) → (b || true) ≡ true
-or_true true = refl
-or_true false = refl
-
-pub or_false : (b : Bool) → (b || false) ≡ b
-or_false true = refl
-or_false false = refl
-
-pub or_assoc : (a b c : Bool) → ((a || b) || c) ≡ (a || (b || c))
-or_assoc true b c = refl
-or_assoc false b c = refl
 
 -- a leaf that is marked, and the others
 pub mark_set : (marks : List Bool) (place leaf : ℕ) → place < length marks → get_or (set marks place true) leaf false ≡ (get_or marks leaf false || (place == leaf))

@@ -23,11 +23,11 @@ use Rattle.tree_map.specs.Plans.{cell_of}
 use Rattle.synth_flow.specs.BareDecks.{cell_plan, made_devices, named_leaves}
 use Rattle.synth_flow.specs.ChosenDecks.{end_at_cell}
 use Rattle.synth_flow.specs.DeckNets.{OfDynamic, OfOutput, data_net, named_devices, sink_nets}
-use Rattle.synth_flow.specs.DominoDecks.{cells_of, deck_circuit, outs_of, phases_of, pins_of, starts_of}
+use Rattle.synth_flow.specs.DominoDecks.{cells_of, deck_circuit, outs_of, phases_of_sinks, pins_of, starts_of}
 use Rattle.synth_flow.specs.MadeCircuits.{made_deck, sinks_of}
 use Rattle.synth_flow.specs.MadeDecks.{port_net}
 use Rattle.synth_flow.specs.NamedDecks.{names_complement}
-use Rattle.synth_flow.specs.SinkParts.{HasCell, end_in, phase_of}
+use Rattle.synth_flow.specs.SinkParts.{HasCell, end_in, phase_of_sink}
 use Rattle.synth_flow.proofs.MadeAsNamed.{data_rows, leaves_named, made_named}
 
 -- each plan with the clock of its level
@@ -78,10 +78,10 @@ made_is_deck network phases signs plans levels ends kept clocks low earlier =
     = ap (named_leaves plans ends) lc ∙ leaves_named plans ends numbers (leaf_count network) in
     let cells : map cell_plan plans ≡ cells_of phases levels (plan_trees plans) = cells_same (clock_of phases (greatest levels)) plans levels clocks in
     let taken = ends_same kept ends (recursion_from_All (HasCell (length kept)) ends low) in
-    (λ i. with_devices (new_circuit (escaped network.name) (map phase_of (zip (nets i) signs)) phases pins outs) (made_devices pins (sinks i) starts plans ends numbers))
-    ∙ (λ i. with_devices (new_circuit (escaped network.name) (phases_of network signs) phases pins outs) (named i))
-    ∙ (λ i. with_devices (new_circuit (escaped network.name) (phases_of network signs) phases pins outs) (named_devices pins outs starts (map cell_plan plans) (leaves i) (map (end_in numbers) ends)))
-    ∙ (λ i. with_devices (new_circuit (escaped network.name) (phases_of network signs) phases pins outs)
+    (λ i. with_devices (new_circuit (escaped network.name) (map phase_of_sink (zip (nets i) signs)) phases pins outs) (made_devices pins (sinks i) starts plans ends numbers))
+    ∙ (λ i. with_devices (new_circuit (escaped network.name) (phases_of_sinks network signs) phases pins outs) (named i))
+    ∙ (λ i. with_devices (new_circuit (escaped network.name) (phases_of_sinks network signs) phases pins outs) (named_devices pins outs starts (map cell_plan plans) (leaves i) (map (end_in numbers) ends)))
+    ∙ (λ i. with_devices (new_circuit (escaped network.name) (phases_of_sinks network signs) phases pins outs)
     (named_devices pins outs starts (cells i) (filter (names_complement (cells i) (taken i)) (range_with_len 0 (leaf_count network))) (taken i)))
 
 pub ruleset made_circuits = (made_is_deck)

@@ -3,7 +3,7 @@ use Rattle.std.proofs.Common.{◌≡◌, ℕ, zero, suc, ◌+◌, ◌≤◌, ◌
 use Rattle.std.proofs.lemmas.List.Sums.{sum_by-cons}
 use Rattle.dom_base.proofs.Lists.{map-push}
 use Rattle.std.proofs.lemmas.Option.{slice_get-get_or}
-use Rattle.synth_flow.specs.SinkParts.{phase_of}
+use Rattle.synth_flow.specs.SinkParts.{phase_of_sink}
 use Rattle.synth_flow.proofs.LoopItems.{item_at}
 
 zip_more : {X Y : Type 0} (xs : List X) (ys : List Y) (k : ℕ) (x : X) (y : Y) → slice_get xs k ≡ Some x → slice_get ys k ≡ Some y
@@ -15,11 +15,11 @@ zip_more (u ∷ xs) (v ∷ ys) (suc k) x y a b = ap (λ l. (u, v) ∷ l) (zip_mo
 
 -- one more phase
 pub phases_more : (nets : List (List ℕ)) (signs : List Bool) (k : ℕ) (net : List ℕ) (d : Bool) → k < length nets → k < length signs → net ≡ get_or nets k net
-    → map phase_of (take (k + 1) (zip nets signs)) ≡ map phase_of (take k (zip nets signs)) ++ record { net = net; plus = get_or signs k d } ∷ []
+    → map phase_of_sink (take (k + 1) (zip nets signs)) ≡ map phase_of_sink (take k (zip nets signs)) ++ record { net = net; plus = get_or signs k d } ∷ []
 phases_more nets signs k net d low few is =
-    ap (λ n. map phase_of (take n (zip nets signs))) (add-one k)
-    ∙ ap (map phase_of) (zip_more nets signs k net (get_or signs k d) (item_at nets k net low is) (slice_get-get_or signs k d few))
-    ∙ map-push phase_of (take k (zip nets signs)) (net, get_or signs k d)
+    ap (λ n. map phase_of_sink (take n (zip nets signs))) (add-one k)
+    ∙ ap (map phase_of_sink) (zip_more nets signs k net (get_or signs k d) (item_at nets k net low is) (slice_get-get_or signs k d few))
+    ∙ map-push phase_of_sink (take k (zip nets signs)) (net, get_or signs k d)
 
 -- the phases of all
 pub all_zipped : {X Y : Type 0} (xs : List X) (ys : List Y) (k : ℕ) → length xs ≤ k → take k (zip xs ys) ≡ zip xs ys

@@ -17,7 +17,7 @@ use Rattle.sp_network.specs.declared.plan.GatePlan.{GatePlan}
 use Rattle.clock_phase.specs.Levels.{AreLevels, clock_of, greatest}
 use Rattle.clock_phase.specs.Plans.{ReadEarlierCells}
 use Rattle.clock_phase.proofs.Levels.{clock_within, level_at_most}
-use Rattle.net_flatten.proofs.Lists.{get_of_map}
+use Rattle.model_calls.proofs.Lists.{get_of_map}
 use Rattle.tree_map.specs.MappedCover.{plan_trees}
 use Rattle.tree_map.specs.Plans.{IsPlan, IsTreeOf, cost, is_kept, roots}
 use Rattle.tree_map.proofs.PlanCosts.{plan_cost}

@@ -33,8 +33,8 @@ abbrev pub cells_of : ℕ → List ℕ → List (Tree ℕ) → List CellPlan
 cells_of phases levels trees = map (λ p. record { tree = p.0; clock = clock_of phases (greatest levels) p.1 }) (zip trees levels)
 
 -- the phases: the net and the sign of each sink
-abbrev pub phases_of : NetworkData → List Bool → List Phase
-phases_of network signs = map (λ p. record { net = p.0; plus = p.1 }) (zip (sink_nets (outs_of network) (starts_of network)) signs)
+abbrev pub phases_of_sinks : NetworkData → List Bool → List Phase
+phases_of_sinks network signs = map (λ p. record { net = p.0; plus = p.1 }) (zip (sink_nets (outs_of network) (starts_of network)) signs)
 
 -- the complements that are named, in order
 abbrev pub complements_of : NetworkData → List CellPlan → List SinkEnd → List ℕ
@@ -43,7 +43,7 @@ complements_of network cells ends = filter (names_complement cells ends) (range_
 -- the circuit of a network with these trees, levels, signs and ends, where an end names its cell
 abbrev pub deck_circuit : NetworkData → ℕ → List (Tree ℕ) → List ℕ → List Bool → List SinkEnd → CircuitData
 deck_circuit network phases trees levels signs ends =
-    with_devices (new_circuit (escaped network.name) (phases_of network signs) phases (pins_of network) (outs_of network))
+    with_devices (new_circuit (escaped network.name) (phases_of_sinks network signs) phases (pins_of network) (outs_of network))
     (named_devices (pins_of network) (outs_of network) (starts_of network) (cells_of phases levels trees)
     (complements_of network (cells_of phases levels trees) ends) ends)
 

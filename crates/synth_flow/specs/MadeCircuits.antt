@@ -11,7 +11,7 @@ use Rattle.net_flatten.specs.NetworkData.{NetworkData}
 use Rattle.synth_flow.specs.BareDecks.{made_devices}
 use Rattle.synth_flow.specs.DeckNets.{data_net}
 use Rattle.synth_flow.specs.DominoDecks.{outs_of, pins_of, starts_of}
-use Rattle.synth_flow.specs.SinkParts.{phase_of}
+use Rattle.synth_flow.specs.SinkParts.{phase_of_sink}
 
 -- the nets of the sinks of a network
 abbrev pub sinks_of : NetworkData → List (List ℕ)
@@ -20,5 +20,5 @@ sinks_of network = outs_of network ++ map data_net (range_with_len 0 (length net
 -- its circuit with these signs, plans, ends and numbers of cells
 abbrev pub made_deck : NetworkData → ℕ → List Bool → List GatePlan → List End → List ℕ → CircuitData
 made_deck network clocks signs plans ends cells =
-    with_devices (new_circuit (escaped network.name) (map phase_of (zip (sinks_of network) signs)) clocks (pins_of network) (outs_of network))
+    with_devices (new_circuit (escaped network.name) (map phase_of_sink (zip (sinks_of network) signs)) clocks (pins_of network) (outs_of network))
     (made_devices (pins_of network) (sinks_of network) (starts_of network) plans ends cells)

@@ -15,7 +15,7 @@ use Rattle.domino_cell.specs.Cell.{cell, inverter}
 use Rattle.domino_cell.specs.NamedTrees.{named_tree}
 use Rattle.domino_cell.specs.PushedNames.{IsPort, numbered_cell}
 use Rattle.latch_bind.specs.Latches.{named_latch}
-use Rattle.synth_flow.specs.NameParts.{letter_of, number_of, rest_of}
+use Rattle.synth_flow.specs.NameParts.{leading_letter, number_of, rest_of}
 
 -- an inverter for each gate and output
 abbrev pub inverters : List (List ℕ) → List (List ℕ) → List (NamedDevice (List ℕ))
@@ -46,7 +46,7 @@ latches_from j starts = flat_map named_latch (enumerate_from j starts)
 -- the name is no inner net of latch j or of a later latch: no `m` with its number, nor `q` with its number and more
 abbrev pub IsBeforeLatch : ℕ → List ℕ → Type 0
 IsBeforeLatch j name =
-    (letter_of name ≡ 109 → number_of name < j) × (letter_of name ≡ 113 → rest_of name ≢ [] → number_of name < j)
+    (leading_letter name ≡ 109 → number_of name < j) × (leading_letter name ≡ 113 → rest_of name ≢ [] → number_of name < j)
 
 -- the first letter of a net of a cell: `d`, `f`, `t` or `z`
 abbrev pub is_cell_letter : ℕ → Bool
@@ -54,7 +54,7 @@ is_cell_letter c = (c == 100) || (c == 102) || (c == 116) || (c == 122)
 
 -- the name is no net of cell k or of a later cell
 abbrev pub IsBeforeCell : ℕ → List ℕ → Type 0
-IsBeforeCell k name = is_cell_letter (letter_of name) ≡ true → number_of name < k
+IsBeforeCell k name = is_cell_letter (leading_letter name) ≡ true → number_of name < k
 
 -- the cells of these plans, from number k on, where gate by gate the first list has the net that gates it
 abbrev pub cells_from : List (List ℕ) → ℕ → List GatePlan → List (NamedDevice (List ℕ))

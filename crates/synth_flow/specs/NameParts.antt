@@ -20,9 +20,9 @@ abbrev pub NoDigit : List ℕ → Type 0
 NoDigit [] = Unit {0}
 NoDigit (c ∷ cs) = is_digit c ≡ false
 
-abbrev pub letter_of : List ℕ → ℕ
-letter_of [] = 0
-letter_of (c ∷ cs) = c
+abbrev pub leading_letter : List ℕ → ℕ
+leading_letter [] = 0
+leading_letter (c ∷ cs) = c
 
 abbrev pub number_of : List ℕ → ℕ
 number_of [] = 0

@@ -6,8 +6,8 @@ use Rattle.dual_rail.specs.declared.forest.End.TheVariants.{Const, Literal, From
 use Rattle.synth_flow.specs.DeckNets.{SinkEnd, Fixed, OfLeaf, OfDynamic, OfOutput}
 
 -- the phase of a sink, by its net and its sign
-abbrev pub phase_of : List ℕ × Bool → Phase
-phase_of p = record { net = p.0; plus = p.1 }
+abbrev pub phase_of_sink : List ℕ × Bool → Phase
+phase_of_sink p = record { net = p.0; plus = p.1 }
 
 -- a pair that an end names is one of so many
 abbrev pub HasCell : ℕ → End → Type 0

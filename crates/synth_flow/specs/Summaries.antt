@@ -11,12 +11,12 @@ use Rattle.synth_flow.specs.DominoDecks.{cells_of}
 use Rattle.synth_flow.specs.SummaryData.{SummaryData}
 
 -- a pair is the one of this node and sign
-abbrev pub is_pair : ℕ → Bool → ℕ × Bool → Bool
-is_pair node sign pair = (pair.0 == node) && cond sign pair.1 (not pair.1)
+abbrev pub is_node_with_sign : ℕ → Bool → ℕ × Bool → Bool
+is_node_with_sign node sign pair = (pair.0 == node) && cond sign pair.1 (not pair.1)
 
 -- the node is needed with this sign
 abbrev pub needs : List (ℕ × Bool) → Bool → ℕ → Bool
-needs pairs sign node = list_any (is_pair node sign) pairs
+needs pairs sign node = list_any (is_node_with_sign node sign) pairs
 
 -- the nodes, of so many, that are needed in both signs
 abbrev pub both_nodes : List (ℕ × Bool) → ℕ → List ℕ

@@ -2,7 +2,7 @@
 ghost use Rattle.std.specs.Prelude.{◌≡◌, ◌&&◌, IfOk, false, filter, length, slice_index_or};
 ghost use Rattle.std.specs.List.{range_with_len};
 ghost use Rattle.synth_flow.specs.NamedComplements.{MarksAlso};
-ghost use Rattle.synth_flow.specs.Summaries.{both_nodes, is_pair, needs};
+ghost use Rattle.synth_flow.specs.Summaries.{both_nodes, is_node_with_sign, needs};
 
 use dom_base::OutOfMemory;
 use std::alloc::Global;
@@ -29,7 +29,7 @@ fn mark_pairs(marks: &mut [bool], pairs: &[(u32, bool)], sign: bool)
 
 /// Marks the node of a pair, where the pair has this sign.
 fn mark_pair(marks: &mut [bool], pair: (u32, bool), sign: bool)
-    ensures { MarksAlso marks.old marks.new (λ node. is_pair node sign pair) }
+    ensures { MarksAlso marks.old marks.new (λ node. is_node_with_sign node sign pair) }
 {
     let (node, its_sign) = pair;
     if its_sign == sign && (node as usize) < marks.len() {

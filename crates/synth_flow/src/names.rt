@@ -31,7 +31,7 @@ pub fn pin_names(alloc: Global, names: &[Name], inputs: u32) -> Result<Vec<NetNa
     requires names { All IsByteName names.now }
     ensures { IfOk result (λ pins. pins.items ≡ map (port_net (codes "i_") names.now) (range_with_len 0 inputs)) }
 {
-    let mut pins = Vec::new(alloc);
+    let mut pins = Vec::with_capacity(alloc, inputs as usize)?;
     'pins: for signal in 0..inputs {
         pins.push(escaped_name(alloc, b"i_", &names[signal as usize])?)?;
     }
@@ -48,7 +48,7 @@ pub fn out_names(
     requires names { All IsByteName names.now }
     ensures { IfOk result (λ outs. outs.items ≡ map (port_net (codes "o_") names.now) outputs.now) }
 {
-    let mut outs = Vec::new(alloc);
+    let mut outs = Vec::with_capacity(alloc, outputs.len())?;
     'outs: for signal in outputs {
         outs.push(escaped_name(alloc, b"o_", &names[*signal as usize])?)?;
     }
@@ -66,7 +66,7 @@ pub fn copied(name: &NetName) -> Result<NetName, OutOfMemory>
 pub fn copied_names(alloc: Global, names: &[NetName]) -> Result<Vec<NetName>, OutOfMemory>
     ensures { IfOk result (λ copies. copies.items ≡ names.now) }
 {
-    let mut copies = Vec::new(alloc);
+    let mut copies = Vec::with_capacity(alloc, names.len())?;
     'names: for name in names {
         copies.push(copied(name)?)?;
     }
@@ -121,7 +121,7 @@ pub fn gate_names(
     requires { 2 * leaves < 2 ^ 32 }
     ensures { IfOk result (λ names. names.items ≡ map (named_gate pins.now leaves) (range_with_len 0 gates)) }
 {
-    let mut names = Vec::new(alloc);
+    let mut names = Vec::with_capacity(alloc, gates as usize)?;
     'gates: for gate in 0..gates {
         names.push(gate_name(alloc, pins, leaves, gate)?)?;
     }

@@ -3,7 +3,7 @@ ghost use Rattle.std.specs.Prelude.{◌≡◌, ◌≤◌, ◌<◌, ◌+◌, ◌^
 ghost use Rattle.std.specs.List.{range_with_len, zip};
 ghost use Rattle.tree_map.specs.Plans.{cell_of};
 ghost use Rattle.synth_flow.specs.DeckNets.{data_net, sink_gate};
-ghost use Rattle.synth_flow.specs.SinkParts.{HasCell, end_in, phase_of};
+ghost use Rattle.synth_flow.specs.SinkParts.{HasCell, end_in, phase_of_sink};
 
 use crate::names::{complement_name, copied, copied_names, own_name};
 use deck::Phase;
@@ -30,9 +30,9 @@ pub fn sink_names(
 /// The phases of sinks with these nets and signs.
 pub fn phases(alloc: Global, nets: &[NetName], signs: &[bool]) -> Result<Vec<Phase>, OutOfMemory>
     requires { length nets.now ≡ length signs.now }
-    ensures { IfOk result (λ phases. phases.items ≡ map phase_of (zip nets.now signs.now)) }
+    ensures { IfOk result (λ phases. phases.items ≡ map phase_of_sink (zip nets.now signs.now)) }
 {
-    let mut phases = Vec::new(alloc);
+    let mut phases = Vec::with_capacity(alloc, nets.len())?;
     'sinks: for k in 0..nets.len() {
         let net = copied(&nets[k])?;
         phases.push(Phase {
@@ -49,7 +49,7 @@ pub fn cell_numbers(alloc: Global, kept: &[bool]) -> Result<Vec<u32>, OutOfMemor
     requires { length kept.now < 2 ^ 32 }
     ensures { IfOk result (λ cells. cells.items ≡ map (cell_of kept.now) (range_with_len 0 (length kept.now))) }
 {
-    let mut cells = Vec::new(alloc);
+    let mut cells = Vec::with_capacity(alloc, kept.len())?;
     let mut next = 0;
     'pairs: for place in 0..kept.len() {
         cells.push(next)?;
@@ -91,7 +91,7 @@ pub fn sink_gate_names(
     requires { All (HasCell (length cells.now)) ends.now }
     ensures { IfOk result (λ gates. gates.items ≡ map (sink_gate pins.now) (map (end_in cells.now) ends.now)) }
 {
-    let mut gates = Vec::new(alloc);
+    let mut gates = Vec::with_capacity(alloc, ends.len())?;
     'ends: for end in ends {
         gates.push(sink_gate_name(alloc, pins, cells, *end)?)?;
     }

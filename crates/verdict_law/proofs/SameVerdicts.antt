@@ -12,7 +12,7 @@ use Rattle.event_sim.specs.declared.event.Event.{Event}
 use Rattle.event_sim.specs.Orders.{By}
 use Rattle.net_flatten.specs.NetworkData.{NetworkData}
 use Rattle.net_flatten.specs.Networks.{IsNetwork}
-use Rattle.net_flatten.proofs.Lists.{get_map}
+use Rattle.model_calls.proofs.Lists.{get_map}
 use Rattle.net_run.specs.Runs.{Cycle, IsNetworkCycle, IsNetworkRun, IsNetworkRunFrom, start}
 use Rattle.net_run.proofs.OneRun.{one_run}
 use Rattle.port_runs.specs.Environment.{bit}

@@ -13,7 +13,7 @@ use Rattle.synth_flow.specs.BareDecks.{ArePlans, IsBareDeck, made_devices}
 use Rattle.synth_flow.specs.DeckNets.{data_net}
 use Rattle.synth_flow.specs.DominoDecks.{outs_of, pins_of}
 use Rattle.synth_flow.specs.MadeDecks.{port_net}
-use Rattle.synth_flow.specs.SinkParts.{phase_of}
+use Rattle.synth_flow.specs.SinkParts.{phase_of_sink}
 use Rattle.synth_flow.proofs.NetworkDecks.{all_apart, few_leaves, few_sinks, is_bare, outs_begin, outs_count, pins_begin, pins_count, sinks_count}
 use Rattle.synth_flow.proofs.bare.deck_of.Goals as goal
 
@@ -181,7 +181,7 @@ returns c =
     let clocks = c.args.clocks in
     let circuit = c.in_ok-circuit.ensures ∙ ap₂ (λ l r. new_circuit c.in_ok-name.name c.in_ok-phases.phases.items clocks l r) (c.as_slice-4.ensures.value ∙ pins) (c.as_slice-5.ensures.value ∙ outs) in
     let name = c.in_ok-name.ensures ∙ ap (λ (n : NetworkData). escaped n.name) same in
-    let phases = c.in_ok-phases.ensures ∙ ap (λ l. map phase_of (zip l c.args.signs.now)) (c.as_slice-3.ensures.value ∙ sinks) in
+    let phases = c.in_ok-phases.ensures ∙ ap (λ l. map phase_of_sink (zip l c.args.signs.now)) (c.as_slice-3.ensures.value ∙ sinks) in
     let some_pins = c.as_slice-6.ensures.value ∙ pins in
     let some_sinks = c.as_slice-7.ensures.value ∙ sinks in
     let some_latches = c.as_slice-8.ensures.value ∙ ap (λ (n : NetworkData). n.latches) same in

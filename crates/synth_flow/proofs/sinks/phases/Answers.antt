@@ -1,5 +1,5 @@
 use Rattle.std.proofs.Common.{ap, arith, sym, ◌∙◌, map, get_or, false}
-use Rattle.synth_flow.specs.SinkParts.{phase_of}
+use Rattle.synth_flow.specs.SinkParts.{phase_of_sink}
 use Rattle.synth_flow.proofs.LoopItems.{pushed_item}
 use Rattle.synth_flow.proofs.SinkLists.{all_zipped, phases_more}
 use Rattle.synth_flow.proofs.sinks.phases.Goals as goal
@@ -11,4 +11,4 @@ sinks-preserved c =
     ∙ sym (phases_more c.args.nets.now c.args.signs.now c.sinks.k net false (omega arith) (omega arith) c.index-nets-k.is)
 
 pub returns : goal.returns
-returns c = c.sinks.invariant ∙ ap (map phase_of) (all_zipped c.args.nets.now c.args.signs.now c.sinks.k (omega arith))
+returns c = c.sinks.invariant ∙ ap (map phase_of_sink) (all_zipped c.args.nets.now c.args.signs.now c.sinks.k (omega arith))
