@@ -3,11 +3,11 @@ use Rattle.command_words.specs.Commands.{Command, Synth, Flat, Run, Sim, Cosim, 
 use Rattle.command_words.specs.declared.command.Command.{Command as Read}
 use Rattle.command_words.specs.declared.command.Command.TheVariants as read
 
-abbrev pub asked : Read → Command
-asked (read.Synth file options) = Synth file.now options
-asked (read.Flat file) = Flat file.now
-asked (read.Run file stim) = Run file.now stim.now
-asked (read.Sim deck stim options) = Sim deck.now stim.now options
-asked (read.Cosim file deck stim order seed) = Cosim file.now deck.now stim.now order seed
-asked (read.Report file options) = Report file.now options
-asked (read.Bench seed size options) = Bench seed size options
+abbrev pub asked_command : Read → Command
+asked_command (read.Synth file options) = Synth file.now options
+asked_command (read.Flat file) = Flat file.now
+asked_command (read.Run file stim) = Run file.now stim.now
+asked_command (read.Sim deck stim options) = Sim deck.now stim.now options
+asked_command (read.Cosim file deck stim order seed) = Cosim file.now deck.now stim.now order seed
+asked_command (read.Report file options) = Report file.now options
+asked_command (read.Bench seed size options) = Bench seed size options

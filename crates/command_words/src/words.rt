@@ -1,7 +1,7 @@
 //! The words of the command line.
 ghost use Rattle.std.specs.Prelude.{◌≡◌, IfOk, IsSome, MatchOption, None, OnErr, Some, map};
 ghost use Rattle.std.specs.String.{string_bytes};
-ghost use Rattle.command_words.specs.Asked.{asked};
+ghost use Rattle.command_words.specs.Asked.{asked_command};
 ghost use Rattle.command_words.specs.Commands.{Asks, Command as Plain, command_for};
 ghost use Rattle.command_words.specs.Commands.{bench_in, cosim_in, flat_in, report_in, run_in, sim_in, synth_in};
 ghost use Rattle.command_words.specs.Written.{written};
@@ -22,7 +22,7 @@ pub fn command_of<'a>(
 ) -> Result<Option<Command<'a>>, OutOfMemory>
     ensures command { IfOk result (λ found. MatchOption found
         ((command : Plain) → Asks (map string_bytes words.now) command → ⊥)
-        (λ command. Asks (map string_bytes words.now) (asked command))) }
+        (λ command. Asks (map string_bytes words.now) (asked_command command))) }
     ensures wanted { OnErr result (IsSome (command_for (map string_bytes words.now))) }
 {
     let [name, rest @ ..] = words else {
@@ -43,7 +43,7 @@ pub fn command_of<'a>(
 /// The command `synth FILE` with its options.
 fn synth_of<'a>(words: &'a [String]) -> Option<Command<'a>>
     ensures { MatchOption result (synth_in (written (map string_bytes words.now)) ≡ None)
-        (λ command. synth_in (written (map string_bytes words.now)) ≡ Some (asked command)) }
+        (λ command. synth_in (written (map string_bytes words.now)) ≡ Some (asked_command command)) }
 {
     if !takes_all(words, &["--width", "--height", "--phases"], &[]) {
         return None;
@@ -56,7 +56,7 @@ fn synth_of<'a>(words: &'a [String]) -> Option<Command<'a>>
 /// The command `flat FILE`.
 fn flat_of<'a>(words: &'a [String]) -> Option<Command<'a>>
     ensures { MatchOption result (flat_in (written (map string_bytes words.now)) ≡ None)
-        (λ command. flat_in (written (map string_bytes words.now)) ≡ Some (asked command)) }
+        (λ command. flat_in (written (map string_bytes words.now)) ≡ Some (asked_command command)) }
 {
     if !takes_all(words, &[], &[]) {
         return None;
@@ -68,7 +68,7 @@ fn flat_of<'a>(words: &'a [String]) -> Option<Command<'a>>
 /// The command `run FILE STIM`.
 fn run_of<'a>(words: &'a [String]) -> Option<Command<'a>>
     ensures { MatchOption result (run_in (written (map string_bytes words.now)) ≡ None)
-        (λ command. run_in (written (map string_bytes words.now)) ≡ Some (asked command)) }
+        (λ command. run_in (written (map string_bytes words.now)) ≡ Some (asked_command command)) }
 {
     if !takes_all(words, &[], &[]) {
         return None;
@@ -80,7 +80,7 @@ fn run_of<'a>(words: &'a [String]) -> Option<Command<'a>>
 /// The command `sim DECK STIM` with its options.
 fn sim_of<'a>(alloc: Global, words: &'a [String]) -> Result<Option<Command<'a>>, OutOfMemory>
     ensures command { IfOk result (λ found. MatchOption found (sim_in (written (map string_bytes words.now)) ≡ None)
-        (λ command. sim_in (written (map string_bytes words.now)) ≡ Some (asked command))) }
+        (λ command. sim_in (written (map string_bytes words.now)) ≡ Some (asked_command command))) }
     ensures wanted { OnErr result (IsSome (sim_in (written (map string_bytes words.now)))) }
 {
     if !takes_all(words, &["--order", "--seed", "--probe"], &["--events"]) {
@@ -102,7 +102,7 @@ fn sim_of<'a>(alloc: Global, words: &'a [String]) -> Result<Option<Command<'a>>,
 /// The command `cosim FILE DECK STIM` with its options.
 fn cosim_of<'a>(words: &'a [String]) -> Option<Command<'a>>
     ensures { MatchOption result (cosim_in (written (map string_bytes words.now)) ≡ None)
-        (λ command. cosim_in (written (map string_bytes words.now)) ≡ Some (asked command)) }
+        (λ command. cosim_in (written (map string_bytes words.now)) ≡ Some (asked_command command)) }
 {
     if !takes_all(words, &["--order", "--seed"], &[]) {
         return None;
@@ -122,7 +122,7 @@ fn cosim_of<'a>(words: &'a [String]) -> Option<Command<'a>>
 /// The command `report FILE` with its options.
 fn report_of<'a>(words: &'a [String]) -> Option<Command<'a>>
     ensures { MatchOption result (report_in (written (map string_bytes words.now)) ≡ None)
-        (λ command. report_in (written (map string_bytes words.now)) ≡ Some (asked command)) }
+        (λ command. report_in (written (map string_bytes words.now)) ≡ Some (asked_command command)) }
 {
     if !takes_all(words, &["--width", "--height", "--phases"], &[]) {
         return None;
@@ -135,7 +135,7 @@ fn report_of<'a>(words: &'a [String]) -> Option<Command<'a>>
 /// The command `bench SEED SIZE` with its options.
 fn bench_of<'a>(words: &'a [String]) -> Option<Command<'a>>
     ensures { MatchOption result (bench_in (written (map string_bytes words.now)) ≡ None)
-        (λ command. bench_in (written (map string_bytes words.now)) ≡ Some (asked command)) }
+        (λ command. bench_in (written (map string_bytes words.now)) ≡ Some (asked_command command)) }
 {
     if !takes_all(words, &["--width", "--height", "--phases"], &[]) {
         return None;

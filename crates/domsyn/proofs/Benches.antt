@@ -33,7 +33,7 @@ use Rattle.trace_tool.proofs.NetworkTexts.{network_same, no_network_apart, text_
 use Rattle.verdict_law.proofs.RightVerdicts.{right_deck_is_accepted}
 use Rattle.domsyn.specs.Benches.{IsBenchOf, IsOwnVerdict, IsSameBench, IsWholeText, OfWholeDeck, bench_text, events_text, generated_text}
 use Rattle.domsyn.specs.Decks.{AreFigureLines, bounds_of}
-use Rattle.domsyn.specs.Outcomes.{IsBench, is_same}
+use Rattle.domsyn.specs.Outcomes.{IsBench, is_same_verdict}
 use Rattle.domsyn.proofs.OneSummary.{summaries_one}
 use Rattle.domsyn.proofs.OwnVerdicts.{own_verdict_of, own_verdict_one, own_verdict_same, own_verdict_there}
 
@@ -63,7 +63,7 @@ module _ (seed size : ℕ) (options : SynthOptions) where
       let deck = decks_there n.0 options.bounds.w options.bounds.h options.phases is fits.some_width fits.some_height in
       let own = own_verdict_there seed n.0 is options.bounds.w options.bounds.h options.phases deck.0 deck.1 fits.some_phase fits.few_phases in
       let summary = figures deck.1 in
-      let status = if is_same own.0 then 0 else 6 in
+      let status = if is_same_verdict own.0 then 0 else 6 in
       let text = bench_text n.0.name summary own.0 in (
         status,
         text,
@@ -95,7 +95,7 @@ module _ (seed size : ℕ) (options : SynthOptions) where
   pub bench_one : (s s' : ℕ) (t t' : List ℕ) → IsBench seed size options s t → IsBench seed size options s' t' → (s ≡ s') × (t ≡ t')
   bench_one s s' t t' x y =
       let same = bench_parts_one x.model y.model x.summary y.summary x.verdict y.verdict x.is y.is in (
-        x.status_is ∙ ap (λ (v : Verdict). if is_same v then 0 else 6) same.2 ∙ sym y.status_is,
+        x.status_is ∙ ap (λ (v : Verdict). if is_same_verdict v then 0 else 6) same.2 ∙ sym y.status_is,
         x.text_is ∙ (λ i. bench_text (same.0 i) (same.1 i) (same.2 i)) ∙ sym y.text_is,
       )
 
@@ -130,7 +130,7 @@ module _ (seed size : ℕ) (options : SynthOptions) where
     -- the figures, the events and the verdict that all is the same
     pub bench_made : (verdict : Verdict) (front text : List ℕ) (settled : Bool)
         → OfWholeDeck network options (λ deck. IsVerdictOf (generated_text seed size) deck (stimulus_text seed network.inputs) First 0 verdict)
-        → AreFigureLines network options front → text ≡ front ++ events_text verdict ++ verdict_line verdict → settled ≡ is_same verdict
+        → AreFigureLines network options front → text ≡ front ++ events_text verdict ++ verdict_line verdict → settled ≡ is_same_verdict verdict
         → IsSameBench seed size options (if settled then 0 else 6) text
     bench_made verdict front text settled own lines text_is settled_is =
         let v = own.holds in
@@ -157,5 +157,5 @@ module _ (seed size : ℕ) (options : SynthOptions) where
               text_is
               ∙ ap (λ (l : List ℕ). l ++ events_text verdict ++ verdict_line verdict) lines.text_is
               ∙ ap (λ (v : Verdict). summary_lines network.name lines.summary ++ events_text v ++ verdict_line v) same.1;
-          done = ap (λ (b : Bool). if b then 0 else 6) (settled_is ∙ ap is_same same.1);
+          done = ap (λ (b : Bool). if b then 0 else 6) (settled_is ∙ ap is_same_verdict same.1);
         }

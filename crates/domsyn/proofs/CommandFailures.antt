@@ -12,7 +12,7 @@ use Rattle.domsyn.specs.declared.refusal.Refusal.TheVariants.{TooLong, Blif, Fla
 use Rattle.command_words.specs.Commands.{Command, Synth, Flat as flat, Run as run, Sim, Cosim, Report, Bench}
 use Rattle.synth_flow.specs.declared.options.SynthOptions.{SynthOptions}
 use Rattle.domsyn.specs.Decks.{AreFiguresFor, IsDeckFor, bounds_of}
-use Rattle.domsyn.specs.Outcomes.{Files, IsComparison, IsDeck, IsFile, IsFlat, IsPrintedRun, IsReport, is_same}
+use Rattle.domsyn.specs.Outcomes.{Files, IsComparison, IsDeck, IsFile, IsFlat, IsPrintedRun, IsFigureReport, is_same_verdict}
 use Rattle.domsyn.specs.Networks.{HasNetwork, IsNotRunFor, IsRunOf}
 use Rattle.domsyn.specs.Refusals.{HasNoNetworkFor, about, refusal_of}
 use Rattle.domsyn.specs.Failures.{AreUnfetched, HasNoNetwork, IsFailureFor, IsFailureOf, IsUnfetched, IsUnrun, IsUntraced, ReadFile}
@@ -78,7 +78,7 @@ figures_unfetched files file options Rises failure.Memory is = tt
 
 -- its bytes have these figures
 pub figures_printed : (files : Files) (file bytes text : List ℕ) (options : SynthOptions) (settled : Bool) → IsFile files file bytes → AreFiguresFor bytes options text → settled ≡ true
-    → IsReport files file options (if settled then 0 else 6) text
+    → IsFigureReport files file options (if settled then 0 else 6) text
 figures_printed files file bytes text options settled is figures at_rest =
     record { bytes = bytes; is_file = is; figures = figures; done = ap (λ (b : Bool). if b then 0 else 6) at_rest }
 
@@ -131,7 +131,7 @@ cosim_unfetched files file deck stim order seed Rises failure.Memory is = tt
 -- the bytes of all three have a verdict
 pub cosim_printed : (files : Files) (file deck stim : ReadFile) (order : Order) (seed : ℕ) (verdict : Verdict) (text : List ℕ) (settled : Bool)
     → IsFile files file.name file.bytes → IsFile files deck.name deck.bytes → IsFile files stim.name stim.bytes → IsVerdictOf file.bytes deck.bytes stim.bytes order seed verdict
-    → text ≡ verdict_line verdict → settled ≡ is_same verdict → IsComparison files file.name deck.name stim.name order seed (if settled then 0 else 6) text
+    → text ≡ verdict_line verdict → settled ≡ is_same_verdict verdict → IsComparison files file.name deck.name stim.name order seed (if settled then 0 else 6) text
 cosim_printed files file deck stim order seed verdict text settled a b c is text_is settled_is =
     record {
       bytes = file.bytes;

@@ -17,7 +17,7 @@ use Rattle.domsyn.specs.Fetches.{AreAskedAt, AreAskedAtRefusal, AreAskedInOrder,
 use Rattle.trace_tool.specs.declared.fault.TraceFault.{TraceFault}
 use Rattle.trace_tool.specs.declared.fault.TraceFault.TheVariants as trace_fault
 use Rattle.trace_tool.specs.declared.options.ProbeWord.{ProbeWord}
-use Rattle.net_flatten.specs.declared.fault.FlatFault.TheVariants as flat_fault
+use Rattle.model_calls.specs.declared.fault.FlatFault.TheVariants as flat_fault
 
 -- up to the first file, or to one after a file that can be read
 up_to_first : (files : Files) (file : List ℕ) (more : List (List ℕ)) (given : Bool) → IsAskedUpTo files (file ∷ more) ((file, given) ∷ []) file given

@@ -1,17 +1,13 @@
 -- Bytes have one network and one run over a stimulus, or none for one cause.
 use Rattle.std.proofs.Common.{◌≡◌, ◌∙◌, ◌⊎◌, inl, inr, ℕ, List, refl, sym, ap, subst, arith}
 use Rattle.dom_base.proofs.Faults.{answer_or_refusal, answer_same, refusal_same}
-use Rattle.blif_ast.specs.BlifFileData.{BlifFileData}
-use Rattle.blif_ast.specs.declared.kind.BlifKind.{BlifKind}
-use Rattle.blif_ast.specs.Reading.{IsBlifFault, IsBlifFaultAt, IsFileOf}
 use Rattle.blif_read.proofs.AcceptedIsGoodModels.{accepted_file}
-use Rattle.blif_read.proofs.OneAnswer.{one_answer}
 use Rattle.net_flatten.specs.Flattening.{IsNetworkOf}
 use Rattle.net_flatten.specs.NetworkData.{NetworkData}
 use Rattle.net_flatten.specs.Networks.{IsNetwork}
-use Rattle.net_flatten.specs.Refusal.{Refusal as Hierarchy}
-use Rattle.net_flatten.specs.Refusal as hierarchy
-use Rattle.net_flatten.specs.Refusals.{IsRefusal}
+use Rattle.model_calls.specs.Refusal.{Refusal as Hierarchy}
+use Rattle.model_calls.specs.Refusal as hierarchy
+use Rattle.model_calls.specs.Refusals.{IsRefusal}
 use Rattle.net_flatten.proofs.Kept.{network_kept as kept}
 use Rattle.net_flatten.proofs.OneNetwork.{network_once}
 use Rattle.net_flatten.proofs.OneRefusal.{refusal_once}
@@ -19,18 +15,11 @@ use Rattle.net_run.proofs.OneRun.{one_run}
 use Rattle.stim_text.specs.Stimuli.{IsStimFaultAt, IsStimulusOf}
 use Rattle.stim_text.specs.declared.fault.StimKind.{StimKind}
 use Rattle.stim_text.proofs.OneAnswer.{one_answer as stim_answer}
+use Rattle.trace_tool.proofs.NetworkTexts.{blif_fault_same}
 use Rattle.domsyn.specs.declared.refusal.Refusal.{Refusal}
 use Rattle.domsyn.specs.declared.refusal.Refusal.TheVariants.{TooLong, Blif, Flat, TooMany, Deck, Ports, NoNet, Stim}
 use Rattle.domsyn.specs.Networks.{HasNetwork, IsNotRunFor, IsRunOf, IsRunText, IsStimRefused, run_lines}
 use Rattle.domsyn.specs.Refusals.{HasNoNetworkFor, IsHierarchyRefused}
-
--- a text is refused at one line for one kind
-faults_alike : (text : List ℕ) (m n : ℕ) (a b : BlifKind) → IsBlifFaultAt text m a → IsBlifFaultAt text n b → (m ≡ n) × (a ≡ b)
-faults_alike text m n a b x y = refusal_same (IsFileOf text) (IsBlifFault text) (IsBlifFaultAt text) (λ l k f. f.fault) (one_answer text) m n a b x y
-
--- bytes are the text of one file
-files_alike : (bytes : List ℕ) (f g : BlifFileData) → IsFileOf bytes f → IsFileOf bytes g → f ≡ g
-files_alike bytes f g x y = x.file_is ∙ sym y.file_is
 
 -- what is kept by the network of bytes
 pub network_kept : (bytes : List ℕ) (n : NetworkData) → HasNetwork bytes n → IsNetwork n
@@ -38,14 +27,14 @@ network_kept bytes n has = kept has.file n (accepted_file bytes has.file has.acc
 
 pub networks_alike : (bytes : List ℕ) (m n : NetworkData) → HasNetwork bytes m → HasNetwork bytes n → m ≡ n
 networks_alike bytes m n x y =
-    network_once x.file m n x.network_is (subst (λ f. IsNetworkOf f n) (files_alike bytes y.file x.file y.accepted x.accepted) y.network_is)
+    network_once x.file m n x.network_is (subst (λ f. IsNetworkOf f n) (y.accepted.file_is ∙ sym x.accepted.file_is) y.network_is)
 
 hierarchies_alike : (bytes : List ℕ) (r s : Hierarchy) → IsHierarchyRefused bytes r → IsHierarchyRefused bytes s → r ≡ s
-hierarchies_alike bytes r s x y = refusal_once x.file r s x.refused (subst (λ f. IsRefusal f s) (files_alike bytes y.file x.file y.accepted x.accepted) y.refused)
+hierarchies_alike bytes r s x y = refusal_once x.file r s x.refused (subst (λ f. IsRefusal f s) (y.accepted.file_is ∙ sym x.accepted.file_is) y.refused)
 
 not_refused : (bytes : List ℕ) (n : NetworkData) (r : Hierarchy) → HasNetwork bytes n → IsHierarchyRefused bytes r → ⊥
 not_refused bytes n r x y =
-    (subst (λ f. IsNetworkOf f n) (files_alike bytes x.file y.file x.accepted y.accepted) x.network_is).accepted r y.refused.has
+    (subst (λ f. IsNetworkOf f n) (x.accepted.file_is ∙ sym y.accepted.file_is) x.network_is).accepted r y.refused.has
 
 -- bytes that have a network are refused for no cause
 pub network_or_cause : (bytes : List ℕ) (n : NetworkData) (why : Refusal) → HasNetwork bytes n → HasNoNetworkFor bytes why → ⊥
@@ -69,7 +58,7 @@ network_causes_alike bytes TooLong (Ports place) x y = absurd y
 network_causes_alike bytes TooLong (NoNet net) x y = absurd y
 network_causes_alike bytes TooLong (Stim line kind) x y = absurd y
 network_causes_alike bytes (Blif line kind) TooLong x y = absurd (omega (arith, y, x.within))
-network_causes_alike bytes (Blif line kind) (Blif other any) x y = let same = faults_alike bytes line other kind any x.fault y.fault in λ i. Blif (same.0 i) (same.1 i)
+network_causes_alike bytes (Blif line kind) (Blif other any) x y = let same = blif_fault_same bytes line other kind any x.fault y.fault in λ i. Blif (same.0 i) (same.1 i)
 network_causes_alike bytes (Blif line kind) (Flat other any name) x y = absurd (y.accepted.no_fault line kind x.fault.fault)
 network_causes_alike bytes (Blif line kind) (TooMany limit count) x y = absurd (y.accepted.no_fault line kind x.fault.fault)
 network_causes_alike bytes (Blif line kind) (Deck other any) x y = absurd y

@@ -14,7 +14,7 @@ use Rattle.synth_flow.specs.Summaries.{IsSummaryOf}
 use Rattle.synth_flow.specs.SummaryLines.{summary_lines}
 use Rattle.synth_flow.specs.declared.options.SynthOptions.{SynthOptions}
 use Rattle.domsyn.specs.Decks.{AreFiguresFor, IsDeckFor, bounds_of}
-use Rattle.domsyn.specs.Outcomes.{IsComparison, IsDeck, IsFile, IsFirstTooLong, IsFlat, HasNone, IsNoComparison, IsNoRun, IsNoTrace, IsOutcome, IsPrintedRun, IsReport, IsTooLong, IsTrace, Outcome, Printed, Refused, is_same}
+use Rattle.domsyn.specs.Outcomes.{IsComparison, IsDeck, IsFile, IsFirstTooLong, IsFlat, HasNone, IsNoComparison, IsNoRun, IsNoTrace, IsOutcome, IsPrintedRun, IsFigureReport, IsTooLong, IsTrace, Outcome, Printed, Refused, is_same_verdict}
 use Rattle.domsyn.specs.Networks.{HasNetwork, IsNotRunFor, IsRunOf}
 use Rattle.domsyn.specs.Refusals.{HasNoNetworkFor, IsFaulty, about, refusal_of}
 use Rattle.domsyn.proofs.Benches.{bench_one}
@@ -144,7 +144,7 @@ module _ (known : Pairs) (file deck stim : List ℕ) (order : Order) (seed : ℕ
       (subst (λ (b : List ℕ). IsVerdictOf y.bytes b x.stim_bytes order seed y.verdict) decks
       (subst (λ (b : List ℕ). IsVerdictOf y.bytes y.deck_bytes b order seed y.verdict) stims y.is_verdict)) in
       let same = verdict_is_one.verdict x.bytes x.deck_bytes x.stim_bytes order seed x.verdict y.verdict x.is_verdict moved in
-      printed_alike s s' t t' (x.status_is ∙ ap (λ (verdict : Verdict). if is_same verdict then 0 else 6) same ∙ sym y.status_is) (x.text_is ∙ ap verdict_line same ∙ sym y.text_is)
+      printed_alike s s' t t' (x.status_is ∙ ap (λ (verdict : Verdict). if is_same_verdict verdict then 0 else 6) same ∙ sym y.status_is) (x.text_is ∙ ap verdict_line same ∙ sym y.text_is)
 
   cosim_refused_here : (bytes deck_bytes stim_bytes name : List ℕ) (why : Refusal) → IsFile (Some known) file bytes → IsFile (Some known) deck deck_bytes → IsFile (Some known) stim stim_bytes
       → IsNoComparison (Some known) file deck stim name why → IsFaulty (IsCosimRefused bytes deck_bytes stim_bytes) file deck stim name why
@@ -197,7 +197,7 @@ synth_apart known file f options s t w x y =
     network_or_cause x.bytes x.deck.network w x.deck.has (subst (λ b. HasNoNetworkFor b w) same y.refused)
 
 -- the figures of the deck of a file
-report_printed : (known : Pairs) (file : List ℕ) (options : SynthOptions) (s s' : ℕ) (t t' : List ℕ) → IsReport (Some known) file options s t → IsReport (Some known) file options s' t' → Printed s t ≡ Printed s' t'
+report_printed : (known : Pairs) (file : List ℕ) (options : SynthOptions) (s s' : ℕ) (t t' : List ℕ) → IsFigureReport (Some known) file options s t → IsFigureReport (Some known) file options s' t' → Printed s t ≡ Printed s' t'
 report_printed known file options s s' t t' x y =
     let same = bytes_alike known file y.bytes x.bytes y.is_file.holds x.is_file.holds in
     let there = subst (λ b. AreFiguresFor b options t') same y.figures in
@@ -208,7 +208,7 @@ report_printed known file options s s' t t' x y =
     let back = sym networks in
     printed_alike s s' t t' (x.done ∙ sym y.done) (x.figures.lines.text_is ∙ (λ i. summary_lines (back i).name (figures i)) ∙ sym there.lines.text_is)
 
-report_apart : (known : Pairs) (file f : List ℕ) (options : SynthOptions) (s : ℕ) (t : List ℕ) (w : Refusal) → IsReport (Some known) file options s t → HasNone (Some known) file f w → ⊥
+report_apart : (known : Pairs) (file f : List ℕ) (options : SynthOptions) (s : ℕ) (t : List ℕ) (w : Refusal) → IsFigureReport (Some known) file options s t → HasNone (Some known) file f w → ⊥
 report_apart known file f options s t w x y =
     let same = bytes_alike known file y.bytes x.bytes y.holds x.is_file.holds in
     network_or_cause x.bytes x.figures.network w x.figures.has (subst (λ b. HasNoNetworkFor b w) same y.refused)

@@ -33,11 +33,11 @@ use Rattle.command_words.specs.Commands.{Command, Synth, Flat as flat, Run as ru
 use Rattle.command_words.specs.SynthOptionWords.{AreGoodOptions}
 use Rattle.blif_ast.specs.Printed.{printed}
 use Rattle.net_flatten.specs.NetworkData.{NetworkData}
-use Rattle.net_flatten.specs.declared.fault.FlatFault.TheVariants as flat_fault
+use Rattle.model_calls.specs.declared.fault.FlatFault.TheVariants as flat_fault
 use Rattle.net_flatten.specs.OneModel.{file_of}
-use Rattle.net_flatten.specs.Refusal.{Refusal as Hierarchy}
-use Rattle.net_flatten.specs.Refusal as hierarchy
-use Rattle.net_flatten.specs.Refusals.{IsRefusal}
+use Rattle.model_calls.specs.Refusal.{Refusal as Hierarchy}
+use Rattle.model_calls.specs.Refusal as hierarchy
+use Rattle.model_calls.specs.Refusals.{IsRefusal}
 use Rattle.net_run.proofs.OneRun.{one_run}
 use Rattle.network_law.specs.Laws.{HasAnswer}
 use Rattle.network_law.proofs.Answered.{has_answer}
@@ -54,7 +54,7 @@ use Rattle.domsyn.specs.Decks.{bounds_of}
 use Rattle.domsyn.specs.Networks.{HasNetwork, IsNotRunFor, run_lines}
 use Rattle.domsyn.specs.Refusals.{HasNoNetworkFor, about, refusal_of}
 use Rattle.domsyn.proofs.NetworkCauses.{network_kept}
-use Rattle.domsyn.specs.Outcomes.{IsOutcome, Outcome, Printed, Refused, is_same}
+use Rattle.domsyn.specs.Outcomes.{IsOutcome, Outcome, Printed, Refused, is_same_verdict}
 
 abbrev Pairs : Type 0
 Pairs = List (List ℕ × List ℕ)
@@ -316,7 +316,7 @@ module _ (known : Pairs) (file deck stim : List ℕ) (order : Order) (seed : ℕ
           → HasOneAnswer (IsStimulusOf n.inputs s.bytes) (IsStimFaultAt n.inputs s.bytes) (IsStimFaultAt n.inputs s.bytes) → Compared
       verdict_of_cycles c roles is are (inl a) =
           let verdict = verdict_is_there f.bytes d.bytes s.bytes order seed n c roles a.0 has is are a.1.is_answer in (
-            Printed (if is_same verdict.0 then 0 else 6) (verdict_line verdict.0),
+            Printed (if is_same_verdict verdict.0 then 0 else 6) (verdict_line verdict.0),
             record {
               bytes = f.bytes;
               deck_bytes = d.bytes;

@@ -2,7 +2,7 @@
 use Rattle.std.proofs.Common.{◌≡◌, ◌⊎◌, ℕ, List, None, Some, inl, inr, refl, rules, subst}
 use Rattle.std.specs.Prelude.{IfSome, IsSome, MatchOption, Option}
 use Rattle.domsyn.specs.declared.refusal.Refusal.{Refusal}
-use Rattle.command_words.specs.Asked.{asked}
+use Rattle.command_words.specs.Asked.{asked_command}
 use Rattle.command_words.specs.Commands.{Asks, Command, command_for}
 use Rattle.command_words.specs.declared.command.Command.{Command as Read}
 use Rattle.domsyn.specs.Outcomes.{Files, IsOutcome, Outcome, Refused, Printed, status_of}
@@ -13,9 +13,9 @@ use Rattle.domsyn.proofs.OneOutcome.{one_outcome}
 
 -- words ask for the command that was found
 pub asks_found : (words : List (List ℕ)) (found : Option Read) (command : Read) → found ≡ Some command
-    → MatchOption found ((command : Command) → Asks words command → ⊥) (λ command. Asks words (asked command)) → Asks words (asked command)
+    → MatchOption found ((command : Command) → Asks words command → ⊥) (λ command. Asks words (asked_command command)) → Asks words (asked_command command)
 asks_found words found command is asks =
-    subst (λ (found : Option Read). MatchOption found ((command : Command) → Asks words command → ⊥) (λ command. Asks words (asked command))) is asks
+    subst (λ (found : Option Read). MatchOption found ((command : Command) → Asks words command → ⊥) (λ command. Asks words (asked_command command))) is asks
 
 -- words that ask for something ask for a command
 pub asks_some : (words : List (List ℕ)) → IsSome (command_for words) → ((command : Command) → Asks words command → ⊥) → ⊥

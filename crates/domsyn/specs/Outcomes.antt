@@ -123,11 +123,11 @@ pub record IsNoTrace (files : Files) (deck stim : List ℕ) (probes : List Probe
   pub faulty : IsFaulty (IsRefused deck_bytes stim_bytes probes) deck deck stim name why
 
 -- the verdict is that all is the same
-abbrev pub is_same : Verdict → Bool
-is_same (Same cycles events) = true
-is_same (Differ cycle pin wanted found) = false
-is_same (PortsDiffer place) = false
-is_same (Unsettled cycle events) = false
+abbrev pub is_same_verdict : Verdict → Bool
+is_same_verdict (Same cycles events) = true
+is_same_verdict (Differ cycle pin wanted found) = false
+is_same_verdict (PortsDiffer place) = false
+is_same_verdict (Unsettled cycle events) = false
 
 -- the verdict of a deck beside a file over a stimulus; the status says whether all is the same
 pub record IsComparison (files : Files) (file deck stim : List ℕ) (order : Order) (seed : ℕ) (status : ℕ) (text : List ℕ) : Type 0 where
@@ -140,7 +140,7 @@ pub record IsComparison (files : Files) (file deck stim : List ℕ) (order : Ord
   pub is_stim : IsFile files stim stim_bytes
   pub is_verdict : IsVerdictOf bytes deck_bytes stim_bytes order seed verdict
   pub text_is : text ≡ verdict_line verdict
-  pub status_is : status ≡ (if is_same verdict then 0 else 6)
+  pub status_is : status ≡ (if is_same_verdict verdict then 0 else 6)
 
 -- a file, a deck and a stimulus of files have no verdict for this cause
 pub record IsNoComparison (files : Files) (file deck stim name : List ℕ) (why : Refusal) : Type 0 where
@@ -153,7 +153,7 @@ pub record IsNoComparison (files : Files) (file deck stim name : List ℕ) (why 
   pub faulty : IsFaulty (IsCosimRefused bytes deck_bytes stim_bytes) file deck stim name why
 
 -- the figures of the deck of a file, with options
-pub record IsReport (files : Files) (file : List ℕ) (options : SynthOptions) (status : ℕ) (text : List ℕ) : Type 0 where
+pub record IsFigureReport (files : Files) (file : List ℕ) (options : SynthOptions) (status : ℕ) (text : List ℕ) : Type 0 where
   pub bytes : List ℕ
   pub is_file : IsFile files file bytes
   pub figures : AreFiguresFor bytes options text
@@ -166,7 +166,7 @@ pub record IsBench (seed size : ℕ) (options : SynthOptions) (status : ℕ) (te
   pub verdict : Verdict
   pub is : IsBenchOf seed size options model summary verdict
   pub text_is : text ≡ bench_text model summary verdict
-  pub status_is : status ≡ (if is_same verdict then 0 else 6)
+  pub status_is : status ≡ (if is_same_verdict verdict then 0 else 6)
 
 -- the first of the files is refused that is too long, and else one for this cause
 abbrev pub IsRefusalOf : Files → List (List ℕ) → Type 0 → List ℕ → Refusal → Type 0
@@ -186,7 +186,7 @@ IsOutcome files (Sim deck stim options) (Refused name why) =
 IsOutcome files (Cosim file deck stim order seed) (Printed status text) = IsComparison files file deck stim order seed status text
 IsOutcome files (Cosim file deck stim order seed) (Refused name why) =
     IsRefusalOf files (file ∷ deck ∷ stim ∷ []) (IsNoComparison files file deck stim name why) name why
-IsOutcome files (Report file options) (Printed status text) = IsReport files file options status text
+IsOutcome files (Report file options) (Printed status text) = IsFigureReport files file options status text
 IsOutcome files (Report file options) (Refused name why) = HasNone files file name why
 IsOutcome files (Bench seed size options) (Printed status text) = IsBench seed size options status text
 IsOutcome files (Bench seed size options) (Refused name why) = ⊥

@@ -7,13 +7,13 @@ use Rattle.blif_ast.specs.declared.kind.BlifKind.{BlifKind}
 use Rattle.blif_ast.specs.Faults.{blif_kind_number, blif_kind_word}
 use Rattle.blif_ast.specs.Reading.{IsBlifFaultAt, IsFileOf}
 use Rattle.deck.specs.DeckKinds.{deck_kind_number, deck_kind_word}
-use Rattle.net_flatten.specs.declared.fault.FlatFault.TheVariants as flat_fault
-use Rattle.net_flatten.specs.declared.fault.FlatKind.{FlatKind}
-use Rattle.net_flatten.specs.declared.fault.Limit.{Limit}
-use Rattle.net_flatten.specs.Kinds.{flat_kind_number, flat_kind_word, limit_word, too_many_number}
-use Rattle.net_flatten.specs.Refusal.{Refusal as Hierarchy}
-use Rattle.net_flatten.specs.Refusal as hierarchy
-use Rattle.net_flatten.specs.Refusals.{IsRefusal}
+use Rattle.model_calls.specs.declared.fault.FlatFault.TheVariants as flat_fault
+use Rattle.model_calls.specs.declared.fault.FlatKind.{FlatKind}
+use Rattle.model_calls.specs.declared.fault.Limit.{Limit}
+use Rattle.model_calls.specs.Kinds.{flat_kind_number, flat_kind_word, limit_word, too_many_number}
+use Rattle.model_calls.specs.Refusal.{Refusal as Hierarchy}
+use Rattle.model_calls.specs.Refusal as hierarchy
+use Rattle.model_calls.specs.Refusals.{IsRefusal}
 use Rattle.domsyn.specs.declared.refusal.Refusal.{Refusal}
 use Rattle.domsyn.specs.declared.refusal.Refusal.TheVariants.{TooLong, Blif, Flat, TooMany, Deck, Ports, NoNet, Stim}
 use Rattle.stim_text.specs.Stimuli.{stim_kind_word}

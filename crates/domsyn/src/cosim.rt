@@ -6,7 +6,7 @@ ghost use Rattle.command_words.specs.Commands.{Cosim};
 ghost use Rattle.domsyn.specs.declared.failure.Failure.{Failure as Failed};
 ghost use Rattle.domsyn.specs.Failures.{IsFailureOf};
 ghost use Rattle.domsyn.specs.Fetches.{AsksAt, all_given};
-ghost use Rattle.domsyn.specs.Outcomes.{IsOutcome, Printed, is_same as is_same_verdict};
+ghost use Rattle.domsyn.specs.Outcomes.{IsOutcome, Printed, is_same_verdict};
 ghost use Rattle.trace_tool.specs.VerdictLines.{verdict_line};
 
 use crate::answer::Answer;

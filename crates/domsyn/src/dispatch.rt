@@ -2,7 +2,7 @@
 ghost use Rattle.std.specs.Prelude.{◌≡◌, ◌≤◌, ◌↔◌, ℕ, List, All, IfOk, IsErrOf, OnOk, [], if◌then◌else◌};
 ghost use Rattle.dom_io.specs.Asked.{HasAsked};
 ghost use Rattle.dom_io.specs.Faults.{Rose};
-ghost use Rattle.command_words.specs.Asked.{asked};
+ghost use Rattle.command_words.specs.Asked.{asked_command};
 ghost use Rattle.command_words.specs.Commands.{HasGoodOptions, files_of};
 ghost use Rattle.domsyn.specs.declared.failure.Failure.{Failure as Failed};
 ghost use Rattle.domsyn.specs.Failures.{IsFailureOf};
@@ -29,18 +29,18 @@ pub fn outcome_of<'a, S: Shelf>(
     command: &Command<'a>,
     shelf: &mut S,
 ) -> Result<Answer, Failure<'a>>
-    requires names { All (S.may_ask shelf.old) (files_of (asked command.now)) }
-    requires good_options { HasGoodOptions (asked command.now) }
+    requires names { All (S.may_ask shelf.old) (files_of (asked_command command.now)) }
+    requires good_options { HasGoodOptions (asked_command command.now) }
     ensures text { IfOk result (λ answer.
-        IsOutcome (S.files shelf.old) (asked command.now) (Printed (if answer.settled then 0 else 6) answer.text.items)) }
-    ensures right { IfOk result (λ answer. IsRightFor (S.files shelf.old) (asked command.now)
+        IsOutcome (S.files shelf.old) (asked_command command.now) (Printed (if answer.settled then 0 else 6) answer.text.items)) }
+    ensures right { IfOk result (λ answer. IsRightFor (S.files shelf.old) (asked_command command.now)
         (if answer.settled then 0 else 6) answer.text.items) }
     ensures failed { (failure : Failed) → IsErrOf result failure
-        → IsFailureOf (S.files shelf.old) (asked command.now) (Rose (S.faults shelf.old) (S.faults shelf.new)) failure }
-    ensures asked { OnOk result (HasAsked (S.asked shelf.old) (S.asked shelf.new) (all_given (files_of (asked command.now)))) }
-    ensures asked_failed { (failure : Failed) → IsErrOf result failure → AsksAt (S.files shelf.old) (files_of (asked command.now))
+        → IsFailureOf (S.files shelf.old) (asked_command command.now) (Rose (S.faults shelf.old) (S.faults shelf.new)) failure }
+    ensures asked { OnOk result (HasAsked (S.asked shelf.old) (S.asked shelf.new) (all_given (files_of (asked_command command.now)))) }
+    ensures asked_failed { (failure : Failed) → IsErrOf result failure → AsksAt (S.files shelf.old) (files_of (asked_command command.now))
         (HasAsked (S.asked shelf.old) (S.asked shelf.new)) failure }
-    ensures unfetched { files_of (asked command.now) ≡ [] → shelf.new ≡ shelf.old }
+    ensures unfetched { files_of (asked_command command.now) ≡ [] → shelf.new ≡ shelf.old }
     ensures same_files { S.files shelf.new ≡ S.files shelf.old }
     ensures same_names { (name : List ℕ) → S.may_ask shelf.new name ↔ S.may_ask shelf.old name }
     ensures later { S.faults shelf.old ≤ S.faults shelf.new }

@@ -6,13 +6,13 @@ use Rattle.blif_ast.specs.declared.kind.BlifKind.{BlifKind}
 use Rattle.blif_ast.specs.Reading.{IsBlifFault, IsBlifFaultAt, IsFileOf}
 use Rattle.blif_read.proofs.AcceptedIsGoodModels.{accepted_file}
 use Rattle.blif_read.proofs.OneAnswer.{one_answer}
-use Rattle.net_flatten.specs.declared.fault.FlatFault.{FlatFault}
-use Rattle.net_flatten.specs.declared.fault.FlatFault.TheVariants as flat_faults
+use Rattle.model_calls.specs.declared.fault.FlatFault.{FlatFault}
+use Rattle.model_calls.specs.declared.fault.FlatFault.TheVariants as flat_faults
 use Rattle.net_flatten.specs.Flattening.{IsNetworkOf}
 use Rattle.net_flatten.specs.NetworkData.{NetworkData}
 use Rattle.net_flatten.specs.Networks.{IsNetwork}
-use Rattle.net_flatten.specs.Refusal as refusals
-use Rattle.net_flatten.specs.Refusal.{Refusal}
+use Rattle.model_calls.specs.Refusal as refusals
+use Rattle.model_calls.specs.Refusal.{Refusal}
 use Rattle.net_flatten.proofs.Kept.{network_kept as kept}
 use Rattle.net_flatten.proofs.OneNetwork.{network_once}
 use Rattle.net_flatten.proofs.OneRefusal.{refusal_once}

@@ -4,12 +4,12 @@ use Rattle.blif_ast.specs.BlifFileData.{BlifFileData}
 use Rattle.blif_ast.specs.Reading.{IsBlifFaultAt, IsFileOf}
 use Rattle.blif_read.specs.declared.fault.BlifFault.{BlifFault}
 use Rattle.blif_read.specs.declared.fault.BlifFault.TheVariants as blif_faults
-use Rattle.net_flatten.specs.declared.fault.FlatFault.{FlatFault}
-use Rattle.net_flatten.specs.declared.fault.FlatFault.TheVariants as flat_faults
+use Rattle.model_calls.specs.declared.fault.FlatFault.{FlatFault}
+use Rattle.model_calls.specs.declared.fault.FlatFault.TheVariants as flat_faults
 use Rattle.net_flatten.specs.Flattening.{IsNetworkOf}
 use Rattle.net_flatten.specs.NetworkData.{NetworkData}
-use Rattle.net_flatten.specs.Refusal as refusals
-use Rattle.net_flatten.specs.Refusals.{IsRefusal}
+use Rattle.model_calls.specs.Refusal as refusals
+use Rattle.model_calls.specs.Refusals.{IsRefusal}
 use Rattle.deck.specs.CircuitData.{CircuitData}
 use Rattle.deck.specs.DeckFaults.{IsDeckFaultAt}
 use Rattle.deck.specs.DeckText.{IsDeckOf}

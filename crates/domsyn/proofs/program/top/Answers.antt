@@ -1,6 +1,6 @@
 use Rattle.std.proofs.Common.{map, inl, refl}
 use Rattle.std.specs.String.{string_bytes}
-use Rattle.command_words.specs.Asked.{asked}
+use Rattle.command_words.specs.Asked.{asked_command}
 use Rattle.dom_io.specs.Asked.{HasAsked}
 use Rattle.dom_io.specs.Faults.{Rose}
 use Rattle.dom_io.proofs.AskedLemmas.{HasAsked-nothing}
@@ -23,63 +23,63 @@ pub outcome_of-requires-clause-good_options : goal.outcome_of-requires-clause-go
 outcome_of-requires-clause-good_options g c =
     let words = map string_bytes c.args.words.now in
     let asks = asks_found words c.in-Ok-Some.field-0 c.in-Ok-Some.command c.in-Ok-Some.field-0-is c.in-Ok-Some.ensures.command in
-    asks_in_range words (asked c.in-Ok-Some.command) asks
+    asks_in_range words (asked_command c.in-Ok-Some.command) asks
 
 pub finish-requires-clause-out_room : goal.finish-requires-clause-out_room
 finish-requires-clause-out_room g c =
     let words = map string_bytes c.args.words.now in
     let asks = asks_found words c.in-Ok-Some.field-0 c.in-Ok-Some.command c.in-Ok-Some.field-0-is c.in-Ok-Some.ensures.command in
     room_of _ (IsText words) (g.K.Sink.has_room c.args.out.now) c.requires.out_room c.in-Ok.answer.text.items
-    (_, record { command = asked c.in-Ok-Some.command; asks = asks; outcome_is = c.in-Ok.ensures.text })
+    (_, record { command = asked_command c.in-Ok-Some.command; asks = asks; outcome_is = c.in-Ok.ensures.text })
 
 pub returns-in-Ok-clause-complete : goal.returns-in-Ok-clause-complete
 returns-in-Ok-clause-complete g c =
     let words = map string_bytes c.args.words.now in
     let asks = asks_found words c.in-Ok-Some.field-0 c.in-Ok-Some.command c.in-Ok-Some.field-0-is c.in-Ok-Some.ensures.command in
-    finished_complete c.in-Ok.answer.text.items _ (record { command = asked c.in-Ok-Some.command; asks = asks; outcome_is = c.in-Ok.ensures.text }) c.finish.ensures.known c.finish.ensures.cannot_write
+    finished_complete c.in-Ok.answer.text.items _ (record { command = asked_command c.in-Ok-Some.command; asks = asks; outcome_is = c.in-Ok.ensures.text }) c.finish.ensures.known c.finish.ensures.cannot_write
 
 pub report_failure-requires-clause-failure_room : goal.report_failure-requires-clause-failure_room
 report_failure-requires-clause-failure_room g c =
     let words = map string_bytes c.args.words.now in
     let asks = asks_found words c.in-Ok-Some.field-0 c.in-Ok-Some.command c.in-Ok-Some.field-0-is c.in-Ok-Some.ensures.command in
-    room_for_failure (g.S.Shelf.files c.args.shelf.now) words (asked c.in-Ok-Some.command) _ c.in-Err-outcome_of.failure (g.E.Sink.has_room c.args.err.now)
+    room_for_failure (g.S.Shelf.files c.args.shelf.now) words (asked_command c.in-Ok-Some.command) _ c.in-Err-outcome_of.failure (g.E.Sink.has_room c.args.err.now)
     asks (c.in-Err-outcome_of.ensures.failed c.in-Err-outcome_of.failure refl) c.requires.refusal_room c.requires.unread_room
 
 pub returns-clause-cannot_read : goal.returns-clause-cannot_read
 returns-clause-cannot_read g c =
     let words = map string_bytes c.args.words.now in
     let asks = asks_found words c.in-Ok-Some.field-0 c.in-Ok-Some.command c.in-Ok-Some.field-0-is c.in-Ok-Some.ensures.command in
-    λ three. (reported_unread {words = words} (failure_reported (asked c.in-Ok-Some.command) c.in-Err-outcome_of.failure asks (c.in-Err-outcome_of.ensures.failed c.in-Err-outcome_of.failure refl) c.report_failure.ensures.reported) three).0
+    λ three. (reported_unread {words = words} (failure_reported (asked_command c.in-Ok-Some.command) c.in-Err-outcome_of.failure asks (c.in-Err-outcome_of.ensures.failed c.in-Err-outcome_of.failure refl) c.report_failure.ensures.reported) three).0
 
 pub returns-clause-cause : goal.returns-clause-cause
 returns-clause-cause g c =
     let words = map string_bytes c.args.words.now in
     let asks = asks_found words c.in-Ok-Some.field-0 c.in-Ok-Some.command c.in-Ok-Some.field-0-is c.in-Ok-Some.ensures.command in
-    reported_cause (failure_reported (asked c.in-Ok-Some.command) c.in-Err-outcome_of.failure asks (c.in-Err-outcome_of.ensures.failed c.in-Err-outcome_of.failure refl) c.report_failure.ensures.reported)
+    reported_cause (failure_reported (asked_command c.in-Ok-Some.command) c.in-Err-outcome_of.failure asks (c.in-Err-outcome_of.ensures.failed c.in-Err-outcome_of.failure refl) c.report_failure.ensures.reported)
 
 pub returns-clause-complete : goal.returns-clause-complete
 returns-clause-complete g c =
     let words = map string_bytes c.args.words.now in
     let asks = asks_found words c.in-Ok-Some.field-0 c.in-Ok-Some.command c.in-Ok-Some.field-0-is c.in-Ok-Some.ensures.command in
-    reported_complete _ (failure_reported (asked c.in-Ok-Some.command) c.in-Err-outcome_of.failure asks (c.in-Err-outcome_of.ensures.failed c.in-Err-outcome_of.failure refl) c.report_failure.ensures.reported)
+    reported_complete _ (failure_reported (asked_command c.in-Ok-Some.command) c.in-Err-outcome_of.failure asks (c.in-Err-outcome_of.ensures.failed c.in-Err-outcome_of.failure refl) c.report_failure.ensures.reported)
 
 pub returns-in-Ok-clause-bench : goal.returns-in-Ok-clause-bench
 returns-in-Ok-clause-bench g c =
     let words = map string_bytes c.args.words.now in
     let asks = asks_found words c.in-Ok-Some.field-0 c.in-Ok-Some.command c.in-Ok-Some.field-0-is c.in-Ok-Some.ensures.command in
-    finished_bench (g.S.Shelf.files c.args.shelf.now) words (asked c.in-Ok-Some.command) asks _ c.in-Ok.answer.text.items c.in-Ok.ensures.right _ c.finish.ensures.known
+    finished_bench (g.S.Shelf.files c.args.shelf.now) words (asked_command c.in-Ok-Some.command) asks _ c.in-Ok.answer.text.items c.in-Ok.ensures.right _ c.finish.ensures.known
 
 pub returns-in-Ok-clause-same : goal.returns-in-Ok-clause-same
 returns-in-Ok-clause-same g c zero =
     let words = map string_bytes c.args.words.now in
     let asks = asks_found words c.in-Ok-Some.field-0 c.in-Ok-Some.command c.in-Ok-Some.field-0-is c.in-Ok-Some.ensures.command in
-    finished_same (g.S.Shelf.files c.args.shelf.now) words (asked c.in-Ok-Some.command) asks _ c.in-Ok.answer.text.items c.in-Ok.ensures.right _ _ zero c.finish.ensures.done
+    finished_same (g.S.Shelf.files c.args.shelf.now) words (asked_command c.in-Ok-Some.command) asks _ c.in-Ok.answer.text.items c.in-Ok.ensures.right _ _ zero c.finish.ensures.done
 
 pub returns-clause-bench : goal.returns-clause-bench
 returns-clause-bench g c =
     let words = map string_bytes c.args.words.now in
     let asks = asks_found words c.in-Ok-Some.field-0 c.in-Ok-Some.command c.in-Ok-Some.field-0-is c.in-Ok-Some.ensures.command in
-    reported_bench {words = words} (failure_reported (asked c.in-Ok-Some.command) c.in-Err-outcome_of.failure asks (c.in-Err-outcome_of.ensures.failed c.in-Err-outcome_of.failure refl) c.report_failure.ensures.reported)
+    reported_bench {words = words} (failure_reported (asked_command c.in-Ok-Some.command) c.in-Err-outcome_of.failure asks (c.in-Err-outcome_of.ensures.failed c.in-Err-outcome_of.failure refl) c.report_failure.ensures.reported)
 
 pub returns-in-Err-clause-asked_first : goal.returns-in-Err-clause-asked_first
 returns-in-Err-clause-asked_first g c = λ five. inl (HasAsked-nothing (g.S.Shelf.asked c.args.shelf.now))
@@ -89,13 +89,13 @@ returns-in-Ok-clause-asked_all g c =
     let words = map string_bytes c.args.words.now in
     let asks = asks_found words c.in-Ok-Some.field-0 c.in-Ok-Some.command c.in-Ok-Some.field-0-is c.in-Ok-Some.ensures.command in
     let HasAskedHere = HasAsked (g.S.Shelf.asked c.args.shelf.now) (g.S.Shelf.asked c.outcome_of.new.shelf) in
-    λ one two three five. asks_all words HasAskedHere (asked c.in-Ok-Some.command) asks c.in-Ok.ensures.asked
+    λ one two three five. asks_all words HasAskedHere (asked_command c.in-Ok-Some.command) asks c.in-Ok.ensures.asked
 
 pub returns-in-Ok-clause-bench_unfetched : goal.returns-in-Ok-clause-bench_unfetched
 returns-in-Ok-clause-bench_unfetched g c =
     let words = map string_bytes c.args.words.now in
     let asks = asks_found words c.in-Ok-Some.field-0 c.in-Ok-Some.command c.in-Ok-Some.field-0-is c.in-Ok-Some.ensures.command in
-    bench_asks_none words _ (asked c.in-Ok-Some.command) asks c.in-Ok.ensures.unfetched
+    bench_asks_none words _ (asked_command c.in-Ok-Some.command) asks c.in-Ok.ensures.unfetched
 
 pub returns-clause-refused : goal.returns-clause-refused
 returns-clause-refused g c =
@@ -105,7 +105,7 @@ returns-clause-refused g c =
     let failed = c.in-Err-outcome_of.ensures.failed c.in-Err-outcome_of.failure refl in
     let there = c.in-Err-outcome_of.ensures.asked_failed c.in-Err-outcome_of.failure refl in
     let Rises = Rose (g.S.Shelf.faults c.args.shelf.now) (g.S.Shelf.faults c.outcome_of.new.shelf) in
-    refused_asks {HasAsked = HasAskedHere} Rises _ (asked c.in-Ok-Some.command) c.in-Err-outcome_of.failure asks failed there c.report_failure.ensures.reported
+    refused_asks {HasAsked = HasAskedHere} Rises _ (asked_command c.in-Ok-Some.command) c.in-Err-outcome_of.failure asks failed there c.report_failure.ensures.reported
 
 pub returns-clause-unread : goal.returns-clause-unread
 returns-clause-unread g c =
@@ -115,7 +115,7 @@ returns-clause-unread g c =
     let failed = c.in-Err-outcome_of.ensures.failed c.in-Err-outcome_of.failure refl in
     let there = c.in-Err-outcome_of.ensures.asked_failed c.in-Err-outcome_of.failure refl in
     let Rises = Rose (g.S.Shelf.faults c.args.shelf.now) (g.S.Shelf.faults c.outcome_of.new.shelf) in
-    unread_asks {HasAsked = HasAskedHere} Rises _ (asked c.in-Ok-Some.command) c.in-Err-outcome_of.failure asks failed there c.report_failure.ensures.reported
+    unread_asks {HasAsked = HasAskedHere} Rises _ (asked_command c.in-Ok-Some.command) c.in-Err-outcome_of.failure asks failed there c.report_failure.ensures.reported
 
 pub returns-clause-asked_first : goal.returns-clause-asked_first
 returns-clause-asked_first g c =
@@ -124,7 +124,7 @@ returns-clause-asked_first g c =
     let HasAskedHere = HasAsked (g.S.Shelf.asked c.args.shelf.now) (g.S.Shelf.asked c.outcome_of.new.shelf) in
     let failed = c.in-Err-outcome_of.ensures.failed c.in-Err-outcome_of.failure refl in
     let there = c.in-Err-outcome_of.ensures.asked_failed c.in-Err-outcome_of.failure refl in
-    λ five. first_asks {HasAsked = HasAskedHere} (asked c.in-Ok-Some.command) c.in-Err-outcome_of.failure asks there
+    λ five. first_asks {HasAsked = HasAskedHere} (asked_command c.in-Ok-Some.command) c.in-Err-outcome_of.failure asks there
 
 pub returns-clause-asked_all : goal.returns-clause-asked_all
 returns-clause-asked_all g c = λ one two three five. absurd (failed_as _ c.in-Err-outcome_of.failure c.report_failure.ensures.reported one three five)
@@ -133,7 +133,7 @@ pub returns-clause-bench_unfetched : goal.returns-clause-bench_unfetched
 returns-clause-bench_unfetched g c =
     let words = map string_bytes c.args.words.now in
     let asks = asks_found words c.in-Ok-Some.field-0 c.in-Ok-Some.command c.in-Ok-Some.field-0-is c.in-Ok-Some.ensures.command in
-    bench_asks_none words _ (asked c.in-Ok-Some.command) asks c.in-Err-outcome_of.ensures.unfetched
+    bench_asks_none words _ (asked_command c.in-Ok-Some.command) asks c.in-Err-outcome_of.ensures.unfetched
 
 pub returns-in-Err-clause-asked_all : goal.returns-in-Err-clause-asked_all
 returns-in-Err-clause-asked_all g c = λ one two three five. absurd (five c.report_memory.ensures.status)

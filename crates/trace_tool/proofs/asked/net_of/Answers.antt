@@ -2,7 +2,7 @@ use Rattle.std.proofs.Common.{◌≡◌, List, ℕ, Some, subst, ap, ◌∙◌}
 use Rattle.std.specs.Prelude.{Contains, MatchOption, slice_get}
 use Rattle.std.proofs.lemmas.List.{map-id}
 use Rattle.deck.specs.CircuitData.{CircuitData}
-use Rattle.net_flatten.proofs.NameNumbers.{looked_up}
+use Rattle.model_calls.proofs.NameNumbers.{looked_up}
 use Rattle.trace_tool.proofs.asked.net_of.Goals as goal
 
 pub returns : goal.returns
