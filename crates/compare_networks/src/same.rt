@@ -1,6 +1,6 @@
 //! Refusals and networks beside plain ones.
 ghost use Rattle.blif_ast.specs.Good.{IsGoodFile};
-ghost use Rattle.net_flatten.specs.ModelCalls.{NothingRefuses};
+ghost use Rattle.model_calls.specs.ModelCalls.{NothingRefuses};
 
 use crate::trouble::Trouble;
 use blif_ast::{BlifFile, print};

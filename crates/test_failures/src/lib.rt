@@ -1,4 +1,5 @@
-//! Tests of devices that fail and of files that are made to do harm, on the program's one function.
+//! Tests of the statuses, of devices that fail and of files that are made to do harm, on the program's one
+//! function.
 #![tactic(auto)]
 
 #[cfg(test)]
@@ -7,5 +8,7 @@ mod answer;
 mod devices;
 #[cfg(test)]
 mod hostile_files;
+#[cfg(test)]
+mod statuses;
 #[cfg(test)]
 mod sure;

@@ -1,4 +1,4 @@
-//! Tests of the command `synth` and of the statuses on the program's one function.
+//! Tests of the command `synth` on the program's one function.
 #![tactic(auto)]
 
 #[cfg(test)]
@@ -8,12 +8,12 @@ mod decks;
 #[cfg(test)]
 mod forms;
 #[cfg(test)]
+mod larger_rows;
+#[cfg(test)]
 mod options;
 #[cfg(test)]
 mod refused;
 #[cfg(test)]
 mod rows;
-#[cfg(test)]
-mod statuses;
 #[cfg(test)]
 mod wide;

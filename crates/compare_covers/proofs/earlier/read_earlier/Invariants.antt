@@ -1,4 +1,4 @@
-use Rattle.compare_covers.proofs.EarlierCells.{FirstReadEarlier}
+use Rattle.clock_phase.proofs.EarlierCells.{FirstReadEarlier}
 use Rattle.compare_covers.proofs.earlier.read_earlier.Given as goal
 
 abbrev pub invariant-loop-k : goal.invariant-loop-k

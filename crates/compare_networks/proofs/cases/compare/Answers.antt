@@ -1,5 +1,5 @@
 use Rattle.std.proofs.Common.{arith}
-use Rattle.net_flatten.specs.Refusal.{At}
+use Rattle.model_calls.specs.Refusal.{At}
 use Rattle.compare_networks.proofs.cases.compare.Goals as goal
 
 pub flatten-requires : goal.flatten-requires

@@ -1,4 +1,4 @@
-use Rattle.net_flatten.specs.Refusal.{At}
+use Rattle.model_calls.specs.Refusal.{At}
 use Rattle.compare_networks.proofs.cases.compare_accepted.Goals as goal
 
 pub same_sizes-requires-clause-accepted : goal.same_sizes-requires-clause-accepted

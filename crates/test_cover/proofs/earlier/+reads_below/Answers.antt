@@ -1,5 +1,5 @@
 use Rattle.std.proofs.Common.{sym, subst}
-use Rattle.test_cover.proofs.EarlierCells.{AllBelow}
+use Rattle.clock_phase.proofs.EarlierCells.{AllBelow}
 use Rattle.test_cover.proofs.earlier.+reads_below.Goals as goal
 
 pub returns-then-left : goal.returns-then-left

@@ -1,5 +1,5 @@
 use Rattle.std.proofs.Common.{◌≡◌, subst, length, arith}
-use Rattle.test_cover.proofs.EarlierCells.{FirstReadEarlier, one_more_reads, all_read}
+use Rattle.clock_phase.proofs.EarlierCells.{FirstReadEarlier, one_more_reads, all_read}
 use Rattle.test_cover.proofs.earlier.read_earlier.Goals as goal
 
 pub loop-k-preserved : goal.loop-k-preserved

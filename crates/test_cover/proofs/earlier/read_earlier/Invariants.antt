@@ -1,4 +1,4 @@
-use Rattle.test_cover.proofs.EarlierCells.{FirstReadEarlier}
+use Rattle.clock_phase.proofs.EarlierCells.{FirstReadEarlier}
 use Rattle.test_cover.proofs.earlier.read_earlier.Given as goal
 
 abbrev pub invariant-loop-k : goal.invariant-loop-k
