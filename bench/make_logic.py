@@ -1,6 +1,8 @@
 #!/usr/bin/env python3
 """Writes a network that is about as large as there may be, for the benchmarks of gates, signs, covers and decks:
-make_logic.py KIND
+make_logic.py KIND [PARTS]
+
+With PARTS the network is so many times smaller.
 
 chain    66,600 tables, each of which is 1 where the one before it is 0 and `a` is 1
 wide     one table of 4,096 inputs and 96 rows that end in 0, with letters of all three kinds in turn
@@ -79,17 +81,18 @@ def deep(leaves):
 
 
 def main():
+    parts = int(sys.argv[2]) if len(sys.argv) == 3 and sys.argv[2].isdecimal() and sys.argv[2] != "0" else 1
     kinds = {
-        "chain": lambda: chain(66_600),
-        "wide": lambda: wide(4_096, 96),
-        "shared": lambda: shared(8_192, 40_000),
-        "passes": lambda: passes(7_000),
-        "latches": lambda: latches(8_191),
-        "both": lambda: both(4_096, 96),
-        "deep": lambda: deep(56_000),
+        "chain": lambda: chain(66_600 // parts),
+        "wide": lambda: wide(4_096, 96 // parts),
+        "shared": lambda: shared(8_192 // parts, 40_000 // parts),
+        "passes": lambda: passes(7_000 // parts),
+        "latches": lambda: latches(8_191 // parts),
+        "both": lambda: both(4_096, 96 // parts),
+        "deep": lambda: deep(56_000 // parts),
     }
-    if len(sys.argv) != 2 or sys.argv[1] not in kinds:
-        sys.exit("usage: make_logic.py " + "|".join(kinds))
+    if len(sys.argv) not in (2, 3) or sys.argv[1] not in kinds or len(sys.argv) == 3 and str(parts) != sys.argv[2]:
+        sys.exit("usage: make_logic.py " + "|".join(kinds) + " [PARTS]")
     for piece in kinds[sys.argv[1]]():
         sys.stdout.write(piece)
 

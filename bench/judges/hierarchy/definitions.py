@@ -1,4 +1,4 @@
-"""The definitions of crates/{dom_base,blif_ast,net_flatten,net_run,stim_text,domsyn}/specs, copied by hand, one function per
+"""The definitions of crates/{dom_base,blif_ast,model_calls,net_flatten,net_run,stim_text,domsyn}/specs, copied by hand, one function per
 definition. Lists are tuples or bytes. Candidates are checked; nothing is found by the product's way."""
 from data import *
 
@@ -228,7 +228,7 @@ def is_one_at(on, rows, inputs):
     some = any(matches(r, inputs) for r in rows)
     return some if on else not some
 
-# ---------------------------------------------------------------- net_flatten/specs/Signals; a path has the nearest instance first
+# ---------------------------------------------------------------- model_calls/specs/Signals; a path has the nearest instance first
 def bound_actual(i, formal):
     for f, a in i.bindings:
         if f == formal: return a
@@ -240,7 +240,7 @@ def signal_of(path, name):
         path, name = path[1:], actual
     return ((), name)
 
-# ---------------------------------------------------------------- net_flatten/specs/{Ordered,Occurrences,Expanded}
+# ---------------------------------------------------------------- model_calls/specs/{Ordered,Occurrences,Expanded}
 def in_order(number, xs):
     out = []
     for e in reversed(xs):
@@ -282,7 +282,7 @@ def expanded(f): return expanded_from(f, len(f), (), main_model(f))
 def tables(ex): return [p for p in ex if isinstance(p[1], Table)]
 def latches(ex): return [p for p in ex if isinstance(p[1], Latch)]
 
-# ---------------------------------------------------------------- net_flatten/specs/Ends; an end is (signal, line, name)
+# ---------------------------------------------------------------- model_calls/specs/Ends; an end is (signal, line, name)
 def end_at(path, line, name): return (signal_of(path, name), line, name)
 def read_ends(p):
     path, c = p
@@ -300,7 +300,7 @@ def controls(ex): return [c[1] for c in clockings(ex) if c[1] is not None]
 def inputs_of(t): return [signal_of(t[0], n) for n in t[1].inputs]
 def output_of(t): return signal_of(t[0], t[1].output)
 
-# ---------------------------------------------------------------- net_flatten/specs/Counts
+# ---------------------------------------------------------------- model_calls/specs/Counts
 def counts(f, limits):
     occ = occurrences(f)
     return [("signals", sum(len(set(names_of(m))) for p, m in occ), limits["signals"]),
@@ -308,7 +308,7 @@ def counts(f, limits):
             ("letters", sum((len(t.inputs) + 1) * (len(t.rows) + 1) for p, m in occ for t in m.tables), limits["letters"]),
             ("sinks", len(main_model(f).outputs) + sum(len(m.latches) for p, m in occ), limits["sinks"])]
 
-# ---------------------------------------------------------------- net_flatten/specs/{First,ModelFaults,SignalFaults,Refusals}
+# ---------------------------------------------------------------- model_calls/specs/{First,ModelFaults,SignalFaults,Refusals}
 def is_first(holds, all):
     """The index of the element of which `IsFirst holds all` is true, or None."""
     for k in range(len(all)):
@@ -384,7 +384,7 @@ def all_of(xs):
         if not x: return False
     return True
 
-# ---------------------------------------------------------------- net_flatten/specs/{Numbering,Flattening}
+# ---------------------------------------------------------------- model_calls/specs/Numbering, net_flatten/specs/Flattening
 def is_levelling(f, ex, level):
     return (all(level(e[0]) == 0 for e in main_inputs(f)) and all(level(output_of(l)) == 0 for l in latches(ex))
             and all(level(output_of(t)) == 1 + max([0] + [level(s) for s in inputs_of(t)]) for t in tables(ex)))
