@@ -88,10 +88,7 @@ def main(seed, decks, runs, cycles):
         c = Circuit(circuit, phases, len(pins), len(outs))
         rd = RuleDeck(text)
         names = circuit['nets']
-        # no domino deck has a keeper that doesn't lead from its drain to vdd; of one the rules ask for the drain, the definition for the end
-        # that isn't vdd
-        odd_keepers = any(k == 'pkeep' and (s != 'vdd' or d == 'vdd') for k, d, g, s in named)
-        n['decks with odd keepers'] += odd_keepers
+        n['decks with a keeper that leads elsewhere'] += any(k == 'pkeep' and (s != 'vdd' or d == 'vdd') for k, d, g, s in named)
         if set(names) != set(rd.nets) or {names[x] for x in c.dynamic} != rd.dynamic or {names[x] for x in c.domino} != rd.domino:
             print('DIFFERS nets', net, way, flush=True)
         of = cycle_of(net, {})
@@ -126,9 +123,6 @@ def main(seed, decks, runs, cycles):
                 if b.at == 'launched':
                     if [b.val.get('q%d' % j, 'X') for j in range(len(net.latches))] != of(b.cycles)[1]:
                         b.bad.add('launches')
-                if odd_keepers:
-                    a.broken.discard('overpowered')
-                    b.bad.discard('overpowered')
                 if a.broken != b.bad:
                     print('DIFFERS broken', net, way, named, a.place, a.broken, b.bad, flush=True)
                     cut = True

@@ -35,7 +35,7 @@ PLANTS = [
     ('runs: capture with clocks to rise', RD, "(place != 'capture' or self.risen == self.c.clocks)", 'True', 'compare_runs.py 9 6 4 2'),
     ('runs: a later clock at rest alone', RD, "if self.place == 'evaluation' and self.risen < self.c.clocks:", "if self.place == 'evaluation' and self.risen < self.c.clocks and rests:",
      'compare_runs.py 9 6 4 2'),
-    ('contests: overpowered whatever gates the keeper', RD, 'if values[g] != 0 or any(', 'if any(', 'compare_runs.py 9 60 4 2'),
+    ('contests: overpowered whatever gates the keeper', RD, 'if values[g] != 0 or (1, False)', 'if (1, False)', 'compare_runs.py 9 60 4 2'),
     ('joins: from power on', RD, "if self.place != 'reset' or rests:", 'if True:', 'compare_runs.py 9 6 4 2'),
 ]
 

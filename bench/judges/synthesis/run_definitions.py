@@ -102,8 +102,7 @@ class Circuit:
                     down = y == 1 or not self.is_source(y) and any(n == 1 for n, w in self.reach(y, devices, values, False))
                     if up and down:
                         contests = True
-                        ends = [n for n, o in ((d, s), (s, d)) if o == 0]
-                        if values[g] != 0 or any((1, False) not in self.reach(n, devices, values, True) for n in ends):
+                        if values[g] != 0 or (1, False) not in self.reach(d, devices, values, True):
                             overpowered = False
             self.known[key] = (targets, short, contests, overpowered)
         return self.known[key]

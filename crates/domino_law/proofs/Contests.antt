@@ -154,7 +154,7 @@ module _ (devices : List Device) (is_source : ℕ → Bool) (net : Net → ℕ) 
 
   -- a possible weak path from vdd to vss begins with a keeper that is overpowered, and has no other
   Overpowered : Device → Type 0
-  Overpowered d = d.kind ≡ Keep → (value_of values d.gate ≡ Zero) × ((n : ℕ) → Ends d n (net Vdd) → DefiniteStrong devices is_source values n (net Vss))
+  Overpowered d = d.kind ≡ Keep → (value_of values d.gate ≡ Zero) × DefiniteStrong devices is_source values d.drain (net Vss)
 
   from_vdd : {x y : ℕ} {p : List Device} → x ≡ net Vdd → y ≡ net Vss → Path is_source x p y → AllByRecursion (Contains devices) p → AllByRecursion (IsNotOff values) p → IsWeak p
       → ((k : ℕ) × (c : DominoCell) × IsCellAt s k c × IsPulled k) × AllByRecursion Overpowered p
@@ -190,13 +190,7 @@ module _ (devices : List Device) (is_source : ℕ → Bool) (net : Net → ℕ) 
           let u = pulled_where_open t.0 t.1 t.2 (open_of t) ds q m.1 n.1 in (
             (t.0, t.1, t.2, u),
             (
-              (λ y. (
-                rw (gate_of t) u.low_gate,
-                (λ n e. elim e [
-                  | inl z ↦ rw (sym z.0 ∙ drain_of t) u.pulled
-                  | inr z ↦ absurd (no_dynamic devices is_source net s deck Vdd tt t.0 t.1 t.2 (sym (drain_of t) ∙ z.1))
-                ]),
-              )),
+              (λ y. (rw (gate_of t) u.low_gate, rw (drain_of t) u.pulled)),
               AllByRecursion-weaker _ Overpowered (λ f ne y. absurd (ne y)) ds (strong_each ds strong),
             ),
           )
@@ -204,13 +198,13 @@ module _ (devices : List Device) (is_source : ℕ → Bool) (net : Net → ℕ) 
 
   -- a contest, in either direction
   pub contest : (p : List Device) → IsContest devices is_source values (net Vdd) (net Vss) p
-      → ((k : ℕ) × (c : DominoCell) × IsCellAt s k c × IsPulled k) × IsOverpowered devices is_source values (net Vdd) (net Vss) p
+      → ((k : ℕ) × (c : DominoCell) × IsCellAt s k c × IsPulled k) × IsOverpowered devices is_source values (net Vss) p
   unfolding Overpowered
   contest p t = elim t.0 [
     | inl r ↦ from_vdd refl refl r t.1 t.2 t.3
     | inr r ↦
         let k = from_vdd refl refl (Path-reverse r) (AllByRecursion-backwards (Contains devices) p t.1) (AllByRecursion-backwards (IsNotOff values) p t.2) (IsWeak-backwards p t.3) in
-        (k.0, AllByRecursion-forwards (λ d. d.kind ≡ Keep → (value_of values d.gate ≡ Zero) × ((n : ℕ) → Ends d n (net Vdd) → DefiniteStrong devices is_source values n (net Vss))) p k.1)
+        (k.0, AllByRecursion-forwards (λ d. d.kind ≡ Keep → (value_of values d.gate ≡ Zero) × DefiniteStrong devices is_source values d.drain (net Vss)) p k.1)
   ]
 
   -- at rest an output is the opposite of its dynamic net, and so there is none

@@ -30,7 +30,8 @@ use Rattle.net_flatten.proofs.OneModel.{latch_lines, name_once, table_lines, tab
 use Rattle.model_calls.proofs.Lists.{contains_map}
 use Rattle.model_calls.proofs.EachPart.{each_flat}
 use Rattle.model_calls.proofs.Pairs.{contains_to}
-use Rattle.part_numbers.proofs.Ranges.{each_enumerated, enumerated_row, map_map, row_apart, row_bounds, row_contains, take_by_row, row}
+use Rattle.part_numbers.proofs.Ranges.{each_enumerated, enumerated_row, map_map, row_apart, row_bounds, row_contains, take_by_row}
+use Rattle.part_numbers.specs.Ranges.{row}
 use Rattle.model_calls.proofs.Rising.{Rising}
 
 -- what rises is in order

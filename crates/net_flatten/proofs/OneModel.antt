@@ -18,7 +18,8 @@ use Rattle.net_flatten.specs.OneModel.{file_of, latch_at, name_at, table_at}
 use Rattle.model_calls.specs.Occurrences.{main_model}
 use Rattle.model_calls.proofs.Apart.{Apart, Apart-append, place_once}
 use Rattle.net_flatten.specs.OneModelParts.{latches_here, tables_here}
-use Rattle.part_numbers.proofs.Ranges.{each_enumerated, enumerated_row, map_map, row_apart, row_bounds, row}
+use Rattle.part_numbers.proofs.Ranges.{each_enumerated, enumerated_row, map_map, row_apart, row_bounds}
+use Rattle.part_numbers.specs.Ranges.{row}
 
 distinct_apart : (names : List (List ℕ)) → IsDistinct same names → Apart names
 unfolding IsDistinct

@@ -23,7 +23,8 @@ use Rattle.net_flatten.proofs.Kept.{network_kept, same_length, same_place}
 use Rattle.net_flatten.specs.OneModelParts.{IsTableHere, signal_at, latches_here}
 use Rattle.net_flatten.proofs.OneAccepted.{each_table_here, latches_are, no_clockings, sig_once, table_small, tables_are}
 use Rattle.net_flatten.proofs.OneModel.{good_one_model, table_number}
-use Rattle.part_numbers.proofs.Ranges.{enumerated_row, length_row, map_map, row, row_bounds, take_by_row}
+use Rattle.part_numbers.proofs.Ranges.{enumerated_row, length_row, map_map, row_bounds, take_by_row}
+use Rattle.part_numbers.specs.Ranges.{row}
 use Rattle.net_run.proofs.Valuations.{one_valuation}
 use Rattle.net_run.specs.Runs.{Cycle, IsNetworkCycle, IsNetworkRun, IsNetworkRunFrom, IsValuation, start, value_at}
 use Rattle.model_calls.proofs.Lists.{get_of_map}

@@ -5,11 +5,7 @@ use Rattle.std.specs.List.{AllByRecursion, enumerate_from}
 use Rattle.std.proofs.lemmas.Bool.{cases_eq}
 use Rattle.dom_base.proofs.Lists.{AllByRecursion-weaker, Contains-first, Contains-later}
 use Rattle.model_calls.proofs.Apart.{Apart}
-
--- so many numbers from one on
-abbrev pub row : ℕ → ℕ → List ℕ
-row a zero = []
-row a (suc m) = a ∷ row (a + 1) m
+use Rattle.part_numbers.specs.Ranges.{row}
 
 pub row_bounds : (a m : ℕ) → AllByRecursion (λ k. (a ≤ k) × (k < a + m)) (row a m)
 row_bounds a zero = tt

@@ -8,3 +8,4 @@ pub mod NumberedFaults
 pub mod PartCards
 pub mod CheckOutcomes
 pub mod NetworkSizes
+pub mod Ranges

@@ -7,6 +7,13 @@ use std::process::Abort;
 use std::test::Fail;
 use test_calls::{answer_to, synth};
 
+/// A file and its deck.
+pub struct Row {
+    pub what: &'static str,
+    pub file: &'static str,
+    pub deck: &'static str,
+}
+
 /// Asserts that a file of these bytes gives the deck, and that the deck reads back: it is what is
 /// written of its circuit.
 pub fn gives(

@@ -1,14 +1,7 @@
 //! Larger files and their decks: latches, clocks, loops and instances.
 
-use crate::answer::gives;
+use crate::answer::{Row, gives};
 use std::test::Fail;
-
-/// A file and its deck.
-struct Row {
-    what: &'static str,
-    file: &'static str,
-    deck: &'static str,
-}
 
 const ROWS: &[Row] = &[
     Row {

@@ -1,14 +1,7 @@
 //! Files and their decks: wires, constants, choices of phases and of cells.
 
-use crate::answer::gives;
+use crate::answer::{Row, gives};
 use std::test::Fail;
-
-/// A file and its deck.
-struct Row {
-    what: &'static str,
-    file: &'static str,
-    deck: &'static str,
-}
 
 const ROWS: &[Row] = &[
     Row {
