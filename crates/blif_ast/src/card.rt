@@ -20,14 +20,24 @@ impl Card {
     pub fn named(word: &[u8]) -> Option<Card>
         ensures { result ≡ card_named word.now }
     {
-        if word == b".model".as_slice() {
+        match word.first() {
+            Some(b'.') => Card::dotted(word),
+            _ => None,
+        }
+    }
+
+    /// The card of a word that begins with `.`, the most frequent card first.
+    fn dotted(word: &[u8]) -> Option<Card>
+        ensures { result ≡ card_named word.now }
+    {
+        if word == b".names".as_slice() {
+            Some(Card::Names)
+        } else if word == b".model".as_slice() {
             Some(Card::Model)
         } else if word == b".inputs".as_slice() {
             Some(Card::Inputs)
         } else if word == b".outputs".as_slice() {
             Some(Card::Outputs)
-        } else if word == b".names".as_slice() {
-            Some(Card::Names)
         } else if word == b".latch".as_slice() {
             Some(Card::Latch)
         } else if word == b".subckt".as_slice() {

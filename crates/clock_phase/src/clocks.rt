@@ -75,7 +75,7 @@ fn set_clocks(plans: &mut [GatePlan], levels: &[u32], phases: u8)
     let top = greatest_of(levels);
     for k in 0..plans.len() {
         let plan = &mut plans[k];
-        plan.clock = clock(phases, top, levels[k]);
+        plan.clock = clock_of_level(phases, top, levels[k]);
     }
 }
 
@@ -90,8 +90,8 @@ fn greatest_of(numbers: &[u32]) -> u32
     top
 }
 
-/// The clock of a level, where the greatest level is given.
-fn clock(phases: u8, levels: u32, level: u32) -> u8
+/// The clock of a level, which is `1 + (level - 1) * phases / levels`, rounded down, where `levels` is the greatest level.
+pub fn clock_of_level(phases: u8, levels: u32, level: u32) -> u8
     requires some_phase { 1 ≤ phases }
     requires few_phases { phases ≤ 4 }
     requires from_one { 1 ≤ level }

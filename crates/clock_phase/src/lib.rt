@@ -4,5 +4,5 @@
 mod clocks;
 mod laws;
 
-pub use clocks::assign_clocks;
+pub use clocks::{assign_clocks, clock_of_level};
 pub use laws::clocks_rise_with_levels;

@@ -125,7 +125,7 @@ fn hash_of(alloc: Global, pins: &[NetName], outs: &[NetName]) -> Result<NameHash
     Ok(digest.hash())
 }
 
-fn add_names(digest: &mut NameDigest, names: &[NetName]) -> Result<(), OutOfMemory> {
+fn add_names<'a>(digest: &mut NameDigest<'a>, names: &'a [NetName]) -> Result<(), OutOfMemory> {
     for name in names {
         digest.add(name.as_bytes())?;
     }

@@ -55,43 +55,80 @@ impl BuildHasher for NameHash {
 /// How many bytes of names are digested at once.
 const PIECE: usize = FEW_BYTES;
 
-/// Takes names in one after the other, for the key of a hash.
+/// How many names are kept, so that one which comes again soon is taken in once.
+const KEPT: usize = 1024;
+
+/// Takes names in one after the other, for the key of a hash. Each name is taken in at least once; after the first piece
+/// `kept` has at the place of a name the last one of that place.
 #[derive(Drop)]
-pub struct NameDigest {
+pub struct NameDigest<'a> {
     digest: Sha512,
     piece: Vec<u8>,
     is_first: bool,
+    kept: Vec<&'a [u8]>,
 }
 
-impl NameDigest {
+impl<'a> NameDigest<'a> {
     /// No names.
-    pub fn new(alloc: Global) -> NameDigest {
+    pub fn new(alloc: Global) -> NameDigest<'a> {
         NameDigest {
             digest: Sha512::new(),
             piece: Vec::new(alloc),
             is_first: true,
+            kept: Vec::new(alloc),
         }
     }
 
     /// Takes in a name, and a blank behind it, so that names which are cut elsewhere give another key. The one error
     /// is out of memory.
-    pub fn add(&mut self, name: &[u8]) -> Result<(), OutOfMemory> {
+    pub fn add(&mut self, name: &'a [u8]) -> Result<(), OutOfMemory> {
+        if self.has_kept(name) {
+            return Ok(());
+        }
         append(&mut self.piece, name)?;
         append(&mut self.piece, b" ")?;
         if PIECE <= self.piece.len() {
             self.digest.update(self.piece.as_slice());
             self.piece.clear();
             self.is_first = false;
+            self.kept.resize(KEPT, &[])?;
         }
         Ok(())
     }
 
+    /// Whether a name was the last one of its place. If it wasn't, it is from now on.
+    fn has_kept(&mut self, name: &'a [u8]) -> bool {
+        match self.kept.get_mut(place_of(name)) {
+            Some(kept) if *kept == name => true,
+            Some(kept) => {
+                *kept = name;
+                false
+            }
+            None => false,
+        }
+    }
+
     /// A hash for the names that were taken in.
-    pub fn hash(mut self) -> NameHash {
+    pub fn hash(self) -> NameHash {
         if self.is_first {
             return NameHash::known();
         }
-        self.digest.update(self.piece.as_slice());
-        NameHash::of_digest(self.digest.finalize())
+        let NameDigest {
+            mut digest,
+            piece,
+            ..
+        } = self;
+        digest.update(piece.as_slice());
+        NameHash::of_digest(digest.finalize())
+    }
+}
+
+/// A place for a name, by its last letters: names that are numbered in turn have places in turn.
+fn place_of(name: &[u8]) -> usize {
+    match name {
+        [.., a, b, c] => (*a as usize * 100 + *b as usize * 10 + *c as usize) % KEPT,
+        [a, b] => (*a as usize * 10 + *b as usize) % KEPT,
+        [a] => *a as usize % KEPT,
+        [] => 0,
     }
 }

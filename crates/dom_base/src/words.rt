@@ -27,6 +27,9 @@ pub fn first_word<'a>(words: &[&'a [u8]]) -> &'a [u8]
 fn is_control(b: u8) -> bool
     ensures { result ≡ is_control b }
 {
+    if b' ' <= b && b < 0x7f {
+        return false;
+    }
     b < b' ' && b != b'\t' || b == 0x7f
 }
 
