@@ -9,6 +9,7 @@ pub mod CutWords
 pub mod FaultKinds
 pub mod JoinByte
 pub mod JoinedLines
+pub mod KeptTables
 pub mod LineContexts
 pub mod LineFaults
 pub mod LineNumbers

@@ -25,7 +25,9 @@ use Rattle.blif_read.specs.declared.fault.BlifFault.{BlifFault}
 use Rattle.blif_read.specs.declared.fault.BlifFault.TheVariants.{At}
 use Rattle.blif_read.specs.Build.{Built, built_by, built_after, closed_models, context_in, finished, first_letter_in, has_model, model_after_card, new_model, on_after, opened_by, table_after_card, table_with_row}
 use Rattle.blif_read.specs.Steps.{Context, OpenTable, card_fault, context_of, formed_card_fault, differs, context_fault, letter_after, row_fault, with_letter}
+use Rattle.blif_read.specs.Kept.{Kept, kept_after, kept_context, kept_models}
 use Rattle.blif_read.proofs.BuiltModels.{finished-line, finished-none}
+use Rattle.blif_read.proofs.KeptTables.{IsInside, after-kept, context-kept, kept_of, models-kept}
 use Rattle.blif_read.proofs.LineNumbers.{Rises, logical_lines_from-rise}
 use Rattle.blif_read.proofs.AcceptedIsGoodParts.{one_of-all}
 use Rattle.blif_read.proofs.FaultKinds.{smallest_kind}
@@ -191,9 +193,30 @@ opens_model b line is (Known card known clean) e =
     let model : card ≡ Model = no_model_fault card line.words (clean ∙ ap (λ (c : Context). card_fault c.model (Some card) line.words) is) in
     closed_some (closed b) (new_model line) None (sym (ap (λ o. closed (built_by b o line)) (known ∙ ap (λ c. Some c) model)) ∙ e)
 
+-- a table is opened in a model only
+inside_card : (b : Built) (card : Card) (line : LogicalLine) → IsInside b → None ≡ card_fault (has_model b.model) (Some card) line.words → IsInside (built_by b (Some card) line)
+inside_card b Model line inside clean outside = refl
+inside_card b End line inside clean outside = refl
+inside_card b Inputs line inside clean outside = refl
+inside_card b Outputs line inside clean outside = refl
+inside_card b Names line inside clean outside =
+    let none : has_model b.model ≡ false = sym (has_model-card b.model b.table Names line) ∙ outside in
+    let other : Names ≡ Model = no_model_fault Names line.words (clean ∙ ap (λ m. card_fault m (Some Names) line.words) none) in absurd (cc)
+inside_card b Latch line inside clean outside = refl
+inside_card b Subckt line inside clean outside = refl
+inside_card b Clock line inside clean outside = refl
+
+inside_after : (b : Built) (line : LogicalLine) → IsInside b → Readable (context_in b) line → IsInside (built_after b line)
+inside_after b line inside (Row row none clean) =
+    subst (λ o. IsInside (built_by b o line)) (sym none) (λ outside. ap (λ table. table_with_row table line.words) (inside outside))
+inside_after b line inside (Known card known clean) = subst (λ o. IsInside (built_by b o line)) (sym known) (inside_card b card line inside clean)
+
 -- what holds after some lines: the reader stands at these bytes
-pub record Reads (text : List ℕ) (built : Built) (number : ℕ) (rest : List ℕ) : Type 0 where
+pub record Reads (text : List ℕ) (kept : Kept) (number : ℕ) (rest : List ℕ) : Type 0 where
   pub before : List LogicalLine
+  pub built : Built
+  pub kept_is : kept ≡ kept_of built
+  pub inside : IsInside built
   pub context_is : context_of before ≡ context_in built
   pub fit : NumbersFit number rest
   pub count : number + length (lines rest) ≡ 1 + length (lines text)
@@ -210,18 +233,30 @@ pub record Cuts (number : ℕ) (rest : List ℕ) (line : LogicalLine) (next : �
   pub fit : NumbersFit next more
   pub count : next + length (lines more) ≡ number + length (lines rest)
 
-pub starts : (text : List ℕ) (built : Built) → built ≡ record { models = []; model = None; table = None } → NumbersFit 1 text → Reads text built 1 text
-starts text built new fit = record {
+pub starts : (text : List ℕ) (kept : Kept) → kept ≡ record { models = []; model = None; is_open = false } → NumbersFit 1 text → Reads text kept 1 text
+starts text kept new fit = record {
   before = [];
-  context_is = sym (ap context_in new);
+  built = record { models = []; model = None; table = None };
+  kept_is = new;
+  inside = λ _. refl;
+  context_is = refl;
   fit = fit;
   count = refl;
   split = refl;
   faults = λ n kind fault. fault;
-  built_is = sym (ap (λ b. finished b (logical_lines text)) new);
-  no_model = λ _. ap closed new;
+  built_is = refl;
+  no_model = λ _. refl;
   no_line = λ _. refl;
 }
+
+module _ {text : List ℕ} {kept : Kept} {number : ℕ} {rest : List ℕ} where
+  -- the kept parts say of the next line what was made of the lines before it
+  context_is_kept : (r : Reads text kept number rest) → kept_context kept ≡ context_in r.built
+  context_is_kept r = ap kept_context r.kept_is ∙ context-kept r.built r.inside
+
+  -- the models at the end, if no line comes
+  closed_is : (r : Reads text kept number rest) → kept_models kept.models kept.model ≡ closed r.built
+  closed_is r = ap (λ (k : Kept). kept_models k.models k.model) r.kept_is ∙ models-kept r.built.models r.built.model r.built.table
 
 not_empty : (xs : List LogicalLine) (line : LogicalLine) (more : List LogicalLine) → xs ++ line ∷ more ≢ []
 not_empty [] line more is = absurd (omega (arith, ap length is))
@@ -231,31 +266,37 @@ row_unless_known : (context : Context) (line : LogicalLine) → Readable context
 row_unless_known context line (Row row none clean) e = row
 row_unless_known context line (Known card known clean) e = let never : Some card ≡ None = sym known ∙ e in absurd (cc)
 
-module _ {text : List ℕ} {built : Built} {number : ℕ} {rest : List ℕ} {line : LogicalLine} {next : ℕ} {more : List ℕ} where
+module _ {text : List ℕ} {kept : Kept} {number : ℕ} {rest : List ℕ} {line : LogicalLine} {next : ℕ} {more : List ℕ} where
   -- a line without a fault
-  pub reads-next : Reads text built number rest → Cuts number rest line next more → None ≡ context_fault (context_in built) line → (after : Built) → after ≡ built_after built line
+  pub reads-next : Reads text kept number rest → Cuts number rest line next more → None ≡ context_fault (kept_context kept) line → (after : Kept) → after ≡ kept_after kept line
       → Reads text after next more
-  reads-next r cut clean after push = subst (λ b. Reads text b next more) (sym push) (record {
+  reads-next r cut found after push = record {
     before = line ∷ r.before;
-    context_is = context_after r.before built line r.context_is line_is;
+    built = built_after r.built line;
+    kept_is = push ∙ ap (λ k. kept_after k line) r.kept_is ∙ after-kept r.built line;
+    inside = inside_after r.built line r.inside line_is;
+    context_is = context_after r.before r.built line r.context_is line_is;
     fit = cut.fit;
     count = cut.count ∙ r.count;
     split = r.split ∙ ap (λ l. reverse r.before ++ l) cut.lines_are ∙ sym (reverse-onto line r.before (logical_lines_from next (lines more)));
-    faults = λ n kind fault. passed r.before line (logical_lines_from next (lines more)) (smallest_is r.before line (context_in built) None r.context_is clean) n kind
+    faults = λ n kind fault. passed r.before line (logical_lines_from next (lines more)) (smallest_is r.before line (context_in r.built) None r.context_is clean) n kind
         (subst (λ l. FaultIn r.before l n kind) cut.lines_are (r.faults n kind fault));
-    built_is = r.built_is ∙ ap (finished built) cut.lines_are ∙ sym (finished-line built line (logical_lines_from next (lines more)) (row_unless_known (context_in built) line line_is));
+    built_is = r.built_is ∙ ap (finished r.built) cut.lines_are ∙ sym (finished-line r.built line (logical_lines_from next (lines more)) (row_unless_known (context_in r.built) line line_is));
     no_model = λ none. absurd (cc);
-    no_line = λ none. absurd (opens_model built line (sym r.context_is ∙ ap context_of (r.no_line (closed-stays built (card_of line) line none))) line_is none);
-  })
+    no_line = λ none. absurd (opens_model r.built line (sym r.context_is ∙ ap context_of (r.no_line (closed-stays r.built (card_of line) line none))) line_is none);
+  }
     where
-      line_is : Readable (context_in built) line
-      line_is = readable (context_in built) line clean
+      clean : None ≡ context_fault (context_in r.built) line
+      clean = found ∙ ap (λ c. context_fault c line) (context_is_kept r)
+
+      line_is : Readable (context_in r.built) line
+      line_is = readable (context_in r.built) line clean
 
   -- a line with a fault
-  pub reads-fault : Reads text built number rest → Cuts number rest line next more → (kind : BlifKind) → Some kind ≡ context_fault (context_in built) line → IsBlifFaultAt text line.number kind
+  pub reads-fault : Reads text kept number rest → Cuts number rest line next more → (kind : BlifKind) → Some kind ≡ context_fault (kept_context kept) line → IsBlifFaultAt text line.number kind
   reads-fault r cut kind by =
       let behind = logical_lines_from next (lines more) in
-      let least = smallest_is r.before line (context_in built) (Some kind) r.context_is by in
+      let least = smallest_is r.before line (context_in r.built) (Some kind) r.context_is (by ∙ ap (λ c. context_fault c line) (context_is_kept r)) in
       let whole : logical_lines text ≡ reverse r.before ++ line ∷ logical_lines_from next (lines more) = r.split ∙ ap (λ l. reverse r.before ++ l) cut.lines_are in
       let rising : Rises number (line ∷ logical_lines_from next (lines more)) = subst (Rises number) cut.lines_are (logical_lines_from-rise number (lines rest)) in
       let all : (n : ℕ) (k : BlifKind) → FaultIn [] (logical_lines text) n k → FaultIn r.before (line ∷ logical_lines_from next (lines more)) n k = λ n k f. subst (λ l. FaultIn r.before l n k) cut.lines_are (r.faults n k f) in
@@ -274,12 +315,12 @@ reverse_none : (before : List LogicalLine) → reverse before ≡ [] → before 
 reverse_none [] e = refl
 reverse_none (x ∷ xs) e = absurd (not_empty (reverse xs) x [] (sym (reverse-cons x xs) ∙ e))
 
-module _ {text : List ℕ} {built : Built} {number : ℕ} {rest : List ℕ} where
+module _ {text : List ℕ} {kept : Kept} {number : ℕ} {rest : List ℕ} where
   -- the end of a text that has lines
-  pub reads-file : Reads text built number rest → logical_lines_from number (lines rest) ≡ [] → (file : BlifFileData) → (file.models ≡ closed built) × (file.models ≢ []) → IsFileOf text file
+  pub reads-file : Reads text kept number rest → logical_lines_from number (lines rest) ≡ [] → (file : BlifFileData) → (file.models ≡ kept_models kept.models kept.model) × (file.models ≢ []) → IsFileOf text file
   reads-file r none file is = record {
     no_fault = no_fault;
-    file_is = ap (λ ms. record { models = ms }) (is.0 ∙ sym (r.built_is ∙ ap (finished built) none ∙ finished-none built));
+    file_is = ap (λ ms. record { models = ms }) (is.0 ∙ closed_is r ∙ sym (r.built_is ∙ ap (finished r.built) none ∙ finished-none r.built));
   }
     where
       all_are : logical_lines text ≡ reverse r.before
@@ -287,13 +328,13 @@ module _ {text : List ℕ} {built : Built} {number : ℕ} {rest : List ℕ} wher
 
       no_fault : (n : ℕ) (kind : BlifKind) → IsBlifFault text n kind → ⊥
       no_fault n kind (inl g) = subst (λ l. FaultIn r.before l n kind) none (r.faults n kind (fault_in (logical_lines text) n kind g))
-      no_fault n kind (inr e) = is.1 (is.0 ∙ r.no_model (reverse_none r.before (sym all_are ∙ e.empty)))
+      no_fault n kind (inr e) = is.1 (is.0 ∙ closed_is r ∙ r.no_model (reverse_none r.before (sym all_are ∙ e.empty)))
 
   -- the end of a text without lines
-  pub reads-nothing : Reads text built number rest → logical_lines_from number (lines rest) ≡ [] → (next : ℕ) (more : List ℕ) → next + length (lines more) ≡ number + length (lines rest) → more ≡ [] → closed built ≡ []
+  pub reads-nothing : Reads text kept number rest → logical_lines_from number (lines rest) ≡ [] → (next : ℕ) (more : List ℕ) → next + length (lines more) ≡ number + length (lines rest) → more ≡ [] → kept_models kept.models kept.model ≡ []
       → IsBlifFaultAt text next NoModel
   reads-nothing r none next more count no_more no_model =
-      let before : r.before ≡ [] = r.no_line no_model in
+      let before : r.before ≡ [] = r.no_line (sym (closed_is r) ∙ no_model) in
       let whole : logical_lines text ≡ [] = r.split ∙ ap (λ b. reverse b ++ logical_lines_from number (lines rest)) before ∙ none in
       let place : next ≡ length (lines text) + 1 = omega (arith, count, r.count, ap (λ m. length (lines m)) no_more) in
       let no_fault : (n : ℕ) (k : BlifKind) → IsFaultOfLine (logical_lines text) n k → ⊥ = λ n k g. subst (λ l. FaultIn [] l n k) whole (fault_in (logical_lines text) n k g) in

@@ -1,9 +1,10 @@
 //! The models of a text, made line by line.
-ghost use Rattle.std.specs.Prelude.{◌≡◌, ◌≢◌, ◌++◌, ◌∷◌, [], ℕ, IfOk, OnOk, IsErrOf, Some, None, map, drop};
-ghost use Rattle.std.specs.Option.{option_to_list};
+ghost use Rattle.std.specs.Prelude.{◌≡◌, ◌≢◌, ◌++◌, ◌∷◌, [], ℕ, IfOk, OnOk, IsErrOf, Some, None, false, map, drop};
+ghost use Rattle.std.specs.Option.{option_map, option_to_list};
 ghost use Rattle.blif_ast.specs.Models.{latch_of, instance_of};
 ghost use Rattle.blif_ast.specs.declared.kind.BlifKind.TheVariants.{NoModel};
-ghost use Rattle.blif_read.specs.Build.{built_after, closed_models, context_in, model_after_card, model_with_card, model_with_table, on_after, table_after_card, table_with_row};
+ghost use Rattle.blif_read.specs.Build.{new_table, on_after};
+ghost use Rattle.blif_read.specs.Kept.{kept_after, kept_context, kept_models, model_with_parts, model_with_row, opens_table, tables_with_row};
 ghost use Rattle.blif_read.specs.Steps.{context_fault};
 
 use crate::line::{Line, last_letter};
@@ -17,36 +18,36 @@ use dom_base::{OutOfMemory, have_control};
 use std::alloc::Global;
 use std::marker::Model;
 
-/// The closed models, the open model and its open table.
+/// The closed models, the open model, and whether the last of its tables is open.
 #[derive(Drop)]
 pub struct Builder {
     models: Vec<BlifModel>,
     model: Option<BlifModel>,
-    table: Option<Table>,
+    is_open: bool,
 }
 
 impl Model for Builder {
-    ghost use Rattle.blif_read.specs.Build.{Built};
+    ghost use Rattle.blif_read.specs.Kept.{Kept};
 
-    ghost Value = { Built };
+    ghost Value = { Kept };
 
-    ghost view = { λ b. record { models = b.models.items; model = b.model; table = b.table } };
+    ghost view = { λ b. record { models = b.models.items; model = b.model; is_open = b.is_open } };
 }
 
 impl Builder {
     pub fn new(alloc: Global) -> Builder
-        ensures { result ≡ record { models = []; model = None; table = None } }
+        ensures { result ≡ record { models = []; model = None; is_open = false } }
     {
         Builder {
             models: Vec::new(alloc),
             model: None,
-            table: None,
+            is_open: false,
         }
     }
 
     /// The fault of the next line with the smallest number, where it has one.
     pub fn fault(&self, line: &Line<'_, '_>) -> Option<BlifKind>
-        ensures { result ≡ context_fault (context_in self.now) line.now }
+        ensures { result ≡ context_fault (kept_context self.now) line.now }
     {
         if have_control(line.words) {
             return Some(BlifKind::ControlByte);
@@ -54,39 +55,37 @@ impl Builder {
         if line.is_card() {
             card_fault(self.model.is_some(), line.card(), line.words)
         } else {
-            row_fault(&self.table, line.words)
+            row_fault(&self.model, self.is_open, line.words)
         }
     }
 
     /// Takes the next line, which has no fault.
     pub fn push(&mut self, alloc: Global, line: &Line<'_, '_>) -> Result<(), OutOfMemory>
-        ensures { OnOk result (self.new ≡ built_after self.old line.now) }
+        ensures { OnOk result (self.new ≡ kept_after self.old line.now) }
     {
         let Some(card) = line.card() else {
-            return push_row(alloc, &mut self.table, line.words);
+            return push_row(alloc, &mut self.model, self.is_open, line.words);
         };
         match card {
             Card::Model => {
-                push_closed(&mut self.models, self.model.take(), self.table.take())?;
+                push_closed(&mut self.models, self.model.take())?;
                 self.model = Some(new_model(alloc, line)?);
             }
-            Card::End => push_closed(&mut self.models, self.model.take(), self.table.take())?,
-            _ => {
-                push_card(alloc, &mut self.model, self.table.take(), card, line)?;
-                self.table = table_after(alloc, card, line)?;
-            }
+            Card::End => push_closed(&mut self.models, self.model.take())?,
+            _ => push_card(alloc, &mut self.model, card, line)?,
         }
+        self.is_open = opens_table(card);
         Ok(())
     }
 
     /// The file after the last line, or the fault of a text without a model, at the line behind it.
     pub fn finish(self, line: u64) -> Result<BlifFile, BlifFault>
-        ensures file { IfOk result (λ file. (file.models ≡ closed_models self.models self.model self.table) × (file.models ≢ [])) }
+        ensures file { IfOk result (λ file. (file.models ≡ kept_models self.models self.model) × (file.models ≢ [])) }
         ensures fault { (number : ℕ) (kind : _) → IsErrOf result (BlifFault.At number kind)
-            → (closed_models self.models self.model self.table ≡ []) × (number ≡ line) × (kind ≡ NoModel) }
+            → (kept_models self.models self.model ≡ []) × (number ≡ line) × (kind ≡ NoModel) }
     {
         let mut models = self.models;
-        push_closed(&mut models, self.model, self.table)?;
+        push_closed(&mut models, self.model)?;
         if models.is_empty() {
             return Err(BlifFault::At {
                 line,
@@ -105,10 +104,25 @@ fn on_after(rows: &[Row], on: bool, letter: u8) -> bool
 }
 
 /// Appends a row to the open table.
-fn push_row(alloc: Global, table: &mut Option<Table>, words: &[&[u8]]) -> Result<(), OutOfMemory>
-    ensures { OnOk result (table.new ≡ table_with_row table.old (map (λ w. w.now) words.now)) }
+fn push_row(
+    alloc: Global,
+    model: &mut Option<BlifModel>,
+    is_open: bool,
+    words: &[&[u8]],
+) -> Result<(), OutOfMemory>
+    ensures { OnOk result (model.new ≡ model_with_row model.old is_open (map (λ w. w.now) words.now)) }
 {
-    match table {
+    match model {
+        Some(model) if is_open => push_last_row(alloc, &mut model.tables, words),
+        _ => Ok(()),
+    }
+}
+
+/// Appends a row to the last of the tables.
+fn push_last_row(alloc: Global, tables: &mut [Table], words: &[&[u8]]) -> Result<(), OutOfMemory>
+    ensures { OnOk result (tables.new ≡ tables_with_row tables.old (map (λ w. w.now) words.now)) }
+{
+    match tables.last_mut() {
         Some(table) => {
             table.on = on_after(&table.rows, table.on, last_letter(words));
             table.rows.push(row_of(alloc, words)?)?;
@@ -119,16 +133,11 @@ fn push_row(alloc: Global, table: &mut Option<Table>, words: &[&[u8]]) -> Result
 }
 
 /// Closes the model, if one is open.
-fn push_closed(
-    models: &mut Vec<BlifModel>,
-    model: Option<BlifModel>,
-    table: Option<Table>,
-) -> Result<(), OutOfMemory>
-    ensures { OnOk result (models.new.items ≡ closed_models models.old.items model table) }
+fn push_closed(models: &mut Vec<BlifModel>, model: Option<BlifModel>) -> Result<(), OutOfMemory>
+    ensures { OnOk result (models.new.items ≡ kept_models models.old.items model) }
 {
     match model {
-        Some(mut model) => {
-            push_table(&mut model, table)?;
+        Some(model) => {
             models.push(model)?;
             Ok(())
         }
@@ -136,50 +145,34 @@ fn push_closed(
     }
 }
 
-fn push_table(model: &mut BlifModel, table: Option<Table>) -> Result<(), OutOfMemory>
-    ensures { OnOk result (model.new ≡ model_with_table model.old table) }
-{
-    match table {
-        Some(table) => {
-            reserve_first(&mut model.tables, 1)?;
-            model.tables.push(table)?;
-            Ok(())
-        }
-        None => Ok(()),
-    }
-}
-
-/// Closes the open table and takes a card that neither opens nor closes a model.
+/// Takes a card that neither opens nor closes a model.
 fn push_card(
     alloc: Global,
     model: &mut Option<BlifModel>,
-    table: Option<Table>,
     card: Card,
     line: &Line<'_, '_>,
 ) -> Result<(), OutOfMemory>
-    ensures { OnOk result (model.new ≡ model_after_card model.old table card line.now) }
+    ensures { OnOk result (model.new ≡ option_map (λ m. model_with_parts m card line.now) model.old) }
 {
     match model {
-        Some(model) => {
-            push_table(model, table)?;
-            push_parts(alloc, model, card, line)
-        }
+        Some(model) => push_parts(alloc, model, card, line),
         None => Ok(()),
     }
 }
 
-/// Appends the names, latch or instance of a card.
+/// Appends the names, table, latch or instance of a card.
 fn push_parts(
     alloc: Global,
     model: &mut BlifModel,
     card: Card,
     line: &Line<'_, '_>,
 ) -> Result<(), OutOfMemory>
-    ensures { OnOk result (model.new ≡ model_with_card model.old card line.now) }
+    ensures { OnOk result (model.new ≡ model_with_parts model.old card line.now) }
 {
     match card {
         Card::Inputs => push_names(alloc, &mut model.inputs, behind_first(line.words)),
         Card::Outputs => push_names(alloc, &mut model.outputs, behind_first(line.words)),
+        Card::Names => push_table(alloc, &mut model.tables, line),
         Card::Latch => push_latch(alloc, &mut model.latches, line),
         Card::Subckt => push_instance(alloc, &mut model.instances, line),
         _ => Ok(()),
@@ -194,6 +187,18 @@ fn behind_first<'w, 'a>(words: &'w [&'a [u8]]) -> &'w [&'a [u8]]
         [_, rest @ ..] => rest,
         _ => words,
     }
+}
+
+fn push_table(
+    alloc: Global,
+    tables: &mut Vec<Table>,
+    line: &Line<'_, '_>,
+) -> Result<(), OutOfMemory>
+    ensures { OnOk result (tables.new.items ≡ tables.old.items ++ new_table line.now ∷ []) }
+{
+    reserve_first(tables, 1)?;
+    tables.push(new_table(alloc, line)?)?;
+    Ok(())
 }
 
 fn push_latch(
@@ -225,12 +230,12 @@ fn push_instance(
     Ok(())
 }
 
-/// The table that a card opens.
-fn table_after(alloc: Global, card: Card, line: &Line<'_, '_>) -> Result<Option<Table>, OutOfMemory>
-    ensures { IfOk result (λ t. t ≡ table_after_card card line.now) }
+/// Whether a card opens a table.
+fn opens_table(card: Card) -> bool
+    ensures { result ≡ opens_table card }
 {
     match card {
-        Card::Names => Ok(Some(new_table(alloc, line)?)),
-        _ => Ok(None),
+        Card::Names => true,
+        _ => false,
     }
 }

@@ -103,7 +103,10 @@ fn is_subckt_form(words: &[&[u8]]) -> bool
 fn is_value(word: &[u8]) -> bool
     ensures { result ≡ is_value word.now }
 {
-    word == b"0".as_slice() || word == b"1".as_slice()
+    match word {
+        [b'0' | b'1'] => true,
+        _ => false,
+    }
 }
 
 fn are_letters(word: &[u8]) -> bool

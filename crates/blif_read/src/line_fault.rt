@@ -2,11 +2,12 @@
 ghost use Rattle.std.specs.Prelude.{◌≡◌, map};
 ghost use Rattle.blif_read.specs.Steps.{card_fault, row_fault, differs};
 ghost use Rattle.blif_read.specs.Build.{first_letter_in, opened_by};
+ghost use Rattle.blif_read.specs.Kept.{kept_table, last_table};
 
 use crate::BlifKind;
 use crate::forms::{is_form, is_level_form, is_row_form};
 use crate::line::last_letter;
-use blif_ast::{Card, Row, Table};
+use blif_ast::{BlifModel, Card, Row, Table};
 
 const MOST_INPUTS: usize = 4096;
 
@@ -29,11 +30,21 @@ pub fn card_fault(open_model: bool, card: Option<Card>, words: &[&[u8]]) -> Opti
     }
 }
 
-/// The fault of a row, by the open table.
-pub fn row_fault(table: &Option<Table>, words: &[&[u8]]) -> Option<BlifKind>
-    ensures { result ≡ row_fault (opened_by table.now) (map (λ w. w.now) words.now) }
+/// The fault of a row, by the open model and whether the last of its tables is open.
+pub fn row_fault(model: &Option<BlifModel>, is_open: bool, words: &[&[u8]]) -> Option<BlifKind>
+    ensures { result ≡ row_fault (opened_by (kept_table model.now is_open)) (map (λ w. w.now) words.now) }
 {
-    match table {
+    match model {
+        Some(model) if is_open => last_row_fault(&model.tables, words),
+        _ => Some(BlifKind::RowOutsideTable),
+    }
+}
+
+/// The fault of a row of the last of the tables.
+fn last_row_fault(tables: &[Table], words: &[&[u8]]) -> Option<BlifKind>
+    ensures { result ≡ row_fault (opened_by (last_table tables.now)) (map (λ w. w.now) words.now) }
+{
+    match tables.last() {
         None => Some(BlifKind::RowOutsideTable),
         Some(table) => {
             if !is_row_form(table.inputs.len(), words) {

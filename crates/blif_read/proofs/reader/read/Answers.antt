@@ -1,12 +1,15 @@
-use Rattle.std.proofs.Common.{◌∷◌, ◌∙◌, sym, ap, refl, map}
+use Rattle.std.proofs.Common.{rules, ◌∷◌, ◌∙◌, sym, ap, refl, map}
 use Rattle.std.proofs.lemmas.Result.{IfOk-weaker}
 use Rattle.dom_base.specs.Lines.{lines}
 use Rattle.dom_base.proofs.Options.{none_case, some_case}
 use Rattle.blif_ast.specs.LogicalLines.{LogicalLine, logical_lines_from}
 use Rattle.blif_ast.specs.declared.kind.BlifKind.TheVariants.{NoModel}
 use Rattle.blif_read.specs.Cuts.{numbered_line}
-use Rattle.blif_read.proofs.ReaderInvariant.{Cuts, reads-file, reads-fault, reads-next, reads-nothing, same_fault, line_of_fault, kind_of_fault}
+use Rattle.blif_read.proofs.ReaderInvariant.{Cuts, reads-file, reads-fault, reads-next, reads-nothing, starts, same_fault, line_of_fault, kind_of_fault}
 use Rattle.blif_read.proofs.reader.read.Goals as goal
+
+pub lines-init : goal.lines-init
+lines-init c = starts c.args.text.now c.new-builder.result c.new-builder.ensures (search rules)
 
 pub returns-in-Some-fault-clause-fault : goal.returns-in-Some-fault-clause-fault
 returns-in-Some-fault-clause-fault c = λ line kind is.
