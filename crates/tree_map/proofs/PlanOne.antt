@@ -149,7 +149,7 @@ module _ (forest : ForestData) (w h : ℕ) (order : AreInOrder forest.pairs) (ke
           ]
 
 -- a plan has one tree below each arm
-arm_tree_one : (forest : ForestData) (kept : List Bool) {arm other : Arm} {s t : Tree ℕ} → IsArmTree forest kept arm s → IsArmTree forest kept other t → arm ≡ other → s ≡ t
+pub arm_tree_one : (forest : ForestData) (kept : List Bool) {arm other : Arm} {s t : Tree ℕ} → IsArmTree forest kept arm s → IsArmTree forest kept other t → arm ≡ other → s ≡ t
 arm_tree_one forest kept (literal {rail = x}) (literal {rail = y}) same = let e : x ≡ y = cc in ap (λ r. Leaf (rail_gate r)) e
 arm_tree_one forest kept literal (cut k) same = absurd (cc)
 arm_tree_one forest kept literal (series k e l r) same = absurd (cc)

@@ -1,6 +1,6 @@
 -- The numbers of a pair as they stand in its row.
 use Rattle.std.proofs.Common.{◌≡◌, ◌↔◌, inl, inr, refl, sym, ap, subst, ◌∙◌, ℕ, zero, suc, ◌+◌, ◌*◌, ◌-◌, ◌/◌, ◌%◌, ◌≤◌, ◌<◌, List, [], ◌∷◌, ◌++◌, length, drop, take, Option, Some, None, slice_get, arith}
-use Rattle.std.proofs.Math.Nat.{div-lt_iff_lt-mul, mod-lt, mul-le-mul_right}
+use Rattle.std.proofs.Math.Nat.{mul-le-mul_right}
 use Rattle.std.proofs.lemmas.Bool.{cases_lt}
 use Rattle.std.proofs.lemmas.Option.{same_Some, slice_get_within}
 use Rattle.gate_decompose.specs.Items.{Among}
@@ -30,16 +30,6 @@ part_get : {X : Type 0} (m n k : ℕ) (xs : List X) → k < n → slice_get (tak
 part_get zero n k xs lt = let same : 0 + k ≡ k = omega arith in rw same (front_get n k xs lt)
 part_get (suc m) n k [] lt = front_get n k [] lt
 part_get (suc m) n k (x ∷ xs) lt = let same : suc m + k ≡ suc (m + k) = omega arith in rw same (part_get m n k xs lt)
-
--- the shape of a place in a row
-some_width : (w h index : ℕ) → index < w * h → 0 < w
-some_width zero h index lt = absurd (omega arith)
-some_width (suc w) h index lt = omega arith
-
-pub index_parts_in : (w h index : ℕ) → index < w * h → (0 < w) × (index / w < h) × (index % w < w)
-index_parts_in w h index lt =
-    let some = some_width w h index lt in
-    (some, (div-lt_iff_lt-mul {k = w} {x = index} {y = h} some).1 (omega arith), mod-lt index some)
 
 -- shapes in the order of their places
 pub index_order : (w h : ℕ) (a b : TreeShape) → IsShapeIn w h a → IsShapeIn w h b → row_index w a < row_index w b → IsBefore a b

@@ -1,6 +1,7 @@
 //! Covers of a forest by trees within a width and a height, of least cost (Zhao, Sapatnekar 1998).
 #![tactic(auto)]
 
+mod arms;
 mod bounds;
 mod decisions;
 mod free;
@@ -13,10 +14,11 @@ mod sums;
 mod ties;
 mod trees;
 
+pub use arms::arms_of;
 pub use bounds::Bounds;
 pub use laws::{
     chosen_cover_is_one, chosen_plan_is_least, shapes_make_plans, tables_are_least,
     tree_values_are_kept,
 };
-pub use mapped::{cover, map};
-pub use trees::Cover;
+pub use mapped::{cover, kept_edges, map};
+pub use trees::{Cover, cell_numbers, gate_of};

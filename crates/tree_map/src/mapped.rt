@@ -1,5 +1,6 @@
 //! The chosen cover of a forest.
-ghost use Rattle.std.specs.Prelude.{◌≡◌, ◌≤◌, Bool, IfOk, List};
+ghost use Rattle.std.specs.Prelude.{◌≡◌, ◌≤◌, ℕ, Bool, IfOk, List};
+ghost use Rattle.sp_network.specs.Tree.{Tree};
 ghost use Rattle.tree_map.specs.LeastPlans.{IsChosenPlan};
 ghost use Rattle.tree_map.specs.MappedCover.{HaveFirstClock, plan_trees};
 
@@ -32,6 +33,21 @@ pub fn cover(alloc: Global, forest: &Forest, bounds: Bounds) -> Result<Cover, Ou
         kept: decisions.kept,
         plans,
     })
+}
+
+/// For each pair of a forest whether the chosen cover keeps its edge: what `cover` says of it, without the trees. A
+/// pair that isn't kept is the root of a cell. The one error is out of memory.
+pub fn kept_edges(alloc: Global, forest: &Forest, bounds: Bounds) -> Result<Vec<bool>, OutOfMemory>
+    requires some_width { 2 ≤ bounds.w }
+    requires few_wide { bounds.w ≤ 8 }
+    requires some_height { 2 ≤ bounds.h }
+    requires few_high { bounds.h ≤ 6 }
+    ensures chosen { IfOk result (λ kept. (trees : List (Tree ℕ)) × IsChosenPlan forest.now bounds.w bounds.h kept.items trees) }
+{
+    let free = free_edges(alloc, forest)?;
+    let sums = sums_of(alloc, forest, &free, bounds)?;
+    let decisions = decisions(alloc, forest, &free, &sums)?;
+    Ok(decisions.kept)
 }
 
 /// The plans of the cells of the chosen cover, in the order of their roots. Each clock is 1. The one

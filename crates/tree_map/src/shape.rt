@@ -37,9 +37,16 @@ impl Shape {
         ensures index { row_index bounds.w result ≡ index }
     {
         let width = bounds.w as usize;
+        let mut height = 1;
+        let mut rest = index;
+        // There are at most a few rows, and a division takes longer.
+        'rows: while width <= rest {
+            rest -= width;
+            height += 1;
+        }
         Shape {
-            height: (index / width) as u32 + 1,
-            width: (index % width) as u32 + 1,
+            height,
+            width: rest as u32 + 1,
         }
     }
 

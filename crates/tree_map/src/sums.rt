@@ -3,7 +3,6 @@ ghost use Rattle.std.specs.Prelude.{ℕ, ◌≡◌, ◌≤◌, ◌*◌, ◌++◌
 ghost use Rattle.std.specs.List.{range_with_len};
 ghost use Rattle.dual_rail.specs.ForestData.{ForestData};
 ghost use Rattle.dual_rail.specs.ForestOrder.{ReadsBefore};
-ghost use Rattle.dual_rail.specs.Forests.{left_arm, right_arm};
 ghost use Rattle.tree_map.specs.ArmEntries.{AreEntriesOf, AreFew, AreFewOf, AreFreeOf, AreReadUpTo, AreSumsIn, AreTabled, HaveSame};
 ghost use Rattle.tree_map.specs.CoverRows.{entry_of};
 ghost use Rattle.tree_map.specs.Covers.{CoverPart, Join, Operator};
@@ -12,10 +11,11 @@ ghost use Rattle.tree_map.specs.CoverSums.{AreSumsOf, sum_at};
 ghost use Rattle.tree_map.specs.Plans.{is_free};
 
 use crate::Bounds;
+use crate::arms::arms_of;
 use crate::shape::Shape;
 use crate::shape_sum::{ShapeSum, cheapest, join_arms};
 use dom_base::OutOfMemory;
-use dual_rail::{Arm, Forest, Pair};
+use dual_rail::{Arm, Forest};
 use std::alloc::Global;
 use std::marker::Model;
 
@@ -144,16 +144,6 @@ impl Sums {
     }
 }
 
-/// The arms of a pair, left and right.
-fn arms(pair: Pair) -> (Arm, Arm)
-    ensures left { result.0 ≡ left_arm pair }
-    ensures right { result.1 ≡ right_arm pair }
-{
-    match pair {
-        Pair::And(left, right) | Pair::Or(left, right) => (left, right),
-    }
-}
-
 /// The least sums of the pairs of a forest, where `free` says of each pair whether the edge to it is
 /// free. The one error is want of memory.
 pub(crate) fn sums_of(
@@ -181,7 +171,7 @@ pub(crate) fn sums_of(
     let mut left_entries = Vec::new(alloc);
     let mut right_entries = Vec::new(alloc);
     for pair in &forest.pairs {
-        let (left, right) = arms(*pair);
+        let (left, right) = arms_of(*pair);
         table.arm_entries(free, left, &mut left_entries)?;
         table.arm_entries(free, right, &mut right_entries)?;
         join_arms(row, bounds, *pair, &left_entries, &right_entries);

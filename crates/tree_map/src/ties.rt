@@ -2,7 +2,6 @@
 ghost use Rattle.std.specs.Prelude.{◌≡◌, ◌≤◌, ◌<◌, ◌*◌, ℕ, IfOk, IfSome, MatchOption, None, Some, length, map, slice_get, true, false};
 ghost use Rattle.std.specs.List.{range_with_len};
 ghost use Rattle.dual_rail.specs.declared.forest.Pair.{Pair as PairData};
-ghost use Rattle.dual_rail.specs.Forests.{left_arm, right_arm};
 ghost use Rattle.tree_map.specs.Covers.{TreeShape, joined_shape};
 ghost use Rattle.tree_map.specs.CoverSums.{AreSumsOf, sum_at};
 ghost use Rattle.tree_map.specs.LeastPlans.{IsDecided, operator_of};
@@ -10,12 +9,13 @@ ghost use Rattle.tree_map.specs.Offers.{HasSums, IsFirstShape};
 ghost use Rattle.tree_map.specs.Plans.{IsFree, is_free, is_kept};
 ghost use Rattle.tree_map.specs.Ties.{AreFirstOffers, AreSmall, Give, IsDecision, IsFirstRight, IsSmall, NoneGives, SomeGive};
 
+use crate::arms::arms_of;
 use crate::decisions::{Decision, Decisions};
 use crate::offers::{Offer, offers_of, root_shape};
 use crate::shape::Shape;
 use crate::sums::Sums;
 use dom_base::OutOfMemory;
-use dual_rail::{Arm, Forest, Pair};
+use dual_rail::{Forest, Pair};
 use std::alloc::Global;
 
 /// What the choices for the arms of a pair are to give: its shape at its least sum.
@@ -24,15 +24,6 @@ struct Wanted {
     pair: Pair,
     shape: Shape,
     sum: u64,
-}
-
-/// The arms of a pair, the left one first.
-fn arms_of(pair: Pair) -> (Arm, Arm)
-    ensures left { result.0 ≡ left_arm pair }
-    ensures right { result.1 ≡ right_arm pair }
-{
-    let (Pair::And(left, right) | Pair::Or(left, right)) = pair;
-    (left, right)
 }
 
 /// The shape of a pair whose arms have these shapes.

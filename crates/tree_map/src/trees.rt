@@ -43,8 +43,9 @@ pub(crate) fn trees_of(
     Ok(plans)
 }
 
-/// For each pair the number of the cell that it would be the root of.
-fn cell_numbers(alloc: Global, kept: &[bool]) -> Result<Vec<u32>, OutOfMemory>
+/// For each pair the number of the cell that it would be the root of: how many pairs before it aren't kept. The one
+/// error is out of memory.
+pub fn cell_numbers(alloc: Global, kept: &[bool]) -> Result<Vec<u32>, OutOfMemory>
     requires few { length kept.now < 2 ^ 32 }
     ensures { IfOk result (λ cells. cells.items ≡ root_cell_numbers kept.now) }
 {
@@ -123,8 +124,8 @@ fn leaf(gate: u32) -> Sp<ToVss>
     Sp::Leaf { gate, rail: ToVss }
 }
 
-/// The number of the gate that a rail is.
-fn gate_of(rail: Rail) -> u32
+/// The number of the gate that a rail is: twice its leaf, and 1 more for the opposite.
+pub fn gate_of(rail: Rail) -> u32
     requires { 2 * rail.leaf + 1 < 2 ^ 32 }
     ensures { result ≡ rail_gate rail }
 {
