@@ -1,5 +1,5 @@
 -- The figures of a deck by its parts are those of the circuit.
-use Rattle.std.proofs.Common.{◌≡◌, ℕ, ◌+◌, ◌*◌, ◌==◌, ◌||◌, Bool, List, [], ◌∷◌, ◌++◌, length, map, zip, flat_map, refl, sym, ap, ap₂, ◌∙◌, arith, length-append}
+use Rattle.std.proofs.Common.{◌≡◌, ℕ, ◌+◌, ◌*◌, ◌==◌, ◌||◌, Bool, List, [], ◌∷◌, ◌++◌, length, map, filter, zip, flat_map, refl, sym, ap, ap₂, ◌∙◌, arith, length-append}
 use Rattle.std.specs.List.{count_by, enumerate_from, list_any, range_with_len}
 use Rattle.std.specs.Prelude.{codes, cond, not}
 use Rattle.std.proofs.lemmas.List.{length-map}
@@ -29,21 +29,18 @@ use Rattle.net_flatten.specs.NetworkData.{NetworkData}
 use Rattle.net_flatten.specs.declared.network.NetLatch.{NetLatch}
 use Rattle.phase_assign.specs.Signs.{AreChosen}
 use Rattle.sp_network.specs.Tree.{Tree, leaves, map_tree}
-use Rattle.sp_network.specs.TypedTree.{tree_of}
-use Rattle.sp_network.specs.declared.plan.GatePlan.{GatePlan}
 use Rattle.sp_network.proofs.TreeImages.{leaves-map_tree}
 use Rattle.tree_map.specs.LeastPlans.{IsChosenPlan}
-use Rattle.tree_map.specs.MappedCover.{plan_trees}
 use Rattle.tree_map.specs.Plans.{cost, tree_cost}
-use Rattle.synth_flow.specs.BareDecks.{named_leaves}
+use Rattle.synth_flow.specs.CellCounts.{is_read_in}
 use Rattle.synth_flow.specs.ChosenDecks.{IsChosenDeck, end_at_cell}
 use Rattle.synth_flow.specs.DeckNets.{CellPlan, SinkEnd, named_cell, named_complement, named_gate, named_sink, sink_nets}
 use Rattle.synth_flow.specs.DominoDecks.{cells_of, complements_of, deck_circuit, outs_of, phases_of_sinks, pins_of, signal_name, starts_of}
-use Rattle.synth_flow.specs.NamedComplements.{are_read, is_plus_end}
+use Rattle.synth_flow.specs.NamedComplements.{is_plus_end}
 use Rattle.synth_flow.specs.NamedDecks.{is_plus_literal, names_complement, reads}
 use Rattle.synth_flow.specs.Summaries.{IsSummaryOf, both_nodes, clock_counts, figures}
 use Rattle.synth_flow.specs.SummaryLaws.{DevicesAreCounted}
-use Rattle.synth_flow.specs.SummaryParts.{figures_by}
+use Rattle.synth_flow.specs.SummaryParts.{figures_by, levels_at_clock}
 use Rattle.synth_flow.proofs.LeafMarks.{filter_same}
 use Rattle.synth_flow.proofs.LoopItems.{count_with}
 
@@ -180,20 +177,19 @@ literals_same kept leaf (e ∷ ends) = ap₂ (λ a b. a || b) (one e) (literals_
     one (FromDynamic place) = refl
     one (FromOutput place) = refl
 
-module _ (phases : ℕ) (plans : List GatePlan) (levels : List ℕ) (one_level : length levels ≡ length (plan_trees plans)) where
+module _ (phases : ℕ) (trees : List (Tree ℕ)) (levels : List ℕ) (one_level : length levels ≡ length trees) where
   abbrev deck_cells : List CellPlan
-  deck_cells = cells_of phases levels (plan_trees plans)
+  deck_cells = cells_of phases levels trees
 
-  reads_same : (leaf : ℕ) → are_read plans leaf ≡ list_any (λ (c : CellPlan). reads (2 * leaf + 1) c.tree) deck_cells
+  reads_same : (leaf : ℕ) → is_read_in trees leaf ≡ list_any (λ (c : CellPlan). reads (2 * leaf + 1) c.tree) deck_cells
   reads_same leaf =
-      sym (list_any-map (reads (2 * leaf + 1)) (λ (p : GatePlan). tree_of p.tree) plans)
-      ∙ ap (list_any (reads (2 * leaf + 1))) (sym (trees_stay (clock_of phases (greatest levels)) (plan_trees plans) levels one_level))
+      ap (list_any (reads (2 * leaf + 1))) (sym (trees_stay (clock_of phases (greatest levels)) trees levels one_level))
       ∙ list_any-map (reads (2 * leaf + 1)) (λ (c : CellPlan). c.tree) deck_cells
 
   pub complements_same : (network : NetworkData) (kept : List Bool) (ends : List End)
-      → named_leaves plans ends (leaf_count network) ≡ complements_of network deck_cells (map (end_at_cell kept) ends)
+      → filter (λ leaf. is_read_in trees leaf || list_any (is_plus_end leaf) ends) (range_with_len 0 (leaf_count network)) ≡ complements_of network deck_cells (map (end_at_cell kept) ends)
   complements_same network kept ends =
-      filter_same (λ leaf. are_read plans leaf || list_any (is_plus_end leaf) ends) (names_complement deck_cells (map (end_at_cell kept) ends)) 0 (leaf_count network)
+      filter_same (λ leaf. is_read_in trees leaf || list_any (is_plus_end leaf) ends) (names_complement deck_cells (map (end_at_cell kept) ends)) 0 (leaf_count network)
       (λ k lt. ap₂ (λ a b. a || b) (reads_same k) (literals_same kept k ends))
 
   -- and the cells of each clock
@@ -203,25 +199,24 @@ module _ (phases : ℕ) (plans : List GatePlan) (levels : List ℕ) (one_level :
   count_mapped g n (x ∷ xs) =
       sum_by-cons (λ m. cond (m == n) 1 0) (g x) (map g xs) ∙ ap (λ k. cond (g x == n) 1 0 + k) (count_mapped g n xs) ∙ sym (sum_by-cons (λ y. cond (g y == n) 1 0) x xs)
 
-  pub clocks_same : map (λ (p : GatePlan). p.clock) plans ≡ map (clock_of phases (greatest levels)) levels
-      → map (λ clock. count_by (λ (p : GatePlan). p.clock == clock) plans) (range_with_len 1 phases) ≡ clock_counts phases deck_cells
-  clocks_same clocks = λ i. map (λ clock. each clock i) (range_with_len 1 phases)
+  pub clocks_same : map (levels_at_clock phases (greatest levels) levels) (range_with_len 1 phases) ≡ clock_counts phases deck_cells
+  clocks_same = λ i. map (λ clock. each clock i) (range_with_len 1 phases)
     where
-      each : (clock : ℕ) → count_by (λ (p : GatePlan). p.clock == clock) plans ≡ count_by (λ (c : CellPlan). c.clock == clock) deck_cells
+      each : (clock : ℕ) → levels_at_clock phases (greatest levels) levels clock ≡ count_by (λ (c : CellPlan). c.clock == clock) deck_cells
       each clock =
-          sym (count_mapped (λ (p : GatePlan). p.clock) clock plans)
-          ∙ ap (count_by (λ m. m == clock)) (clocks ∙ sym (clocks_stay (clock_of phases (greatest levels)) (plan_trees plans) levels one_level))
+          sym (count_mapped (clock_of phases (greatest levels)) clock levels)
+          ∙ ap (count_by (λ m. m == clock)) (sym (clocks_stay (clock_of phases (greatest levels)) trees levels one_level))
           ∙ count_mapped (λ (c : CellPlan). c.clock) clock deck_cells
 
 -- the figures
-pub figures_are : (network : NetworkData) (w h phases : ℕ) (gates : GatesData) (signs : List Bool) (forest : ForestData) (kept : List Bool) (plans : List GatePlan) (levels : List ℕ) (both : ℕ)
-    → AreGatesOf network gates → AreChosen gates signs → IsForestOf gates signs forest → IsChosenPlan forest w h kept (plan_trees plans)
-    → AreLevels (leaf_count network) (plan_trees plans) levels → map (λ (p : GatePlan). p.clock) plans ≡ map (clock_of phases (greatest levels)) levels
-    → both ≡ length (both_nodes forest.origin (length gates.nodes)) → IsSummaryOf network w h phases (figures_by network phases signs forest plans levels both)
-figures_are network w h phases gates signs forest kept plans levels both are chosen is plan levels_are clocks both_is = (circuit, deck, same)
+pub figures_are : (network : NetworkData) (w h phases : ℕ) (gates : GatesData) (signs : List Bool) (forest : ForestData) (kept : List Bool) (trees : List (Tree ℕ)) (levels named : List ℕ) (both : ℕ)
+    → AreGatesOf network gates → AreChosen gates signs → IsForestOf gates signs forest → IsChosenPlan forest w h kept trees → AreLevels (leaf_count network) trees levels
+    → named ≡ filter (λ leaf. is_read_in trees leaf || list_any (is_plus_end leaf) forest.ends) (range_with_len 0 (leaf_count network))
+    → both ≡ length (both_nodes forest.origin (length gates.nodes)) → IsSummaryOf network w h phases (figures_by network phases signs forest levels (cost trees) named both)
+figures_are network w h phases gates signs forest kept trees levels named both are chosen is plan levels_are named_are both_is = (circuit, deck, same)
   where
     circuit : CircuitData
-    circuit = deck_circuit network phases (plan_trees plans) levels signs (map (end_at_cell kept) forest.ends)
+    circuit = deck_circuit network phases trees levels signs (map (end_at_cell kept) forest.ends)
 
     deck : IsChosenDeck network w h phases circuit
     deck = record {
@@ -229,7 +224,7 @@ figures_are network w h phases gates signs forest kept plans levels both are cho
       signs = signs;
       forest = forest;
       kept = kept;
-      trees = plan_trees plans;
+      trees = trees;
       levels = levels;
       are_gates = are;
       are_chosen = chosen;
@@ -239,17 +234,16 @@ figures_are network w h phases gates signs forest kept plans levels both are cho
       circuit_is = refl;
     }
 
-    devices : cost (plan_trees plans) + 2 * length (named_leaves plans forest.ends (leaf_count network)) + 9 * length network.latches + 2 * (length network.outputs + length network.latches)
+    devices : cost trees + 2 * length named + 9 * length network.latches + 2 * (length network.outputs + length network.latches)
         ≡ length circuit.devices
     devices =
-        ap (λ (l : List ℕ). cost (plan_trees plans) + 2 * length l + 9 * length network.latches + 2 * (length network.outputs + length network.latches))
-        (complements_same phases plans levels levels_are.one_each network kept forest.ends)
+        ap (λ (l : List ℕ). cost trees + 2 * length l + 9 * length network.latches + 2 * (length network.outputs + length network.latches))
+        (named_are ∙ complements_same phases trees levels levels_are.one_each network kept forest.ends)
         ∙ sym (devices_counted network w h phases circuit deck)
 
-    same : figures_by network phases signs forest plans levels both ≡ figures deck
+    same : figures_by network phases signs forest levels (cost trees) named both ≡ figures deck
     same =
-        let cells = sym (length-map plans (λ (p : GatePlan). tree_of p.tree)) in
-        let clock_list = clocks_same phases plans levels levels_are.one_each clocks in
+        let clock_list = clocks_same phases trees levels levels_are.one_each in
         λ i. record {
           inputs = network.inputs;
           outputs = length network.outputs;
@@ -257,9 +251,9 @@ figures_are network w h phases gates signs forest kept plans levels both are cho
           pairs = length forest.pairs;
           both = both_is i;
           minus = count_by not signs;
-          cells = cells i;
+          cells = levels_are.one_each i;
           levels = greatest levels;
-          cost = cost (plan_trees plans);
+          cost = cost trees;
           devices = devices i;
           clocks = clock_list i;
         }

@@ -2,6 +2,7 @@ pub mod BareDecks
 pub mod CellNets
 pub mod CellOrder
 pub mod ClockOrder
+pub mod CountedTrees
 pub mod DeckFigures
 pub mod DeckForms
 pub mod DeckRooms

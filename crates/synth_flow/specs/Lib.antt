@@ -1,4 +1,5 @@
 pub mod BareDecks
+pub mod CellCounts
 pub mod ChosenDecks
 pub mod ClockedPlans
 pub mod DeckClocks

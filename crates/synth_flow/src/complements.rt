@@ -1,5 +1,5 @@
 //! The leaves whose complements a deck names.
-ghost use Rattle.std.specs.Prelude.{◌≡◌, ◌+◌, ◌*◌, ◌||◌, IfOk, false, filter, length, slice_index_or};
+ghost use Rattle.std.specs.Prelude.{◌≡◌, ◌+◌, ◌*◌, ◌==◌, ◌||◌, IfOk, false, filter, length, slice_index_or};
 ghost use Rattle.std.specs.List.{list_any, range_with_len};
 ghost use Rattle.sp_network.specs.TypedTree.{tree_of};
 ghost use Rattle.synth_flow.specs.NamedComplements.{MarksAlso, are_read, is_plus_end};
@@ -10,17 +10,22 @@ use dual_rail::{End, Rail};
 use sp_network::{GatePlan, Sp};
 use std::alloc::Global;
 
+/// Marks the leaf whose opposite this gate is.
+pub fn mark_gate(marks: &mut [bool], gate: u32)
+    ensures { MarksAlso marks.old marks.new (λ leaf. gate == 2 * leaf + 1) }
+{
+    let leaf = (gate / 2) as usize;
+    if gate % 2 == 1 && leaf < marks.len() {
+        marks[leaf] = true;
+    }
+}
+
 /// Marks each leaf whose opposite gates the tree.
 fn mark_tree(marks: &mut [bool], tree: &Sp<ToVss>)
     ensures { MarksAlso marks.old marks.new (λ leaf. reads (2 * leaf + 1) (tree_of tree.now)) }
 {
     match tree {
-        Sp::Leaf { gate, .. } => {
-            let leaf = (*gate / 2) as usize;
-            if *gate % 2 == 1 && leaf < marks.len() {
-                marks[leaf] = true;
-            }
-        }
+        Sp::Leaf { gate, .. } => mark_gate(marks, *gate),
         Sp::Series(left, right) | Sp::Parallel(left, right) => {
             mark_tree(marks, left);
             mark_tree(marks, right);
@@ -38,7 +43,7 @@ fn mark_plans(marks: &mut [bool], plans: &[GatePlan])
 }
 
 /// Marks each leaf that is the plus literal of an end.
-fn mark_ends(marks: &mut [bool], ends: &[End])
+pub fn mark_ends(marks: &mut [bool], ends: &[End])
     ensures { MarksAlso marks.old marks.new (λ leaf. list_any (is_plus_end leaf) ends.now) }
 {
     'ends: for end in ends {
@@ -84,7 +89,7 @@ fn mark_named(marks: &mut [bool], plans: &[GatePlan], ends: &[End])
 }
 
 /// The leaves, of so many, that are marked, in order.
-fn marked_leaves(alloc: Global, marks: &[bool], leaves: u32) -> Result<Vec<u32>, OutOfMemory>
+pub fn marked_leaves(alloc: Global, marks: &[bool], leaves: u32) -> Result<Vec<u32>, OutOfMemory>
     requires { length marks.now ≡ leaves }
     ensures { IfOk result (λ named. named.items ≡ filter (λ leaf. slice_index_or marks.now leaf false) (range_with_len 0 leaves)) }
 {

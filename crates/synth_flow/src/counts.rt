@@ -1,18 +1,15 @@
-//! Counts over signs, plans and levels.
-ghost use Rattle.std.specs.Prelude.{ℕ, ◌≡◌, ◌≤◌, ◌<◌, ◌^◌, ◌==◌, IfOk, length, map, not};
+//! Counts over signs and levels.
+ghost use Rattle.std.specs.Prelude.{◌≡◌, ◌≤◌, ◌<◌, ◌^◌, All, IfOk, length, map, not};
 ghost use Rattle.std.specs.List.{count_by, range_with_len};
 ghost use Rattle.clock_phase.specs.Levels.{greatest};
-ghost use Rattle.sp_network.specs.declared.plan.GatePlan.{GatePlan};
-ghost use Rattle.tree_map.specs.MappedCover.{plan_trees};
-ghost use Rattle.tree_map.specs.Plans.{cost};
-ghost use Rattle.synth_flow.specs.SummaryParts.{AreSmallTrees};
+ghost use Rattle.synth_flow.specs.SummaryParts.{levels_at_clock};
 
+use clock_phase::clock_of_level;
 use dom_base::OutOfMemory;
-use sp_network::GatePlan;
 use std::alloc::Global;
 
 /// What a cell has besides the leaves of its tree: precharge, keeper, foot and inverter.
-const AROUND_TREE: u64 = 5;
+pub const AROUND_TREE: u64 = 5;
 
 /// How many signs are minus.
 pub fn minus_count(signs: &[bool]) -> u32
@@ -39,43 +36,37 @@ pub fn greatest_level(levels: &[u32]) -> u32
     most
 }
 
-/// What the cells cost: 5 and the leaves of its tree for each.
-pub fn cells_cost(plans: &[GatePlan]) -> u64
-    requires small { AreSmallTrees plans.now }
-    requires cheap { cost (plan_trees plans.now) ≤ 5600000 }
-    ensures { result ≡ cost (plan_trees plans.now) }
-{
-    let mut sum: u64 = 0;
-    'plans: for plan in plans {
-        sum += plan.tree.leaves() as u64 + AROUND_TREE;
-    }
-    sum
-}
-
-/// How many of the cells have this clock.
-fn clock_count(plans: &[GatePlan], clock: u8) -> u32
-    requires { length plans.now < 2 ^ 32 }
-    ensures { result ≡ count_by (λ (p : GatePlan). p.clock == clock) plans.now }
+/// How many of these levels have this clock.
+fn clock_count(levels: &[u32], top: u32, phases: u8, clock: u8) -> u32
+    requires some_phase { 1 ≤ phases }
+    requires few_phases { phases ≤ 4 }
+    requires few { length levels.now < 2 ^ 32 }
+    requires from_one { All (λ level. 1 ≤ level) levels.now }
+    requires top { top ≡ greatest levels.now }
+    ensures { result ≡ levels_at_clock phases top levels.now clock }
 {
     let mut count = 0;
-    'plans: for plan in plans {
-        if plan.clock == clock {
+    'levels: for level in levels {
+        if clock_of_level(phases, top, *level) == clock {
             count += 1;
         }
     }
     count
 }
 
-/// How many of the cells have each of so many clocks, from the first on.
-pub fn clock_counts(alloc: Global, plans: &[GatePlan], phases: u8) -> Result<Vec<u32>, OutOfMemory>
-    requires few { length plans.now < 2 ^ 32 }
+/// How many of these levels have each of so many clocks, from the first on.
+pub fn clock_counts(alloc: Global, levels: &[u32], phases: u8) -> Result<Vec<u32>, OutOfMemory>
+    requires some_phase { 1 ≤ phases }
     requires few_phases { phases ≤ 4 }
+    requires few { length levels.now < 2 ^ 32 }
+    requires from_one { All (λ level. 1 ≤ level) levels.now }
     ensures { IfOk result (λ counts. counts.items
-        ≡ map (λ clock. count_by (λ (p : GatePlan). p.clock == clock) plans.now) (range_with_len 1 phases)) }
+        ≡ map (levels_at_clock phases (greatest levels.now) levels.now) (range_with_len 1 phases)) }
 {
+    let top = greatest_level(levels);
     let mut counts = Vec::new(alloc);
     'clocks: for k in 0..phases {
-        counts.push(clock_count(plans, 1 + k))?;
+        counts.push(clock_count(levels, top, phases, 1 + k))?;
     }
     Ok(counts)
 }

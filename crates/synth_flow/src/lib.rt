@@ -4,6 +4,7 @@
 
 mod bare;
 mod both;
+mod cell_counts;
 mod cells;
 mod clocked;
 mod complements;

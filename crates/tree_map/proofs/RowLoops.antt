@@ -1,5 +1,5 @@
 -- Entries one by one, as loops over them go.
-use Rattle.std.proofs.Common.{◌≡◌, min, Some, None, sym, ap, ◌∙◌, ℕ, suc, ◌+◌, ◌<◌, List, [], ◌∷◌, ◌++◌, length, map, take, get_or, append_assoc, append-nil, add-one, Option}
+use Rattle.std.proofs.Common.{◌≡◌, min, Some, None, sym, ap, ◌∙◌, ℕ, ◌+◌, ◌<◌, List, [], ◌∷◌, ◌++◌, length, map, take, get_or, append_assoc, append-nil, add-one, Option}
 use Rattle.std.proofs.Math.Seq.{take-suc}
 use Rattle.std.proofs.lemmas.Grind.{flat_map-append}
 use Rattle.dom_base.proofs.Lists.{map-push}

@@ -1,0 +1,76 @@
+-- What is counted of the trees of a cover: of a tree by its parts, and of one cell after the other.
+use Rattle.std.specs.List.{range_with_len}
+use Rattle.std.specs.Prelude.{not}
+use Rattle.std.proofs.Common.{◌≡◌, ℕ, ◌+◌, ◌*◌, ◌≤◌, ◌<◌, ◌⊎◌, inl, inr, Bool, true, false, List, length, Some, slice_get, get_or, max, min, refl, sym, ap, subst, ◌∙◌, arith}
+use Rattle.std.proofs.lemmas.List.FromFn.{length-range_with_len}
+use Rattle.std.proofs.lemmas.Option.{same_Some, slice_get-get_or}
+use Rattle.clock_phase.proofs.Greatest.{level_of_both}
+use Rattle.dual_rail.specs.ForestData.{ForestData}
+use Rattle.dual_rail.specs.Forests.{left_arm, right_arm}
+use Rattle.dual_rail.specs.declared.forest.Arm.{Arm}
+use Rattle.dual_rail.specs.declared.forest.Arm.TheVariants.{Pair as pair_arm}
+use Rattle.dual_rail.specs.declared.forest.Pair.{Pair}
+use Rattle.dual_rail.specs.declared.forest.Pair.TheVariants.{And, Or}
+use Rattle.sp_network.specs.Tree.{Tree, Leaf, Series, Parallel, leaves}
+use Rattle.tree_map.specs.Plans.{IsArmTree, literal, cut, series, parallel, IsTreeOf, is_kept, roots}
+use Rattle.dual_rail.proofs.Zips.{all_zip_get}
+use Rattle.synth_flow.specs.CellCounts.{AreTreesOf, greatest_read}
+use Rattle.synth_flow.specs.NamedComplements.{MarksAlso}
+use Rattle.synth_flow.specs.NamedDecks.{reads}
+use Rattle.synth_flow.proofs.CellOrder.{root_of_cell}
+use Rattle.synth_flow.proofs.LeafMarks.{marks_both}
+use Rattle.synth_flow.proofs.PushedDecks.{few_filtered}
+
+-- a tree of two parts
+abbrev pub IsJoined : Tree ℕ → Tree ℕ → Tree ℕ → Type 0
+IsJoined tree l r = (tree ≡ Series l r) ⊎ (tree ≡ Parallel l r)
+
+module _ (forest : ForestData) (kept : List Bool) where
+  -- the tree of a pair, by its arms
+  pub parts_of : (place : ℕ) (pair : Pair) (tree : Tree ℕ) → slice_get forest.pairs place ≡ Some pair → IsTreeOf forest kept place tree
+      → (l : Tree ℕ) × (r : Tree ℕ) × IsArmTree forest kept (left_arm pair) l × IsArmTree forest kept (right_arm pair) r × IsJoined tree l r
+  parts_of place pair (Leaf gate) at is = absurd is
+  parts_of place pair (Series l r) at (a, b, e, x, y) =
+      let same : And a b ≡ pair = same_Some _ _ (sym e ∙ at) in
+      (l, r, subst (λ (p : Pair). IsArmTree forest kept (left_arm p) l) same x, subst (λ (p : Pair). IsArmTree forest kept (right_arm p) r) same y, inl refl)
+  parts_of place pair (Parallel l r) at (a, b, e, x, y) =
+      let same : Or a b ≡ pair = same_Some _ _ (sym e ∙ at) in
+      (l, r, subst (λ (p : Pair). IsArmTree forest kept (left_arm p) l) same x, subst (λ (p : Pair). IsArmTree forest kept (right_arm p) r) same y, inr refl)
+
+  -- the tree below an arm to a kept pair is the tree of the pair
+  pub tree_at_kept : {arm : Arm} {tree : Tree ℕ} → IsArmTree forest kept arm tree → (place : ℕ) → arm ≡ pair_arm place → is_kept kept place ≡ true → IsTreeOf forest kept place tree
+  tree_at_kept literal place e k = absurd (cc)
+  tree_at_kept (cut {place = q} c) place e k = let here : q ≡ place = cc in absurd (let f : is_kept kept place ≡ false = subst (λ n. is_kept kept n ≡ false) here c in cc)
+  tree_at_kept (series {place = q} {a = a} {b = b} c at l r) place e k = let here : q ≡ place = cc in (a, b, ap (slice_get forest.pairs) (sym here) ∙ at, l, r)
+  tree_at_kept (parallel {place = q} {a = a} {b = b} c at l r) place e k = let here : q ≡ place = cc in (a, b, ap (slice_get forest.pairs) (sym here) ∙ at, l, r)
+
+-- leaves, levels and marks of a tree by those of its parts
+pub both_leaves : (tree l r : Tree ℕ) (a b n : ℕ) → IsJoined tree l r → a ≡ min (leaves l) 4294967295 → b ≡ min (leaves r) 4294967295 → n ≡ min (a + b) 4294967295
+    → n ≡ min (leaves tree) 4294967295
+both_leaves tree l r a b n (inl is) x y z = omega (arith, ap leaves is, x, y, z)
+both_leaves tree l r a b n (inr is) x y z = omega (arith, ap leaves is, x, y, z)
+
+pub both_levels : (leaf_count : ℕ) (levels : List ℕ) (tree l r : Tree ℕ) (a b n : ℕ) → IsJoined tree l r → a ≡ greatest_read leaf_count levels l → b ≡ greatest_read leaf_count levels r
+    → n ≡ max a b → n ≡ greatest_read leaf_count levels tree
+both_levels leaf_count levels tree l r a b n (inl is) x y z = level_of_both leaf_count (λ cell. get_or levels cell 0) l r a b n x y z ∙ ap (greatest_read leaf_count levels) (sym is)
+both_levels leaf_count levels tree l r a b n (inr is) x y z = level_of_both leaf_count (λ cell. get_or levels cell 0) l r a b n x y z ∙ ap (greatest_read leaf_count levels) (sym is)
+
+pub marks_of_parts : (old between new : List Bool) (tree l r : Tree ℕ) → IsJoined tree l r → length between ≡ length old
+    → MarksAlso old between (λ leaf. reads (2 * leaf + 1) l) → MarksAlso between new (λ leaf. reads (2 * leaf + 1) r) → MarksAlso old new (λ leaf. reads (2 * leaf + 1) tree)
+marks_of_parts old between new tree l r (inl is) same first second =
+    marks_both old between new (λ leaf. reads (2 * leaf + 1) l) (λ leaf. reads (2 * leaf + 1) r) (λ leaf. reads (2 * leaf + 1) tree) same first second (λ leaf. ap (reads (2 * leaf + 1)) is)
+marks_of_parts old between new tree l r (inr is) same first second =
+    marks_both old between new (λ leaf. reads (2 * leaf + 1) l) (λ leaf. reads (2 * leaf + 1) r) (λ leaf. reads (2 * leaf + 1) tree) same first second (λ leaf. ap (reads (2 * leaf + 1)) is)
+
+-- the tree of the cell whose root stands at a place of the list
+pub root_tree : (forest : ForestData) (kept : List Bool) (trees : List (Tree ℕ)) → AreTreesOf forest kept trees → (places : List ℕ) → places ≡ roots kept → (k : ℕ) → k < length places
+    → (tree : Tree ℕ) × (slice_get trees k ≡ Some tree) × IsTreeOf forest kept (get_or places k 0) tree
+root_tree forest kept trees are places same k lt =
+    all_zip_get (IsTreeOf forest kept) (roots kept) trees k (get_or places k 0) are.trees_are (ap (λ l. slice_get l k) (sym same) ∙ slice_get-get_or places k 0 lt)
+
+pub root_there : (kept : List Bool) (places : List ℕ) → places ≡ roots kept → (k : ℕ) → k < length places → get_or places k 0 < length kept
+root_there kept places same k lt = (root_of_cell kept k (get_or places k 0) (ap (λ l. slice_get l k) (sym same) ∙ slice_get-get_or places k 0 lt)).2
+
+pub few_roots : (kept : List Bool) (places : List ℕ) → places ≡ roots kept → length places ≤ length kept
+few_roots kept places same =
+    omega (arith, ap length same, few_filtered (λ place. not (is_kept kept place)) (range_with_len 0 (length kept)), length-range_with_len 0 (length kept))
