@@ -74,3 +74,10 @@ module _ {Key : Type 0} (now : Key → List ℕ) (name : List ℕ) where
       first : (ks : List Key) → position_or_len test ks ≡ position_or_len (same name) (map now ks)
       first [] = refl
       first (k ∷ ks) = ap (λ n. cond (not (same name (now k))) (1 + n) 0) (first ks)
+
+-- a name that stands there already goes in and changes nothing
+pub inserted_again : (name : List ℕ) (keys : List (List ℕ)) (n : ℕ) → position (same name) keys ≡ Some n → insert_key same keys name ≡ keys
+inserted_again name keys n e =
+    let at = position-Some (same name) keys n name e in
+    let there : Contains keys name = subst (Contains keys) (sym ((bytes_decides name _).0 at.1)) (Contains-slice_get keys n _ (slice_get-get_or keys n name at.0)) in
+    ap (λ b. if b then keys else keys ++ name ∷ []) (list_any-from_Contains names_equal name keys there)

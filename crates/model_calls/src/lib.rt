@@ -13,6 +13,7 @@ mod names;
 mod number_set;
 mod plan;
 mod ports;
+mod recent_numbers;
 mod recursion;
 mod report;
 mod scan;

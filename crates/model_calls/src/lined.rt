@@ -27,7 +27,8 @@ pub fn plan_model(alloc: Global, model: &BlifModel, node: &Node<'_>) -> Result<P
     requires callees { length node.now ≡ length model.now.instances }
     ensures { IfOk result (λ plan. AreNumberedCards model.now node.now plan (ordered_cards model.now)) }
 {
-    let mut lined = Vec::new(alloc);
+    let count = model.tables.len() + model.latches.len() + model.instances.len();
+    let mut lined = Vec::with_capacity(alloc, count)?;
     add_tables(&mut lined, &model.tables)?;
     add_latches(&mut lined, &model.latches)?;
     add_instances(&mut lined, &model.instances, node)?;

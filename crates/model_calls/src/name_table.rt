@@ -7,6 +7,7 @@ ghost use Rattle.indexmap.specs.IndexSet.{insert_key};
 ghost use Rattle.model_calls.specs.Occurrences.{actuals_of, names_of, names_of_latch, names_of_table, signal_of_control};
 
 use crate::name_hashes::hash_of_names;
+use crate::recent_numbers::{RecentNumbers, mark_of};
 use blif_ast::{BlifModel, Instance, Latch, Table};
 use dom_base::{Name, NameHash, OutOfMemory};
 use indexmap::IndexSet;
@@ -23,7 +24,7 @@ const MANY: usize = 64;
 #[derive(Drop)]
 pub struct NameTable<'a> {
     pub names: IndexSet<&'a Name, NameHash>,
-    pub found: Vec<usize>,
+    pub found: Vec<u32>,
     pub starts: Vec<usize>,
 }
 
@@ -65,8 +66,9 @@ impl<'a> NameTable<'a> {
             found: Vec::new(alloc),
             starts: starts_of(alloc, model)?,
         };
+        let mut recent = RecentNumbers::new(alloc, table.starts.len())?;
         for index in 0..all.len() {
-            let number = table.insert(from_last(&all, index))?;
+            let number = table.insert_again(&mut recent, from_last(&all, index))?;
             table.keep(number)?;
         }
         Ok(table)
@@ -86,12 +88,31 @@ impl<'a> NameTable<'a> {
         Ok(index)
     }
 
+    /// The same, where most names come again soon.
+    fn insert_again(
+        &mut self,
+        recent: &mut RecentNumbers,
+        name: &'a Name,
+    ) -> Result<usize, OutOfMemory>
+        ensures { OnOk result (self.new ≡ insert_key same self.old name.now) }
+    {
+        let mark = mark_of(name.as_bytes());
+        if let Some(known) = recent.number(mark) {
+            if self.is_at(known, name) {
+                return Ok(known);
+            }
+        }
+        let index = self.insert(name)?;
+        recent.note(mark, index);
+        Ok(index)
+    }
+
     /// Keeps where a name was found, in a model of many tables.
     fn keep(&mut self, index: usize) -> Result<(), OutOfMemory>
         ensures { OnOk result (self.new ≡ self.old) }
     {
         if !self.starts.is_empty() {
-            self.found.push(index)?;
+            self.found.push(u32::try_from(index).unwrap_or(0))?;
         }
         Ok(())
     }
@@ -143,7 +164,7 @@ impl<'a> NameTable<'a> {
     /// The number of the name that stands on the cards behind so many names, if that was kept.
     fn guess(&self, before: usize) -> Option<usize> {
         let back = self.found.len().saturating_sub(before).saturating_sub(1);
-        let found = self.found.get(back).copied()?;
+        let found = self.found.get(back).copied()? as usize;
         Some(self.len().saturating_sub(found).saturating_sub(1))
     }
 

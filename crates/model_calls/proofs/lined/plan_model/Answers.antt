@@ -24,7 +24,7 @@ returns c = let m = c.args.model.now in let node = c.args.node.now in
     let latches : c.deref-2.result.now ≡ m.latches = search rules in
     let instances : c.deref-3.result.now ≡ m.instances = search rules in
     let sorted : c.deref-4.result.now ≡ c.sort_by_line.new.lined.items = search rules in
-    let one = c.in_ok-add_tables.ensures m node [] (sym tables) (subst (λ l. AreLinedCards m node l []) (sym c.new-lined.ensures.items) tt) in
+    let one = c.in_ok-add_tables.ensures m node [] (sym tables) (subst (λ l. AreLinedCards m node l []) (sym c.in_ok-lined.ensures.items) tt) in
     let two = c.in_ok-add_latches.ensures m node (map TableCard c.deref.result.now) (sym latches) one in
     let all = c.in_ok-add_instances.ensures m (map TableCard c.deref.result.now ++ map LatchCard c.deref-2.result.now) (sym instances) two in
     let lined = lined_in_order m node c.add_instances.new.lined.items (map TableCard c.deref.result.now ++ map LatchCard c.deref-2.result.now ++ map InstanceCard c.deref-3.result.now) all in
