@@ -1,5 +1,5 @@
 -- Prefixes of letters `w` that names are followed by digits only: the widths that are taken, and the least one that isn't.
-use Rattle.std.proofs.Common.{◌≡◌, ℕ, zero, suc, ◌<◌, ◌≤◌, ◌+◌, inl, inr, ◌⊎◌, Bool, true, false, cond, List, [], ◌∷◌, ◌++◌, drop, get_or, length, map, set, take, Option, Some, None, refl, ap, ap₂, sym, ◌∙◌, subst, arith}
+use Rattle.std.proofs.Common.{◌≡◌, ℕ, zero, suc, ◌<◌, ◌≤◌, ◌+◌, inl, inr, ◌⊎◌, Bool, true, false, cond, List, [], ◌∷◌, ◌++◌, drop, get_or, length, map, replicate, set, take, Option, Some, None, refl, ap, ap₂, sym, ◌∙◌, subst, arith}
 use Rattle.std.specs.Prelude.{◌≢◌, ◌==◌, ◌&&◌, not, nat_eq, nat_le, All, Contains, if◌then◌else◌, position, slice_get, ◌↔◌}
 use Rattle.std.specs.Char.{is_ascii_digit}
 use Rattle.std.specs.List.{AllByRecursion, enumerate_from, list_all, list_any}
@@ -11,11 +11,11 @@ use Rattle.std.proofs.lemmas.Bool.Decides.{nat_tests}
 use Rattle.std.proofs.lemmas.List.{length-append, length-map, length-replicate, length-set, length-take-le, take-append-drop}
 use Rattle.std.proofs.lemmas.Option.{slice_get-map, slice_get_past, slice_get_within}
 use Rattle.std.proofs.Math.Nat.{le_of_lt}
-use Rattle.std.proofs.lemmas.List.Elements.{All-contains, All-head, Contains-append_left, Contains-append_right, Contains-get_or, Contains-push_cases, recursion_from_All}
+use Rattle.std.proofs.lemmas.List.Elements.{All-contains, All-head, All-push, All-weaker, Contains-append_left, Contains-append_right, Contains-get_or, Contains-push_cases, recursion_from_All}
 use Rattle.dom_base.proofs.Decided.{lt_or_ge}
 use Rattle.dom_base.proofs.Lists.{All-at, All-from_test, Contains-first, Contains-later, head_same, length-some, map-push, tail_same, enumerate_from-push}
 use Rattle.blif_ast.specs.Cards.{same}
-use Rattle.net_flatten.specs.NetworkNames.{IsTakenWidth, MarksTaken, network_name, network_names}
+use Rattle.net_flatten.specs.NetworkNames.{IsNoLongerTaking, IsTakenWidth, MarksTaken, network_name, network_names}
 use Rattle.model_calls.specs.Numbering.{IsDecimalDigit, IsFreePrefix, IsLeastPrefixAmong, IsPrefixedNumber, is_main, letters_w, name_by_number, names_by_number}
 use Rattle.model_calls.specs.Signals.{Signal, signal_of}
 use Rattle.model_calls.proofs.Fitting.{contains_cons, contains_unique}
@@ -160,8 +160,28 @@ set_true (x ∷ xs) (suc k) (suc j) l (inr e) = set_true xs k j (omega (arith, l
 
 -- the widths that the first names take are marked, and there are marks for those that the others take
 pub record AreMarked (names : List (List ℕ)) (count : ℕ) (marks : List Bool) : Type 0 where
-  pub long : All (λ (name : List ℕ). length name ≤ length marks) names
+  pub long : All (IsNoLongerTaking (length marks)) names
   pub marked : MarksTaken (take count names) marks
+
+unmarked : (n width : ℕ) → slice_get (replicate n false) width ≡ Some true → ⊥
+unmarked zero width e = cc
+unmarked (suc n) zero e = cc
+unmarked (suc n) (suc width) e = unmarked n width e
+
+untaken : (width : ℕ) → IsTakenWidth [] width → ⊥
+untaken width (name, there, h) = absurd (omega (arith, there.1))
+
+pub none_marked : (names : List (List ℕ)) (marks : List Bool) (n : ℕ) → marks ≡ replicate n false → All (IsNoLongerTaking n) names → AreMarked names 0 marks
+none_marked names marks n is long = record {
+  long = subst (λ m. All (IsNoLongerTaking m) names) (sym (ap length is ∙ length-replicate n false)) long;
+  marked = λ width. ((λ e. absurd (unmarked n width (ap (λ l. slice_get l width) (sym is) ∙ e))), λ t. absurd (untaken width t));
+}
+
+pub has_mark : (names : List (List ℕ)) (count : ℕ) (name : List ℕ) (marks : List Bool) (width : ℕ)
+    → slice_get names count ≡ Some name → IsPrefixedNumber (letters_w width) name → AreMarked names count marks → width < length marks
+has_mark names count name marks width at h m =
+    let most = All-at (IsNoLongerTaking (length marks)) names count name m.long at width h in
+    omega (arith, most, width_within h)
 
 pub width_marked : (names : List (List ℕ)) (count : ℕ) (name : List ℕ) (marks : List Bool) (width : ℕ)
     → slice_get names count ≡ Some name → IsPrefixedNumber (letters_w width) name → AreMarked names count marks
@@ -182,7 +202,7 @@ width_marked names count name marks width at h m = record {
 
         taken : IsTakenWidth (take count names ++ name ∷ []) other → slice_get (set marks width true) other ≡ Some true
         taken t =
-            let long = All-at (λ (n : List ℕ). length n ≤ length marks) names count name m.long at in
+            let long = All-at (IsNoLongerTaking (length marks)) names count name m.long at width h in
             set_true marks width other (omega (arith, long, width_within h)) (elim (taken_cases (take count names) name other t) [
               | inl before ↦ inr ((m.marked other).1 before)
               | inr this ↦ inl (one_width this h)
@@ -204,6 +224,27 @@ none_added names count name marks at none m = record {
         | inr this ↦ absurd (none other this)
       ],
     )
+
+-- a name more, which takes a width, or none
+pub longer_taking : (names : List (List ℕ)) (count : ℕ) (name : List ℕ) (longest most : ℕ) → slice_get names count ≡ Some name
+    → longest ≤ most → length name ≤ most → All (IsNoLongerTaking longest) (take count names) → All (IsNoLongerTaking most) (take (count + 1) names)
+longer_taking names count name longest most at more long all = rw (take_next names count name at)
+    (All-push (IsNoLongerTaking most) (take count names) name
+    (All-weaker (IsNoLongerTaking longest) (IsNoLongerTaking most) (λ n l width h. let below = l width h in omega (arith, below, more)) (take count names) all)
+    (λ width h. long))
+
+pub nothing_taking : (names : List (List ℕ)) (count : ℕ) (name : List ℕ) (longest : ℕ) → slice_get names count ≡ Some name
+    → ((width : ℕ) → IsPrefixedNumber (letters_w width) name → ⊥) → All (IsNoLongerTaking longest) (take count names)
+    → All (IsNoLongerTaking longest) (take (count + 1) names)
+nothing_taking names count name longest at none all = rw (take_next names count name at)
+    (All-push (IsNoLongerTaking longest) (take count names) name all (λ width h. absurd (none width h)))
+
+-- no mark where no name takes a width
+pub nothing_taken : (names : List (List ℕ)) (marks : List Bool) → length marks ≡ 0 → All (IsNoLongerTaking (length marks)) names → MarksTaken names marks
+nothing_taken names marks none long width = (
+  (λ e. let past = slice_get_within marks width true e in absurd (omega (arith, past, none))),
+  λ t. let most = All-contains (IsNoLongerTaking (length marks)) names t.0 long t.1 width t.2 in absurd (omega (arith, most, width_within t.2, none)),
+)
 
 -- the first width that isn't marked
 pub first_is_least : (names : List (List ℕ)) (marks : List Bool) (width : ℕ) → MarksTaken names marks → 1 ≤ width

@@ -1,6 +1,6 @@
 -- The names of a network's signals, where the network stands for a file of BLIF, the Berkeley Logic Interchange Format: those
 -- of the main model, and for the other signals a prefix and a number.
-use Rattle.std.specs.Prelude.{ℕ, ◌≡◌, ◌++◌, Bool, true, List, map, Contains, Some, slice_get, ◌↔◌}
+use Rattle.std.specs.Prelude.{ℕ, ◌≡◌, ◌≤◌, ◌++◌, Bool, true, List, length, map, Contains, Some, slice_get, ◌↔◌}
 use Rattle.std.specs.Fmt.{decimal}
 use Rattle.std.specs.List.{enumerate_from}
 use Rattle.std.specs.Option.{unwrap_or}
@@ -9,6 +9,10 @@ use Rattle.model_calls.specs.Numbering.{IsLeastPrefixAmong, IsPrefixedNumber, le
 -- one of these names is so many letters `w` followed by digits only
 abbrev pub IsTakenWidth : List (List ℕ) → ℕ → Type 0
 IsTakenWidth names width = (name : List ℕ) × Contains names name × IsPrefixedNumber (letters_w width) name
+
+-- a name that takes a width isn't longer than this
+abbrev pub IsNoLongerTaking : ℕ → List ℕ → Type 0
+IsNoLongerTaking most name = (width : ℕ) → IsPrefixedNumber (letters_w width) name → length name ≤ most
 
 -- the widths that are marked are those that these names take
 abbrev pub MarksTaken : List (List ℕ) → List Bool → Type 0

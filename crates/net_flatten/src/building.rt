@@ -54,7 +54,7 @@ pub fn network_of(
 {
     let parts = numbered.parts();
     let ordered = tables_by_level(alloc, parts, levels)?;
-    let mut numbers = Vec::new(alloc);
+    let mut numbers = Vec::with_capacity(alloc, numbered.signals as usize)?;
     add_pins(&mut numbers, numbered.inputs(), control_of(parts))?;
     let inputs = numbers.len() as u32;
     add_states(&mut numbers, parts)?;

@@ -3,7 +3,7 @@ ghost use Rattle.std.specs.Prelude.{ℕ, ◌≡◌, ◌≢◌, ◌≤◌, ◌<�
 ghost use Rattle.std.specs.Char.{is_ascii_digit};
 ghost use Rattle.std.specs.Fmt.{decimal};
 ghost use Rattle.std.specs.List.{list_all};
-ghost use Rattle.net_flatten.specs.NetworkNames.{AreNetworkNames, MarksTaken, network_name};
+ghost use Rattle.net_flatten.specs.NetworkNames.{AreNetworkNames, IsNoLongerTaking, MarksTaken, network_name};
 ghost use Rattle.model_calls.specs.Numbering.{IsLeastPrefixAmong, IsPrefixedNumber, letters_w};
 
 use dom_base::{Name, NameBytes, OutOfMemory, append_number_to_name};
@@ -43,13 +43,16 @@ fn name_at<'a>(names: &[&'a Name], index: usize) -> &'a Name
     names[index]
 }
 
-/// The length of the longest name.
-fn longest(names: &[&Name]) -> usize
-    ensures { All (λ name. length name ≤ result) (map (λ k. k.now) names.now) }
+/// The length of the longest name that takes a width, or 0.
+fn longest_taking(names: &[&Name]) -> usize
+    ensures { All (IsNoLongerTaking result) (map (λ k. k.now) names.now) }
 {
     let mut longest = 0;
     for index in 0..names.len() {
-        longest = longest.max(name_at(names, index).as_bytes().len());
+        let name = name_at(names, index).as_bytes();
+        if let Some(_) = taken_width(name) {
+            longest = longest.max(name.len());
+        }
     }
     longest
 }
@@ -58,7 +61,10 @@ fn longest(names: &[&Name]) -> usize
 fn taken_widths(alloc: Global, names: &[&Name]) -> Result<Vec<bool>, OutOfMemory>
     ensures { IfOk result (λ marks. MarksTaken (map (λ k. k.now) names.now) marks.items) }
 {
-    let mut marks = vec![in alloc; false; longest(names)]?;
+    let mut marks = vec![in alloc; false; longest_taking(names)]?;
+    if marks.is_empty() {
+        return Ok(marks);
+    }
     for index in 0..names.len() {
         if let Some(width) = taken_width(name_at(names, index).as_bytes()) {
             marks[width] = true;

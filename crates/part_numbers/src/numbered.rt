@@ -20,9 +20,9 @@ pub enum PartCard {
 /// controls it has the number of that signal too.
 #[derive(Drop)]
 pub struct NumberedPart {
+    pub reads: Reads,
     pub model: u32,
     pub card: PartCard,
-    pub reads: Reads,
     pub drives: u32,
     pub control: Option<u32>,
 }

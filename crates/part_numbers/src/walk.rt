@@ -60,9 +60,11 @@ pub fn expand(alloc: Global, plans: &[Plan], depth: usize) -> Result<Expansion, 
     requires ready { HasMainPlan plans.now depth }
     ensures { IfOk result (HasExpansion plans.now depth) }
 {
+    let main = &plans[0];
+    let parts = Vec::with_capacity(alloc, main.cards.len())?;
     let mut made = Expansion {
         scopes: Vec::new(alloc),
-        parts: Vec::new(alloc),
+        parts,
         frames: Vec::new(alloc),
     };
     made.enter(0, 0, 0, depth)?;

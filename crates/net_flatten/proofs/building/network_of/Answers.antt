@@ -18,7 +18,7 @@ overflow_cast-inputs c =
     let g = gathered c.requires.numbers c.parts-parts.ensures c.inputs.ensures c.control_of.ensures c.in_ok-ordered.ensures in
     let few = pins_few c.requires.numbers g c.requires.accepted in
     let pins : c.add_pins.new.numbers.items ≡ pin_numbers c.control_of.result c.inputs.result.now =
-    c.in_ok-add_pins.ensures {u = tt} ∙ ap (λ l. l ++ pin_numbers c.control_of.result c.inputs.result.now) c.new-numbers.ensures.items in
+    c.in_ok-add_pins.ensures {u = tt} ∙ ap (λ l. l ++ pin_numbers c.control_of.result c.inputs.result.now) c.in_ok-numbers.ensures.items in
     let count = ap length pins in
     search rules
 
@@ -33,7 +33,7 @@ renumber-requires-clause-within c =
     let g = gathered c.requires.numbers c.parts-parts.ensures c.inputs.ensures c.control_of.ensures c.in_ok-ordered.ensures in
     let signals = ap (λ (m : NumberedFileData). m.signals) c.numbered.view_is in
     let numbers = c.deref-2.ensures.value ∙ gathered_numbers c.requires.numbers g c.deref.ensures.value
-    c.new-numbers.ensures.items (c.in_ok-add_pins.ensures {u = tt}) (c.in_ok-add_states.ensures {u = tt})
+    c.in_ok-numbers.ensures.items (c.in_ok-add_pins.ensures {u = tt}) (c.in_ok-add_states.ensures {u = tt})
     (c.in_ok-add_outputs.ensures {u = tt}) in
     numbers_inside c.requires.numbers g c.requires.accepted signals numbers
 
@@ -41,7 +41,7 @@ pub renumber-requires-clause-few : goal.renumber-requires-clause-few
 renumber-requires-clause-few c =
     let g = gathered c.requires.numbers c.parts-parts.ensures c.inputs.ensures c.control_of.ensures c.in_ok-ordered.ensures in
     let numbers = c.deref-2.ensures.value ∙ gathered_numbers c.requires.numbers g c.deref.ensures.value
-    c.new-numbers.ensures.items (c.in_ok-add_pins.ensures {u = tt}) (c.in_ok-add_states.ensures {u = tt})
+    c.in_ok-numbers.ensures.items (c.in_ok-add_pins.ensures {u = tt}) (c.in_ok-add_states.ensures {u = tt})
     (c.in_ok-add_outputs.ensures {u = tt}) in
     numbers_few c.requires.numbers g c.requires.accepted numbers
 
@@ -72,12 +72,12 @@ net_tables-requires-clause-there c =
 pub invariant_of-result : goal.invariant_of-result
 invariant_of-result c =
     let pins : c.add_pins.new.numbers.items ≡ pin_numbers c.control_of.result c.inputs.result.now =
-    c.in_ok-add_pins.ensures {u = tt} ∙ ap (λ l. l ++ pin_numbers c.control_of.result c.inputs.result.now) c.new-numbers.ensures.items in
+    c.in_ok-add_pins.ensures {u = tt} ∙ ap (λ l. l ++ pin_numbers c.control_of.result c.inputs.result.now) c.in_ok-numbers.ensures.items in
     let count : c.len-inputs.result ≡ length c.add_pins.new.numbers.items = search rules in
     let g = gathered c.requires.numbers c.parts-parts.ensures c.inputs.ensures c.control_of.ensures c.in_ok-ordered.ensures in
     let signals = ap (λ (m : NumberedFileData). m.signals) c.numbered.view_is in
     let numbers = c.deref-2.ensures.value ∙ gathered_numbers c.requires.numbers g c.deref.ensures.value
-    c.new-numbers.ensures.items (c.in_ok-add_pins.ensures {u = tt}) (c.in_ok-add_states.ensures {u = tt})
+    c.in_ok-numbers.ensures.items (c.in_ok-add_pins.ensures {u = tt}) (c.in_ok-add_states.ensures {u = tt})
     (c.in_ok-add_outputs.ensures {u = tt}) in
     let network : NetworkData = record {
       name = c.in_ok-main_name.field-0;
@@ -109,12 +109,12 @@ invariant_of-result c =
 pub returns : goal.returns
 returns c =
     let pins : c.add_pins.new.numbers.items ≡ pin_numbers c.control_of.result c.inputs.result.now =
-    c.in_ok-add_pins.ensures {u = tt} ∙ ap (λ l. l ++ pin_numbers c.control_of.result c.inputs.result.now) c.new-numbers.ensures.items in
+    c.in_ok-add_pins.ensures {u = tt} ∙ ap (λ l. l ++ pin_numbers c.control_of.result c.inputs.result.now) c.in_ok-numbers.ensures.items in
     let count : c.len-inputs.result ≡ length c.add_pins.new.numbers.items = search rules in
     let g = gathered c.requires.numbers c.parts-parts.ensures c.inputs.ensures c.control_of.ensures c.in_ok-ordered.ensures in
     let signals = ap (λ (m : NumberedFileData). m.signals) c.numbered.view_is in
     let numbers = c.deref-2.ensures.value ∙ gathered_numbers c.requires.numbers g c.deref.ensures.value
-    c.new-numbers.ensures.items (c.in_ok-add_pins.ensures {u = tt}) (c.in_ok-add_states.ensures {u = tt})
+    c.in_ok-numbers.ensures.items (c.in_ok-add_pins.ensures {u = tt}) (c.in_ok-add_states.ensures {u = tt})
     (c.in_ok-add_outputs.ensures {u = tt}) in
     let network : NetworkData = record {
       name = c.in_ok-main_name.field-0;

@@ -11,9 +11,9 @@ pub frames-init : goal.frames-init
 frames-init c =
     let first : c.enter.new.self ≡ entered (record { scopes = []; parts = []; frames = [] }) 0 0 0 c.args.depth =
     c.in_ok-enter.ensures
-    ∙ ap (λ s. entered (record { scopes = s; parts = c.new-2.result.items; frames = c.new-3.result.items }) 0 0 0 c.args.depth) c.new.ensures.items
-    ∙ ap (λ s. entered (record { scopes = []; parts = s; frames = c.new-3.result.items }) 0 0 0 c.args.depth) c.new-2.ensures.items
-    ∙ ap (λ s. entered (record { scopes = []; parts = []; frames = s }) 0 0 0 c.args.depth) c.new-3.ensures.items in
+    ∙ ap (λ s. entered (record { scopes = s; parts = c.in_ok-parts.parts.items; frames = c.new-2.result.items }) 0 0 0 c.args.depth) c.new.ensures.items
+    ∙ ap (λ s. entered (record { scopes = []; parts = s; frames = c.new-2.result.items }) 0 0 0 c.args.depth) c.in_ok-parts.ensures.items
+    ∙ ap (λ s. entered (record { scopes = []; parts = []; frames = s }) 0 0 0 c.args.depth) c.new-2.ensures.items in
     subst (λ e. AreFramesRanked c.args.plans.now e × ((f : BlifFileData) → IsPlanned f c.args.plans.now → MakesExpansion f c.args.depth e)) (sym first)
     (first_under_way c.args.plans.now c.args.depth c.requires.ready, λ f planned. makes_first c.args.plans.now f c.args.depth planned)
 
