@@ -104,7 +104,8 @@ pub fn decompose(alloc: Global, network: &Network) -> Result<Gates, OutOfMemory>
 {
     let leaves = network.inputs + network.latches.len() as u32;
     let mut refs = leaf_refs(alloc, leaves)?;
-    let mut nodes = Vec::new(alloc);
+    refs.reserve(network.tables.len())?;
+    let mut nodes = Vec::with_capacity(alloc, network.tables.len().saturating_mul(2))?;
     let mut rows = Vec::new(alloc);
     let mut items = Vec::new(alloc);
     for table in network.tables.iter() {

@@ -32,7 +32,7 @@ struct Search {
 fn asked_at_first(alloc: Global, ends: &[Option<Pair>]) -> Result<Vec<Pair>, OutOfMemory>
     ensures { IfOk result (λ v. v.items ≡ asked_by_sinks ends.now (replicate (length ends.now) true)) }
 {
-    let mut work = Vec::new(alloc);
+    let mut work = Vec::with_capacity(alloc, ends.len())?;
     for end in ends {
         push_asked(&mut work, *end, true)?;
     }

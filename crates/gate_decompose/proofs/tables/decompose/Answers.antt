@@ -23,15 +23,15 @@ loop-table-init c =
     let is : IsNetwork c.args.network.now = subst IsNetwork c.network.view_is c.network.invariant in
     let long : vec_len c.network.inside.latches ≡ length c.network.inside.latches.items = search rules in
     let leaves : c.network.inside.inputs + c.len.result ≡ leaf_count c.args.network.now = ap (λ n. c.network.inside.inputs + n) (c.len.ensures ∙ long) ∙ ap leaf_count c.network.view_is in
-    let refs = c.in_ok-refs.ensures ∙ ap (λ n. map Leaf (range_with_len 0 n)) leaves in
+    let refs = c.reserve.ensures.items ∙ c.in_ok-refs.ensures ∙ ap (λ n. map Leaf (range_with_len 0 n)) leaves in
     let count = ap length refs ∙ length-map-range_with_len Leaf 0 (leaf_count c.args.network.now) in
     record {
       count = count ∙ sym (add-zero (leaf_count c.args.network.now));
-      known = leaves_known c.args.network.now (networks_are_ordered c.args.network.now is) c.in_ok-refs.refs.items count
+      known = leaves_known c.args.network.now (networks_are_ordered c.args.network.now is) c.reserve.new.self.items count
           (λ s lt. ap (λ xs. get_or xs s (Const false)) refs ∙ get_or-map-range_with_len Leaf 0 (leaf_count c.args.network.now) s s (Const false) lt (zero-add s));
-      nodes = c.new-nodes.ensures.items;
-      few = rw c.new-nodes.ensures.items (omega arith);
-      operators = rw c.new-nodes.ensures.items (omega arith);
+      nodes = c.in_ok-nodes.ensures.items;
+      few = rw c.in_ok-nodes.ensures.items (omega arith);
+      operators = rw c.in_ok-nodes.ensures.items (omega arith);
     }
 
 pub table_part-requires-clause-below : goal.table_part-requires-clause-below
