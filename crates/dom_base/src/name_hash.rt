@@ -1,7 +1,7 @@
 //! Hashes of names that strangers choose.
 ghost use Rattle.std.specs.Hash.DefaultHasher as sip;
 
-use crate::{OutOfMemory, append};
+use crate::{OutOfMemory, append, mark_of};
 use core::hash::keyed_hasher;
 use sha2::{Digest, Sha512};
 use std::alloc::Global;
@@ -59,7 +59,7 @@ const PIECE: usize = FEW_BYTES;
 const KEPT: usize = 1024;
 
 /// Takes names in one after the other, for the key of a hash. Each name is taken in at least once; after the first piece
-/// `kept` has at the place of a name the last one of that place.
+/// `kept` has at the place of a mark the last name with a mark of that place.
 #[derive(Drop)]
 pub struct NameDigest<'a> {
     digest: Sha512,
@@ -96,9 +96,9 @@ impl<'a> NameDigest<'a> {
         Ok(())
     }
 
-    /// Whether a name was the last one of its place. If it wasn't, it is from now on.
+    /// Whether a name was the last one at the place of its mark. If it wasn't, it is from now on.
     fn has_kept(&mut self, name: &'a [u8]) -> bool {
-        match self.kept.get_mut(place_of(name)) {
+        match self.kept.get_mut(mark_of(name) as usize % KEPT) {
             Some(kept) if *kept == name => true,
             Some(kept) => {
                 *kept = name;
@@ -120,15 +120,5 @@ impl<'a> NameDigest<'a> {
         } = self;
         digest.update(piece.as_slice());
         NameHash::of_digest(digest.finalize())
-    }
-}
-
-/// A place for a name, by its last letters: names that are numbered in turn have places in turn.
-fn place_of(name: &[u8]) -> usize {
-    match name {
-        [.., a, b, c] => (*a as usize * 100 + *b as usize * 10 + *c as usize) % KEPT,
-        [a, b] => (*a as usize * 10 + *b as usize) % KEPT,
-        [a] => *a as usize % KEPT,
-        [] => 0,
     }
 }

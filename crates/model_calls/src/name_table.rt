@@ -7,9 +7,9 @@ ghost use Rattle.indexmap.specs.IndexSet.{insert_key};
 ghost use Rattle.model_calls.specs.Occurrences.{actuals_of, names_of, names_of_latch, names_of_table, signal_of_control};
 
 use crate::name_hashes::hash_of_names;
-use crate::recent_numbers::{RecentNumbers, mark_of};
+use crate::recent_numbers::RecentNumbers;
 use blif_ast::{BlifModel, Instance, Latch, Table};
-use dom_base::{Name, NameHash, OutOfMemory};
+use dom_base::{Name, NameHash, OutOfMemory, mark_of};
 use indexmap::IndexSet;
 use std::alloc::Global;
 use std::marker::Model;

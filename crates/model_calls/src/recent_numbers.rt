@@ -59,20 +59,3 @@ impl RecentNumbers {
         mark as usize & self.recent.len().saturating_sub(1)
     }
 }
-
-/// The mark of a name, of its first letter and its last ones: names that are numbered in turn have marks in turn.
-pub fn mark_of(name: &[u8]) -> u32 {
-    match name {
-        [first, .., a, b, c, d] => mixed(*first, *a, *b, *c, *d),
-        [first, .., b, c, d] => mixed(*first, 0, *b, *c, *d),
-        [first, c, d] => mixed(*first, 0, 0, *c, *d),
-        [c, d] => mixed(0, 0, 0, *c, *d),
-        [d] => mixed(0, 0, 0, 0, *d),
-        [] => 0,
-    }
-}
-
-/// A number out of five letters, the last four of them as if they were digits.
-fn mixed(first: u8, a: u8, b: u8, c: u8, d: u8) -> u32 {
-    first as u32 * 5003 + a as u32 * 1000 + b as u32 * 100 + c as u32 * 10 + d as u32
-}
