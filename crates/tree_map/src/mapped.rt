@@ -25,14 +25,9 @@ pub fn cover(alloc: Global, forest: &Forest, bounds: Bounds) -> Result<Cover, Ou
     ensures chosen { IfOk result (λ c. IsChosenPlan forest.now bounds.w bounds.h c.kept.items (plan_trees c.plans.items)) }
     ensures clocks { IfOk result (λ c. HaveFirstClock c.plans.items) }
 {
-    let free = free_edges(alloc, forest)?;
-    let sums = sums_of(alloc, forest, &free, bounds)?;
-    let decisions = decisions(alloc, forest, &free, &sums)?;
-    let plans = trees_of(alloc, forest, &decisions.kept)?;
-    Ok(Cover {
-        kept: decisions.kept,
-        plans,
-    })
+    let kept = kept_edges(alloc, forest, bounds)?;
+    let plans = trees_of(alloc, forest, &kept)?;
+    Ok(Cover { kept, plans })
 }
 
 /// For each pair of a forest whether the chosen cover keeps its edge: what `cover` says of it, without the trees. A
