@@ -1,16 +1,16 @@
-//! Events worked out by hand, in the three orders.
+//! Events worked out by hand, step by step. Whole traces in each order are tested with the program.
 ghost use Rattle.std.specs.Prelude.{◌≡◌, ◌<◌, ◌≤◌, IfOk, length};
 ghost use Rattle.event_sim.specs.Choices.{Chooses};
-ghost use Rattle.event_sim.specs.Orders.{Follows, first_place, last_place, seeded_place};
+ghost use Rattle.event_sim.specs.Orders.{Follows, last_place};
 
-use deck::{Circuit, PortFault, roles};
+use deck::{Circuit, roles};
 use dom_base::Tri;
-use event_sim::{Chooser, Event, Settled, Sim, SimFault, first, last, seeded};
+use event_sim::{Chooser, Event, Settled, Sim, first, last, seeded};
 use spice_read::read;
 use std::alloc::Global;
 use std::process::Abort;
 use std::test::Fail;
-use worked_texts::{AND_DECK, CHARGES, RING};
+use worked_texts::{AND_DECK, CHARGES};
 
 const O: Tri = Tri::Zero;
 
@@ -94,38 +94,10 @@ fn cell_moves<F: Fn(u64, u64) -> u64>(
     Ok(())
 }
 
-/// The chooser follows the order `first`.
-fn follows_first<F: Fn(u64, u64) -> u64>(chooser: &Chooser<F>)
-    requires { Follows first_place (F.post chooser.now.pick) }
-{}
-
 /// The chooser follows the order `last`.
 fn follows_last<F: Fn(u64, u64) -> u64>(chooser: &Chooser<F>)
     requires { Follows last_place (F.post chooser.now.pick) }
 {}
-
-/// The chooser follows the order of a seed.
-fn follows_seed<F: Fn(u64, u64) -> u64>(chooser: &Chooser<F>)
-    requires { Follows (seeded_place 12345678901234567890) (F.post chooser.now.pick) }
-{}
-
-#[test]
-fn cell_moves_by_first(rt: HostRuntime) -> Result<(), Fail> {
-    let chooser = Chooser::new(
-        |step: u64, count: u64| -> u64
-            requires { 1 ≤ count }
-            ensures place { result ≡ first_place step count }
-            ensures below { result < count }
-        { first(step, count) },
-    );
-    follows_first(&chooser);
-    cell_moves(
-        &rt,
-        rt.alloc(),
-        chooser,
-        &[event(0, 12, X, I), event(1, 11, X, O), event(2, 13, X, O)],
-    )
-}
 
 #[test]
 fn cell_moves_by_last(rt: HostRuntime) -> Result<(), Fail> {
@@ -143,41 +115,6 @@ fn cell_moves_by_last(rt: HostRuntime) -> Result<(), Fail> {
         chooser,
         &[event(0, 12, X, I), event(1, 13, X, O), event(2, 11, X, O)],
     )
-}
-
-#[test]
-fn cell_moves_by_seed(rt: HostRuntime) -> Result<(), Fail> {
-    let chooser = Chooser::new(
-        |step: u64, count: u64| -> u64
-            requires { 1 ≤ count }
-            ensures place { result ≡ seeded_place 12345678901234567890 step count }
-            ensures below { result < count }
-        { seeded(12345678901234567890, step, count) },
-    );
-    follows_seed(&chooser);
-    cell_moves(
-        &rt,
-        rt.alloc(),
-        chooser,
-        &[event(0, 12, X, I), event(1, 11, X, O), event(2, 13, X, O)],
-    )
-}
-
-/// The ring settles while `rs` holds it, and then not again within 25 events.
-fn ring_stays_unsettled<F: Fn(u64, u64) -> u64>(
-    rt: &impl Abort,
-    alloc: Global,
-    chooser: Chooser<F>,
-) -> Result<(), Fail>
-    requires { Chooses (F.pre chooser.pick) (F.post chooser.pick) }
-{
-    let circuit = read(alloc, RING)?;
-    let mut sim = started(rt, alloc, &circuit, 9, chooser)?;
-    assert!(rt; sim.settle() == Settled::Rest(4));
-    sim.set_pin(7, O);
-    sim.set_pin(8, I);
-    assert!(rt; sim.settle() == Settled::Unsettled(25));
-    Ok(())
 }
 
 /// Charges that meet become unknown.
@@ -202,50 +139,9 @@ fn charges_meet<F: Fn(u64, u64) -> u64>(
     Ok(())
 }
 
-/// A circuit without ports is refused at place 0.
-fn bare_is_refused<F: Fn(u64, u64) -> u64>(
-    rt: &impl Abort,
-    alloc: Global,
-    chooser: Chooser<F>,
-) -> Result<(), Fail> {
-    let circuit = read(alloc, b".subckt bare\n.ends\n")?;
-    let fault = SimFault::Ports(PortFault { place: 0 });
-    match Sim::new(alloc, &circuit, chooser) {
-        Ok(_) => assert!(rt; false),
-        Err(found) => assert!(rt; found == fault),
-    }
-    Ok(())
-}
-
-#[test]
-fn ring_stays_unsettled_by_first(rt: HostRuntime) -> Result<(), Fail> {
-    ring_stays_unsettled(
-        &rt,
-        rt.alloc(),
-        Chooser::new(
-            |_step: u64, _count: u64| -> u64
-                ensures { result ≡ 0 }
-            { 0 },
-        ),
-    )
-}
-
 #[test]
 fn charges_meet_by_first(rt: HostRuntime) -> Result<(), Fail> {
     charges_meet(
-        &rt,
-        rt.alloc(),
-        Chooser::new(
-            |_step: u64, _count: u64| -> u64
-                ensures { result ≡ 0 }
-            { 0 },
-        ),
-    )
-}
-
-#[test]
-fn bare_is_refused_by_first(rt: HostRuntime) -> Result<(), Fail> {
-    bare_is_refused(
         &rt,
         rt.alloc(),
         Chooser::new(
