@@ -1,4 +1,5 @@
-//! Words that are names of nets, words that aren't, and hashes of names.
+//! Words that are names of nets, words that aren't, their escapes, and hashes of names.
+use deck::esc;
 use dom_base::{Name, NameHash, NetName};
 use std::alloc::{AllocError, Global};
 use std::hash::BuildHasher;
@@ -26,6 +27,22 @@ fn names_of_words(rt: HostRuntime) -> Result<(), Fail> {
             None => false,
         };
         assert!(rt; same == is_name, "at {word}");
+    }
+    Ok(())
+}
+
+#[test]
+fn escapes_of_names(rt: HostRuntime) -> Result<(), Fail> {
+    let names = [
+        (b"a7z".as_slice(), b"a7z".as_slice()),
+        (b"A".as_slice(), b"_41".as_slice()),
+        (b"\xc3\xa9".as_slice(), b"_c3_a9".as_slice()),
+        (b"_\x00/:\xff".as_slice(), b"_5f_00_2f_3a_ff".as_slice()),
+        (b"".as_slice(), b"".as_slice()),
+    ];
+    for (name, escape) in names {
+        let text = esc(rt.alloc(), name)?;
+        assert!(rt; text.as_slice() == escape);
     }
     Ok(())
 }

@@ -127,21 +127,3 @@ fn refuses_at_the_first_line(rt: HostRuntime) -> Result<(), Fail> {
     }
     Ok(())
 }
-
-#[test]
-fn reads_what_is_written(rt: HostRuntime) -> Result<(), Fail> {
-    let alloc = rt.alloc();
-    for text in [
-        AND_DECK,
-        b"* domsyn deck 1\n* phase a -\n.subckt a\n+ o_f vss vdd i_1 i_2 i_3 i_4 i_5\n\
-         + i_6\nm0 d g s vss nch\nm1 g d o_f vdd pkeep\n.ends a\n",
-    ] {
-        let circuit = read(alloc, text)?;
-        let written = spice_text::write(alloc, &circuit)?;
-        assert_eq!(rt; written.as_slice(), text);
-        let again = read(alloc, &written)?;
-        let (before, after) = (summary(alloc, &circuit)?, summary(alloc, &again)?);
-        assert_eq!(rt; before.as_slice(), after.as_slice());
-    }
-    Ok(())
-}
