@@ -13,7 +13,13 @@ pub fn mark_of(name: &[u8]) -> u32 {
     }
 }
 
-/// A number out of five letters, the last four of them as if they were digits.
+/// A number out of five letters, the last four of them as digits of ten where two digits stand at the end, and else of 75, so
+/// that names which end in letters have marks of their own too.
 fn mixed(first: u8, a: u8, b: u8, c: u8, d: u8) -> u32 {
-    first as u32 * 5003 + a as u32 * 1000 + b as u32 * 100 + c as u32 * 10 + d as u32
+    let front = first as u32 * 5003;
+    if c.is_ascii_digit() && d.is_ascii_digit() {
+        front + a as u32 * 1000 + b as u32 * 100 + c as u32 * 10 + d as u32
+    } else {
+        front + a as u32 * 421_875 + b as u32 * 5625 + c as u32 * 75 + d as u32
+    }
 }
