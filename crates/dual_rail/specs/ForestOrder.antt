@@ -1,7 +1,7 @@
 -- What forests keep: a pair reads only pairs that stand before it, ends are there, and all is within limits.
 use Rattle.std.specs.Prelude.{ℕ, ◌+◌, ◌≤◌, ◌<◌, ◌≡◌, Bool, List, Some, slice_get, length, map, All}
 use Rattle.std.specs.List.{range_with_len}
-use Rattle.model_calls.specs.Limits.{most_letters, most_signals, most_sinks}
+use Rattle.network.specs.Limits.{most_letters, most_signals, most_sinks}
 use Rattle.gate_decompose.specs.GatesData.{GatesData}
 use Rattle.gate_decompose.specs.GatesOrder.{AreInPlace}
 use Rattle.dual_rail.specs.ForestData.{ForestData}

@@ -1,5 +1,5 @@
 -- The gates of a network keep the values of its signals.
-use Rattle.model_calls.proofs.Lists.{get_map}
+use Rattle.network.proofs.Lists.{get_map}
 use Rattle.std.proofs.Common.{◌≡◌, ◌⊎◌, ◌↔◌, inl, inr, refl, sym, ap, ap₂, subst, ◌∙◌, ℕ, zero, suc, ◌+◌, ◌-◌, ◌≤◌, ◌<◌, Bool, true, false, not, cond, ◌&&◌, ◌||◌, List, [], ◌∷◌, ◌++◌, length, Some, slice_get, All, zero-add, arith}
 use Rattle.std.specs.List.{enumerate_from, position_or_len}
 use Rattle.std.proofs.lemmas.Bool.{cases_lt}
@@ -7,7 +7,7 @@ use Rattle.std.proofs.lemmas.Option.{slice_get_within, slice_get_cases, get_or_f
 use Rattle.gate_decompose.specs.declared.gates.Ref.{Ref}
 use Rattle.gate_decompose.specs.GateNodes.{AreGatesOf, Operand, Fixed, Input, Made, Turn, Left, Right, NodeName, NamedNode, Joint, NotOf, AndOf, OrOf, above_nodes, and_nodes, folded, folded_and, folded_not, folded_or, inside_nodes, is_fixed, network_nodes, node_names, node_of, not_nodes, or_nodes, ref_of, row_nodes, rows_nodes, same_name, table_nodes}
 use Rattle.gate_decompose.specs.GatesData.{GatesData}
-use Rattle.net_flatten.specs.NetworkData.{NetTableData, NetworkData}
+use Rattle.network.specs.NetworkData.{NetTableData, NetworkData}
 use Rattle.gate_decompose.specs.Sinks.{leaf_count, sink_signals}
 use Rattle.gate_decompose.specs.NetworkOrder.{IsOrderedNetwork, SinksHaveValues}
 use Rattle.gate_decompose.specs.Terms.{Term, Constant, Signal, Not, And, Or, rows_term, table_term, term_value}

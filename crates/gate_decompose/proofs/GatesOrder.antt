@@ -1,10 +1,10 @@
 -- The gates of a network read only what is there, and nodes that stand before.
-use Rattle.model_calls.proofs.Lists.{get_map, get_of_map}
+use Rattle.network.proofs.Lists.{get_map, get_of_map}
 use Rattle.std.proofs.Common.{◌≡◌, ◌⊎◌, inl, inr, sym, ap, subst, ◌∙◌, ℕ, ◌+◌, ◌<◌, List, [], length, Some, slice_get, All, arith, zero-add}
 use Rattle.std.specs.List.{position_or_len}
 use Rattle.std.proofs.lemmas.List.{length-map}
 use Rattle.std.proofs.lemmas.Option.{slice_get_within, get_or_from_slice_get}
-use Rattle.net_flatten.specs.NetworkData.{NetworkData}
+use Rattle.network.specs.NetworkData.{NetworkData}
 use Rattle.gate_decompose.specs.GateNodes.{AndOf, AreGatesOf, Fixed, Input, Joint, Made, NamedNode, NodeName, NotOf, Operand, OrOf, folded, network_nodes, node_names, node_of, ref_of, same_name}
 use Rattle.gate_decompose.specs.GatesData.{GatesData}
 use Rattle.gate_decompose.specs.NetworkOrder.{IsOrderedNetwork}

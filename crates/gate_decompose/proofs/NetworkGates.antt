@@ -8,12 +8,12 @@ use Rattle.std.proofs.lemmas.List.{get_or_append_left, length-map, map-append, t
 use Rattle.std.proofs.lemmas.List.Elements.{All-head, All-tail}
 use Rattle.std.proofs.lemmas.List.FromFn.{get_or-enumerate_from, length-enumerate_from}
 use Rattle.std.proofs.lemmas.Option.{slice_get-get_or}
-use Rattle.net_flatten.specs.NetworkData.{NetTableData, NetworkData}
+use Rattle.network.specs.NetworkData.{NetTableData, NetworkData}
 use Rattle.std.proofs.lemmas.List.Sums.{sum_by-take-le}
-use Rattle.model_calls.proofs.Lists.{get_map}
-use Rattle.model_calls.specs.Limits.{letters}
-use Rattle.net_flatten.specs.Networks.{IsNetwork}
-use Rattle.net_flatten.specs.declared.network.NetLatch.{NetLatch}
+use Rattle.network.proofs.Lists.{get_map}
+use Rattle.network.specs.Limits.{letters}
+use Rattle.network.specs.Networks.{IsNetwork}
+use Rattle.network.specs.declared.network.NetLatch.{NetLatch}
 use Rattle.gate_decompose.specs.GatesOrder.{AreGates, is_operator}
 use Rattle.gate_decompose.proofs.GatesOrder.{network_gates_are_in_place}
 use Rattle.gate_decompose.specs.declared.gates.Node.{Node}

@@ -1,7 +1,7 @@
 -- Every network keeps its order.
 use Rattle.std.proofs.Common.{◌<◌, length, map, All, subst}
 use Rattle.std.proofs.lemmas.List.Elements.{All-append, All-map}
-use Rattle.net_flatten.specs.declared.network.NetLatch.{NetLatch}
+use Rattle.network.specs.declared.network.NetLatch.{NetLatch}
 use Rattle.gate_decompose.specs.NetworkOrder.{NetworksAreOrdered}
 use Rattle.gate_decompose.specs.Sinks.{sink_signals}
 

@@ -4,7 +4,7 @@ use Rattle.std.proofs.Common.{◌≡◌, ◌⊎◌, inl, inr, refl, sym, ap, sub
 use Rattle.std.specs.Cmp.Lexicographic.{pointwise}
 use Rattle.std.specs.List.{enumerate_from, position_or_len}
 use Rattle.gate_decompose.specs.GateNodes.{AndOf, Joint, Left, NamedNode, NodeName, NotOf, Operand, OrOf, Right, Turn, above_nodes, and_nodes, folded, inside_nodes, is_fixed, network_nodes, not_nodes, or_nodes, row_nodes, rows_nodes, same_name, same_turn, standing, table_nodes}
-use Rattle.net_flatten.specs.NetworkData.{NetTableData}
+use Rattle.network.specs.NetworkData.{NetTableData}
 use Rattle.gate_decompose.specs.NodeNames.{NamesAreApart}
 use Rattle.gate_decompose.specs.Terms.{And, Constant, Not, Or, Signal, Term, rows_term}
 use Rattle.gate_decompose.specs.Items.{Among, Rises}

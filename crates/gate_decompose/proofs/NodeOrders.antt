@@ -3,7 +3,7 @@ use Rattle.std.proofs.Common.{◌≡◌, ◌⊎◌, inl, inr, refl, sym, subst, 
 use Rattle.std.specs.Prelude.{All}
 use Rattle.std.specs.List.{enumerate_from}
 use Rattle.std.proofs.lemmas.Bool.{cases_lt}
-use Rattle.net_flatten.specs.NetworkData.{NetTableData}
+use Rattle.network.specs.NetworkData.{NetTableData}
 use Rattle.gate_decompose.specs.GateNodes.{AndOf, Fixed, Input, Joint, Left, Made, NamedNode, NodeName, NotOf, Operand, OrOf, Right, Turn, above_nodes, and_nodes, folded, folded_and, folded_not, folded_or, inside_nodes, is_fixed, not_nodes, or_nodes, row_nodes, rows_nodes, standing, table_nodes}
 use Rattle.gate_decompose.specs.Terms.{And, Constant, Not, Or, Signal, Term, rows_term, table_term}
 use Rattle.dom_base.proofs.Bools.{or_none}

@@ -9,7 +9,7 @@ use Rattle.gate_decompose.specs.NetworkOrder.{IsOrderedNetwork}
 use Rattle.gate_decompose.specs.Sinks.{leaf_count}
 use Rattle.gate_decompose.specs.Terms.{And, Constant, Not, Or, Signal, Term, table_term}
 use Rattle.gate_decompose.proofs.TermShapes.{SignalsBelow, table_signals}
-use Rattle.net_flatten.specs.NetworkData.{NetTableData, NetworkData}
+use Rattle.network.specs.NetworkData.{NetTableData, NetworkData}
 
 -- what a signal comes to, in a list of so many
 abbrev pub operand_in : List Operand → ℕ → Operand

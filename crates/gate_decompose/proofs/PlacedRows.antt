@@ -8,7 +8,7 @@ use Rattle.gate_decompose.specs.declared.expression.Item.{Item}
 use Rattle.gate_decompose.specs.declared.gates.Node.{Node}
 use Rattle.gate_decompose.specs.declared.gates.Ref.{Ref}
 use Rattle.gate_decompose.specs.declared.operator.Operator.TheVariants.{Or as or_operator}
-use Rattle.net_flatten.specs.NetworkData.{NetTableData}
+use Rattle.network.specs.NetworkData.{NetTableData}
 use Rattle.gate_decompose.specs.GateNodes.{Left, NamedNode, NodeName, Operand, Right, Turn, above_nodes, folded, inside_nodes, node_of, row_nodes}
 use Rattle.gate_decompose.specs.RowItems.{above_made, row_made}
 use Rattle.gate_decompose.specs.RowsMade.{AreRowsMade, MakesRows, nodes_of_rows, rows_come_to}

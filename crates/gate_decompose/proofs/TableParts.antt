@@ -13,7 +13,7 @@ use Rattle.gate_decompose.specs.Terms.{Not, row_term, rows_term}
 use Rattle.gate_decompose.proofs.JoinedItems.{numbered_back, numbered_front}
 use Rattle.gate_decompose.proofs.PlacedRows.{above_joined, inside_placed}
 use Rattle.gate_decompose.proofs.TermShapes.{row_is}
-use Rattle.net_flatten.specs.NetworkData.{NetTableData}
+use Rattle.network.specs.NetworkData.{NetTableData}
 
 -- nodes that come after others
 after : (names : List NodeName) (old mid new : List Node) (r : Ref) (xs ys : List NamedNode) (comes : Operand) → mid ≡ old ++ map (λ (n : NamedNode). node_of names n.joint) xs

@@ -3,7 +3,7 @@ use Rattle.std.proofs.Common.{inl, inr, subst, ℕ, ◌<◌, Bool, true, false, 
 use Rattle.std.proofs.lemmas.List.Elements.{All-head, All-tail}
 use Rattle.blif_ast.specs.declared.letter.Letter.{Letter}
 use Rattle.blif_ast.specs.declared.letter.Letter.TheVariants.{Zero, One, Any}
-use Rattle.net_flatten.specs.NetworkData.{NetTableData}
+use Rattle.network.specs.NetworkData.{NetTableData}
 use Rattle.gate_decompose.specs.Terms.{Term, Constant, Signal, Not, And, Or, items, row_term, rows_term, table_term}
 use Rattle.gate_decompose.specs.Items.{Among}
 use Rattle.gate_decompose.proofs.Among.{among_mapped}

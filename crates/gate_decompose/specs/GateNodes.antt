@@ -8,7 +8,7 @@ use Rattle.gate_decompose.specs.declared.gates.Node.TheVariants.{And as and_node
 use Rattle.gate_decompose.specs.declared.gates.Ref.{Ref}
 use Rattle.gate_decompose.specs.declared.gates.Ref.TheVariants.{Const as constant_ref, Leaf as leaf_ref, Node as node_ref}
 use Rattle.gate_decompose.specs.GatesData.{GatesData}
-use Rattle.net_flatten.specs.NetworkData.{NetworkData, NetTableData}
+use Rattle.network.specs.NetworkData.{NetworkData, NetTableData}
 use Rattle.gate_decompose.specs.Sinks.{leaf_count, sink_signals}
 use Rattle.gate_decompose.specs.Terms.{Term, Constant, Signal, Not, And, Or, rows_term, table_term}
 

@@ -1,12 +1,12 @@
 -- What gates keep: nodes read leaves that are there and nodes that stand before them, sinks read what is there, and all is
 -- within limits.
 use Rattle.std.specs.Prelude.{ℕ, ◌+◌, ◌≤◌, ◌<◌, ◌≡◌, Bool, true, false, Some, slice_get, length, count_by}
-use Rattle.model_calls.specs.Limits.{most_letters, most_signals, most_sinks}
+use Rattle.network.specs.Limits.{most_letters, most_signals, most_sinks}
 use Rattle.gate_decompose.specs.declared.gates.Node.{Node}
 use Rattle.gate_decompose.specs.declared.gates.Node.TheVariants.{And, Or, Not}
 use Rattle.gate_decompose.specs.declared.gates.Ref.{Ref}
 use Rattle.gate_decompose.specs.declared.gates.Ref.TheVariants.{Const, Leaf, Node as node_ref}
-use Rattle.net_flatten.specs.NetworkData.{NetworkData}
+use Rattle.network.specs.NetworkData.{NetworkData}
 use Rattle.gate_decompose.specs.GateNodes.{AreGatesOf}
 use Rattle.gate_decompose.specs.GatesData.{GatesData}
 use Rattle.gate_decompose.specs.NetworkOrder.{IsOrderedNetwork}

@@ -5,8 +5,8 @@ use Rattle.blif_ast.specs.TableValue.{IsOneAt}
 use Rattle.gate_decompose.specs.declared.gates.Ref.{Ref}
 use Rattle.gate_decompose.specs.GateNodes.{AreGatesOf}
 use Rattle.gate_decompose.specs.GatesData.{GatesData}
-use Rattle.net_flatten.specs.NetworkData.{NetTableData, NetworkData}
-use Rattle.net_flatten.specs.Networks.{IsNetwork}
+use Rattle.network.specs.NetworkData.{NetTableData, NetworkData}
+use Rattle.network.specs.Networks.{IsNetwork}
 use Rattle.gate_decompose.specs.Sinks.{leaf_count, sink_signals}
 use Rattle.gate_decompose.specs.Terms.{table_term, term_value}
 use Rattle.gate_decompose.specs.Values.{AreNodeValues, AreSignalValues, ref_value}

@@ -2,7 +2,7 @@
 use Rattle.std.specs.Prelude.{ℕ, ◌≡◌, Some, slice_get}
 use Rattle.std.specs.List.{position_or_len}
 use Rattle.gate_decompose.specs.GateNodes.{NodeName, Operand, node_names, same_name}
-use Rattle.net_flatten.specs.NetworkData.{NetworkData}
+use Rattle.network.specs.NetworkData.{NetworkData}
 
 -- no two nodes of a network have one name: each is found at its own place
 abbrev pub NamesAreApart : Type 0

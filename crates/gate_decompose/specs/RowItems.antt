@@ -8,7 +8,7 @@ use Rattle.gate_decompose.specs.declared.gates.Ref.TheVariants.{Const}
 use Rattle.gate_decompose.specs.GateNodes.{NodeName, Operand, Turn, above_nodes, folded, ref_of, row_nodes, table_nodes}
 use Rattle.gate_decompose.specs.TermNodes.{TermNodes}
 use Rattle.gate_decompose.specs.Terms.{Term, table_term}
-use Rattle.net_flatten.specs.NetworkData.{NetTableData}
+use Rattle.network.specs.NetworkData.{NetTableData}
 
 -- what a letter takes of an input: the signal under `1`, its Not under `0`, and nothing under `-`
 abbrev pub letter_signals : ℕ → Letter → List (ℕ × Bool)

@@ -7,7 +7,7 @@ use Rattle.gate_decompose.specs.declared.gates.Node.{Node}
 use Rattle.gate_decompose.specs.GateNodes.{NamedNode, NodeName, Operand, Turn, folded, node_of, row_nodes}
 use Rattle.gate_decompose.specs.TermNodes.{AreNumbered, item_of, placed}
 use Rattle.gate_decompose.specs.Terms.{row_term}
-use Rattle.net_flatten.specs.NetworkData.{NetTableData}
+use Rattle.network.specs.NetworkData.{NetTableData}
 
 module _ (of : ℕ → Operand) (number : ℕ) (inputs : List ℕ) where
   -- the nodes of some rows, and what each comes to

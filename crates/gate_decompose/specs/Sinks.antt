@@ -1,6 +1,6 @@
 -- The leaves and the sinks of a network.
 use Rattle.std.specs.Prelude.{ℕ, ◌+◌, List, ◌++◌, length, map}
-use Rattle.net_flatten.specs.NetworkData.{NetworkData}
+use Rattle.network.specs.NetworkData.{NetworkData}
 
 -- the leaves are the inputs and the latch outputs
 abbrev pub leaf_count : NetworkData → ℕ

@@ -6,7 +6,7 @@ use Rattle.gate_decompose.specs.declared.gates.Node.TheVariants.{And, Or, Not}
 use Rattle.gate_decompose.specs.declared.gates.Ref.{Ref}
 use Rattle.gate_decompose.specs.declared.gates.Ref.TheVariants.{Const, Leaf, Node as node_ref}
 use Rattle.gate_decompose.specs.GatesData.{GatesData}
-use Rattle.net_flatten.specs.NetworkData.{NetworkData, NetTableData}
+use Rattle.network.specs.NetworkData.{NetworkData, NetTableData}
 use Rattle.gate_decompose.specs.Sinks.{leaf_count}
 
 -- the signals of a network have values: each table's output has the value of the table

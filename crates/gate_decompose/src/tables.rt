@@ -7,14 +7,14 @@ ghost use Rattle.gate_decompose.specs.RowItems.{AreRefs, ref_at, table_made};
 ghost use Rattle.gate_decompose.specs.RowsMade.{MakesRows};
 ghost use Rattle.gate_decompose.specs.Sinks.{sink_signals};
 ghost use Rattle.gate_decompose.specs.TermNodes.{Makes};
-ghost use Rattle.model_calls.specs.Limits.{letters};
+ghost use Rattle.network.specs.Limits.{letters};
 
 use crate::expression::{Item, join_all};
 use crate::gates::{Gates, Node, Ref};
 use crate::operator::{Operator, negate};
 use crate::row::row_part;
 use dom_base::OutOfMemory;
-use net_flatten::{NetTable, Network};
+use network::{NetTable, Network};
 use std::alloc::Global;
 
 /// Puts what the rows of a table come to, in order, in place of the items of rows.

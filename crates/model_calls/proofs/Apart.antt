@@ -4,6 +4,7 @@ use Rattle.std.specs.Prelude.{◌≢◌, Contains, nat_lt, slice_get, if◌then�
 use Rattle.std.specs.List.{AllByRecursion}
 use Rattle.dom_base.proofs.Lists.{AllByRecursion-append, AllByRecursion-contains, Contains-first, Contains-later, Contains-slice_get}
 use Rattle.model_calls.specs.Ordered.{in_order, with_element}
+use Rattle.network.proofs.Lists.{each_place}
 
 module _ {X : Type 0} where
   abbrev pub Apart : List X → Type 0
@@ -24,11 +25,6 @@ module _ {X : Type 0} where
   place_once (y ∷ ys) zero (suc k) x a e f = let z : y ≡ x = cc in absurd (AllByRecursion-contains (λ w. y ≢ w) ys x a.0 (Contains-slice_get ys k x f) z)
   place_once (y ∷ ys) (suc j) zero x a e f = let z : y ≡ x = cc in absurd (AllByRecursion-contains (λ w. y ≢ w) ys x a.0 (Contains-slice_get ys j x e) z)
   place_once (y ∷ ys) (suc j) (suc k) x a e f = ap suc (place_once ys j k x a.1 e f)
-
-  -- what holds of each element at its place
-  pub each_place : (P : X → Type 0) (xs : List X) → ((k : ℕ) (x : X) → slice_get xs k ≡ Some x → P x) → AllByRecursion P xs
-  each_place P [] h = tt
-  each_place P (x ∷ xs) h = (h 0 x refl, each_place P xs (λ k. h (suc k)))
 
   pub apart_from_places : (xs : List X) → ((j k : ℕ) (x y : X) → j < k → slice_get xs j ≡ Some x → slice_get xs k ≡ Some y → x ≢ y) → Apart xs
   apart_from_places [] h = tt

@@ -20,9 +20,9 @@ use Rattle.model_calls.specs.Refusal.{Refusal, At}
 use Rattle.model_calls.specs.Refusals.{HasRefusal}
 use Rattle.model_calls.specs.SignalFaults.{IsDrivenTwice, IsUndriven, signals}
 use Rattle.model_calls.specs.Signals.{Signal, signal_of}
-use Rattle.model_calls.proofs.Apart.{Across, Apart, ApartBy, Apart-append, apart_by_places, apart_from_places, apart_in_order, each_in_order, each_place}
+use Rattle.model_calls.proofs.Apart.{Across, Apart, ApartBy, Apart-append, apart_by_places, apart_from_places, apart_in_order, each_in_order}
 use Rattle.model_calls.proofs.Firsts.{none_holds}
-use Rattle.model_calls.proofs.Lists.{contains_map, count_twice, get_map, get_take}
+use Rattle.network.proofs.Lists.{contains_map, count_twice, get_map, get_take, each_place}
 
 -- the signal that a part drives
 abbrev pub driven : PlacedPart → Signal

@@ -9,7 +9,8 @@ use Rattle.blif_ast.specs.InstanceData.{InstanceData}
 use Rattle.blif_ast.specs.TableData.{TableData}
 use Rattle.model_calls.specs.Expanded.{BodyCard, InstanceCard, LatchCard, LatchPart, PlacedPart, TableCard, TablePart, ordered_cards, expanded_from, card_line, parts_of_card}
 use Rattle.model_calls.specs.Occurrences.{models_called}
-use Rattle.model_calls.proofs.Apart.{each_in_order, each_place}
+use Rattle.model_calls.proofs.Apart.{each_in_order}
+use Rattle.network.proofs.Lists.{each_place}
 
 abbrev pub IsCardOf : BlifModelData → BodyCard → Type 0
 IsCardOf m (TableCard t) = Contains m.tables t

@@ -17,7 +17,7 @@ use Rattle.blif_ast.specs.InstanceData.{InstanceData}
 use Rattle.dom_base.proofs.Lists.{Contains-slice_get, slice_get-contained, slice_get-push_cases}
 use Rattle.graph_order.proofs.Lists.{take_next}
 use Rattle.model_calls.proofs.CallNumbers.{known_at}
-use Rattle.model_calls.proofs.Lists.{get_map, get_of_map, get_take}
+use Rattle.network.proofs.Lists.{get_map, get_of_map, get_take}
 use Rattle.model_calls.proofs.Reports.{behind_none, none_of_each, reported_of_each}
 use Rattle.model_calls.proofs.Scans.{scan_reports}
 use Rattle.model_calls.specs.CallNumbers.{AreCallees, AreCalls, names_of_models}

@@ -6,10 +6,8 @@ pub mod EachPart
 pub mod Firsts
 pub mod Fitting
 pub mod FormalReports
-pub mod IndexedLists
 pub mod KindOrders
 pub mod LinedCards
-pub mod Lists
 pub mod MainNames
 pub mod ModelPlans
 pub mod NameNumbers

@@ -12,7 +12,7 @@ use Rattle.dom_base.proofs.Lists.{AllByRecursion-contains, Contains-slice_get, l
 use Rattle.dom_base.proofs.Names.{names_equal}
 use Rattle.blif_ast.specs.Cards.{same}
 use Rattle.indexmap.specs.IndexSet.{insert_key}
-use Rattle.model_calls.proofs.Lists.{get_map}
+use Rattle.network.proofs.Lists.{get_map}
 use Rattle.model_calls.specs.NameNumbers.{IsNameAdded}
 
 module _ {Key : Type 0} (now : Key → List ℕ) (name : List ℕ) where

@@ -7,7 +7,7 @@ use Rattle.std.proofs.lemmas.List.Elements.{Contains-append_left, Contains-appen
 use Rattle.dom_base.proofs.Lists.{Contains-first}
 use Rattle.model_calls.specs.NumberSets.{IsSetOf}
 use Rattle.model_calls.proofs.Fitting.{contains_cons}
-use Rattle.model_calls.proofs.IndexedLists.{get_replicate, get_set}
+use Rattle.network.proofs.IndexedLists.{get_replicate, get_set}
 
 pub empty_set : (bound : ℕ) → IsSetOf bound [] (replicate bound false)
 empty_set bound = record {

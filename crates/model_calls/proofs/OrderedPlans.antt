@@ -14,7 +14,7 @@ use Rattle.graph_order.proofs.Lists.{contains_cons, take_get}
 use Rattle.graph_order.specs.Orders.{IsGraph, IsOrder, IsSuccessor, LeadsOn, more as leads_more, step as leads_step, successors}
 use Rattle.model_calls.proofs.CallNumbers.{known_at}
 use Rattle.model_calls.proofs.FormalReports.{callee_is, callees_count, called_at, calls_at, calls_count}
-use Rattle.model_calls.proofs.Lists.{get_map, get_of_map}
+use Rattle.network.proofs.Lists.{get_map, get_of_map}
 use Rattle.model_calls.proofs.MainNames.{contains_flat}
 use Rattle.model_calls.proofs.Pairs.{contains_to}
 use Rattle.model_calls.proofs.Recursions.{back_is, callees_of, from_flat, is_back}

@@ -24,7 +24,7 @@ use Rattle.model_calls.specs.Signals.{bound_actual, signal_of}
 use Rattle.model_calls.proofs.Drivers.{driven}
 use Rattle.model_calls.proofs.EachPart.{IsCardOf, each_flat, each_itself, own_cards}
 use Rattle.model_calls.proofs.Fitting.{contains_cons, contains_unique}
-use Rattle.model_calls.proofs.Lists.{contains_map}
+use Rattle.network.proofs.Lists.{contains_map}
 use Rattle.model_calls.proofs.MainNames.{contains_flat, main_actual}
 use Rattle.model_calls.proofs.Sums.{sum_same}
 

@@ -13,7 +13,7 @@ use Rattle.graph_order.specs.Components.{AreComponents, IsJoined}
 use Rattle.graph_order.specs.Orders.{IsSuccessor, LeadsOn, more as leads_more, step as leads_step, successors}
 use Rattle.model_calls.proofs.CallNumbers.{known_at}
 use Rattle.model_calls.proofs.FormalReports.{callees_count, calls_at, calls_count}
-use Rattle.model_calls.proofs.Lists.{get_map, get_of_map, get_take}
+use Rattle.network.proofs.Lists.{get_map, get_of_map, get_take}
 use Rattle.model_calls.proofs.MainNames.{contains_flat}
 use Rattle.model_calls.proofs.Pairs.{contains_to}
 use Rattle.model_calls.proofs.Reports.{none_of_each, reported_of_each}

@@ -6,7 +6,7 @@ use Rattle.std.proofs.lemmas.List.Concat.{flat_map-append}
 use Rattle.std.proofs.lemmas.Option.{slice_get_read, slice_get_within}
 use Rattle.dom_base.proofs.Lists.{slice_get-append}
 use Rattle.graph_order.proofs.Lists.{take_next}
-use Rattle.model_calls.proofs.Lists.{get_map, get_of_map}
+use Rattle.network.proofs.Lists.{get_map, get_of_map}
 use Rattle.model_calls.specs.declared.report.Report.{Report}
 use Rattle.model_calls.specs.Refusals.{IsReported}
 use Rattle.model_calls.specs.Reports.{IsReport, NoneHolds}

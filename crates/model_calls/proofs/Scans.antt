@@ -10,7 +10,7 @@ use Rattle.std.proofs.lemmas.Option.{slice_get_within}
 use Rattle.blif_ast.specs.Cards.{same}
 use Rattle.dom_base.proofs.Lists.{Contains-slice_get, slice_get-append, slice_get-push, slice_get-push_cases}
 use Rattle.graph_order.proofs.Lists.{take_get, take_next}
-use Rattle.model_calls.proofs.Lists.{count_twice}
+use Rattle.network.proofs.Lists.{count_twice}
 use Rattle.model_calls.proofs.Reports.{none_of_each, reported_of_each}
 use Rattle.model_calls.specs.declared.report.Report.{Report}
 use Rattle.model_calls.specs.Reports.{IsReport}

@@ -16,7 +16,7 @@ use Rattle.indexmap.specs.IndexSet.{insert_key}
 use Rattle.model_calls.proofs.Apart.{Apart}
 use Rattle.model_calls.proofs.EachPart.{each_itself}
 use Rattle.model_calls.proofs.Fitting.{contains_cons}
-use Rattle.model_calls.proofs.Lists.{drop_next}
+use Rattle.network.proofs.Lists.{drop_next}
 
 or_swap : (a b : Bool) → (a || b) ≡ (b || a)
 or_swap true true = refl

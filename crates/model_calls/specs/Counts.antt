@@ -7,7 +7,7 @@ use Rattle.blif_ast.specs.BlifFileData.{BlifFileData}
 use Rattle.blif_ast.specs.TableData.{TableData}
 use Rattle.model_calls.specs.declared.fault.Limit.{Limit}
 use Rattle.model_calls.specs.declared.fault.Limit.TheVariants.{Signals, Instances, Letters, Sinks}
-use Rattle.model_calls.specs.Limits.{most_signals, most_instances, most_letters, most_sinks, letters}
+use Rattle.network.specs.Limits.{most_signals, most_instances, most_letters, most_sinks, letters}
 use Rattle.model_calls.specs.Occurrences.{Occurrence, main_model, names_of, occurrences}
 
 -- the pairs of a path and a name of its model

@@ -5,7 +5,6 @@ pub mod Expanded
 pub mod First
 pub mod Formals
 pub mod Kinds
-pub mod Limits
 pub mod LinedCards
 pub mod ModelFaults
 pub mod ModelCalls

@@ -21,8 +21,8 @@ use Rattle.part_numbers.specs.PartCards.{card_edge, edge_of}
 use Rattle.model_calls.specs.Refusals.{IsOfKind}
 use Rattle.model_calls.specs.SignalFaults.{IsOther, IsOtherControl}
 use Rattle.model_calls.specs.Signals.{Signal, signal_of}
-use Rattle.model_calls.proofs.IndexedLists.{index_of, take_get}
-use Rattle.model_calls.proofs.Lists.{get_take}
+use Rattle.network.proofs.IndexedLists.{index_of, take_get}
+use Rattle.network.proofs.Lists.{get_take}
 use Rattle.part_numbers.proofs.NumberedEnds.{part_at, placed_at}
 use Rattle.net_flatten.proofs.Splits.{first_behind, kept_from, kept_split}
 

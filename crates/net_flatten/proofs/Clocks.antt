@@ -13,7 +13,7 @@ use Rattle.net_flatten.specs.ClockSearches.{IsClockOf, IsClockedAt, differs_from
 use Rattle.part_numbers.specs.NumberedFiles.{NumberedPartData}
 use Rattle.part_numbers.specs.PartCards.{edge_of}
 use Rattle.model_calls.proofs.Fitting.{contains_cons}
-use Rattle.model_calls.proofs.IndexedLists.{take_next}
+use Rattle.network.proofs.IndexedLists.{take_next}
 
 pub same_edges : (a b : Edge2) → not (same_edge a b) ≡ false → a ≡ b
 same_edges Rising Rising e = refl

@@ -20,12 +20,11 @@ use Rattle.part_numbers.specs.PartCards.{card_control}
 use Rattle.model_calls.specs.Refusals.{IsOfKind, IsReported}
 use Rattle.model_calls.specs.SignalFaults.{IsAtControl, ends_but_inputs, part_ends, signals}
 use Rattle.model_calls.specs.Signals.{Signal}
-use Rattle.model_calls.proofs.Apart.{each_place}
 use Rattle.net_flatten.proofs.ClockFaults.{clockings_of_parts, control_alike, control_end, control_of_number, kept_twice, number_of_control}
 use Rattle.model_calls.proofs.EachPart.{each_flat}
 use Rattle.model_calls.proofs.Fitting.{contains_cons}
-use Rattle.model_calls.proofs.IndexedLists.{split_at, take_get}
-use Rattle.model_calls.proofs.Lists.{get_map, get_of_map}
+use Rattle.network.proofs.IndexedLists.{split_at, take_get}
+use Rattle.network.proofs.Lists.{get_map, get_of_map, each_place}
 use Rattle.part_numbers.proofs.NumberedEnds.{Number, Number-append, drives_number, number_there, outputs_number, part_at, placed_at, reads_number}
 use Rattle.net_flatten.proofs.Splits.{first_by_itself, flat_split, kept_from, kept_split}
 

@@ -19,11 +19,10 @@ use Rattle.model_calls.specs.Reaches.{Reaches, more as onward, step as one}
 use Rattle.model_calls.specs.Refusals.{IsOfKind}
 use Rattle.model_calls.specs.SignalFaults.{IsFedBy, IsOnCycle}
 use Rattle.model_calls.specs.Signals.{Signal}
-use Rattle.model_calls.proofs.Apart.{each_place}
 use Rattle.net_flatten.proofs.ClockFaults.{kept_contains}
 use Rattle.net_flatten.proofs.DriverFaults.{none_again}
-use Rattle.model_calls.proofs.IndexedLists.{index_of, take_get}
-use Rattle.model_calls.proofs.Lists.{get_map, get_take}
+use Rattle.network.proofs.IndexedLists.{index_of, take_get}
+use Rattle.network.proofs.Lists.{get_map, get_take, each_place}
 use Rattle.part_numbers.proofs.NumberedEnds.{Number, drives_number, number_at, part_at, placed_at, reads_number, signal_at}
 use Rattle.net_flatten.proofs.Splits.{first_by_itself, kept_from, kept_split}
 use Rattle.net_flatten.proofs.TablesAlike.{part_of_table, reads_of_table, table_alike, table_of_part}

@@ -9,7 +9,7 @@ use Rattle.graph_order.specs.Orders.{successors}
 use Rattle.net_flatten.specs.Dependences.{AreDependences, AreDrivenOnce, is_table}
 use Rattle.part_numbers.specs.NumberedFiles.{NumberedPartData}
 use Rattle.model_calls.proofs.Fitting.{contains_cons}
-use Rattle.model_calls.proofs.IndexedLists.{index_of, take_get, take_next}
+use Rattle.network.proofs.IndexedLists.{index_of, take_get, take_next}
 
 no_successors : (n a : ℕ) → successors (replicate n []) a ≡ []
 no_successors zero a = refl

@@ -20,11 +20,10 @@ use Rattle.model_calls.specs.Occurrences.{main_model}
 use Rattle.model_calls.specs.Refusals.{IsOfKind}
 use Rattle.model_calls.specs.SignalFaults.{IsDrivenTwice, IsUndriven, signals}
 use Rattle.model_calls.specs.Signals.{Signal}
-use Rattle.model_calls.proofs.Apart.{each_place}
 use Rattle.model_calls.proofs.EachPart.{each_flat}
 use Rattle.model_calls.proofs.Firsts.{none_holds}
-use Rattle.model_calls.proofs.IndexedLists.{split_at, take_get}
-use Rattle.model_calls.proofs.Lists.{get_map, get_of_map}
+use Rattle.network.proofs.IndexedLists.{split_at, take_get}
+use Rattle.network.proofs.Lists.{get_map, get_of_map, each_place}
 use Rattle.part_numbers.proofs.NumberedEnds.{Number, driven_number, drives_number, number_at, number_there, outputs_number, part_at, placed_at, reads_number, signal_at, signal_there}
 use Rattle.net_flatten.proofs.NumberedSearches.{HoldsOfNoneBefore}
 use Rattle.net_flatten.proofs.Splits.{first_by_itself, flat_split}

@@ -13,20 +13,20 @@ use Rattle.blif_ast.specs.BlifFileData.{BlifFileData}
 use Rattle.blif_ast.specs.Cards.{same}
 use Rattle.blif_ast.specs.TableData.{TableData}
 use Rattle.blif_ast.specs.Good.{IsGoodFile, IsGoodName, IsGoodTable}
-use Rattle.net_flatten.specs.declared.network.NetLatch.{NetLatch}
+use Rattle.network.specs.declared.network.NetLatch.{NetLatch}
 use Rattle.model_calls.specs.Ends.{controls, inputs_of, next_of, output_of, state_of}
 use Rattle.model_calls.specs.Expanded.{LatchPart, PlacedPart, PlacedTable, TablePart, expanded, part_latch, latches, part_table, tables}
 use Rattle.net_flatten.specs.Flattening.{IsNetworkOf, LatchBySignals, TableBySignals, numbered_latch, numbered_table, placed_latch, placed_table}
 use Rattle.model_calls.specs.Counts.{letter_count}
-use Rattle.model_calls.specs.Limits.{letters, most_signals}
-use Rattle.net_flatten.specs.NetworkData.{NetTableData, NetworkData}
-use Rattle.net_flatten.specs.Networks.{IsNetTable, IsNetwork, first_table}
+use Rattle.network.specs.Limits.{letters, most_signals}
+use Rattle.network.specs.NetworkData.{NetTableData, NetworkData}
+use Rattle.network.specs.Networks.{IsNetTable, IsNetwork, first_table}
 use Rattle.model_calls.specs.Numbering.{IsLevelling, by_level, is_control_name, letters_w, name_by_number, names_by_number, pins, signals_by_number}
 use Rattle.model_calls.specs.Occurrences.{Occurrence, actuals_of, main_model, names_of_latch, names_of_table, occurrences}
 use Rattle.model_calls.specs.Signals.{Signal, signal_of}
-use Rattle.model_calls.proofs.Apart.{Apart, apart_from_places, each_in_order, each_place}
+use Rattle.model_calls.proofs.Apart.{Apart, apart_from_places, each_in_order}
 use Rattle.model_calls.proofs.Drivers.{driven, each_latch, each_table, numbered_apart, output_once}
-use Rattle.model_calls.proofs.Lists.{each_le_greatest}
+use Rattle.network.proofs.Lists.{each_le_greatest, each_place}
 use Rattle.model_calls.proofs.Sums.{part_weight, parts_weigh, place_weight, sum_same}
 use Rattle.model_calls.proofs.Fitting.{fits}
 use Rattle.model_calls.proofs.Pairs.{count_pairs, input_in_pairs, parts_in_pairs}

@@ -11,8 +11,8 @@ use Rattle.graph_order.specs.Orders.{IsOrder, successors}
 use Rattle.net_flatten.specs.Dependences.{level_at}
 use Rattle.net_flatten.specs.LevelSteps.{AreLevelsSoFar, level_by}
 use Rattle.model_calls.proofs.Fitting.{contains_cons}
-use Rattle.model_calls.proofs.IndexedLists.{index_of, take_get, take_next}
-use Rattle.model_calls.proofs.Lists.{get_take, map_same}
+use Rattle.network.proofs.IndexedLists.{index_of, take_get, take_next}
+use Rattle.network.proofs.Lists.{get_take, map_same}
 
 all_zero : (n k : ℕ) → level_at (replicate n 0) k ≡ 0
 all_zero zero k = refl

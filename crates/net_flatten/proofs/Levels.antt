@@ -14,9 +14,9 @@ use Rattle.model_calls.specs.Refusal.{Refusal}
 use Rattle.model_calls.specs.Refusals.{HasRefusal}
 use Rattle.model_calls.specs.SignalFaults.{signals}
 use Rattle.model_calls.specs.Signals.{Signal, signal_of}
-use Rattle.model_calls.proofs.Apart.{each_place, in_order_same}
+use Rattle.model_calls.proofs.Apart.{in_order_same}
 use Rattle.model_calls.proofs.Drivers.{driven, driver_cases, each_table, part_is_driven, readers_driven}
-use Rattle.model_calls.proofs.Lists.{each_le_greatest, each_of_flat, map_same}
+use Rattle.network.proofs.Lists.{each_le_greatest, each_of_flat, map_same, each_place}
 
 -- the level of what a part drives
 abbrev LevelOf : (Signal → ℕ) → PlacedPart → Type 0

@@ -16,8 +16,8 @@ use Rattle.part_numbers.specs.NumberedFiles.{NumberedPartData}
 use Rattle.net_flatten.specs.TableNumbers.{driven_by_tables, tables_among}
 use Rattle.model_calls.proofs.EachPart.{each_itself}
 use Rattle.model_calls.proofs.Fitting.{contains_cons}
-use Rattle.model_calls.proofs.IndexedLists.{index_of}
-use Rattle.model_calls.proofs.Lists.{contains_map, get_map}
+use Rattle.network.proofs.IndexedLists.{index_of}
+use Rattle.network.proofs.Lists.{contains_map, get_map}
 
 -- what stands in a filtered list stands in the list, and passes the test
 pub contains_filter : {X : Type 0} (test : X → Bool) (xs : List X) (x : X) → Contains (filter test xs) x → (test x ≡ true) × Contains xs x

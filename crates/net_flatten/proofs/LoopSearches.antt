@@ -11,8 +11,8 @@ use Rattle.net_flatten.specs.FoundFirst.{HoldsOfNone}
 use Rattle.net_flatten.specs.Loops.{IsOnLoop}
 use Rattle.part_numbers.specs.NumberedFaults.{IsPartWithin}
 use Rattle.part_numbers.specs.NumberedFiles.{NumberedPartData}
-use Rattle.model_calls.proofs.Apart.{each_place}
-use Rattle.model_calls.proofs.IndexedLists.{index_of}
+use Rattle.network.proofs.IndexedLists.{index_of}
+use Rattle.network.proofs.Lists.{each_place}
 
 module _ (signals : ℕ) (parts : List NumberedPartData) (within : All (IsPartWithin signals) parts) (nodes : List (List ℕ)) (d : AreDependences signals parts nodes) where
   -- an order of all nodes leaves none on a loop

@@ -8,7 +8,7 @@ use Rattle.model_calls.specs.declared.fault.FlatKind.TheVariants.{DrivenTwice}
 use Rattle.net_flatten.specs.Dependences.{AreTableLevels}
 use Rattle.model_calls.specs.Ends.{output_of}
 use Rattle.net_flatten.specs.Flattening.{IsNetworkOf}
-use Rattle.net_flatten.specs.NetworkData.{NetworkData}
+use Rattle.network.specs.NetworkData.{NetworkData}
 use Rattle.net_flatten.specs.NetworkNames.{AreNetworkNames}
 use Rattle.net_flatten.specs.NetworkNumbers.{IsRenumbering, latches_among, pin_numbers}
 use Rattle.net_flatten.specs.NetworkParts.{latch_in_network, network_place, table_in_network}
@@ -18,7 +18,6 @@ use Rattle.model_calls.specs.Occurrences.{main_model, names_of}
 use Rattle.model_calls.specs.Refusal.{Refusal, At}
 use Rattle.model_calls.specs.Refusals.{HasRefusal}
 use Rattle.model_calls.specs.Signals.{Signal, signal_of}
-use Rattle.model_calls.proofs.Apart.{each_place}
 use Rattle.model_calls.proofs.Drivers.{numbered_apart}
 use Rattle.model_calls.proofs.Fitting.{fits}
 use Rattle.net_flatten.proofs.Kept.{same_length}
@@ -27,6 +26,7 @@ use Rattle.net_flatten.proofs.NetworkNames.{least_of_unique, names_by_signals}
 use Rattle.net_flatten.proofs.NetworkOrder.{IsControlNumber, network_numbers, network_signals, numbers_stand, ordered, pins_alike}
 use Rattle.net_flatten.proofs.NetworkParts.{latches_stand, outputs_stand, tables_stand}
 use Rattle.part_numbers.proofs.NumberedEnds.{numbers_within, signal_at}
+use Rattle.network.proofs.Lists.{each_place}
 
 module _ {f : BlifFileData} {all : List Signal} {n : NumberedFileData} (is : IsNumberedFile f all n) (control : Option ℕ) (known : IsControlNumber is control) (levels : List ℕ)
     (accepted : (r : Refusal) → HasRefusal f r → ⊥) where

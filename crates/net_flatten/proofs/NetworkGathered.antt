@@ -12,7 +12,7 @@ use Rattle.net_flatten.specs.declared.table_order.LevelledTable.{LevelledTable}
 use Rattle.net_flatten.specs.ClockSearches.{IsControlFound}
 use Rattle.net_flatten.specs.Dependences.{AreTableLevels, level_at}
 use Rattle.net_flatten.specs.Flattening.{IsNetworkOf}
-use Rattle.net_flatten.specs.NetworkData.{NetworkData}
+use Rattle.network.specs.NetworkData.{NetworkData}
 use Rattle.net_flatten.specs.NetworkNames.{AreNetworkNames}
 use Rattle.net_flatten.specs.NetworkNumbers.{IsRenumbering, latches_among, pin_numbers}
 use Rattle.net_flatten.specs.NetworkParts.{latch_in_network, levelled_in_network, network_place, table_in_network}

@@ -18,10 +18,9 @@ use Rattle.model_calls.specs.Refusals.{IsOfKind}
 use Rattle.model_calls.specs.SignalFaults.{signals}
 use Rattle.model_calls.specs.Signals.{Signal}
 use Rattle.net_flatten.specs.TableNumbers.{tables_among}
-use Rattle.model_calls.proofs.Apart.{each_place}
 use Rattle.net_flatten.proofs.CycleFaults.{driven_once}
 use Rattle.net_flatten.proofs.DriverFaults.{none_again}
-use Rattle.model_calls.proofs.Lists.{get_map}
+use Rattle.network.proofs.Lists.{get_map, each_place}
 use Rattle.net_flatten.proofs.NumberOfSignal.{number_is, number_of}
 use Rattle.part_numbers.proofs.NumberedEnds.{Number, drives_number, inputs_number, placed_at, reads_number, signal_at}
 use Rattle.net_flatten.proofs.OrderedAlike.{filter_kept, in_order_alike, kept_alike, map_alike}

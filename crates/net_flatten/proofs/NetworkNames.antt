@@ -19,7 +19,7 @@ use Rattle.net_flatten.specs.NetworkNames.{IsNoLongerTaking, IsTakenWidth, Marks
 use Rattle.model_calls.specs.Numbering.{IsDecimalDigit, IsFreePrefix, IsLeastPrefixAmong, IsPrefixedNumber, is_main, letters_w, name_by_number, names_by_number}
 use Rattle.model_calls.specs.Signals.{Signal, signal_of}
 use Rattle.model_calls.proofs.Fitting.{contains_cons, contains_unique}
-use Rattle.model_calls.proofs.IndexedLists.{get_left, get_set, take_next}
+use Rattle.network.proofs.IndexedLists.{get_left, get_set, take_next}
 use Rattle.model_calls.proofs.UniqueNames.{position_cons}
 
 -- a byte that is no `w`

@@ -29,13 +29,12 @@ use Rattle.model_calls.specs.Refusals.{HasRefusal}
 use Rattle.model_calls.specs.SignalFaults.{IsAtControl, ends_but_inputs, part_ends, signals}
 use Rattle.model_calls.specs.Signals.{Signal, signal_of}
 use Rattle.net_flatten.specs.TableNumbers.{tables_among}
-use Rattle.model_calls.proofs.Apart.{each_place}
 use Rattle.net_flatten.proofs.ClockFaults.{kept_contains}
 use Rattle.net_flatten.proofs.ControlFaults.{first_control, no_first_control}
 use Rattle.model_calls.proofs.Drivers.{driven, driver_cases, readers_driven}
 use Rattle.model_calls.proofs.EachPart.{each_flat}
 use Rattle.model_calls.proofs.Firsts.{none_holds}
-use Rattle.model_calls.proofs.Lists.{contains_map}
+use Rattle.network.proofs.Lists.{contains_map, each_place}
 use Rattle.model_calls.proofs.MainNames.{contains_flat}
 use Rattle.net_flatten.proofs.NetworkLevels.{latch_drives, latches_alike, level_of, ordered_alike, table_drives}
 use Rattle.part_numbers.proofs.NumberedEnds.{Number, Number-append, number_at, number_there, outputs_number, part_at, reads_number}

@@ -4,13 +4,13 @@ use Rattle.std.specs.Prelude.{◌==◌, Contains, IsSome, option_and_then, optio
 use Rattle.std.specs.List.{AllByRecursion}
 use Rattle.dom_base.proofs.Lists.{AllByRecursion-every, AllByRecursion-kept, AllByRecursion-weaker, Contains-first, slice_get-contained}
 use Rattle.blif_ast.specs.BlifFileData.{BlifFileData}
-use Rattle.net_flatten.specs.declared.network.NetLatch.{NetLatch}
+use Rattle.network.specs.declared.network.NetLatch.{NetLatch}
 use Rattle.net_flatten.specs.declared.table_order.LevelledTable.{LevelledTable}
 use Rattle.net_flatten.specs.Dependences.{is_table, level_at}
 use Rattle.model_calls.specs.Ends.{End, end_at, next_of, read_ends}
 use Rattle.model_calls.specs.Expanded.{LatchPart, PlacedLatch, PlacedPart, PlacedTable, TablePart, latches, tables}
 use Rattle.net_flatten.specs.Flattening.{numbered_latch, numbered_table, placed_latch, placed_table}
-use Rattle.net_flatten.specs.NetworkData.{NetTableData}
+use Rattle.network.specs.NetworkData.{NetTableData}
 use Rattle.net_flatten.specs.NetworkNumbers.{IsRenumbering, latches_among}
 use Rattle.net_flatten.specs.NetworkParts.{latch_by_card, latch_in_network, levelled_in_network, network_place, table_by_card, table_in_network}
 use Rattle.part_numbers.specs.NumberedFiles.{IsNumberedFile, NumberedFileData, NumberedPartData, PartBySignals, card_at, card_of_part, model_at, numbered_part, placed_part}
@@ -24,7 +24,7 @@ use Rattle.net_flatten.specs.TableNumbers.{tables_among}
 use Rattle.model_calls.proofs.Apart.{each_in_order}
 use Rattle.model_calls.proofs.EachPart.{each_itself}
 use Rattle.net_flatten.proofs.Kept.{same_each}
-use Rattle.model_calls.proofs.Lists.{map_same}
+use Rattle.network.proofs.Lists.{map_same}
 use Rattle.net_flatten.proofs.NetworkLevels.{Alike, latches_alike, ordered_alike, table_reads, tables_alike}
 use Rattle.net_flatten.proofs.NetworkOrder.{IsControlNumber, network_numbers, network_signals, numbers_stand, ordered, ordered_tables, output_stands, reads_stand}
 use Rattle.part_numbers.proofs.NumberedEnds.{Number, number_at, reads_number}

@@ -6,14 +6,14 @@ use Rattle.std.proofs.lemmas.List.Elements.{All-contains}
 use Rattle.std.proofs.lemmas.Option.{slice_get_within}
 use Rattle.dom_base.proofs.Lists.{All-at, Contains-slice_get, map-push}
 use Rattle.blif_ast.specs.BlifFileData.{BlifFileData}
-use Rattle.net_flatten.specs.declared.network.NetLatch.{NetLatch}
+use Rattle.network.specs.declared.network.NetLatch.{NetLatch}
 use Rattle.net_flatten.specs.declared.table_order.LevelledTable.{LevelledTable}
 use Rattle.net_flatten.specs.Dependences.{is_table}
-use Rattle.net_flatten.specs.NetworkData.{NetTableData}
+use Rattle.network.specs.NetworkData.{NetTableData}
 use Rattle.net_flatten.specs.NetworkNumbers.{latches_among}
 use Rattle.net_flatten.specs.NetworkParts.{latch_in_network, levelled_in_network, table_in_network}
 use Rattle.part_numbers.specs.NumberedFiles.{NumberedPartData}
-use Rattle.model_calls.proofs.IndexedLists.{take_next}
+use Rattle.network.proofs.IndexedLists.{take_next}
 use Rattle.net_flatten.proofs.NetworkOrder.{contains_kept}
 use Rattle.net_flatten.proofs.TableNumbers.{filter-append}
 

@@ -10,7 +10,7 @@ use Rattle.net_flatten.specs.FoundFirst.{HoldsOfNone, IsFirstAt}
 use Rattle.model_calls.specs.NumberSets.{IsSetOf}
 use Rattle.part_numbers.specs.NumberedFaults.{IsDrivenAgain, driven_by}
 use Rattle.part_numbers.specs.NumberedFiles.{NumberedPartData}
-use Rattle.model_calls.proofs.IndexedLists.{take_next}
+use Rattle.network.proofs.IndexedLists.{take_next}
 use Rattle.model_calls.proofs.NumberSets.{set_with}
 
 -- this holds of no element before an index

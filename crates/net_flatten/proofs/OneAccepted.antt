@@ -12,11 +12,11 @@ use Rattle.blif_ast.specs.BlifModelData.{BlifModelData}
 use Rattle.blif_ast.specs.declared.latch.Latch.{Latch}
 use Rattle.blif_ast.specs.InstanceData.{InstanceData}
 use Rattle.blif_ast.specs.TableData.{TableData}
-use Rattle.net_flatten.specs.declared.network.NetLatch.{NetLatch}
+use Rattle.network.specs.declared.network.NetLatch.{NetLatch}
 use Rattle.model_calls.specs.Ends.{End, clocking_of, clockings, drivers, driven_end, end_at, inputs_of, main_inputs, main_outputs, output_of, readers, read_ends, state_of}
 use Rattle.model_calls.specs.Expanded.{BodyCard, LatchCard, LatchPart, PlacedPart, PlacedLatch, PlacedTable, TableCard, TablePart, ordered_cards, expanded, expanded_from, part_latch, latches, card_line, parts_of_card, part_table, tables}
-use Rattle.net_flatten.specs.NetworkData.{NetTableData, NetworkData}
-use Rattle.net_flatten.specs.Networks.{IsNetwork, first_table}
+use Rattle.network.specs.NetworkData.{NetTableData, NetworkData}
+use Rattle.network.specs.Networks.{IsNetwork, first_table}
 use Rattle.net_flatten.specs.OneModel.{file_of, latch_at, name_at, table_at}
 use Rattle.model_calls.specs.Ordered.{in_order, with_element}
 use Rattle.model_calls.specs.Occurrences.{main_model, models_called}
@@ -27,7 +27,7 @@ use Rattle.model_calls.proofs.Apart.{Apart, Apart-append}
 use Rattle.model_calls.proofs.Drivers.{driven}
 use Rattle.net_flatten.specs.OneModelParts.{IsTableHere, latches_here, signal_at, tables_here}
 use Rattle.net_flatten.proofs.OneModel.{latch_lines, name_once, table_lines, table_number}
-use Rattle.model_calls.proofs.Lists.{contains_map}
+use Rattle.network.proofs.Lists.{contains_map}
 use Rattle.model_calls.proofs.EachPart.{each_flat}
 use Rattle.model_calls.proofs.Pairs.{contains_to}
 use Rattle.part_numbers.proofs.Ranges.{each_enumerated, enumerated_row, map_map, row_apart, row_bounds, row_contains, take_by_row}

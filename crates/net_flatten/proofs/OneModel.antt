@@ -11,9 +11,9 @@ use Rattle.blif_ast.specs.Cards.{same}
 use Rattle.blif_ast.specs.Good.{IsGoodFile, IsGoodInstance, IsGoodLatch, IsGoodModel, IsGoodName, IsGoodTable, part_lines}
 use Rattle.blif_ast.specs.declared.latch.Latch.{Latch}
 use Rattle.blif_ast.specs.TableData.{TableData}
-use Rattle.net_flatten.specs.declared.network.NetLatch.{NetLatch}
-use Rattle.net_flatten.specs.NetworkData.{NetTableData, NetworkData}
-use Rattle.net_flatten.specs.Networks.{IsNetwork, first_table}
+use Rattle.network.specs.declared.network.NetLatch.{NetLatch}
+use Rattle.network.specs.NetworkData.{NetTableData, NetworkData}
+use Rattle.network.specs.Networks.{IsNetwork, first_table}
 use Rattle.net_flatten.specs.OneModel.{file_of, latch_at, name_at, table_at}
 use Rattle.model_calls.specs.Occurrences.{main_model}
 use Rattle.model_calls.proofs.Apart.{Apart, Apart-append, place_once}

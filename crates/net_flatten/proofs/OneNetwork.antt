@@ -2,11 +2,11 @@
 use Rattle.std.proofs.Common.{◌≡◌, ℕ, List, [], ◌∷◌, map, Some, refl, ap, sym, ◌∙◌, subst, arith}
 use Rattle.std.specs.Prelude.{slice_get}
 use Rattle.blif_ast.specs.BlifFileData.{BlifFileData}
-use Rattle.net_flatten.specs.declared.network.NetLatch.{NetLatch}
+use Rattle.network.specs.declared.network.NetLatch.{NetLatch}
 use Rattle.model_calls.specs.Ends.{inputs_of, next_of, output_of}
 use Rattle.model_calls.specs.Expanded.{PlacedLatch, PlacedTable, latches}
 use Rattle.net_flatten.specs.Flattening.{IsNetworkBy, IsNetworkOf, LatchBySignals, TableBySignals, numbered_latch, numbered_table, placed_latch, placed_table}
-use Rattle.net_flatten.specs.NetworkData.{NetTableData, NetworkData}
+use Rattle.network.specs.NetworkData.{NetTableData, NetworkData}
 use Rattle.model_calls.specs.Numbering.{by_level, letters_w, names_by_number, signals_by_number}
 use Rattle.model_calls.specs.Occurrences.{main_model}
 use Rattle.model_calls.specs.Signals.{Signal, signal_of}

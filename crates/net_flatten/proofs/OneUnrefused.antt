@@ -15,14 +15,14 @@ use Rattle.blif_ast.specs.BlifModelData.{BlifModelData}
 use Rattle.blif_ast.specs.Cards.{same}
 use Rattle.blif_ast.specs.TableData.{TableData}
 use Rattle.model_calls.specs.declared.fault.FlatKind.TheVariants.{DuplicateModel, DuplicatePort, UnknownModel, BadFormal, Recursion, DrivenTwice, Undriven, Cycle, TwoControls, ControlUsed}
-use Rattle.net_flatten.specs.declared.network.NetLatch.{NetLatch}
+use Rattle.network.specs.declared.network.NetLatch.{NetLatch}
 use Rattle.model_calls.specs.Counts.{Counted, counts, instance_count, letter_count, signal_count, sink_count}
 use Rattle.model_calls.specs.Ends.{Clocking, End, controls, drivers, driven_end, main_inputs, readers}
 use Rattle.model_calls.specs.Expanded.{expanded, tables}
-use Rattle.model_calls.specs.Limits.{letters, most_instances, most_letters, most_signals, most_sinks}
+use Rattle.network.specs.Limits.{letters, most_instances, most_letters, most_signals, most_sinks}
 use Rattle.model_calls.specs.ModelFaults.{Port, ports, ports_in, IsTwiceIn}
-use Rattle.net_flatten.specs.NetworkData.{NetTableData, NetworkData}
-use Rattle.net_flatten.specs.Networks.{IsNetwork, first_table}
+use Rattle.network.specs.NetworkData.{NetTableData, NetworkData}
+use Rattle.network.specs.Networks.{IsNetwork, first_table}
 use Rattle.net_flatten.specs.OneModel.{file_of, latch_at, name_at, table_at}
 use Rattle.model_calls.specs.Occurrences.{main_model, names_of, names_of_latch, names_of_table}
 use Rattle.model_calls.specs.Refusal.{Refusal, At, TooMany}

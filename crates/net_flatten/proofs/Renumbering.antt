@@ -6,7 +6,7 @@ use Rattle.std.proofs.lemmas.List.{get_or-set_other, get_or-set_same, length-rep
 use Rattle.std.proofs.lemmas.List.Elements.{Contains-append_cases}
 use Rattle.net_flatten.specs.NetworkNumbers.{IsRenumbering}
 use Rattle.model_calls.proofs.Fitting.{contains_cons}
-use Rattle.model_calls.proofs.IndexedLists.{take_next}
+use Rattle.network.proofs.IndexedLists.{take_next}
 
 -- the numbers before an index have places in the list
 pub record IsRenumberingSoFar (signals : ℕ) (numbers : List ℕ) (index : ℕ) (places : List ℕ) : Type 0 where

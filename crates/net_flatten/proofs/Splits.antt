@@ -4,7 +4,7 @@ use Rattle.std.specs.Prelude.{slice_get}
 use Rattle.std.specs.List.{AllByRecursion, cons_option, filter_map, flat_map}
 use Rattle.dom_base.proofs.Lists.{AllByRecursion-contains, Contains-slice_get}
 use Rattle.model_calls.specs.First.{IsFirst}
-use Rattle.model_calls.proofs.IndexedLists.{split_at}
+use Rattle.network.proofs.IndexedLists.{split_at}
 
 module _ {X : Type 0} where
   get_seam : (before after : List X) (x : X) → slice_get (before ++ x ∷ after) (length before) ≡ Some x

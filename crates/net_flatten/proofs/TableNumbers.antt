@@ -6,7 +6,7 @@ use Rattle.net_flatten.specs.Dependences.{is_table}
 use Rattle.model_calls.specs.NumberSets.{IsSetOf}
 use Rattle.part_numbers.specs.NumberedFiles.{NumberedPartData}
 use Rattle.net_flatten.specs.TableNumbers.{driven_by_tables, tables_among}
-use Rattle.model_calls.proofs.IndexedLists.{take_next}
+use Rattle.network.proofs.IndexedLists.{take_next}
 use Rattle.model_calls.proofs.NumberSets.{set_with}
 
 pub filter-append : {X : Type 0} (test : X → Bool) (xs ys : List X) → filter test (xs ++ ys) ≡ filter test xs ++ filter test ys

@@ -4,7 +4,7 @@ use Rattle.std.specs.Prelude.{slice_get}
 use Rattle.dom_base.proofs.Lists.{map-push}
 use Rattle.net_flatten.specs.declared.table_order.LevelledTable.{LevelledTable}
 use Rattle.part_numbers.specs.NumberedFiles.{NumberedPartData}
-use Rattle.model_calls.proofs.IndexedLists.{take_next}
+use Rattle.network.proofs.IndexedLists.{take_next}
 use Rattle.net_flatten.proofs.SnocLists.{last_image}
 
 -- what these tables drive was appended

@@ -6,7 +6,7 @@ use Rattle.std.proofs.lemmas.Grind.{flat_map-append}
 use Rattle.std.proofs.lemmas.Option.{same_Some, slice_get-get_or}
 use Rattle.blif_ast.specs.Printed.{latch_words, model_lines, ports_card, printed, printed_line, table_lines}
 use Rattle.blif_ast.proofs.FileLines.{model_end}
-use Rattle.net_flatten.specs.NetworkData.{NetworkData}
+use Rattle.network.specs.NetworkData.{NetworkData}
 use Rattle.model_calls.specs.Occurrences.{main_model}
 use Rattle.net_flatten.specs.OneModel.{file_of, name_at}
 use Rattle.net_flatten.specs.OneModelParts.{latches_here, tables_here}

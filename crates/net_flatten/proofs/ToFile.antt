@@ -7,8 +7,8 @@ use Rattle.std.proofs.lemmas.List.FromFn.{get_or-enumerate_from, length-enumerat
 use Rattle.std.proofs.lemmas.Option.{same_Some, slice_get-get_or}
 use Rattle.blif_ast.specs.BlifModelData.{BlifModelData}
 use Rattle.blif_ast.specs.Good.{IsGoodFile}
-use Rattle.net_flatten.specs.NetworkData.{NetTableData, NetworkData}
-use Rattle.net_flatten.specs.Networks.{IsNetwork}
+use Rattle.network.specs.NetworkData.{NetTableData, NetworkData}
+use Rattle.network.specs.Networks.{IsNetwork}
 use Rattle.model_calls.specs.Occurrences.{main_model}
 use Rattle.net_flatten.specs.OneModel.{file_of}
 use Rattle.model_calls.specs.Refusal.{Refusal}

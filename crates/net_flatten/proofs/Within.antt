@@ -3,7 +3,7 @@ use Rattle.std.proofs.Common.{◌≡◌, ℕ, ◌<◌, ◌≤◌, ◌-◌, ◌^�
 use Rattle.std.specs.Prelude.{slice_get}
 use Rattle.blif_ast.specs.BlifFileData.{BlifFileData}
 use Rattle.model_calls.specs.Counts.{Counted, IsTooMany, counts, letter_count, signal_count, sink_count}
-use Rattle.model_calls.specs.Limits.{most_letters, most_signals, most_sinks}
+use Rattle.network.specs.Limits.{most_letters, most_signals, most_sinks}
 use Rattle.model_calls.specs.Refusal.{Refusal, TooMany}
 use Rattle.model_calls.specs.Refusals.{HasRefusal}
 use Rattle.model_calls.proofs.Firsts.{none_holds}

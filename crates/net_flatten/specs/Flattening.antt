@@ -2,10 +2,10 @@
 use Rattle.std.specs.Prelude.{ℕ, ◌≡◌, ◌==◌, Bool, List, [], length, map, Option, Some, slice_get}
 use Rattle.blif_ast.specs.declared.letter.Letter.{Letter}
 use Rattle.blif_ast.specs.BlifFileData.{BlifFileData}
-use Rattle.net_flatten.specs.declared.network.NetLatch.{NetLatch}
+use Rattle.network.specs.declared.network.NetLatch.{NetLatch}
 use Rattle.model_calls.specs.Ends.{inputs_of, next_of}
 use Rattle.model_calls.specs.Expanded.{PlacedLatch, PlacedTable, latches}
-use Rattle.net_flatten.specs.NetworkData.{NetTableData, NetworkData}
+use Rattle.network.specs.NetworkData.{NetTableData, NetworkData}
 use Rattle.model_calls.specs.Numbering.{IsLeastPrefix, IsLevelling, by_level, letters_w, names_by_number, pins, signals_by_number}
 use Rattle.model_calls.specs.Occurrences.{main_model}
 use Rattle.model_calls.specs.Refusal.{Refusal}

@@ -10,8 +10,8 @@ use Rattle.blif_ast.specs.Good.{IsGoodFile}
 use Rattle.model_calls.specs.declared.fault.FlatKind.TheVariants.{Recursion}
 use Rattle.model_calls.specs.Expanded.{BodyCard, expanded, expanded_from, card_line}
 use Rattle.net_flatten.specs.Flattening.{IsNetworkOf}
-use Rattle.net_flatten.specs.NetworkData.{NetworkData}
-use Rattle.net_flatten.specs.Networks.{IsNetwork}
+use Rattle.network.specs.NetworkData.{NetworkData}
+use Rattle.network.specs.Networks.{IsNetwork}
 use Rattle.net_flatten.specs.OneModel.{file_of}
 use Rattle.model_calls.specs.Occurrences.{Occurrence, main_model, models_called, occurrences_from, occurrences}
 use Rattle.model_calls.specs.Refusal.{Refusal, At}

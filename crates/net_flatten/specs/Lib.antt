@@ -1,7 +1,5 @@
 pub mod Flattening
 pub mod Laws
-pub mod NetworkData
-pub mod Networks
 pub mod OneModel
 pub mod OneModelParts
 pub mod FoundFirst

@@ -1,10 +1,10 @@
 -- The tables and latches of a network, from those of a file by numbers and the places that the numbers have in the network.
 use Rattle.std.specs.Prelude.{ℕ, ◌==◌, List, map, Option, Some, None, option_and_then, option_map, slice_get, slice_index_or}
 use Rattle.blif_ast.specs.BlifFileData.{BlifFileData}
-use Rattle.net_flatten.specs.declared.network.NetLatch.{NetLatch}
+use Rattle.network.specs.declared.network.NetLatch.{NetLatch}
 use Rattle.net_flatten.specs.declared.table_order.LevelledTable.{LevelledTable}
 use Rattle.model_calls.specs.Expanded.{BodyCard, LatchCard, TableCard}
-use Rattle.net_flatten.specs.NetworkData.{NetTableData}
+use Rattle.network.specs.NetworkData.{NetTableData}
 use Rattle.part_numbers.specs.NumberedFiles.{NumberedPartData, card_at, model_at}
 
 -- the place of a number

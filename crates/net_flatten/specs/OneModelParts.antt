@@ -3,9 +3,9 @@ use Rattle.std.specs.Prelude.{◌≡◌, ℕ, List, [], map, slice_get, Some}
 use Rattle.std.specs.List.{enumerate_from}
 use Rattle.blif_ast.specs.declared.latch.Latch.{Latch}
 use Rattle.blif_ast.specs.TableData.{TableData}
-use Rattle.net_flatten.specs.declared.network.NetLatch.{NetLatch}
+use Rattle.network.specs.declared.network.NetLatch.{NetLatch}
 use Rattle.model_calls.specs.Expanded.{PlacedTable}
-use Rattle.net_flatten.specs.NetworkData.{NetTableData, NetworkData}
+use Rattle.network.specs.NetworkData.{NetTableData, NetworkData}
 use Rattle.net_flatten.specs.OneModel.{latch_at, name_at, table_at}
 use Rattle.model_calls.specs.Signals.{Signal}
 

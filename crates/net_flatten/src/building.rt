@@ -12,13 +12,13 @@ ghost use Rattle.model_calls.specs.Refusal.{Refusal};
 ghost use Rattle.model_calls.specs.Refusals.{HasRefusal};
 
 use crate::clocking::find_control;
-use crate::network::Network;
 use crate::network_names::names_of_network;
 use crate::network_parts::{net_latches, net_tables, places_of};
 use crate::numbering::{add_outputs, add_pins, add_states, renumber};
 use crate::table_order::tables_by_level;
 use blif_ast::BlifFile;
 use dom_base::{Name, OutOfMemory};
+use network::Network;
 use part_numbers::{NumberedFile, NumberedPart, main_model_of};
 use std::alloc::Global;
 

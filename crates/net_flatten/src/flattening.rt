@@ -8,10 +8,10 @@ ghost use Rattle.model_calls.specs.Refusal.{At, TooMany};
 ghost use Rattle.model_calls.specs.Refusals.{IsRefusal};
 
 use crate::building::network_of;
-use crate::network::Network;
 use crate::signal_checks::check_signals;
 use blif_ast::BlifFile;
 use model_calls::{FlatFault, plan_models};
+use network::Network;
 use part_numbers::{check_sizes, first_tables, number_planned_file};
 use std::alloc::Global;
 

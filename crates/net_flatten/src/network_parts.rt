@@ -4,11 +4,11 @@ ghost use Rattle.net_flatten.specs.NetworkNumbers.{latches_among};
 ghost use Rattle.net_flatten.specs.NetworkParts.{latch_in_network, levelled_in_network, network_place, table_in_network};
 ghost use Rattle.part_numbers.specs.NumberedFaults.{IsPartWithin};
 
-use crate::network::{NetLatch, NetTable};
 use crate::table_order::LevelledTable;
 use blif_ast::BlifFile;
 use dom_base::OutOfMemory;
-use part_numbers::{NumberedPart, PartCard, Reads, latch_at, table_at};
+use network::{NetLatch, NetTable, Reads};
+use part_numbers::{NumberedPart, PartCard, latch_at, table_at};
 use std::alloc::Global;
 
 /// The places of some numbers. The one error is want of memory.

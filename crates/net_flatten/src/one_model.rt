@@ -2,16 +2,16 @@
 ghost use Rattle.std.specs.Prelude.{ℕ, ◌≡◌, ◌<◌, All, IfOk, Some, length, map, slice_get, take};
 ghost use Rattle.std.specs.List.{enumerate_from};
 ghost use Rattle.blif_ast.specs.Good.{IsGoodFile};
-ghost use Rattle.net_flatten.specs.declared.network.NetLatch.{NetLatch};
-ghost use Rattle.net_flatten.specs.NetworkData.{NetTableData};
-ghost use Rattle.net_flatten.specs.Networks.{IsNetwork};
+ghost use Rattle.network.specs.declared.network.NetLatch.{NetLatch};
+ghost use Rattle.network.specs.NetworkData.{NetTableData};
+ghost use Rattle.network.specs.Networks.{IsNetwork};
 ghost use Rattle.net_flatten.specs.OneModel.{file_of, latch_at, name_at, table_at};
 ghost use Rattle.model_calls.specs.Refusal.{Refusal};
 ghost use Rattle.model_calls.specs.Refusals.{HasRefusal};
 
-use crate::network::Network;
 use blif_ast::{BlifFile, BlifModel, InputNames, Latch, Row, Rows, Table};
 use dom_base::{Name, OutOfMemory};
+use network::Network;
 use std::alloc::Global;
 
 /// The file of one model that has the network's inputs, outputs, tables in order and untyped latches. It is

@@ -2,14 +2,14 @@
 ghost use Rattle.std.specs.Prelude.{◌≡◌, ◌<◌, ◌++◌, ◌∷◌, [], All, IfOk, OnOk, Some, codes, length, map, slice_get};
 ghost use Rattle.std.specs.List.{flat_map};
 ghost use Rattle.blif_ast.specs.Printed.{printed, printed_line, table_lines};
-ghost use Rattle.net_flatten.specs.NetworkData.{NetTableData};
+ghost use Rattle.network.specs.NetworkData.{NetTableData};
 ghost use Rattle.net_flatten.specs.OneModel.{file_of, name_at, table_at};
 ghost use Rattle.net_flatten.specs.OneModelParts.{tables_here};
 
-use crate::network::Network;
 use crate::one_model::{latches_of, names_of};
 use blif_ast::{Row, end_line, put_head, put_latches, put_ports, put_rows};
 use dom_base::{Name, OutOfMemory, append, append_word};
+use network::Network;
 use std::alloc::Global;
 
 /// The most bytes of a text besides those of its names and rows.

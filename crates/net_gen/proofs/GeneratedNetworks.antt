@@ -11,10 +11,10 @@ use Rattle.std.proofs.lemmas.Option.{get_or_from_slice_get, slice_get_within}
 use Rattle.dom_base.proofs.Lists.{AllByRecursion-append, AllByRecursion-both, AllByRecursion-every, AllByRecursion-map, head_same, tail_same}
 use Rattle.blif_ast.specs.Cards.{same}
 use Rattle.blif_ast.specs.Good.{IsGoodName, IsNameByte}
-use Rattle.net_flatten.specs.declared.network.NetLatch.{NetLatch}
-use Rattle.model_calls.specs.Limits.{letters}
-use Rattle.net_flatten.specs.NetworkData.{NetTableData, NetworkData}
-use Rattle.net_flatten.specs.Networks.{IsNetTable, IsNetwork, first_table}
+use Rattle.network.specs.declared.network.NetLatch.{NetLatch}
+use Rattle.network.specs.Limits.{letters}
+use Rattle.network.specs.NetworkData.{NetTableData, NetworkData}
+use Rattle.network.specs.Networks.{IsNetTable, IsNetwork, first_table}
 use Rattle.model_calls.proofs.Apart.{Across, Apart, Apart-append}
 use Rattle.net_flatten.proofs.NamesKept.{apart_same}
 use Rattle.net_gen.specs.Draws.{drawn}

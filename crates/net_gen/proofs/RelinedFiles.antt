@@ -15,15 +15,15 @@ use Rattle.blif_ast.specs.declared.latch.Latch.{Latch}
 use Rattle.blif_read.specs.ReadsBack.{instance_unlined, latch_unlined, model_unlined, table_unlined}
 use Rattle.model_calls.specs.declared.fault.FlatKind.TheVariants.{DuplicateModel, DuplicatePort, UnknownModel, BadFormal, Recursion, DrivenTwice, Undriven, Cycle, TwoControls, ControlUsed}
 use Rattle.model_calls.specs.declared.fault.Limit.TheVariants.{Signals, Instances, Letters, Sinks}
-use Rattle.net_flatten.specs.declared.network.NetLatch.{NetLatch}
+use Rattle.network.specs.declared.network.NetLatch.{NetLatch}
 use Rattle.model_calls.specs.Counts.{IsTooMany, counts, signal_count}
 use Rattle.model_calls.specs.Ends.{Clocking, End, clocking_of, clockings, controls, driven_end, drivers, end_at, inputs_of, main_inputs, main_outputs, output_of, read_ends, readers}
 use Rattle.model_calls.specs.Expanded.{BodyCard, LatchCard, LatchPart, PlacedLatch, PlacedPart, PlacedTable, TableCard, TablePart, card_line, expanded, expanded_from, latches, part_latch, part_table, parts_of_card, tables}
 use Rattle.model_calls.specs.First.{IsFirst}
-use Rattle.model_calls.specs.Limits.{letters, most_instances, most_letters, most_signals, most_sinks}
+use Rattle.network.specs.Limits.{letters, most_instances, most_letters, most_signals, most_sinks}
 use Rattle.model_calls.specs.ModelFaults.{IsDuplicatePort, Port, ports, ports_in}
-use Rattle.net_flatten.specs.NetworkData.{NetworkData}
-use Rattle.net_flatten.specs.Networks.{IsNetwork}
+use Rattle.network.specs.NetworkData.{NetworkData}
+use Rattle.network.specs.Networks.{IsNetwork}
 use Rattle.model_calls.specs.Occurrences.{main_model, models_called, names_of, names_of_latch, names_of_table}
 use Rattle.net_flatten.specs.OneModel.{file_of, latch_at}
 use Rattle.net_flatten.specs.OneModelParts.{latches_here, tables_here}
@@ -36,7 +36,7 @@ use Rattle.model_calls.proofs.Apart.{Apart}
 use Rattle.model_calls.proofs.Drivers.{driven}
 use Rattle.model_calls.proofs.EachPart.{each_flat, each_itself}
 use Rattle.model_calls.proofs.Firsts.{none_holds}
-use Rattle.model_calls.proofs.Lists.{contains_map, each_of_flat, get_map}
+use Rattle.network.proofs.Lists.{contains_map, each_of_flat, get_map}
 use Rattle.net_flatten.proofs.OneAccepted.{SignalOf, all_read, drivers_apart, expanded_is, no_cycle, tables_are}
 use Rattle.net_flatten.proofs.OneUnrefused.{unrefused, no_earlier_behind}
 use Rattle.model_calls.proofs.Pairs.{contains_to}

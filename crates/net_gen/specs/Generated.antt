@@ -5,8 +5,8 @@ use Rattle.std.specs.List.{range_with_len}
 use Rattle.blif_ast.specs.declared.letter.Letter.{Letter}
 use Rattle.blif_ast.specs.declared.letter.Letter.TheVariants.{Zero, One, Any}
 use Rattle.blif_ast.specs.BlifFileData.{BlifFileData}
-use Rattle.net_flatten.specs.declared.network.NetLatch.{NetLatch}
-use Rattle.net_flatten.specs.NetworkData.{NetTableData, NetworkData}
+use Rattle.network.specs.declared.network.NetLatch.{NetLatch}
+use Rattle.network.specs.NetworkData.{NetTableData, NetworkData}
 use Rattle.net_flatten.specs.OneModel.{file_of}
 use Rattle.net_gen.specs.Draws.{drawn, seed_state, draw_state_after}
 

@@ -5,7 +5,7 @@ use Rattle.blif_ast.specs.Good.{IsGoodFile}
 use Rattle.blif_ast.specs.Printed.{printed}
 use Rattle.blif_ast.specs.Reading.{IsFileOf}
 use Rattle.blif_read.specs.ReadsBack.{unlined}
-use Rattle.net_flatten.specs.Networks.{IsNetwork}
+use Rattle.network.specs.Networks.{IsNetwork}
 use Rattle.model_calls.specs.Refusal.{Refusal}
 use Rattle.model_calls.specs.Refusals.{HasRefusal}
 use Rattle.net_gen.specs.Generated.{generated, generated_network}

@@ -3,7 +3,7 @@ ghost use Rattle.std.specs.Prelude.{◌≡◌, ◌≤◌, IfOk};
 ghost use Rattle.blif_ast.specs.Printed.{printed};
 ghost use Rattle.net_gen.specs.Generated.{generated};
 
-use crate::network::network_of;
+use crate::drawn_network::network_of;
 use dom_base::OutOfMemory;
 use net_flatten::print_network;
 use std::alloc::Global;

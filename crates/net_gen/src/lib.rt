@@ -1,11 +1,11 @@
 //! Networks that are generated from a number, as texts of BLIF, and stimuli for them.
 #![tactic(auto)]
 
+mod drawn_network;
 mod draws;
 mod generation;
 mod laws;
 mod names;
-mod network;
 mod stimulus;
 mod table;
 

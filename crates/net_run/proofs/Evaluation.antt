@@ -7,9 +7,9 @@ use Rattle.std.proofs.lemmas.List.{get_or-set_other, get_or-set_same, length-set
 use Rattle.std.proofs.lemmas.List.Elements.{recursion_from_All}
 use Rattle.std.proofs.lemmas.Option.{get_or_from_slice_get, slice_get_within}
 use Rattle.dom_base.proofs.Lists.{AllByRecursion-weaker}
-use Rattle.model_calls.proofs.Lists.{map_same}
+use Rattle.network.proofs.Lists.{map_same}
 use Rattle.blif_ast.specs.TableValue.{IsOneAt}
-use Rattle.net_flatten.specs.NetworkData.{NetTableData}
+use Rattle.network.specs.NetworkData.{NetTableData}
 use Rattle.net_run.specs.RunnerData.{AreTablesFrom, AreValuesOf}
 use Rattle.net_run.specs.Runs.{value_at}
 

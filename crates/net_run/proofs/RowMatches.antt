@@ -5,7 +5,7 @@ use Rattle.std.proofs.lemmas.Bool.{and_from, cases_eq, cases_lt, true≢false}
 use mathlib.Core.Bool.{beq}
 use Rattle.std.proofs.lemmas.Option.{get_or_from_slice_get, same_Some, slice_get-get_or, slice_get_within}
 use Rattle.dom_base.proofs.Bools.{and_both}
-use Rattle.model_calls.proofs.Lists.{get_map}
+use Rattle.network.proofs.Lists.{get_map}
 use Rattle.blif_ast.specs.declared.letter.Letter.{Letter}
 use Rattle.blif_ast.specs.declared.letter.Letter.TheVariants.{Zero, One}
 use Rattle.blif_ast.specs.TableValue.{IsOneAt, Matches}

@@ -7,9 +7,9 @@ use Rattle.std.proofs.lemmas.List.Elements.{All-from_recursion, recursion_from_A
 use Rattle.dom_base.proofs.Lists.{AllByRecursion-map}
 use Rattle.part_numbers.proofs.Ranges.{map_map}
 use Rattle.blif_ast.specs.TableValue.{IsOneAt}
-use Rattle.net_flatten.specs.declared.network.NetLatch.{NetLatch}
-use Rattle.net_flatten.specs.NetworkData.{NetTableData, NetworkData}
-use Rattle.net_flatten.specs.Networks.{first_table}
+use Rattle.network.specs.declared.network.NetLatch.{NetLatch}
+use Rattle.network.specs.NetworkData.{NetTableData, NetworkData}
+use Rattle.network.specs.Networks.{first_table}
 use Rattle.net_run.specs.RunnerData.{AreTablesFrom, AreValuesOf, IsRunner, RunnerData, RunsNetwork, runner_signal_count}
 use Rattle.net_run.specs.Runs.{Cycle, IsNetworkCycle, value_at}
 

@@ -9,12 +9,12 @@ use Rattle.std.proofs.lemmas.List.FromFn.{length-enumerate_from}
 use Rattle.dom_base.proofs.Lists.{AllByRecursion-append, AllByRecursion-contains, AllByRecursion-weaker, Contains-slice_get}
 use Rattle.blif_ast.specs.BlifFileData.{BlifFileData}
 use Rattle.blif_ast.specs.TableValue.{IsOneAt}
-use Rattle.net_flatten.specs.declared.network.NetLatch.{NetLatch}
+use Rattle.network.specs.declared.network.NetLatch.{NetLatch}
 use Rattle.model_calls.specs.Ends.{Clocking, End, inputs_of, output_of, state_of}
 use Rattle.model_calls.specs.Expanded.{PlacedTable, latches, tables}
 use Rattle.net_flatten.specs.Flattening.{IsNetworkOf, LatchBySignals, TableBySignals, numbered_latch, numbered_table, placed_latch, placed_table}
-use Rattle.net_flatten.specs.NetworkData.{NetTableData, NetworkData}
-use Rattle.net_flatten.specs.Networks.{IsNetwork, first_table}
+use Rattle.network.specs.NetworkData.{NetTableData, NetworkData}
+use Rattle.network.specs.Networks.{IsNetwork, first_table}
 use Rattle.model_calls.specs.Numbering.{by_level, is_control_name, letters_w, name_by_number, pins, signals_by_number}
 use Rattle.net_flatten.specs.OneModel.{file_of, latch_at, name_at}
 use Rattle.model_calls.specs.Signals.{Signal, signal_of}
@@ -27,7 +27,7 @@ use Rattle.part_numbers.proofs.Ranges.{enumerated_row, length_row, map_map, row_
 use Rattle.part_numbers.specs.Ranges.{row}
 use Rattle.net_run.proofs.Valuations.{one_valuation}
 use Rattle.net_run.specs.Runs.{Cycle, IsNetworkCycle, IsNetworkRun, IsNetworkRunFrom, IsValuation, start, value_at}
-use Rattle.model_calls.proofs.Lists.{get_of_map}
+use Rattle.network.proofs.Lists.{get_of_map}
 
 -- lists that are taken to one list are taken alike by what agrees on them
 same_map : {X Y Z W : Type 0} (g : X → Z) (h : Y → Z) (a : X → W) (b : Y → W) (Q : Y → Type 0) → ((x : X) (y : Y) → g x ≡ h y → Q y → a x ≡ b y)

@@ -8,9 +8,9 @@ use Rattle.std.proofs.Math.Seq.{drop-append_seam, get_or-append_seam, take-appen
 use Rattle.std.proofs.lemmas.List.{ext_get_or, take-append-drop, length-append}
 use Rattle.std.proofs.lemmas.Bool.{cases_eq}
 use Rattle.blif_ast.specs.TableValue.{IsOneAt}
-use Rattle.net_flatten.specs.NetworkData.{NetTableData, NetworkData}
-use Rattle.net_flatten.specs.Networks.{IsNetTable, IsNetwork, first_table}
-use Rattle.model_calls.proofs.Lists.{map_same}
+use Rattle.network.specs.NetworkData.{NetTableData, NetworkData}
+use Rattle.network.specs.Networks.{IsNetTable, IsNetwork, first_table}
+use Rattle.network.proofs.Lists.{map_same}
 use Rattle.dom_base.proofs.Lists.{AllByRecursion-weaker}
 use Rattle.dom_base.proofs.Bools.{same_truth}
 use Rattle.net_run.specs.Laws.{IsOneValuation}

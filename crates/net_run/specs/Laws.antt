@@ -1,8 +1,8 @@
 -- What holds of each network of tables and latches and of its runs.
 use Rattle.std.specs.Prelude.{◌≡◌, ◌↔◌, All, Bool, List, length}
 use Rattle.net_flatten.specs.Flattening.{IsNetworkOf}
-use Rattle.net_flatten.specs.NetworkData.{NetworkData}
-use Rattle.net_flatten.specs.Networks.{IsNetwork}
+use Rattle.network.specs.NetworkData.{NetworkData}
+use Rattle.network.specs.Networks.{IsNetwork}
 use Rattle.net_flatten.specs.OneModel.{file_of}
 use Rattle.net_run.specs.Runs.{Cycle, IsNetworkRun, IsValuation}
 

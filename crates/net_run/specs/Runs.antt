@@ -1,9 +1,9 @@
 -- Runs of the network of a file of BLIF, the Berkeley Logic Interchange Format.
 use Rattle.std.specs.Prelude.{ℕ, ◌≡◌, ◌+◌, ◌↔◌, Bool, true, false, List, [], ◌∷◌, length, map, take, drop, Some, slice_get, slice_index_or}
 use Rattle.blif_ast.specs.TableValue.{IsOneAt}
-use Rattle.net_flatten.specs.declared.network.NetLatch.{NetLatch}
-use Rattle.net_flatten.specs.NetworkData.{NetTableData, NetworkData}
-use Rattle.net_flatten.specs.Networks.{first_table}
+use Rattle.network.specs.declared.network.NetLatch.{NetLatch}
+use Rattle.network.specs.NetworkData.{NetTableData, NetworkData}
+use Rattle.network.specs.Networks.{first_table}
 
 -- the value of the signal of a number
 abbrev pub value_at : List Bool → ℕ → Bool

@@ -2,8 +2,8 @@
 ghost use Rattle.std.specs.Prelude.{◌≡◌, ◌+◌, ◌++◌, ◌↔◌, All, IfOk, List, length, map, ⊤};
 ghost use Rattle.std.specs.Borrow.{sem, follows_so};
 ghost use mathlib.Core.Option.{none};
-ghost use Rattle.net_flatten.specs.declared.network.NetLatch.{NetLatch as Latch};
-ghost use Rattle.net_flatten.specs.NetworkData.{NetTableData, NetworkData};
+ghost use Rattle.network.specs.declared.network.NetLatch.{NetLatch as Latch};
+ghost use Rattle.network.specs.NetworkData.{NetTableData, NetworkData};
 ghost use Rattle.net_run.specs.contracts.runner.Runner.{the_row};
 ghost use Rattle.net_run.specs.RunnerData.{RunsNetwork};
 ghost use Rattle.net_run.specs.Runs.{IsNetworkCycle, start};
@@ -11,7 +11,7 @@ ghost use Rattle.net_run.specs.Runs.{IsNetworkCycle, start};
 use crate::values::{evaluate, read};
 use blif_ast::Rows;
 use dom_base::OutOfMemory;
-use net_flatten::{NetLatch, NetTable, Network, Reads};
+use network::{NetLatch, NetTable, Network, Reads};
 use std::alloc::Global;
 use std::marker::Model;
 

@@ -5,7 +5,7 @@ ghost use Rattle.net_run.specs.RunnerData.{StandBetween, StandsFor};
 ghost use Rattle.net_run.specs.Runs.{value_at};
 
 use blif_ast::{Letter, Row};
-use net_flatten::NetTable;
+use network::NetTable;
 
 /// How many letters are compared at once.
 const BLOCK: usize = 8;

@@ -4,7 +4,7 @@ ghost use Rattle.net_run.specs.RunnerData.{AreTablesFrom, AreValuesOf};
 ghost use Rattle.net_run.specs.Runs.{value_at};
 
 use crate::table::is_one;
-use net_flatten::NetTable;
+use network::NetTable;
 
 /// Gives all signals their values: those of the inputs, of the latches and then of the tables.
 pub fn evaluate(values: &mut [bool], pins: &[bool], state: &[bool], tables: &[NetTable])

@@ -10,7 +10,7 @@ use Rattle.dom_base.proofs.Lists.{AllByRecursion-unmap, AllByRecursion-weaker, h
 use Rattle.blif_ast.specs.BlifModelData.{BlifModelData}
 use Rattle.model_calls.specs.Numbering.{IsDecimalDigit, IsFreePrefix, IsLeastPrefix, IsPrefixedNumber, letters_w}
 use Rattle.model_calls.specs.Occurrences.{names_of}
-use Rattle.model_calls.proofs.Lists.{each_le_greatest}
+use Rattle.network.proofs.Lists.{each_le_greatest}
 use Rattle.network_law.proofs.ListDecisions.{dec_less, dec_list, least}
 
 dec_each : {X : Type 0} (P : X → Type 0) → ((x : X) → Decided (P x)) → (xs : List X) → Decided (AllByRecursion P xs)

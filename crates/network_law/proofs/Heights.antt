@@ -6,7 +6,7 @@ use Rattle.dom_base.specs.Decided.{Decided}
 use Rattle.dom_base.proofs.Decided.{dec_any}
 use Rattle.dom_base.proofs.Lists.{AllByRecursion-weaker}
 use Rattle.model_calls.proofs.EachPart.{each_itself}
-use Rattle.model_calls.proofs.Lists.{map_same}
+use Rattle.network.proofs.Lists.{map_same}
 use Rattle.network_law.proofs.Reaching.{IsFalling, IsStep}
 
 module _ {Node Edge : Type 0} (from : Edge → Node) (to : Edge → List Node) (same : (a b : Node) → Decided (a ≡ b))

@@ -20,7 +20,7 @@ use Rattle.model_calls.proofs.Drivers.{driven, mains_apart, parts_apart}
 use Rattle.model_calls.proofs.EachPart.{each_itself}
 use Rattle.model_calls.proofs.Firsts.{none_holds}
 use Rattle.model_calls.proofs.Fitting.{contains_cons}
-use Rattle.model_calls.proofs.Lists.{contains_map}
+use Rattle.network.proofs.Lists.{contains_map}
 use Rattle.net_flatten.proofs.Splits.{kept_from}
 use Rattle.net_flatten.proofs.TablesAlike.{part_of_table}
 use Rattle.network_law.proofs.Heights.{HasEdge, height, height_elsewhere, height_of_edge}

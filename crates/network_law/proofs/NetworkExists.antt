@@ -5,11 +5,11 @@ use Rattle.std.specs.List.{flat_map}
 use Rattle.std.proofs.lemmas.List.Elements.{Contains-append_left, Contains-append_right}
 use Rattle.dom_base.proofs.Lists.{AllByRecursion-contains, Contains-first, Contains-later, slice_get-contained}
 use Rattle.blif_ast.specs.BlifFileData.{BlifFileData}
-use Rattle.net_flatten.specs.declared.network.NetLatch.{NetLatch}
+use Rattle.network.specs.declared.network.NetLatch.{NetLatch}
 use Rattle.model_calls.specs.Ends.{End, end_at, inputs_of, main_outputs, output_of, read_ends, readers}
 use Rattle.model_calls.specs.Expanded.{LatchPart, PlacedLatch, PlacedPart, PlacedTable, TablePart, expanded, latches, tables}
 use Rattle.net_flatten.specs.Flattening.{IsNetworkOf, numbered_latch, numbered_table, placed_latch, placed_table}
-use Rattle.net_flatten.specs.NetworkData.{NetTableData, NetworkData}
+use Rattle.network.specs.NetworkData.{NetTableData, NetworkData}
 use Rattle.model_calls.specs.Numbering.{by_level, letters_w, names_by_number, pins, signals_by_number}
 use Rattle.model_calls.specs.Occurrences.{main_model}
 use Rattle.model_calls.specs.Refusal.{Refusal}
@@ -17,7 +17,7 @@ use Rattle.model_calls.specs.Refusals.{HasRefusal}
 use Rattle.model_calls.specs.Signals.{Signal, signal_of}
 use Rattle.model_calls.proofs.Apart.{each_in_order}
 use Rattle.model_calls.proofs.EachPart.{each_itself}
-use Rattle.model_calls.proofs.Lists.{contains_map}
+use Rattle.network.proofs.Lists.{contains_map}
 use Rattle.model_calls.proofs.MainNames.{contains_flat}
 use Rattle.model_calls.proofs.Pairs.{contains_to}
 use Rattle.network_law.proofs.FreePrefixes.{least_prefix}

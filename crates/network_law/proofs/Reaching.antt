@@ -7,7 +7,7 @@ use Rattle.dom_base.proofs.Decided.{dec_and, dec_any, dec_map, dec_or}
 use Rattle.dom_base.proofs.Lists.{AllByRecursion-contains, AllByRecursion-unmap, Contains-first, Contains-later}
 use Rattle.model_calls.specs.Reaches.{Reaches, more, step}
 use Rattle.model_calls.proofs.Fitting.{contains_cons}
-use Rattle.model_calls.proofs.Lists.{each_le_greatest}
+use Rattle.network.proofs.Lists.{each_le_greatest}
 use Rattle.model_calls.proofs.Reaching.{reaches_by}
 
 pub reaches_then : {Node : Type 0} {Step : Node → Node → Type 0} {a b c : Node} → Reaches Step a b → Reaches Step b c → Reaches Step a c

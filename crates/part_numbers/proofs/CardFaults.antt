@@ -17,7 +17,7 @@ use Rattle.part_numbers.specs.NumberedFiles.{IsNumberedFile, NumberedFileData, N
 use Rattle.part_numbers.specs.PartCards.{card_control, card_inputs, card_output}
 use Rattle.model_calls.specs.SignalFaults.{signals}
 use Rattle.model_calls.specs.Signals.{Signal, signal_of}
-use Rattle.model_calls.proofs.Lists.{get_map, get_of_map}
+use Rattle.network.proofs.Lists.{get_map, get_of_map}
 use Rattle.part_numbers.proofs.NumberedEnds.{number_at, part_at, reads_number}
 
 pub IsFaultOf-weaker : (kind : FlatKind) (P Q : ℕ → List ℕ → Type 0) → ((line : ℕ) (name : List ℕ) → P line name → Q line name) → (fault : FlatFault) → IsFaultOf kind P fault → IsFaultOf kind Q fault

@@ -7,7 +7,7 @@ use Rattle.std.proofs.lemmas.List.Sums.{sum_by-append, sum_by-cons}
 use Rattle.dom_base.proofs.Lists.{AllByRecursion-append, AllByRecursion-left, AllByRecursion-right, Contains-slice_get}
 use Rattle.blif_ast.specs.BlifFileData.{BlifFileData}
 use Rattle.blif_ast.specs.BlifModelData.{BlifModelData}
-use Rattle.model_calls.proofs.Lists.{drop_next}
+use Rattle.network.proofs.Lists.{drop_next}
 use Rattle.model_calls.specs.Expanded.{BodyCard}
 use Rattle.model_calls.specs.declared.plan.CardAt.{CardAt}
 use Rattle.model_calls.specs.declared.plan.CardAt.TheVariants.{Table, Latch as LatchAt, Instance}

@@ -5,12 +5,12 @@ use Rattle.std.specs.List.{AllByRecursion, sum_by}
 use Rattle.std.proofs.lemmas.List.Sums.{sum_by-cons}
 use Rattle.blif_ast.specs.BlifFileData.{BlifFileData}
 use Rattle.dom_base.proofs.Lists.{AllByRecursion-contains, Contains-slice_get}
-use Rattle.model_calls.proofs.Lists.{get_take}
+use Rattle.network.proofs.Lists.{get_take}
 use Rattle.part_numbers.specs.declared.counting.Sizes.{Sizes}
 use Rattle.model_calls.specs.declared.fault.Limit.{Limit}
 use Rattle.model_calls.specs.declared.fault.Limit.TheVariants.{Signals, Instances, Letters, Sinks}
 use Rattle.model_calls.specs.Counts.{Counted, counts, instance_count, letter_count, signal_count, sink_count}
-use Rattle.model_calls.specs.Limits.{most_instances, most_letters, most_signals, most_sinks}
+use Rattle.network.specs.Limits.{most_instances, most_letters, most_signals, most_sinks}
 use Rattle.part_numbers.specs.NetworkSizes.{AreSizes, path_weights}
 use Rattle.model_calls.specs.Occurrences.{occurrences}
 use Rattle.model_calls.specs.Refusals.{IsCountReported}

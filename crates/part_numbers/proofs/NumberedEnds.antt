@@ -13,9 +13,9 @@ use Rattle.part_numbers.specs.NumberedFaults.{IsPartWithin, driven_by}
 use Rattle.part_numbers.specs.NumberedFiles.{IsNumberedFile, NumberedFileData, NumberedPartData, PartBySignals, control_of_part, numbered_part, placed_part, signals_at}
 use Rattle.model_calls.specs.SignalFaults.{signals}
 use Rattle.model_calls.specs.Signals.{Signal}
-use Rattle.model_calls.proofs.Apart.{each_place}
-use Rattle.model_calls.proofs.IndexedLists.{index_of, same_at, same_take}
+use Rattle.network.proofs.IndexedLists.{index_of, same_at, same_take}
 use Rattle.part_numbers.proofs.Ranges.{map_map}
+use Rattle.network.proofs.Lists.{each_place}
 
 -- a list of signals, and the numbers of some of them
 module _ (all : List Signal) where

@@ -16,7 +16,7 @@ use Rattle.model_calls.specs.Counts.{signal_count}
 use Rattle.model_calls.specs.Ends.{end_at, main_inputs, main_outputs}
 use Rattle.model_calls.specs.Expanded.{BodyCard, LatchCard, LatchPart, PlacedPart, TableCard, TablePart, expanded, expanded_from}
 use Rattle.part_numbers.specs.Expansions.{ExpansionData, HasModel, IsExpansion, IsPartInside, IsScope, part_at, part_with, path_at, scope_occurrences}
-use Rattle.model_calls.specs.Limits.{most_signals}
+use Rattle.network.specs.Limits.{most_signals}
 use Rattle.part_numbers.specs.LineOccurrences.{line_occurrences_from}
 use Rattle.part_numbers.specs.NumberedFiles.{IsNumberedFile, NumberedFileData, PartBySignals, card_at, model_at, numbered_part, placed_part, signals_at}
 use Rattle.model_calls.specs.Numbering.{is_main}
@@ -32,7 +32,7 @@ use Rattle.part_numbers.specs.declared.numbered.PartCard.{PartCard}
 use Rattle.part_numbers.specs.declared.numbered.PartCard.TheVariants.{Table, Latch as LatchIndex}
 use Rattle.part_numbers.specs.declared.walk.Scope.{Scope}
 use Rattle.part_numbers.specs.declared.walk.ScopedPart.{ScopedPart}
-use Rattle.model_calls.proofs.Apart.{each_place, place_once}
+use Rattle.model_calls.proofs.Apart.{place_once}
 use Rattle.part_numbers.proofs.DeepEnough.{deep_enough}
 use Rattle.model_calls.proofs.EachPart.{each_flat, each_itself}
 use Rattle.part_numbers.proofs.LineOccurrences.{lines_permuted}
@@ -42,6 +42,7 @@ use Rattle.part_numbers.proofs.PairsApart.{all_pairs_apart}
 use Rattle.part_numbers.proofs.Permuted.{Permuted, permuted_apart, permuted_flat, permuted_length}
 use Rattle.part_numbers.proofs.SignalNumbers.{in_file, models_count, names_are, number_is}
 use Rattle.part_numbers.proofs.CardNames.{control_of_latch, input_named, input_of_latch, inputs_of_table, latch_named, output_named, output_of_latch, output_of_table, table_named}
+use Rattle.network.proofs.Lists.{each_place}
 
 drop_front : {X : Type 0} (xs ys : List X) (n : ℕ) → length xs ≡ n → drop n (xs ++ ys) ≡ ys
 drop_front [] ys zero e = refl

@@ -15,7 +15,7 @@ use Rattle.graph_order.specs.WalkSums.{AreWalkSums, AreWeights, largest_u64, wal
 use Rattle.part_numbers.proofs.DeepEnough.{deep_enough}
 use Rattle.model_calls.proofs.Firsts.{none_holds}
 use Rattle.model_calls.proofs.FormalReports.{called_at, calls_count}
-use Rattle.model_calls.proofs.Lists.{get_of_map}
+use Rattle.network.proofs.Lists.{get_of_map}
 use Rattle.model_calls.proofs.OrderedPlans.{is_graph}
 use Rattle.model_calls.proofs.Recursions.{callees_of}
 use Rattle.model_calls.proofs.Sums.{sum_flat}

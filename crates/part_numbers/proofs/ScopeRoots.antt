@@ -13,9 +13,8 @@ use Rattle.blif_ast.specs.InstanceData.{InstanceData}
 use Rattle.part_numbers.specs.NumberedFiles.{model_at}
 use Rattle.part_numbers.specs.SignalNumbers.{AreDistinctNames, HasSignalNumber, IsBelowNumbered, IsInstanceAt, SignalNumbersData, actual_in, scope_roots, with_binding}
 use Rattle.part_numbers.specs.declared.walk.Scope.{Scope}
-use Rattle.model_calls.proofs.Apart.{each_place}
 use Rattle.model_calls.proofs.UniqueNames.{position_cons}
-use Rattle.model_calls.proofs.Lists.{drop_next}
+use Rattle.network.proofs.Lists.{drop_next, each_place}
 
 pub own_push : (g : List ℕ → ℕ) (start : ℕ) (names : List (List ℕ)) (index : ℕ) → index < length names
     → scope_roots g [] start (take (index + 1) names) ≡ scope_roots g [] start (take index names) ++ (start + index) ∷ []

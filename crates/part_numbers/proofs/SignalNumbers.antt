@@ -15,7 +15,7 @@ use Rattle.blif_ast.specs.InstanceData.{InstanceData}
 use Rattle.blif_ast.specs.declared.instance.Binding.{Binding}
 use Rattle.graph_order.proofs.Lists.{take_next}
 use Rattle.part_numbers.specs.Expansions.{ArePaths, IsScopeBelow, IsInFile, IsScope, path_at, scope_occurrences}
-use Rattle.model_calls.specs.Limits.{most_signals}
+use Rattle.network.specs.Limits.{most_signals}
 use Rattle.part_numbers.specs.NumberedFiles.{model_at}
 use Rattle.model_calls.specs.Occurrences.{actuals_of, first_model, names_of, names_of_latch, names_of_table}
 use Rattle.model_calls.specs.Pairs.{pairs_of}
@@ -25,7 +25,7 @@ use Rattle.part_numbers.specs.declared.walk.Scope.{Scope}
 use Rattle.model_calls.proofs.Apart.{place_once}
 use Rattle.model_calls.proofs.EachPart.{each_itself}
 use Rattle.model_calls.proofs.Fitting.{contains_unique}
-use Rattle.model_calls.proofs.Lists.{get_map}
+use Rattle.network.proofs.Lists.{get_map}
 use Rattle.model_calls.proofs.MainNames.{contains_flat, main_actual}
 use Rattle.model_calls.proofs.Pairs.{contains_to}
 use Rattle.part_numbers.proofs.ScopeRoots.{length_roots}

@@ -14,7 +14,7 @@ use Rattle.model_calls.specs.declared.fault.FlatFault.TheVariants.{At, TooMany, 
 use Rattle.model_calls.specs.declared.fault.Limit.{Limit}
 use Rattle.model_calls.specs.declared.fault.Limit.TheVariants.{Signals, Instances, Letters, Sinks}
 use Rattle.model_calls.specs.Counts.{instance_count, letter_count, signal_count, sink_count}
-use Rattle.model_calls.specs.Limits.{letters}
+use Rattle.network.specs.Limits.{letters}
 use Rattle.model_calls.specs.Occurrences.{Occurrence, names_of, occurrences}
 use Rattle.model_calls.specs.Refusals.{IsCountReported}
 

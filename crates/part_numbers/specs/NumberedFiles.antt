@@ -9,7 +9,7 @@ use Rattle.part_numbers.specs.declared.numbered.PartCard.{PartCard}
 use Rattle.part_numbers.specs.declared.numbered.PartCard.TheVariants.{Table, Latch as LatchAt}
 use Rattle.model_calls.specs.Ends.{End, driven_end, main_inputs, main_outputs, read_ends}
 use Rattle.model_calls.specs.Expanded.{BodyCard, LatchCard, LatchPart, PlacedPart, TableCard, TablePart, expanded}
-use Rattle.model_calls.specs.Limits.{most_signals}
+use Rattle.network.specs.Limits.{most_signals}
 use Rattle.model_calls.specs.Numbering.{is_main}
 use Rattle.model_calls.specs.Occurrences.{first_model, main_model, names_of}
 use Rattle.model_calls.specs.Signals.{Signal, signal_of}

@@ -10,7 +10,7 @@ use Rattle.blif_ast.specs.Cards.{same}
 use Rattle.blif_ast.specs.InstanceData.{InstanceData}
 use Rattle.blif_ast.specs.declared.instance.Binding.{Binding}
 use Rattle.part_numbers.specs.Expansions.{ArePaths, path_at, scope_occurrences}
-use Rattle.model_calls.specs.Limits.{most_signals}
+use Rattle.network.specs.Limits.{most_signals}
 use Rattle.part_numbers.specs.NumberedFiles.{model_at}
 use Rattle.model_calls.specs.Occurrences.{names_of}
 use Rattle.model_calls.specs.Pairs.{pairs_of}

@@ -3,7 +3,7 @@ ghost use Rattle.std.specs.Prelude.{◌≡◌, ◌<◌, ◌≤◌, ◌+◌, ℕ,
 ghost use Rattle.std.specs.List.{AllByRecursion};
 ghost use Rattle.blif_ast.specs.Good.{IsGoodFile};
 ghost use Rattle.model_calls.specs.Counts.{signal_count};
-ghost use Rattle.model_calls.specs.Limits.{most_signals};
+ghost use Rattle.network.specs.Limits.{most_signals};
 ghost use Rattle.model_calls.specs.ModelCalls.{AreModelCalls};
 ghost use Rattle.part_numbers.specs.NumberedFiles.{HasNumbers, model_at};
 ghost use Rattle.model_calls.specs.Occurrences.{main_model};
@@ -14,12 +14,13 @@ ghost use Rattle.model_calls.specs.Refusals.{HasRefusal};
 ghost use Rattle.part_numbers.specs.SignalNumbers.{AreFirstNames, HasSignalNumber, signal_number};
 ghost use Rattle.model_calls.specs.declared.fault.FlatKind.TheVariants.{Recursion};
 
-use crate::numbered::{NumberedFile, NumberedPart, PartCard, Reads};
+use crate::numbered::{NumberedFile, NumberedPart, PartCard};
 use crate::signals::{SignalNumbers, number_signals};
 use crate::walk::{ScopedPart, expand};
 use blif_ast::{BlifFile, BlifModel, Latch, Table};
 use dom_base::{Name, OutOfMemory};
 use model_calls::{ModelCalls, NameTable, Plan, plan_all};
+use network::Reads;
 use std::alloc::Global;
 
 /// The numbers of the signals of these names in a scope, which stand on the cards of its model behind so many names.

@@ -14,7 +14,7 @@ mod walk;
 pub use counting::Sizes;
 pub use expansion::number_planned_file;
 pub use file_sizes::sizes;
-pub use numbered::{NumberedFile, NumberedPart, PartCard, Reads};
+pub use numbered::{NumberedFile, NumberedPart, PartCard};
 pub use part_cards::{
     edge_of, fault_at_control, fault_at_input, fault_at_main_control, fault_at_main_output,
     fault_at_output, latch_at, main_model_of, table_at,

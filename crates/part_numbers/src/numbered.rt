@@ -2,11 +2,8 @@
 ghost use Rattle.std.specs.Prelude.{◌≡◌, map};
 
 use dom_base::Name;
-use smallvec::SmallVec;
+use network::Reads;
 use std::marker::Model;
-
-/// The numbers of the signals that a part reads. The part itself has room for 4; more stand in an allocation.
-pub type Reads = SmallVec<u32, 4>;
 
 /// Which card of its model a part is: the index of its table or of its latch there.
 #[derive(Clone, Copy)]

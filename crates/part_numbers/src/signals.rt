@@ -3,7 +3,7 @@ ghost use Rattle.std.specs.Prelude.{◌≡◌, ◌<◌, ◌≤◌, ◌+◌, ◌-
 ghost use Rattle.std.specs.List.{AllByRecursion};
 ghost use Rattle.blif_ast.specs.InstanceData.{InstanceData};
 ghost use Rattle.blif_ast.specs.declared.instance.Binding.{Binding};
-ghost use Rattle.model_calls.specs.Limits.{most_signals};
+ghost use Rattle.network.specs.Limits.{most_signals};
 ghost use Rattle.part_numbers.specs.NumberedFiles.{model_at};
 ghost use Rattle.part_numbers.specs.SignalNumbers.{AddsScope, AreDistinctNames, AreFirstNames, HasFewPairs, HasSignalNumber, HasSignalNumbers, IsBelowNumbered, IsInstanceAt, IsNextScope, model_names, names_at, scope_roots, signal_number, with_binding};
 ghost use Rattle.part_numbers.specs.declared.walk.Scope.{Scope};

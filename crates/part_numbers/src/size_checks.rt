@@ -3,7 +3,7 @@ ghost use Rattle.std.specs.Prelude.{◌≡◌, ◌≤◌, OnOk};
 ghost use Rattle.blif_ast.specs.Good.{IsGoodFile};
 ghost use Rattle.model_calls.specs.Counts.{signal_count};
 ghost use Rattle.model_calls.specs.declared.fault.FlatFault.TheVariants.{TooMany};
-ghost use Rattle.model_calls.specs.Limits.{most_signals};
+ghost use Rattle.network.specs.Limits.{most_signals};
 ghost use Rattle.model_calls.specs.ModelCalls.{AreModelCalls};
 ghost use Rattle.part_numbers.specs.NetworkSizes.{IsSizeCheck};
 ghost use Rattle.part_numbers.specs.SignalNumbers.{AreFirstNames};

@@ -5,9 +5,9 @@ use Rattle.std.proofs.lemmas.Grind.{common_steps}
 use Rattle.std.proofs.lemmas.List.FromFn.{get_or-map-range_with_len, length-map-range_with_len}
 use Rattle.std.proofs.lemmas.List.Sums.{sum_by_more}
 use Rattle.std.proofs.lemmas.Option.{slice_get-get_or}
-use Rattle.model_calls.specs.Limits.{letters}
-use Rattle.net_flatten.specs.Networks.{IsNetwork}
-use Rattle.net_flatten.specs.NetworkData.{NetTableData, NetworkData}
+use Rattle.network.specs.Limits.{letters}
+use Rattle.network.specs.Networks.{IsNetwork}
+use Rattle.network.specs.NetworkData.{NetTableData, NetworkData}
 use Rattle.gate_decompose.specs.declared.gates.Ref.TheVariants.{Const, Leaf}
 use Rattle.gate_decompose.specs.GateNodes.{node_names}
 use Rattle.gate_decompose.specs.NetworkOrder.{IsOrderedNetwork}

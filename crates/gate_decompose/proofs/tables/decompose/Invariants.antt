@@ -1,7 +1,7 @@
 use Rattle.std.proofs.Common.{◌≡◌, ◌≤◌, ◌+◌, ◌*◌, length, map, flat_map, take, count_by}
 use Rattle.std.specs.List.{enumerate_from, sum_by}
-use Rattle.model_calls.specs.Limits.{letters}
-use Rattle.net_flatten.specs.NetworkData.{NetTableData}
+use Rattle.network.specs.Limits.{letters}
+use Rattle.network.specs.NetworkData.{NetTableData}
 use Rattle.gate_decompose.specs.GateNodes.{NamedNode, node_names, node_of, table_nodes}
 use Rattle.gate_decompose.specs.GatesOrder.{is_operator}
 use Rattle.gate_decompose.specs.RowItems.{AreRefs}

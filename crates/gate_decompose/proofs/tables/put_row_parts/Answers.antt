@@ -1,7 +1,7 @@
 -- A row more.
 use Rattle.std.proofs.Common.{◌≡◌, ◌<◌, [], sym, ap, subst, ◌∙◌, arith, length, get_or}
 use Rattle.std.proofs.lemmas.Grind.{common_steps}
-use Rattle.net_flatten.specs.NetworkData.{NetTableData}
+use Rattle.network.specs.NetworkData.{NetTableData}
 use Rattle.gate_decompose.specs.RowItems.{row_made}
 use Rattle.gate_decompose.specs.RowsMade.{AreRowsMade}
 use Rattle.gate_decompose.specs.TermNodes.{Makes, placed}

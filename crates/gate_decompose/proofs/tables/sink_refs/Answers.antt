@@ -3,8 +3,8 @@ use Rattle.std.proofs.Common.{◌≡◌, ◌++◌, map, ap, sym, ◌∙◌, leng
 use Rattle.std.proofs.lemmas.List.{map-append, take_all}
 use Rattle.std.proofs.lemmas.Simd.{map-map}
 use Rattle.gate_decompose.specs.RowItems.{ref_at}
-use Rattle.net_flatten.specs.declared.network.NetLatch.{NetLatch}
-use Rattle.net_flatten.specs.NetworkData.{NetworkData}
+use Rattle.network.specs.declared.network.NetLatch.{NetLatch}
+use Rattle.network.specs.NetworkData.{NetworkData}
 use Rattle.gate_decompose.proofs.tables.sink_refs.Goals as goal
 
 pub returns : goal.returns

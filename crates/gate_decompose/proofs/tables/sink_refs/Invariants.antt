@@ -1,6 +1,6 @@
 use Rattle.std.proofs.Common.{◌≡◌, ◌++◌, map, take}
 use Rattle.gate_decompose.specs.RowItems.{ref_at}
-use Rattle.net_flatten.specs.declared.network.NetLatch.{NetLatch}
+use Rattle.network.specs.declared.network.NetLatch.{NetLatch}
 use Rattle.gate_decompose.proofs.tables.sink_refs.Given as goal
 
 abbrev pub invariant-loop-output : goal.invariant-loop-output

@@ -1,7 +1,7 @@
 -- A table by its rows.
 use Rattle.std.proofs.Common.{[], ◌∷◌, sym, ap, ◌∙◌, arith, length}
 use Rattle.dom_base.proofs.Options.{if_ok-weaker}
-use Rattle.net_flatten.specs.NetworkData.{NetTableData}
+use Rattle.network.specs.NetworkData.{NetTableData}
 use Rattle.gate_decompose.specs.GateNodes.{Left}
 use Rattle.gate_decompose.proofs.TableParts.{off_made, on_made}
 use Rattle.gate_decompose.proofs.tables.table_part.Goals as goal

@@ -2,7 +2,7 @@ use Rattle.std.proofs.Common.{◌≤◌, ◌<◌, inl, inr, ℕ, List, length, t
 use Rattle.std.specs.List.{count_by}
 use Rattle.std.proofs.lemmas.List.Sums.{count_by-le-length}
 use Rattle.blif_ast.specs.Cards.{same}
-use Rattle.model_calls.proofs.Lists.{get_of_map}
+use Rattle.network.proofs.Lists.{get_of_map}
 use Rattle.dom_base.proofs.Options.{if_ok-weaker}
 use Rattle.model_calls.proofs.Reports.{item_at}
 use Rattle.model_calls.proofs.Scans.{next_scan, no_scan, scan_reports}

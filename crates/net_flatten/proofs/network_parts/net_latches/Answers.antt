@@ -1,6 +1,6 @@
 use Rattle.std.proofs.Common.{◌≡◌, ◌+◌, List, length, map, take, Some, ap, sym, ◌∙◌, subst, refl}
 use Rattle.std.proofs.lemmas.Option.{slice_get_read}
-use Rattle.net_flatten.specs.declared.network.NetLatch.{NetLatch}
+use Rattle.network.specs.declared.network.NetLatch.{NetLatch}
 use Rattle.net_flatten.specs.Dependences.{is_table}
 use Rattle.net_flatten.specs.NetworkNumbers.{latches_among}
 use Rattle.net_flatten.specs.NetworkParts.{latch_in_network}

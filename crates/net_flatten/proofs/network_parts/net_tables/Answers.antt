@@ -2,7 +2,7 @@ use Rattle.std.proofs.Common.{◌≡◌, ◌+◌, List, length, map, take, Some,
 use Rattle.std.specs.Prelude.{slice_index_or}
 use Rattle.std.proofs.lemmas.Option.{slice_get-get_or, slice_get_read}
 use Rattle.net_flatten.specs.declared.table_order.LevelledTable.{LevelledTable}
-use Rattle.net_flatten.specs.NetworkData.{NetTableData}
+use Rattle.network.specs.NetworkData.{NetTableData}
 use Rattle.net_flatten.specs.NetworkParts.{levelled_in_network}
 use Rattle.net_flatten.proofs.NetworkSteps.{part_of_levelled, tables_next}
 use Rattle.net_flatten.proofs.network_parts.net_tables.Goals as goal

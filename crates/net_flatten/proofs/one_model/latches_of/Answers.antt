@@ -1,5 +1,5 @@
 use Rattle.std.proofs.Common.{ℕ, rules}
-use Rattle.net_flatten.specs.declared.network.NetLatch.{NetLatch}
+use Rattle.network.specs.declared.network.NetLatch.{NetLatch}
 use Rattle.net_flatten.specs.OneModel.{latch_at}
 use Rattle.net_flatten.proofs.ToFile.{numbered_all, numbered_more}
 use Rattle.net_flatten.proofs.one_model.latches_of.Goals as goal

@@ -1,6 +1,6 @@
 use Rattle.std.proofs.Common.{◌≡◌, ℕ, map, take}
 use Rattle.std.specs.List.{enumerate_from}
-use Rattle.net_flatten.specs.declared.network.NetLatch.{NetLatch}
+use Rattle.network.specs.declared.network.NetLatch.{NetLatch}
 use Rattle.net_flatten.specs.OneModel.{latch_at}
 use Rattle.net_flatten.proofs.one_model.latches_of.Given as goal
 

@@ -1,8 +1,8 @@
 use Rattle.std.proofs.Common.{◌≡◌, ◌<◌, ◌+◌, ◌∙◌, map, length, Some, ap, sym, subst, arith, rules, get_or}
 use Rattle.std.specs.Prelude.{All}
 use Rattle.std.proofs.lemmas.Option.{get_or_from_slice_get, slice_get-get_or}
-use Rattle.net_flatten.specs.NetworkData.{NetTableData, NetworkData}
-use Rattle.net_flatten.specs.Networks.{first_table}
+use Rattle.network.specs.NetworkData.{NetTableData, NetworkData}
+use Rattle.network.specs.Networks.{first_table}
 use Rattle.net_flatten.specs.OneModel.{name_at}
 use Rattle.net_flatten.proofs.ToFile.{reads_within}
 use Rattle.net_flatten.proofs.one_model.table_of.Goals as goal

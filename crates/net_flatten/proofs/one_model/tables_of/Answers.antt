@@ -1,5 +1,5 @@
 use Rattle.std.proofs.Common.{ℕ, rules}
-use Rattle.net_flatten.specs.NetworkData.{NetTableData}
+use Rattle.network.specs.NetworkData.{NetTableData}
 use Rattle.net_flatten.specs.OneModel.{table_at}
 use Rattle.net_flatten.proofs.ToFile.{numbered_all, numbered_more}
 use Rattle.net_flatten.proofs.one_model.tables_of.Goals as goal

@@ -3,7 +3,7 @@ use Rattle.std.specs.Prelude.{All}
 use Rattle.std.specs.List.{flat_map}
 use Rattle.blif_ast.specs.Good.{IsGoodLatch}
 use Rattle.blif_ast.specs.Printed.{latch_words, ports_card, printed_line, table_lines}
-use Rattle.net_flatten.specs.Networks.{IsNetwork}
+use Rattle.network.specs.Networks.{IsNetwork}
 use Rattle.net_flatten.specs.OneModel.{name_at}
 use Rattle.net_flatten.specs.OneModelParts.{latches_here, tables_here}
 use Rattle.net_flatten.proofs.OneModel.{one_good}

@@ -5,8 +5,8 @@ use Rattle.std.proofs.lemmas.Option.{get_or_from_slice_get, slice_get-get_or}
 use Rattle.std.proofs.lemmas.Result.{on_ok_weaker}
 use Rattle.blif_ast.specs.Printed.{names_words, printed_line, row_words}
 use Rattle.blif_ast.proofs.FileLines.{table_end}
-use Rattle.net_flatten.specs.NetworkData.{NetTableData, NetworkData}
-use Rattle.net_flatten.specs.Networks.{first_table}
+use Rattle.network.specs.NetworkData.{NetTableData, NetworkData}
+use Rattle.network.specs.Networks.{first_table}
 use Rattle.net_flatten.specs.OneModel.{name_at, table_at}
 use Rattle.net_flatten.proofs.ToFile.{reads_within}
 use Rattle.net_flatten.proofs.printing.put_table.Goals as goal

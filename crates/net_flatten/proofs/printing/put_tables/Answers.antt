@@ -1,7 +1,7 @@
 use Rattle.std.proofs.Common.{ℕ, rules}
 use Rattle.std.specs.List.{flat_map}
 use Rattle.blif_ast.specs.Printed.{printed_line, table_lines}
-use Rattle.net_flatten.specs.NetworkData.{NetTableData}
+use Rattle.network.specs.NetworkData.{NetTableData}
 use Rattle.net_flatten.specs.OneModel.{table_at}
 use Rattle.net_flatten.proofs.TextOfNetwork.{appended_all, appended_more}
 use Rattle.net_flatten.proofs.printing.put_tables.Goals as goal

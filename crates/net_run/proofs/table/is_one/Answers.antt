@@ -3,7 +3,7 @@ use Rattle.std.specs.Prelude.{◌↔◌}
 use mathlib.Core.Bool.{beq}
 use Rattle.blif_ast.specs.declared.letter.Letter.{Letter}
 use Rattle.blif_ast.specs.TableValue.{IsOneAt}
-use Rattle.net_flatten.specs.NetworkData.{NetTableData}
+use Rattle.network.specs.NetworkData.{NetTableData}
 use Rattle.net_run.specs.Runs.{value_at}
 use Rattle.net_run.proofs.RowMatches.{by_rows}
 use Rattle.net_run.proofs.table.is_one.Goals as goal

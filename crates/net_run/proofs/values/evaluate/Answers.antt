@@ -2,7 +2,7 @@ use Rattle.std.proofs.Common.{◌≡◌, ◌+◌, ◌++◌, true, length, map, s
 use Rattle.std.specs.Prelude.{◌↔◌}
 use Rattle.std.proofs.lemmas.List.{length-append}
 use Rattle.blif_ast.specs.TableValue.{IsOneAt}
-use Rattle.net_flatten.specs.NetworkData.{NetTableData}
+use Rattle.network.specs.NetworkData.{NetTableData}
 use Rattle.net_run.specs.Runs.{value_at}
 use Rattle.net_run.proofs.Evaluation.{AreValuesUpTo, all_tables, one_table_more}
 use Rattle.net_run.proofs.values.evaluate.Goals as goal

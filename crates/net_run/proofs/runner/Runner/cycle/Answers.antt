@@ -1,6 +1,6 @@
 use Rattle.std.proofs.Common.{◌≡◌, ◌+◌, ◌++◌, ◌∙◌, ℕ, Bool, List, length, map, take, drop, refl, sym, ap, subst, arith}
 use Rattle.std.proofs.lemmas.List.{length-append, length-map}
-use Rattle.net_flatten.specs.NetworkData.{NetworkData}
+use Rattle.network.specs.NetworkData.{NetworkData}
 use Rattle.net_run.specs.RunnerData.{AreTablesFrom, AreValuesOf, RunnerData, RunsNetwork}
 use Rattle.net_run.specs.Runs.{IsNetworkCycle, value_at}
 use Rattle.net_run.proofs.Runners.{cycle_of_network, replaced}

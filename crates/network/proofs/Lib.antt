@@ -1,0 +1,2 @@
+pub mod IndexedLists
+pub mod Lists
