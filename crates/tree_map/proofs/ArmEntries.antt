@@ -8,7 +8,7 @@ use Rattle.tree_map.specs.ArmEntries.{HaveSame}
 use Rattle.tree_map.specs.Covers.{CoverPart, Join, Operator, TreeShape}
 use Rattle.tree_map.specs.CoverRows.{IsShapeIn, joined_entry}
 use Rattle.tree_map.specs.CoverTables.{Entry, arm_entries, best, combined, cut_entry, lowest, shapes, table}
-use Rattle.tree_map.proofs.Tables.{best_below, best_reached, lowest_below, lowest_reached, none_is}
+use Rattle.cover_plan.proofs.Tables.{best_below, best_reached, lowest_below, lowest_reached, none_is}
 
 pub have_same : (es fs : List Entry) → HaveSame es fs → HaveSame fs es
 have_same es fs same = λ e. ((same e).1, (same e).0)

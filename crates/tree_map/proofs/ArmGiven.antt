@@ -20,7 +20,7 @@ use Rattle.tree_map.specs.Plans.{IsFree, is_free}
 use Rattle.tree_map.proofs.ArmEntries.{arm_same}
 use Rattle.tree_map.proofs.PlanCovers.{is_free-of, is_free-true}
 use Rattle.tree_map.proofs.HadShapes.{sum_in}
-use Rattle.tree_map.proofs.Tables.{lowest_reached}
+use Rattle.cover_plan.proofs.Tables.{lowest_reached}
 
 -- the entries that are read are those of the table
 read_same : (t : SumsData) (place : ℕ) (es fs : List Entry) → AreReadUpTo t place t.h 0 es → AreSumsIn t place fs → HaveSame es fs

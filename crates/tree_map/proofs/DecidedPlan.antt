@@ -4,7 +4,8 @@ use Rattle.std.proofs.lemmas.Option.{get_or_from_slice_get, slice_get-get_or, sl
 use Rattle.dual_rail.specs.declared.forest.Arm.{Arm}
 use Rattle.dual_rail.specs.declared.forest.Arm.TheVariants.{Literal, Pair as pair_arm}
 use Rattle.dual_rail.specs.declared.forest.Pair.{Pair}
-use Rattle.tree_map.specs.Covers.{Choice, CutOff, End, IsChoice, Join, Keep, Nothing, CoverPart, TreeShape, joined_shape, leaf_shape}
+use Rattle.cover_plan.specs.Parts.{Choice, CutOff, End, Join, Keep, Nothing, CoverPart, TreeShape, joined_shape, leaf_shape}
+use Rattle.cover_plan.specs.Covers.{Costs, IsChoice, ordinary_costs}
 use Rattle.dual_rail.specs.ForestData.{ForestData}
 use Rattle.dual_rail.specs.ForestOrder.{AreInOrder}
 use Rattle.dual_rail.specs.Forests.{left_arm, right_arm}
@@ -14,24 +15,24 @@ use Rattle.tree_map.specs.Plans.{IsFree, is_kept}
 use Rattle.tree_map.proofs.PlanShapes.{plan_there}
 
 -- a choice that is taken gives its arm the shape that it says
-taken_shape : (forest : ForestData) (w h : ℕ) (kept : List Bool) (shapes : List TreeShape) (free : (place : ℕ) → is_kept kept place ≡ true → IsFree forest place)
-    (arm : Arm) (part : CoverPart) (x : Choice) (s : TreeShape) (m : ℕ) → IsTaken forest kept shapes arm x → IsChoice w h part x s m → s ≡ arm_shape kept (λ p. get_or shapes p leaf_shape) arm
-taken_shape forest w h kept shapes free (Literal rail) End Nothing s m t c = c.0
-taken_shape forest w h kept shapes free (Literal rail) End (Keep k) s m t c = absurd c
-taken_shape forest w h kept shapes free (Literal rail) End CutOff s m t c = absurd c
-taken_shape forest w h kept shapes free (Literal rail) (Join op l r) Nothing s m t c = absurd c
-taken_shape forest w h kept shapes free (Literal rail) (Join op l r) (Keep k) s m t c = absurd (cc)
-taken_shape forest w h kept shapes free (Literal rail) (Join op l r) CutOff s m t c = absurd (cc)
-taken_shape forest w h kept shapes free (pair_arm p) End (Keep k) s m t c = absurd c
-taken_shape forest w h kept shapes free (pair_arm p) End CutOff s m t c = absurd c
-taken_shape forest w h kept shapes free (pair_arm p) End Nothing s m never c = by (is_kept kept p) refl
+pub taken_shape : (c : Costs) (forest : ForestData) (w h : ℕ) (kept : List Bool) (shapes : List TreeShape) (free : (place : ℕ) → is_kept kept place ≡ true → IsFree forest place)
+    (arm : Arm) (part : CoverPart) (x : Choice) (s : TreeShape) (m : ℕ) → IsTaken forest kept shapes arm x → IsChoice c w h part x s m → s ≡ arm_shape kept (λ p. get_or shapes p leaf_shape) arm
+taken_shape c forest w h kept shapes free (Literal rail) End Nothing s m t i = i.0
+taken_shape c forest w h kept shapes free (Literal rail) End (Keep k) s m t i = absurd i
+taken_shape c forest w h kept shapes free (Literal rail) End CutOff s m t i = absurd i
+taken_shape c forest w h kept shapes free (Literal rail) (Join op l r) Nothing s m t i = absurd i
+taken_shape c forest w h kept shapes free (Literal rail) (Join op l r) (Keep k) s m t i = absurd (cc)
+taken_shape c forest w h kept shapes free (Literal rail) (Join op l r) CutOff s m t i = absurd (cc)
+taken_shape c forest w h kept shapes free (pair_arm p) End (Keep k) s m t i = absurd i
+taken_shape c forest w h kept shapes free (pair_arm p) End CutOff s m t i = absurd i
+taken_shape c forest w h kept shapes free (pair_arm p) End Nothing s m never i = by (is_kept kept p) refl
   where
     by : (b : Bool) → is_kept kept p ≡ b → s ≡ cond b (get_or shapes p leaf_shape) leaf_shape
     by true e = absurd (never (free p e))
-    by false e = c.0
-taken_shape forest w h kept shapes free (pair_arm p) (Join op l r) Nothing s m t c = absurd c
-taken_shape forest w h kept shapes free (pair_arm p) (Join op l r) (Keep k) s m t c = rw t.0 (c.0 ∙ sym (get_or_from_slice_get shapes p k leaf_shape t.1))
-taken_shape forest w h kept shapes free (pair_arm p) (Join op l r) CutOff s m t c = rw t.0 c.0
+    by false e = i.0
+taken_shape c forest w h kept shapes free (pair_arm p) (Join op l r) Nothing s m t i = absurd i
+taken_shape c forest w h kept shapes free (pair_arm p) (Join op l r) (Keep k) s m t i = rw t.0 (i.0 ∙ sym (get_or_from_slice_get shapes p k leaf_shape t.1))
+taken_shape c forest w h kept shapes free (pair_arm p) (Join op l r) CutOff s m t i = rw t.0 i.0
 
 pub decided_plan : DecidedMakesPlan
 decided_plan = λ forest w h kept shapes order one_each same_length free decided.
@@ -49,6 +50,6 @@ decided_plan = λ forest w h kept shapes order one_each same_length free decided
         let at = slice_get-get_or shapes place leaf_shape (omega arith) in
         let d = decided place pair (get_or shapes place leaf_shape) e at in
         let g = d.first.give in
-        let left = taken_shape forest w h kept shapes free (left_arm pair) d.l d.left g.left_shape g.left_sum d.takes_left g.is_left in
-        let right = taken_shape forest w h kept shapes free (right_arm pair) d.r d.right g.right_shape g.right_sum d.takes_right g.is_right in
+        let left = taken_shape ordinary_costs forest w h kept shapes free (left_arm pair) d.l d.left g.left_shape g.left_sum d.takes_left g.is_left in
+        let right = taken_shape ordinary_costs forest w h kept shapes free (right_arm pair) d.r d.right g.right_shape g.right_sum d.takes_right g.is_right in
         (sym g.shape_is ∙ ap₂ (joined_shape (operator_of pair)) left right, g.least.reached.fits)

@@ -13,14 +13,14 @@ use Rattle.dual_rail.specs.ForestOrder.{AreInOrder, ReadsBefore}
 use Rattle.dual_rail.specs.Forests.{left_arm, right_arm}
 use Rattle.tree_map.specs.declared.offers.Offer.{Offer}
 use Rattle.tree_map.specs.declared.ties.Wanted.{Wanted}
-use Rattle.tree_map.specs.Covers.{AreFirst, Choice, Comes, CoverPart, CutOff, Earlier, End, Fits, GivesLeast, IsChoice, IsLeast, IsRootShape, Join, Keep, Nothing, TreeShape, joined_shape}
+use Rattle.tree_map.specs.Covers.{AreFirst, Choice, Comes, CoverPart, CutOff, Earlier, End, Fits, GivesLeast, IsChoice, IsLeast, IsRootShape, Join, Keep, Nothing, TreeShape, joined_shape, ordinary_costs}
 use Rattle.tree_map.specs.CoverSums.{AreSumsOf, SumsData, sum_at}
 use Rattle.tree_map.specs.LeastPlans.{IsPartOf, operator_of}
 use Rattle.tree_map.specs.Offers.{AreOffers, HasSums, IsArmWithin, IsFirstShape, IsOffered, choice_of}
 use Rattle.tree_map.specs.Ties.{AreFirstOffers, AreSmall, Give, IsDecision, SomeGive}
 use Rattle.tree_map.specs.Plans.{is_free}
-use Rattle.tree_map.proofs.Choices.{choices_there}
-use Rattle.tree_map.proofs.Chosen.{least_one}
+use Rattle.cover_plan.proofs.Choices.{choices_there}
+use Rattle.cover_plan.proofs.Chosen.{least_one}
 use Rattle.tree_map.proofs.OfferedChoices.{root_is}
 use Rattle.tree_map.proofs.RootShapes.{arm_part, root_there}
 
@@ -45,12 +45,12 @@ module _ (w h : ℕ) (wanted : Wanted) (l r : CoverPart) (lefts rights : List Of
       → (x : IsOffered lefts other g.left_shape g.left_sum) (y : IsOffered rights more g.right_shape g.right_sum) → Give wanted x.offer y.offer
   offers_give other more g x y = (
     ap₂ (joined_shape (operator_of wanted.pair)) x.shape_is y.shape_is ∙ g.shape_is,
-    ap₂ (λ m n. m + n) x.sum_is y.sum_is ∙ least_one w h (Join (operator_of wanted.pair) l r) wanted.shape (g.left_sum + g.right_sum) wanted.sum g.least least,
+    ap₂ (λ m n. m + n) x.sum_is y.sum_is ∙ least_one ordinary_costs w h (Join (operator_of wanted.pair) l r) wanted.shape (g.left_sum + g.right_sum) wanted.sum g.least least,
   )
 
   pub some_give : 1 ≤ w → 1 ≤ h → SomeGive wanted lefts rights
   some_give wide tall =
-      let c = choices_there w h wide tall (operator_of wanted.pair) l r wanted.shape wanted.sum least in
+      let c = choices_there ordinary_costs w h wide tall (operator_of wanted.pair) l r wanted.shape wanted.sum least in
       let g = c.2 in
       let x = are_left.complete c.0 g.left_shape g.left_sum g.is_left in
       let y = are_right.complete c.1 g.right_shape g.right_sum g.is_right in

@@ -5,7 +5,7 @@ use Rattle.dom_base.proofs.Bools.{and_both}
 use Rattle.tree_map.specs.Covers.{TreeShape}
 use Rattle.tree_map.specs.CoverRows.{IsShapeIn}
 use Rattle.tree_map.specs.CoverSums.{SumsData, above_zero, has_shape, sum_at, sum_index}
-use Rattle.tree_map.proofs.Tables.{none_is}
+use Rattle.cover_plan.proofs.Tables.{none_is}
 
 pub shape_had_in : (t : SumsData) (shape : TreeShape) → has_shape t shape ≡ true → IsShapeIn t.w t.h shape
 shape_had_in t shape e =

@@ -6,13 +6,14 @@ use Rattle.dual_rail.specs.Forests.{left_arm, right_arm}
 use Rattle.dual_rail.specs.declared.forest.Arm.{Arm}
 use Rattle.dual_rail.specs.declared.forest.Pair.{Pair}
 use Rattle.dual_rail.specs.declared.forest.Pair.TheVariants.{And, Or}
-use Rattle.tree_map.specs.Covers.{CoverPart, Join, Kept, Cut, leaf_shape, joined_shape, Fits, shape_of, sum_of, IsCover, IsRootShape, Choice, Keep, CutOff, Nothing, AreFirst, IsChosenCover}
+use Rattle.tree_map.specs.Covers.{CoverPart, Join, Kept, Cut, leaf_shape, joined_shape, Fits, shape_of, sum_of, IsCover, IsRootShape, Choice, Keep, CutOff, Nothing, AreFirst, IsChosenCover, ordinary_costs}
 use Rattle.dual_rail.specs.ForestData.{ForestData}
 use Rattle.dual_rail.specs.ForestOrder.{AreInOrder}
 use Rattle.tree_map.specs.LeastPlans.{IsPartOf, literal as end_literal, shared, free, operator_of, IsTaken, IsChosenPlan}
 use Rattle.tree_map.specs.Bounds.{IsWithin}
 use Rattle.tree_map.specs.Plans.{IsFree, IsPlan, IsLeastPlan, IsTreeOf, is_kept, is_free}
-use Rattle.tree_map.proofs.Chosen.{chosen_is}
+use Rattle.cover_plan.proofs.Chosen.{chosen_is}
+use Rattle.cover_plan.proofs.SimpleRoots.{root_here, simple_root}
 use Rattle.tree_map.proofs.PlanCosts.{all_among, root_among, kept_edges, plan_cost}
 use Rattle.tree_map.proofs.PlanCovers.{cover_cost, cover_of, is_free-true, is_free-of, is_free-not, kept_in, pairs_in, tree_shape}
 use Rattle.tree_map.proofs.Tallies.{arm_value, arms_value, tally, tally-is, tally_total}
@@ -143,6 +144,7 @@ chosen_cover forest w h kept trees is (free {place = p} {pair = pair} {l = l} {r
     rw k (
       s,
       subst (λ m. IsRootShape w h (Join (operator_of pair) m r) s) same_l (subst (λ m. IsRootShape w h (Join (operator_of pair) d.l m) s) same_r (d.root k)),
+      simple_root ordinary_costs refl w h (operator_of pair) l r _,
       (
         d.left,
         d.right,
@@ -180,9 +182,9 @@ most_kept forest w h kept other trees more order is plan p lt head =
         let theirs = head_kept forest w h other more order plan p pair e head d.left_part d.right_part in
         let root = d.root mine.2 in
         let chosen : IsChosenCover w h (Join op d.l d.r) CutOff (Cut (cover_of forest kept d.left_part) (cover_of forest kept d.right_part)) =
-        (s, root, (d.left, d.right, d.first, chosen_cover forest w h kept trees is d.left_part d.left d.takes_left, chosen_cover forest w h kept trees is d.right_part d.right d.takes_right)) in
-        let sum = chosen_is w h (Join op d.l d.r) CutOff (Cut (cover_of forest kept d.left_part) (cover_of forest kept d.right_part)) leaf_shape (1 + (root.sum + 5))
-        (refl, (root.sum, root.least_of_all, refl)) chosen in
+        (s, root, simple_root ordinary_costs refl w h op d.l d.r root.sum, (d.left, d.right, d.first, chosen_cover forest w h kept trees is d.left_part d.left d.takes_left, chosen_cover forest w h kept trees is d.right_part d.right d.takes_right)) in
+        let sum = chosen_is ordinary_costs w h (Join op d.l d.r) CutOff (Cut (cover_of forest kept d.left_part) (cover_of forest kept d.right_part)) leaf_shape (1 + (root.sum + 5))
+        (refl, (root.sum + 5, root_here ordinary_costs refl w h op d.l d.r root.sum root.least_of_all, refl)) chosen in
         let their_left = cover_of forest other d.left_part in
         let their_right = cover_of forest other d.right_part in
         let least = root.least_of_all.least (joined_shape op (shape_of d.l their_left) (shape_of d.r their_right)) (sum_of d.l their_left + sum_of d.r their_right)

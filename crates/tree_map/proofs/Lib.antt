@@ -1,16 +1,14 @@
 pub mod ArmEntries
 pub mod ArmGiven
 pub mod ArmTrees
-pub mod Choices
-pub mod Chosen
 pub mod DecidedCover
 pub mod DecidedLists
 pub mod DecidedPlan
 pub mod FirstOffers
 pub mod FirstShapes
-pub mod Firsts
 pub mod FreeEdges
 pub mod HadShapes
+pub mod KeptChoices
 pub mod KeptOffers
 pub mod LeastPlan
 pub mod Marks
@@ -23,7 +21,6 @@ pub mod PlanShapes
 pub mod PlanThere
 pub mod PlanValues
 pub mod ReadRows
-pub mod Recurrence
 pub mod RootShapes
 pub mod RootTrees
 pub mod RowLoops
@@ -31,6 +28,6 @@ pub mod Rows
 pub mod SumBounds
 pub mod SumReads
 pub mod TabledRows
-pub mod Tables
 pub mod Tallies
 pub mod Totals
+pub mod TreeSums

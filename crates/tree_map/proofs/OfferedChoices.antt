@@ -11,15 +11,17 @@ use Rattle.dual_rail.specs.declared.forest.Pair.{Pair}
 use Rattle.dual_rail.specs.ForestData.{ForestData}
 use Rattle.dual_rail.specs.Forests.{left_arm, right_arm}
 use Rattle.tree_map.specs.declared.offers.Offer.{Offer}
-use Rattle.tree_map.specs.Covers.{Choice, CoverPart, CutOff, Earlier, End, Fits, IsChoice, IsLeast, IsLeastOfAll, IsRootShape, IsSum, Join, Keep, Lower, Nothing, Operator, TreeShape, leaf_shape}
+use Rattle.tree_map.specs.Covers.{Choice, CoverPart, CutOff, Earlier, End, IsChoice, IsLeast, IsLeastOfAll, IsRootShape, IsSum, Join, Keep, Lower, Nothing, Operator, TreeShape, leaf_shape, ordinary_costs}
+use Rattle.cover_plan.specs.Covers.{IsLeastRoot}
 use Rattle.tree_map.specs.CoverSums.{SumsData, sum_at}
 use Rattle.tree_map.specs.LeastPlans.{IsPartOf, free, literal, operator_of, shared}
 use Rattle.tree_map.specs.Offers.{AreInTurn, AreKeptBefore, AreOffers, HasNoFreePair, IsArmWithin, IsBefore, IsFirstLeast, IsFirstShape, IsFreePair, IsOffered, choice_of}
 use Rattle.tree_map.specs.Plans.{is_free}
-use Rattle.tree_map.proofs.Chosen.{least_of_all_one}
+use Rattle.cover_plan.proofs.Chosen.{least_of_all_one}
 use Rattle.tree_map.proofs.PlanCovers.{is_free-of, is_free-true}
 use Rattle.tree_map.proofs.HadShapes.{sum_in}
-use Rattle.tree_map.proofs.Recurrence.{arm_bounded, table_bounds, table_least}
+use Rattle.cover_plan.proofs.Recurrence.{sum_bounded, table_least}
+use Rattle.cover_plan.proofs.SimpleRoots.{root_back, root_here}
 
 pub before_lower : (a b : TreeShape) → IsBefore a b → Lower a b
 before_lower a b (inl lt) = inl lt
@@ -40,11 +42,8 @@ module _ (t : SumsData) (place : ℕ) (op : Operator) (l r : CoverPart) (wide : 
   -- a plan of a shape has a least sum of this shape
   least_below : (s : TreeShape) (n : ℕ) → IsSum t.w t.h (Join op l r) s n → (m : ℕ) × IsLeast t.w t.h (Join op l r) s m × (m ≤ n)
   least_below s n is =
-      let b = table_bounds t.w t.h wide tall op l r (arm_bounded t.w t.h wide tall l) (arm_bounded t.w t.h wide tall r) is.left is.right is.cover.0 is.cover.1 (subst (Fits t.w t.h) (sym is.shape_is) is.fits) in (
-        (b.0).sum,
-        subst (λ k. IsLeast t.w t.h (Join op l r) k (b.0).sum) (b.2 ∙ is.shape_is) ((table_least t.w t.h wide tall op l r b.0).0 b.1),
-        subst (λ k. (b.0).sum ≤ k) is.sum_is b.3,
-      )
+      let b = sum_bounded ordinary_costs t.w t.h wide tall op l r s n is in
+      ((b.0).sum, subst (λ k. IsLeast t.w t.h (Join op l r) k (b.0).sum) b.2 ((table_least ordinary_costs t.w t.h wide tall op l r b.0).0 b.1), b.3)
 
   first_is_least : (s : TreeShape) (is : IsFirstShape (sum_at t place) s) → IsLeastOfAll t.w t.h (Join op l r) is.sum
   first_is_least s is = record {
@@ -105,7 +104,10 @@ module _ (t : SumsData) (place : ℕ) (xs : List Offer) (are : AreKeptBefore (su
         never : (x : Choice) (s : TreeShape) (n : ℕ) → IsChoice t.w t.h (Join op l r) x s n → ⊥
         never Nothing s n is = is
         never (Keep k) s n is = none_kept none k n ((sums k n).1 is.1)
-        never CutOff s n (leaf, (below, least, sum)) = let x = least_offered t place op l r wide tall sums below least in none_kept none x.0 below x.1
+        never CutOff s n (leaf, (below, least, sum)) =
+            let b = root_back ordinary_costs refl t.w t.h op l r below least in
+            let x = least_offered t place op l r wide tall sums b.0 b.1 in
+            none_kept none x.0 b.0 x.1
 
     pub with_cut : (o cut : Offer) → IsFirstLeast xs (length xs) o → choice_of cut.choice ≡ CutOff → cut.shape ≡ leaf_shape → cut.sum ≡ 1 + (o.sum + 5) → AreOffers t.w t.h (Join op l r) (xs ++ cut ∷ [])
     unfolding first_shape
@@ -118,7 +120,7 @@ module _ (t : SumsData) (place : ℕ) (xs : List Offer) (are : AreKeptBefore (su
         sound k x at =
             elim (slice_get-push_cases xs cut k x at) [
               | inl old ↦ rw (are.keeps k x old) (refl, (sums x.shape x.sum).0 (are.sums k x old))
-              | inr new ↦ subst (λ (y : Offer). IsChoice t.w t.h (Join op l r) (choice_of y.choice) y.shape y.sum) new.1 (rw choice_is (shape_is, (o.sum, least, sum_is)))
+              | inr new ↦ subst (λ (y : Offer). IsChoice t.w t.h (Join op l r) (choice_of y.choice) y.shape y.sum) new.1 (rw choice_is (shape_is, (o.sum + 5, root_here ordinary_costs refl t.w t.h op l r o.sum least, sum_is)))
             ]
 
         complete : (x : Choice) (s : TreeShape) (n : ℕ) → IsChoice t.w t.h (Join op l r) x s n → IsOffered (xs ++ cut ∷ []) x s n
@@ -130,8 +132,13 @@ module _ (t : SumsData) (place : ℕ) (xs : List Offer) (are : AreKeptBefore (su
           at = slice_get-push xs cut;
           choice_is = choice_is;
           shape_is = shape_is ∙ sym leaf;
-          sum_is = sum_is ∙ ap (λ m. 1 + (m + 5)) (least_of_all_one t.w t.h (Join op l r) o.sum below least is) ∙ sym sum;
+          sum_is = sum_is ∙ cut_sum below is ∙ sym sum;
         }
+          where
+            cut_sum : (below : ℕ) → IsLeastRoot ordinary_costs t.w t.h (Join op l r) below → 1 + (o.sum + 5) ≡ 1 + below
+            cut_sum below is =
+                let b = root_back ordinary_costs refl t.w t.h op l r below is in
+                ap (λ m. 1 + (m + 5)) (least_of_all_one ordinary_costs t.w t.h (Join op l r) o.sum b.0 least b.1) ∙ ap (λ m. 1 + m) (sym b.2)
 
         turn : AreInTurn (xs ++ cut ∷ [])
         turn i k a b lt at too = by (slice_get-push_cases xs cut i a at) (slice_get-push_cases xs cut k b too)

@@ -19,16 +19,16 @@ all_among P x [] h at = absurd at
 all_among P x (y ∷ xs) h (inl e) = subst P e (h 0 y (omega arith))
 all_among P x (y ∷ xs) h (inr at) = all_among P x xs (λ k d lt. h (suc k) d (omega arith)) at
 
--- among the roots' trees there is one of each root
-pub root_among : (R : ℕ → Tree ℕ → Type 0) (kept : ℕ → Bool) (a m p : ℕ) (trees : List (Tree ℕ)) → AllZip R (filter (λ place. not (kept place)) (range_with_len a m)) trees
-    → a ≤ p → p < a + m → kept p ≡ false → (t : Tree ℕ) × Among t trees × R p t
-root_among R kept a zero p trees h low high e = absurd (omega arith)
-root_among R kept a (suc m) p trees h low high e = by (kept a) refl trees h (λ ts g low' high'. root_among R kept (a + 1) m p ts g low' high' e)
+-- among what the roots have there is one of each root
+pub root_among : {X : Type 0} (R : ℕ → X → Type 0) (kept : ℕ → Bool) (a m p : ℕ) (items : List X) → AllZip R (filter (λ place. not (kept place)) (range_with_len a m)) items
+    → a ≤ p → p < a + m → kept p ≡ false → (t : X) × Among t items × R p t
+root_among R kept a zero p items h low high e = absurd (omega arith)
+root_among {X} R kept a (suc m) p items h low high e = by (kept a) refl items h (λ ts g low' high'. root_among R kept (a + 1) m p ts g low' high' e)
   where
-    by : (b : Bool) → kept a ≡ b → (ts : List (Tree ℕ))
+    by : (b : Bool) → kept a ≡ b → (ts : List X)
         → AllZip R (cond (not b) (a ∷ filter (λ place. not (kept place)) (range_with_len (a + 1) m)) (filter (λ place. not (kept place)) (range_with_len (a + 1) m))) ts
-        → ((us : List (Tree ℕ)) → AllZip R (filter (λ place. not (kept place)) (range_with_len (a + 1) m)) us → a + 1 ≤ p → p < a + 1 + m → (t : Tree ℕ) × Among t us × R p t)
-        → (t : Tree ℕ) × Among t ts × R p t
+        → ((us : List X) → AllZip R (filter (λ place. not (kept place)) (range_with_len (a + 1) m)) us → a + 1 ≤ p → p < a + 1 + m → (t : X) × Among t us × R p t)
+        → (t : X) × Among t ts × R p t
     by true is ts g more = more ts g (omega (arith, apart)) (omega arith)
       where
         apart : p ≡ a → ⊥

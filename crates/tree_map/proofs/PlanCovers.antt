@@ -4,7 +4,8 @@ use Rattle.std.proofs.Common.{◌≡◌, refl, sym, ap, ap₂, subst, ◌∙◌,
 use Rattle.sp_network.specs.Tree.{Tree, width, height}
 use Rattle.dual_rail.specs.declared.forest.Arm.{Arm}
 use Rattle.dual_rail.specs.declared.forest.Pair.TheVariants.{And, Or}
-use Rattle.tree_map.specs.Covers.{CoverPart, End, Join, Cover, Single, Kept, Cut, shape_of, sum_of, IsCover}
+use Rattle.tree_map.specs.Covers.{CoverPart, End, Join, Cover, Single, Kept, Cut, Split, ordinary_costs, shape_of, sum_of, IsCover}
+use Rattle.cover_plan.proofs.Sums.{none_split}
 use Rattle.dual_rail.specs.ForestData.{ForestData}
 use Rattle.dual_rail.specs.Forests.{arm_uses, end_uses, left_arm, right_arm}
 use Rattle.tree_map.specs.LeastPlans.{IsPartOf, literal as end_literal, shared, free}
@@ -20,15 +21,18 @@ unfoldable pub kept_in : Cover → ℕ
 kept_in Single = 0
 kept_in (Kept a b) = 1 + (kept_in a + kept_in b)
 kept_in (Cut a b) = kept_in a + kept_in b
+kept_in (Split a b) = kept_in a + kept_in b
 
 pub cover_cost : (w h : ℕ) (t : CoverPart) (a : Cover) → IsCover w h t a → sum_of t a + 6 * kept_in a ≡ 7 * pairs_in t + 1
 unfolding pairs_in kept_in
 cover_cost w h End Single is = refl
 cover_cost w h End (Kept a b) is = absurd is
 cover_cost w h End (Cut a b) is = absurd is
+cover_cost w h End (Split a b) is = absurd is
 cover_cost w h (Join op l r) Single is = absurd is
 cover_cost w h (Join op l r) (Kept a b) is = let x = cover_cost w h l a is.0 in let y = cover_cost w h r b is.1 in omega arith
 cover_cost w h (Join op l r) (Cut a b) is = let x = cover_cost w h l a is.0 in let y = cover_cost w h r b is.1 in omega arith
+cover_cost w h (Join op l r) (Split a b) is = absurd (none_split ordinary_costs op refl is.2)
 
 pub is_free-true : (forest : ForestData) (place : ℕ) → is_free forest place ≡ true → IsFree forest place
 unfolding is_free

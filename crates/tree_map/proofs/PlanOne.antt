@@ -11,13 +11,13 @@ use Rattle.dual_rail.specs.declared.forest.Arm.{Arm}
 use Rattle.dual_rail.specs.declared.forest.Arm.TheVariants.{Literal, Pair as pair_arm}
 use Rattle.dual_rail.specs.declared.forest.Pair.{Pair}
 use Rattle.dual_rail.specs.declared.forest.Pair.TheVariants.{And, Or}
-use Rattle.tree_map.specs.Covers.{Join, leaf_shape, IsRootShape, Choice, Keep, CutOff, Nothing, AreFirst}
+use Rattle.tree_map.specs.Covers.{Join, leaf_shape, IsRootShape, Choice, Keep, CutOff, Nothing, AreFirst, ordinary_costs}
 use Rattle.dual_rail.specs.ForestData.{ForestData}
 use Rattle.dual_rail.specs.ForestOrder.{AreInOrder, ReadsBefore}
 use Rattle.dual_rail.specs.Forests.{arms_of, is_pair_arm, left_arm, right_arm}
 use Rattle.tree_map.specs.LeastPlans.{IsChosenPlan, IsTaken, operator_of}
 use Rattle.tree_map.specs.Plans.{IsArmTree, literal, cut, series, parallel, IsFree, IsTreeOf, cell_gate, cell_of, is_kept, rail_gate, roots, is_free}
-use Rattle.tree_map.proofs.Chosen.{first_one, root_shape_one}
+use Rattle.cover_plan.proofs.Chosen.{first_one, root_shape_one}
 use Rattle.tree_map.proofs.LeastPlan.{part_one}
 use Rattle.tree_map.proofs.PlanCovers.{is_free-true, is_free-of}
 use Rattle.tree_map.proofs.Tallies.{uses}
@@ -82,7 +82,7 @@ module _ (forest : ForestData) (w h : ℕ) (order : AreInOrder forest.pairs) (ke
       let left = part_one forest x.left_part y.left_part refl in
       let right = part_one forest x.right_part y.right_part refl in (
         k ∙ sym k',
-        root_shape_one w h (Join (operator_of pair) y.l y.r) (get_or a.shapes p leaf_shape) (get_or b.shapes p leaf_shape)
+        root_shape_one ordinary_costs w h (Join (operator_of pair) y.l y.r) (get_or a.shapes p leaf_shape) (get_or b.shapes p leaf_shape)
             (subst (λ m. IsRootShape w h (Join (operator_of pair) m y.r) (get_or a.shapes p leaf_shape)) left
             (subst (λ m. IsRootShape w h (Join (operator_of pair) x.l m) (get_or a.shapes p leaf_shape)) right (x.root k)))
             (y.root k'),
@@ -121,7 +121,7 @@ module _ (forest : ForestData) (w h : ℕ) (order : AreInOrder forest.pairs) (ke
               let right = part_one forest d.right_part d'.right_part refl in
               let first = subst (λ m. AreFirst w h (operator_of x) m d'.r s d.left d.right) left
               (subst (λ m. AreFirst w h (operator_of x) d.l m s d.left d.right) right (subst (λ t. AreFirst w h (operator_of x) d.l d.r t d.left d.right) (shape_same q same) d.first)) in
-              let choices = first_one w h (operator_of x) d'.l d'.r s d.left d.right d'.left d'.right first d'.first in
+              let choices = first_one ordinary_costs w h (operator_of x) d'.l d'.r s d.left d.right d'.left d'.right first d'.first in
               side arm d.left d.right d'.left d'.right d.takes_left d.takes_right d'.takes_left d'.takes_right choices.0 choices.1
             where
               above : (left_arm x ≡ pair_arm p) ⊎ (right_arm x ≡ pair_arm p) → ReadsBefore q (left_arm x) × ReadsBefore q (right_arm x) → length forest.pairs ≤ q + room

@@ -14,20 +14,16 @@ use Rattle.dual_rail.specs.ForestData.{ForestData}
 use Rattle.dual_rail.specs.ForestOrder.{AreInOrder, ReadsBefore}
 use Rattle.tree_map.specs.PlanShapes.{AreShapes, ShapesMakePlans, arm_shape}
 use Rattle.tree_map.specs.Plans.{IsArmTree, literal, cut, series, parallel, IsTreeOf, is_kept, rail_gate}
+use Rattle.tree_map.proofs.ArmTrees.{tree_below}
 use Rattle.gate_decompose.specs.Items.{Among}
 
 -- the tree has this shape
-abbrev HasShape : Tree ℕ → TreeShape → Type 0
+abbrev pub HasShape : Tree ℕ → TreeShape → Type 0
 HasShape tree shape = (height tree ≡ shape.height) × (width tree ≡ shape.width)
 
 module _ (forest : ForestData) (w h : ℕ) (kept : List Bool) (shape : ℕ → TreeShape) (order : AreInOrder forest.pairs) (shapes : AreShapes forest w h kept shape) where
   TreeAt : ℕ → Type 0
   TreeAt p = (t : Tree ℕ) × IsTreeOf forest kept p t × HasShape t (shape p)
-
-  below_kept : (p : ℕ) (t : Tree ℕ) → is_kept kept p ≡ true → IsTreeOf forest kept p t → IsArmTree forest kept (pair_arm p) t
-  below_kept p (Leaf g) k x = absurd x
-  below_kept p (Series l r) k (a, b, e, x, y) = series k e x y
-  below_kept p (Parallel l r) k (a, b, e, x, y) = parallel k e x y
 
   arm_there : (p : ℕ) (arm : Arm) → ReadsBefore p arm → ((q : ℕ) → q < p → TreeAt q) → (t : Tree ℕ) × IsArmTree forest kept arm t × HasShape t (arm_shape kept shape arm)
   unfolding TreeAt
@@ -35,7 +31,7 @@ module _ (forest : ForestData) (w h : ℕ) (kept : List Bool) (shape : ℕ → T
   arm_there p (pair_arm q) low earlier = by (is_kept kept q) refl (earlier q low)
     where
       by : (b : Bool) → is_kept kept q ≡ b → TreeAt q → (t : Tree ℕ) × IsArmTree forest kept (pair_arm q) t × HasShape t (cond b (shape q) leaf_shape)
-      by true k found = (found.0, below_kept q found.0 k found.1, found.2)
+      by true k found = (found.0, tree_below forest kept q found.0 k found.1, found.2)
       by false k found = (_, cut k, (refl, refl))
 
   tree_there : (room p : ℕ) → p < room → p < length forest.pairs → TreeAt p

@@ -8,15 +8,15 @@ use Rattle.sp_network.specs.Tree.{Tree}
 use Rattle.dual_rail.specs.declared.forest.Arm.{Arm}
 use Rattle.dual_rail.specs.declared.forest.Arm.TheVariants.{Literal, Pair as pair_arm}
 use Rattle.dual_rail.specs.declared.forest.Pair.{Pair}
-use Rattle.tree_map.specs.Covers.{AreFirst, Choice, CutOff, IsChoice, IsLeast, IsRootShape, Join, Keep, Nothing, CoverPart, TreeShape, leaf_shape}
+use Rattle.tree_map.specs.Covers.{AreFirst, Choice, CutOff, IsChoice, IsLeast, IsRootShape, Join, Keep, Nothing, CoverPart, TreeShape, leaf_shape, ordinary_costs}
 use Rattle.dual_rail.specs.ForestData.{ForestData}
 use Rattle.dual_rail.specs.ForestOrder.{AreInOrder, ReadsBefore}
 use Rattle.dual_rail.specs.Forests.{left_arm, right_arm}
 use Rattle.tree_map.specs.LeastPlans.{IsChosenPlan, IsDecided, IsPartOf, IsTaken, free, literal, operator_of, shared}
 use Rattle.tree_map.specs.Plans.{IsFree, is_kept}
 use Rattle.tree_map.proofs.DecidedPlan.{decided_plan}
-use Rattle.tree_map.proofs.Firsts.{first_there}
-use Rattle.tree_map.proofs.LeastPlan.{part_one}
+use Rattle.cover_plan.proofs.Firsts.{first_there}
+use Rattle.tree_map.proofs.KeptChoices.{keep_free, keep_least}
 use Rattle.tree_map.proofs.Marks.{IsNew, mark, mark_adds, mark_cases, marked_at, put, put_at, put_other}
 use Rattle.tree_map.proofs.OneUser.{Names, one_arm, one_user}
 use Rattle.tree_map.proofs.RootShapes.{arm_part, root_there}
@@ -48,24 +48,6 @@ pub record State (forest : ForestData) (w h b : ℕ) (K : ℕ → Bool) (S : ℕ
       → (m : ℕ) × IsLeast w h (Join (operator_of x) l r) (S q) m
   pub decided : (p : ℕ) (x : Pair) → b ≤ p → slice_get forest.pairs p ≡ Some x → DecidedBy forest w h K S p x
 
--- a choice to keep is there for a free edge alone
-keep_free : (forest : ForestData) (w h : ℕ) (arm : Arm) (t : CoverPart) (a : ℕ) (s s' : TreeShape) (m : ℕ) → IsPartOf forest arm t → arm ≡ pair_arm a → IsChoice w h t (Keep s) s' m → IsFree forest a
-keep_free forest w h _ _ a s s' m literal e c = absurd c
-keep_free forest w h _ _ a s s' m (shared never) e c = absurd c
-keep_free forest w h _ _ a s s' m (free {place = q} is f l r) e c = let here : q ≡ a = cc in subst (IsFree forest) here is
-
--- what a choice says of the pair that is kept
-keep_least : (forest : ForestData) (w h : ℕ) (arm : Arm) (t : CoverPart) (a : ℕ) (s s' : TreeShape) (m : ℕ) → IsPartOf forest arm t → arm ≡ pair_arm a → IsChoice w h t (Keep s) s' m
-    → (x : Pair) (l r : CoverPart) → slice_get forest.pairs a ≡ Some x → IsPartOf forest (left_arm x) l → IsPartOf forest (right_arm x) r → (n : ℕ) × IsLeast w h (Join (operator_of x) l r) s n
-keep_least forest w h _ _ a s s' m literal e c x l r at dl dr = absurd c
-keep_least forest w h _ _ a s s' m (shared never) e c x l r at dl dr = absurd c
-keep_least forest w h _ _ a s s' m (free {place = q} {pair = y} {l = l'} {r = r'} is f d d') e c x l r at dl dr =
-    let here : q ≡ a = cc in
-    let same : y ≡ x = same_Some y x (sym f ∙ ap (slice_get forest.pairs) here ∙ at) in
-    let left = part_one forest d dl (ap left_arm same) in
-    let right = part_one forest d' dr (ap right_arm same) in
-    (m, subst (λ t. IsLeast w h t s m) (λ i. Join (operator_of (same i)) (left i) (right i)) c.1)
-
 module _ (forest : ForestData) (w h : ℕ) (wide : 2 ≤ w) (tall : 2 ≤ h) (order : AreInOrder forest.pairs) where
   module _ (b : ℕ) (x : Pair) (at : slice_get forest.pairs b ≡ Some x) (K : ℕ → Bool) (S : ℕ → TreeShape) (state : State forest w h (suc b) K S) (l r : CoverPart) (dl : IsPartOf forest (left_arm x) l) (dr : IsPartOf forest (right_arm x) r)
       (s0 : TreeShape) (stays : K b ≡ true → S b ≡ s0) (root0 : K b ≡ false → IsRootShape w h (Join (operator_of x) l r) s0)
@@ -94,13 +76,13 @@ module _ (forest : ForestData) (w h : ℕ) (wide : 2 ≤ w) (tall : 2 ≤ h) (or
     right_choice s e = subst (λ c. IsChoice w h r c first.give.right_shape first.give.right_sum) e first.give.is_right
 
     new_free : (q : ℕ) (s : TreeShape) → IsNewAt q s → IsFree forest q
-    new_free q s (inl n) = keep_free forest w h (left_arm x) l q s first.give.left_shape first.give.left_sum dl n.0 (left_choice s n.1)
-    new_free q s (inr n) = keep_free forest w h (right_arm x) r q s first.give.right_shape first.give.right_sum dr n.0 (right_choice s n.1)
+    new_free q s (inl n) = keep_free ordinary_costs forest w h (left_arm x) l q s first.give.left_shape first.give.left_sum dl n.0 (left_choice s n.1)
+    new_free q s (inr n) = keep_free ordinary_costs forest w h (right_arm x) r q s first.give.right_shape first.give.right_sum dr n.0 (right_choice s n.1)
 
     new_least : (q : ℕ) (s : TreeShape) → IsNewAt q s → (y : Pair) (l' r' : CoverPart) → slice_get forest.pairs q ≡ Some y → IsPartOf forest (left_arm y) l' → IsPartOf forest (right_arm y) r'
         → (m : ℕ) × IsLeast w h (Join (operator_of y) l' r') s m
-    new_least q s (inl n) = keep_least forest w h (left_arm x) l q s first.give.left_shape first.give.left_sum dl n.0 (left_choice s n.1)
-    new_least q s (inr n) = keep_least forest w h (right_arm x) r q s first.give.right_shape first.give.right_sum dr n.0 (right_choice s n.1)
+    new_least q s (inl n) = keep_least ordinary_costs forest w h (left_arm x) l q s first.give.left_shape first.give.left_sum dl n.0 (left_choice s n.1)
+    new_least q s (inr n) = keep_least ordinary_costs forest w h (right_arm x) r q s first.give.right_shape first.give.right_sum dr n.0 (right_choice s n.1)
 
     kept_cases : (q : ℕ) → K2 q ≡ true → (K q ≡ true) ⊎ ((s : TreeShape) × IsNewAt q s)
     unfolding K2
@@ -274,7 +256,7 @@ module _ (forest : ForestData) (w h : ℕ) (wide : 2 ≤ w) (tall : 2 ≤ h) (or
           with_shape : (l r : CoverPart) → IsPartOf forest (left_arm x) l → IsPartOf forest (right_arm x) r → (s0 : TreeShape) (m : ℕ) → IsLeast w h (Join (operator_of x) l r) s0 m → (K b ≡ true → S b ≡ s0)
               → (K b ≡ false → IsRootShape w h (Join (operator_of x) l r) s0) → (K' : ℕ → Bool) × (S' : ℕ → TreeShape) × State forest w h b K' S'
           with_shape l r dl dr s0 m least stays root0 =
-              let f = first_there w h (omega arith) (omega arith) (operator_of x) l r s0 m least in
+              let f = first_there ordinary_costs w h (omega arith) (omega arith) (operator_of x) l r s0 m least in
               (_, _, next b x at K S state l r dl dr s0 stays root0 f.0 f.1 f.2)
 
           by : (c : Bool) → K b ≡ c → (l r : CoverPart) → IsPartOf forest (left_arm x) l → IsPartOf forest (right_arm x) r → (K' : ℕ → Bool) × (S' : ℕ → TreeShape) × State forest w h b K' S'

@@ -4,46 +4,26 @@ use Rattle.std.proofs.lemmas.Option.{slice_get_cases}
 use Rattle.dual_rail.specs.declared.forest.Arm.{Arm}
 use Rattle.dual_rail.specs.declared.forest.Arm.TheVariants.{Literal, Pair as pair_arm}
 use Rattle.dual_rail.specs.declared.forest.Pair.{Pair}
-use Rattle.tree_map.specs.Covers.{Cover, Cut, End, Fits, InParallel, InSeries, IsCover, IsRootShape, Join, Operator, CoverPart, TreeShape, Single, joined_shape, leaf_shape, shape_of}
+use Rattle.tree_map.specs.Covers.{CoverPart, End, IsRootShape, Join, Operator, TreeShape, ordinary_costs}
 use Rattle.tree_map.specs.CoverTables.{table}
 use Rattle.dual_rail.specs.ForestData.{ForestData}
 use Rattle.dual_rail.specs.ForestOrder.{AreInOrder, ReadsBefore}
 use Rattle.dual_rail.specs.Forests.{left_arm, right_arm}
 use Rattle.tree_map.specs.LeastPlans.{IsPartOf, free, literal, operator_of, shared}
 use Rattle.tree_map.specs.Plans.{is_free}
-use Rattle.tree_map.proofs.Choices.{lowest_least}
-use Rattle.tree_map.proofs.Firsts.{root_shape_there}
+use Rattle.cover_plan.proofs.Choices.{lowest_least}
+use Rattle.cover_plan.proofs.CutParts.{cut_sum}
+use Rattle.cover_plan.proofs.Firsts.{root_shape_there}
 use Rattle.tree_map.proofs.PlanCovers.{is_free-of, is_free-true}
-use Rattle.tree_map.proofs.Recurrence.{arm_bounded, table_bounds}
-use Rattle.tree_map.proofs.Tables.{lowest_below}
-
--- a pair whose free edges are all cut is within bounds of at least 2
-cut_all : CoverPart → Cover
-cut_all End = Single
-cut_all (Join op l r) = Cut (cut_all l) (cut_all r)
-
-cut_shape : (t : CoverPart) → shape_of t (cut_all t) ≡ leaf_shape
-unfolding cut_all
-cut_shape End = refl
-cut_shape (Join op l r) = refl
-
-two_leaves : (w h : ℕ) → 2 ≤ w → 2 ≤ h → (op : Operator) → Fits w h (joined_shape op leaf_shape leaf_shape)
-two_leaves w h wide tall InSeries = (omega arith, omega arith)
-two_leaves w h wide tall InParallel = (omega arith, omega arith)
-
-cut_cover : (w h : ℕ) → 2 ≤ w → 2 ≤ h → (t : CoverPart) → IsCover w h t (cut_all t)
-unfolding cut_all
-cut_cover w h wide tall End = tt
-cut_cover w h wide tall (Join op l r) =
-    (cut_cover w h wide tall l, cut_cover w h wide tall r, rw (cut_shape l, cut_shape r) (two_leaves w h wide tall op))
+use Rattle.cover_plan.proofs.Recurrence.{sum_bounded}
+use Rattle.cover_plan.proofs.Tables.{lowest_below}
 
 pub root_there : (w h : ℕ) → 2 ≤ w → 2 ≤ h → (op : Operator) (l r : CoverPart) → (shape : TreeShape) × IsRootShape w h (Join op l r) shape
 root_there w h wide tall op l r =
-    let fits : Fits w h (joined_shape op (shape_of l (cut_all l)) (shape_of r (cut_all r))) = rw (cut_shape l, cut_shape r) (two_leaves w h wide tall op) in
-    let e = table_bounds w h (omega arith) (omega arith) op l r (arm_bounded w h (omega arith) (omega arith) l) (arm_bounded w h (omega arith) (omega arith) r) (cut_all l) (cut_all r)
-    (cut_cover w h wide tall l) (cut_cover w h wide tall r) fits in
+    let e = sum_bounded ordinary_costs w h (omega arith) (omega arith) op l r _ _ (cut_sum ordinary_costs w h wide tall op l r) in
     let low = lowest_below (table w h op l r) e.0 e.1 in
-    root_shape_there w h (omega arith) (omega arith) op l r low.0 (lowest_least w h (omega arith) (omega arith) op l r low.0 low.1)
+    let root = root_shape_there ordinary_costs w h (omega arith) (omega arith) op l r low.0 (lowest_least ordinary_costs w h (omega arith) (omega arith) op l r low.0 low.1) in
+    (root.0, root.1)
 
 -- the part below each arm
 pub arm_part : (forest : ForestData) → AreInOrder forest.pairs → (room : ℕ) (arm : Arm) → ReadsBefore room arm → room ≤ length forest.pairs → (t : CoverPart) × IsPartOf forest arm t

@@ -6,7 +6,7 @@ use Rattle.std.proofs.Common.{◌≡◌, inl, inr, refl, sym, ap, subst, ◌∙�
 use Rattle.dom_base.proofs.Lists.{slice_get-set_other}
 use Rattle.gate_decompose.specs.Items.{Among}
 use Rattle.gate_decompose.proofs.Among.{among_either}
-use Rattle.tree_map.proofs.Tables.{best_reached, same_shape-is, same_shape-self}
+use Rattle.cover_plan.proofs.Tables.{best_reached, same_shape-is, same_shape-self}
 use Rattle.tree_map.specs.Covers.{TreeShape}
 use Rattle.tree_map.specs.CoverRows.{IsRow, IsShapeIn, row_index, sum_or_zero}
 use Rattle.tree_map.specs.CoverTables.{Entry, best, lower_of, lowest, same_shape}

@@ -9,7 +9,7 @@ use Rattle.dual_rail.specs.declared.forest.Pair.{Pair}
 use Rattle.dual_rail.specs.ForestData.{ForestData}
 use Rattle.dual_rail.specs.ForestOrder.{AreInOrder, ReadsBefore}
 use Rattle.dual_rail.specs.Forests.{left_arm, right_arm}
-use Rattle.tree_map.specs.Covers.{CoverPart, Cover, End, Join, Kept, Cut, Single, IsCover, sum_of}
+use Rattle.tree_map.specs.Covers.{CoverPart, Cover, End, Join, Kept, Cut, Single, Split, IsCover, sum_of}
 use Rattle.tree_map.specs.LeastPlans.{IsPartOf, literal, shared, free, operator_of}
 use Rattle.tree_map.specs.Plans.{IsFree, is_free}
 use Rattle.tree_map.proofs.PlanCovers.{cover_cost, is_free-not, is_free-of, is_free-true, pairs_in}
@@ -110,3 +110,4 @@ some_sum End a = omega arith
 some_sum (Join op l r) Single = omega arith
 some_sum (Join op l r) (Kept a b) = let one = some_sum l a in omega (arith, one)
 some_sum (Join op l r) (Cut a b) = omega arith
+some_sum (Join op l r) (Split a b) = omega arith

@@ -16,19 +16,19 @@ use Rattle.dual_rail.specs.ForestOrder.{AreInOrder, IsForest, ReadsBefore}
 use Rattle.dual_rail.specs.Forests.{left_arm, right_arm}
 use Rattle.gate_decompose.specs.Items.{Among}
 use Rattle.tree_map.specs.ArmEntries.{AreEntriesOf, AreFew, AreFewOf, AreFreeOf, AreSumsIn, AreTabled}
-use Rattle.tree_map.specs.Covers.{CoverPart, Operator, TreeShape}
+use Rattle.tree_map.specs.Covers.{CoverPart, Operator, TreeShape, ordinary_costs}
 use Rattle.tree_map.specs.CoverRows.{AreSmall, IsRow, IsShapeIn, row_index, sum_or_zero}
 use Rattle.tree_map.specs.CoverSums.{AreSumsOf, SumsData, above_zero, has_shape, sum_at, sum_index}
 use Rattle.tree_map.specs.CoverTables.{Entry, arm_entries, best, combined, table}
 use Rattle.tree_map.specs.LeastPlans.{IsPartOf, operator_of}
 use Rattle.tree_map.proofs.ArmEntries.{best_same, combined_same, shape_in}
 use Rattle.tree_map.proofs.HadShapes.{shape_had_in, sum_in}
-use Rattle.tree_map.proofs.Recurrence.{arm_reached, shape_some, table_least}
+use Rattle.cover_plan.proofs.Recurrence.{arm_reached, shape_some, table_least}
 use Rattle.tree_map.proofs.RootShapes.{arm_part}
 use Rattle.tree_map.proofs.Rows.{index_in}
 use Rattle.tree_map.proofs.SumBounds.{few_in_arm, few_sums, some_sum}
 use Rattle.tree_map.proofs.SumReads.{shape_had}
-use Rattle.tree_map.proofs.Tables.{among_shapes, among_table, best_reached, table_best}
+use Rattle.cover_plan.proofs.Tables.{among_shapes, among_table, best_reached, table_best}
 
 index_before : (other m k i : ℕ) → other < m → i < k → other * k + i < m * k
 index_before other m k i lt low = let more = mul-le-mul_right {m = other + 1} {n = m} k (omega arith) in omega arith
@@ -103,7 +103,7 @@ module _ (forest : ForestData) (order : AreInOrder forest.pairs) where
       → AreEntriesOf forest w h arm es → AreSmall es
   entries_small m w h arm es wide tall broad high few le before are e at =
       let p = part_there m arm before le in
-      let r = arm_reached w h wide tall p.0 e ((are p.0 p.1 e).0 at) in
+      let r = arm_reached ordinary_costs w h wide tall p.0 e ((are p.0 p.1 e).0 at) in
       let some = shape_some p.0 r.0 in
       let one = some_sum p.0 r.0 in
       let most = few_in_arm forest order w h p.1 r.0 r.1 in
@@ -127,7 +127,7 @@ module _ (forest : ForestData) (order : AreInOrder forest.pairs) where
             let l = part_there place (left_arm pair) reads.0 (omega arith) in
             let r = part_there place (right_arm pair) reads.1 (omega arith) in
             let in_ = (tabled place pair l.0 r.0 lt found.2 l.1 r.1 (record { shape = shape; sum = sum })).0 at in
-            let least = (table_least t.w t.h wide tall (operator_of pair) l.0 r.0 (record { shape = shape; sum = sum })).0 in_ in
+            let least = (table_least ordinary_costs t.w t.h wide tall (operator_of pair) l.0 r.0 (record { shape = shape; sum = sum })).0 in_ in
             let s = least.reached in
             let most = few_sums forest order place t.w t.h pair found.2 l.1 r.1 s.left s.right s.cover in
             omega (arith, most, s.sum_is, few))
@@ -143,7 +143,7 @@ module _ (forest : ForestData) (order : AreInOrder forest.pairs) where
   all_tabled t wide tall tabled place pair l r at dl dr shape sum =
       let e : Entry = record { shape = shape; sum = sum } in
       let in_ = tabled place pair l r (slice_get_within forest.pairs place pair at) at dl dr e in
-      let least = table_least t.w t.h wide tall (operator_of pair) l r e in
+      let least = table_least ordinary_costs t.w t.h wide tall (operator_of pair) l r e in
       (λ s. least.0 (in_.0 s), λ is. in_.1 (least.1 is))
 
 pub none_tabled : (forest : ForestData) (t : SumsData) → AreTabled forest 0 t

@@ -6,7 +6,8 @@ use Rattle.dual_rail.specs.declared.forest.Arm.TheVariants.{Literal, Pair as pai
 use Rattle.dual_rail.specs.declared.forest.Pair.{Pair}
 use Rattle.dual_rail.specs.declared.forest.Pair.TheVariants.{And, Or}
 use Rattle.dual_rail.specs.declared.forest.Rail.{Rail}
-use Rattle.tree_map.specs.Covers.{Operator, InSeries, InParallel, CoverPart, End, Join, TreeShape, IsRootShape, Choice, Keep, CutOff, Nothing, AreFirst}
+use Rattle.cover_plan.specs.Parts.{Operator, InSeries, InParallel, CoverPart, End, Join, TreeShape, Choice, Keep, CutOff, Nothing}
+use Rattle.cover_plan.specs.Covers.{AreFirst, Costs, IsRootShape, ordinary_costs}
 use Rattle.dual_rail.specs.ForestData.{ForestData}
 use Rattle.dual_rail.specs.ForestOrder.{AreInOrder}
 use Rattle.dual_rail.specs.Forests.{left_arm, right_arm}
@@ -34,27 +35,34 @@ IsTaken forest kept shapes (pair_arm place) Nothing = IsFree forest place → �
 
 -- A pair whose shape is decided, where l and r are the parts below its arms: a root has its first shape of least cost, and
 -- each pair takes the first two choices that give its shape at least cost.
-pub record IsDecided
-    (forest : ForestData) (w h : ℕ) (kept : List Bool) (shapes : List TreeShape) (place : ℕ) (pair : Pair) (shape : TreeShape)
+pub record IsDecidedBy
+    (c : Costs) (forest : ForestData) (w h : ℕ) (kept : List Bool) (shapes : List TreeShape) (place : ℕ) (pair : Pair) (shape : TreeShape)
     : Type 0 where
   pub l : CoverPart
   pub r : CoverPart
   pub left_part : IsPartOf forest (left_arm pair) l
   pub right_part : IsPartOf forest (right_arm pair) r
-  pub root : is_kept kept place ≡ false → IsRootShape w h (Join (operator_of pair) l r) shape
+  pub root : is_kept kept place ≡ false → IsRootShape c w h (Join (operator_of pair) l r) shape
   pub left : Choice
   pub right : Choice
   pub takes_left : IsTaken forest kept shapes (left_arm pair) left
   pub takes_right : IsTaken forest kept shapes (right_arm pair) right
-  pub first : AreFirst w h (operator_of pair) l r shape left right
+  pub first : AreFirst c w h (operator_of pair) l r shape left right
 
 -- the chosen plan, with the shape of each pair
-pub record IsChosenPlan (forest : ForestData) (w h : ℕ) (kept : List Bool) (trees : List (Tree ℕ)) : Type 0 where
+pub record IsChosenPlanBy (c : Costs) (forest : ForestData) (w h : ℕ) (kept : List Bool) (trees : List (Tree ℕ)) : Type 0 where
   pub plan : IsPlan forest w h kept trees
   pub shapes : List TreeShape
   pub one_each : length shapes ≡ length forest.pairs
   pub decided : (place : ℕ) (pair : Pair) (shape : TreeShape)
-      → slice_get forest.pairs place ≡ Some pair → slice_get shapes place ≡ Some shape → IsDecided forest w h kept shapes place pair shape
+      → slice_get forest.pairs place ≡ Some pair → slice_get shapes place ≡ Some shape → IsDecidedBy c forest w h kept shapes place pair shape
+
+-- the same with the ordinary costs
+abbrev pub IsDecided : ForestData → ℕ → ℕ → List Bool → List TreeShape → ℕ → Pair → TreeShape → Type 0
+IsDecided = IsDecidedBy ordinary_costs
+
+abbrev pub IsChosenPlan : ForestData → ℕ → ℕ → List Bool → List (Tree ℕ) → Type 0
+IsChosenPlan = IsChosenPlanBy ordinary_costs
 
 -- the plan that the ties choose costs no more than any other
 abbrev pub ChosenPlanIsLeast : Type 0

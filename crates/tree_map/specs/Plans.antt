@@ -1,7 +1,8 @@
 -- Plans of a forest: sets of kept free edges whose trees are within bounds, and what they cost (Zhao, Sapatnekar 1998).
-use Rattle.std.specs.Prelude.{ℕ, ◌+◌, ◌*◌, ◌≤◌, ◌≡◌, ◌==◌, ◌&&◌, Bool, true, false, not, cond, List, length, filter, take, Some, slice_get, slice_index_or, sum_by, count_by, All}
+use Rattle.std.specs.Prelude.{ℕ, zero, ◌+◌, ◌*◌, ◌≤◌, ◌≡◌, ◌==◌, ◌&&◌, Bool, true, false, not, cond, List, length, filter, take, Some, slice_get, slice_index_or, sum_by, count_by, All}
 use Rattle.std.specs.List.{AllZip, range_with_len}
-use Rattle.sp_network.specs.Tree.{Tree, Leaf, Series, Parallel, leaves}
+use Rattle.sp_network.specs.Tree.{Tree, Leaf, Series, Parallel, inner_count, leaves}
+use Rattle.cover_plan.specs.Covers.{Costs, ordinary_costs}
 use Rattle.dual_rail.specs.declared.forest.Arm.{Arm}
 use Rattle.dual_rail.specs.declared.forest.Arm.TheVariants.{Literal, Pair as pair_arm}
 use Rattle.dual_rail.specs.declared.forest.Pair.TheVariants.{And, Or}
@@ -64,15 +65,29 @@ pub record IsPlan (forest : ForestData) (w h : ℕ) (kept : List Bool) (trees : 
   pub trees_are : AllZip (IsTreeOf forest kept) (roots kept) trees
   pub within : All (IsWithin w h) trees
 
--- the cost of a tree: its leaves, and 5 for the rest of its cell
-abbrev pub tree_cost : Tree ℕ → ℕ
-tree_cost tree = leaves tree + 5
+-- the leaves of a tree, and its series nodes where they cost something
+abbrev pub tree_sum : ℕ → Tree ℕ → ℕ
+tree_sum zero tree = leaves tree
+tree_sum node tree = leaves tree + node * inner_count tree
 
--- the cost of a plan by its trees
+-- what a tree costs with the rest of its cell, and the cost of a plan by its trees
+abbrev pub tree_cost_by : Costs → Tree ℕ → ℕ
+tree_cost_by c tree = tree_sum c.series tree + c.simple
+
+abbrev pub cost_by : Costs → List (Tree ℕ) → ℕ
+cost_by c trees = sum_by (tree_cost_by c) trees
+
+-- with the ordinary costs a tree costs its leaves, and 5 for the rest of its cell
+abbrev pub tree_cost : Tree ℕ → ℕ
+tree_cost = tree_cost_by ordinary_costs
+
 abbrev pub cost : List (Tree ℕ) → ℕ
-cost trees = sum_by tree_cost trees
+cost = cost_by ordinary_costs
 
 -- a plan of least cost: no plan costs less
-pub record IsLeastPlan (forest : ForestData) (w h : ℕ) (kept : List Bool) (trees : List (Tree ℕ)) : Type 0 where
+pub record IsLeastPlanBy (c : Costs) (forest : ForestData) (w h : ℕ) (kept : List Bool) (trees : List (Tree ℕ)) : Type 0 where
   pub plan : IsPlan forest w h kept trees
-  pub least : (other : List Bool) (more : List (Tree ℕ)) → IsPlan forest w h other more → cost trees ≤ cost more
+  pub least : (other : List Bool) (more : List (Tree ℕ)) → IsPlan forest w h other more → cost_by c trees ≤ cost_by c more
+
+abbrev pub IsLeastPlan : ForestData → ℕ → ℕ → List Bool → List (Tree ℕ) → Type 0
+IsLeastPlan = IsLeastPlanBy ordinary_costs

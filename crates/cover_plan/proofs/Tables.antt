@@ -6,8 +6,8 @@ use Rattle.std.proofs.lemmas.Bool.{cases_lt}
 use Rattle.gate_decompose.specs.Items.{Among}
 use Rattle.gate_decompose.proofs.Among.{among_map, among_mapped, among_flat, among_flattened, among_filter_map, among_filtered, among_range, among_ranged}
 use Rattle.dom_base.proofs.Bools.{and_both}
-use Rattle.tree_map.specs.Covers.{TreeShape, Fits}
-use Rattle.tree_map.specs.CoverTables.{Entry, same_shape, lower_of, best, lowest, shapes, table_within}
+use Rattle.cover_plan.specs.Parts.{TreeShape, Fits}
+use Rattle.cover_plan.specs.CoverTables.{Entry, same_shape, lower_of, best, lowest, shapes, table_within}
 
 -- shapes are the same exactly where the test says so
 pub same_shape-is : (a b : TreeShape) → same_shape a b ≡ true → a ≡ b
@@ -22,7 +22,7 @@ pub none_is : {X : Type 0} (a : X) → None ≡ Some a → ⊥
 none_is a e = cc
 
 -- the least of a number and an optional one is one of the two, and below both
-lower_of-is : (n : ℕ) (o : Option ℕ) (m : ℕ) → lower_of n o ≡ Some m → (m ≡ n) ⊎ (o ≡ Some m)
+pub lower_of-is : (n : ℕ) (o : Option ℕ) (m : ℕ) → lower_of n o ≡ Some m → (m ≡ n) ⊎ (o ≡ Some m)
 lower_of-is n None m e = inl (sym (same_Some n m e))
 lower_of-is n (Some k) m e =
     let same = same_Some (min n k) m e in
@@ -32,11 +32,11 @@ lower_of-is n (Some k) m e =
 abbrev pub AtMost : Option ℕ → ℕ → Type 0
 AtMost o n = (m : ℕ) × (o ≡ Some m) × (m ≤ n)
 
-lower_of-first : (n : ℕ) (o : Option ℕ) → AtMost (lower_of n o) n
+pub lower_of-first : (n : ℕ) (o : Option ℕ) → AtMost (lower_of n o) n
 lower_of-first n None = (n, refl, omega arith)
 lower_of-first n (Some k) = (min n k, refl, omega arith)
 
-lower_of-second : (n : ℕ) (o : Option ℕ) (k : ℕ) → AtMost o k → AtMost (lower_of n o) k
+pub lower_of-second : (n : ℕ) (o : Option ℕ) (k : ℕ) → AtMost o k → AtMost (lower_of n o) k
 lower_of-second n None k (m, e, le) = absurd (none_is m e)
 lower_of-second n (Some j) k (m, e, le) = (min n j, refl, let same = same_Some j m e in omega arith)
 

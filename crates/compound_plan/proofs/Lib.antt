@@ -1,0 +1,11 @@
+pub mod CellValues
+pub mod CompoundCosts
+pub mod LeastPlan
+pub mod OrdinaryPlans
+pub mod PlanCosts
+pub mod PlanCovers
+pub mod PlanOne
+pub mod PlanShapes
+pub mod PlanStates
+pub mod PlanThere
+pub mod RootDecisions

@@ -1,0 +1,3 @@
+pub mod CellValues
+pub mod OrdinaryPlans
+pub mod Plans

@@ -1,0 +1,10 @@
+pub mod Choices
+pub mod Chosen
+pub mod CutParts
+pub mod Firsts
+pub mod Orders
+pub mod Recurrence
+pub mod Shapes
+pub mod SimpleRoots
+pub mod Sums
+pub mod Tables

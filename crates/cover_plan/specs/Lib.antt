@@ -1,0 +1,3 @@
+pub mod CoverTables
+pub mod Covers
+pub mod Parts
