@@ -1,0 +1,10 @@
+pub mod Facts
+pub mod Lists
+pub mod Merged
+pub mod Mids
+pub mod OneShape
+pub mod ParallelStep
+pub mod Reduction
+pub mod SeriesStep
+pub mod Siblings
+pub mod Undone
