@@ -30,7 +30,7 @@ lower_lines [] = tt
 lower_lines (line ∷ all) = (lower_bytes (unindented line), lower_lines all)
 
 -- the lines of a deck have no upper-case letters
-deck_lines-lower : (text : List ℕ) → AllByRecursion (AllByRecursion IsLower) (deck_lines text)
+pub deck_lines-lower : (text : List ℕ) → AllByRecursion (AllByRecursion IsLower) (deck_lines text)
 deck_lines-lower text = all_through_end (AllByRecursion IsLower) (map read_line (lines text)) (lower_lines (lines text))
 
 added-lower : (all : List (List ℕ)) → AllByRecursion (AllByRecursion IsLower) all → AllByRecursion IsLowerWord (added_words all)
@@ -62,7 +62,7 @@ deck_cards-plain text visible =
     (recursion_from_All (All (All (λ b. is_control b ≡ false))) (deck_cards text) visible)
 
 -- the name of a phase
-abbrev IsPlainPhase : Phase → Type 0
+abbrev pub IsPlainPhase : Phase → Type 0
 IsPlainPhase phase = IsNetName phase.net
 
 signed-plain : (name sign : List ℕ) → IsNetName name → IfSome (signed_phase name sign) IsPlainPhase
@@ -87,7 +87,7 @@ phase-plain (star ∷ word ∷ name ∷ sign ∷ []) h = by (pointwise nat_eq st
     by true false u e = tt
     by false t u e = tt
 
-phases-plain : (all : List (List ℕ)) → AllByRecursion (AllByRecursion IsLower) all → AllByRecursion IsPlainPhase (filter_map phase_of (map words all))
+pub phases-plain : (all : List (List ℕ)) → AllByRecursion (AllByRecursion IsLower) all → AllByRecursion IsPlainPhase (filter_map phase_of (map words all))
 phases-plain [] h = tt
 phases-plain (line ∷ all) h = by (phase_of (words line)) (phase-plain (words line) (lower_words line h.0)) (phases-plain all h.1)
   where
@@ -97,10 +97,10 @@ phases-plain (line ∷ all) h = by (phase_of (words line)) (phase-plain (words l
     by (Some phase) p rest = (p, rest)
 
 -- the nets of a device
-abbrev HasPlainNets : NamedDevice (List ℕ) → Type 0
+abbrev pub HasPlainNets : NamedDevice (List ℕ) → Type 0
 HasPlainNets d = IsNetName d.drain × IsNetName d.gate × IsNetName d.source
 
-device-plain : (card : List (List ℕ)) (d : NamedDevice (List ℕ)) → IsDeviceCard card d → AllByRecursion IsNetName card → HasPlainNets d
+pub device-plain : (card : List (List ℕ)) (d : NamedDevice (List ℕ)) → IsDeviceCard card d → AllByRecursion IsNetName card → HasPlainNets d
 device-plain card d is h = let all = subst (AllByRecursion IsNetName) is.words_are h in (all.1.0, all.1.1.0, all.1.1.1.0)
 
 devices-plain : (cards : List (List (List ℕ))) (ds : List (NamedDevice (List ℕ))) → AllZip IsDeviceCard cards ds → AllByRecursion (AllByRecursion IsNetName) cards → AllByRecursion HasPlainNets ds
@@ -116,7 +116,7 @@ with_net-plain nets name h n = by (list_any (pointwise nat_eq name) nets)
     by true = h
     by false = AllByRecursion-append IsNetName nets (name ∷ []) h (n, tt)
 
-with_devices-plain : (c : CircuitData) (ds : List (NamedDevice (List ℕ))) → AllByRecursion IsNetName c.nets → AllByRecursion HasPlainNets ds → AllByRecursion IsNetName (with_devices c ds).nets
+pub with_devices-plain : (c : CircuitData) (ds : List (NamedDevice (List ℕ))) → AllByRecursion IsNetName c.nets → AllByRecursion HasPlainNets ds → AllByRecursion IsNetName (with_devices c ds).nets
 with_devices-plain c [] h p = h
 with_devices-plain c (d ∷ ds) h p =
     with_devices-plain (pushed c d.kind d.drain d.gate d.source) ds

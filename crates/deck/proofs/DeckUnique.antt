@@ -9,8 +9,8 @@ use Rattle.deck.specs.CircuitData.{CircuitData}
 use Rattle.deck.specs.DeckText.{deck_phases, model_word, IsDeviceCard, bare_circuit, IsDeckOf}
 use Rattle.deck.specs.NamedDevices.{NamedDevice, with_devices}
 
--- of two equal words both pass a test or none
-tell_apart : (test : List ℕ → Bool) (a b : List ℕ) → test a ≡ true → test b ≡ false → a ≡ b → ⊥
+-- of two equal things both pass a test or none
+pub tell_apart : {X : Type 0} (test : X → Bool) (a b : X) → test a ≡ true → test b ≡ false → a ≡ b → ⊥
 tell_apart test a b passes fails e = let never : true ≡ false = sym passes ∙ ap test e ∙ fails in cc
 
 is_nch : List ℕ → Bool

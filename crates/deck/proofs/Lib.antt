@@ -9,7 +9,9 @@ pub mod EscapedNames
 pub mod Escaping
 pub mod NetNames
 pub mod NetNumbers
+pub mod OneCircuit
 pub mod PortDecisions
 pub mod PortLayout
 pub mod PortOrder
 pub mod Reach
+pub mod WordTests

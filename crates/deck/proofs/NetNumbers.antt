@@ -154,7 +154,8 @@ net_number-kept old new name (more, is) =
       subst (λ l. HasNumber l name) (sym is) (HasNumber-append (with_net old name) more name at),
     )
 
-same_name : (x : List ℕ) → pointwise nat_eq x x ≡ true
+-- a name is itself
+pub same_name : (x : List ℕ) → pointwise nat_eq x x ≡ true
 same_name x = (bytes_decides x x).1 refl
 
 -- a name behind the first differs from the first

@@ -1,10 +1,13 @@
 -- The cards of a deck, each with the number of its first line (SPICE subcircuit and M cards).
-use Rattle.std.specs.Prelude.{ℕ, Bool, true, false, ◌==◌, ◌||◌, ◌&&◌, not, nat_eq, nat_lt, if◌then◌else◌, List, [], ◌∷◌, ◌++◌, map, filter, length, drop, slice_index, Option, Some, None, codes}
+use Rattle.std.specs.Prelude.{ℕ, Bool, true, false, ◌==◌, ◌||◌, ◌&&◌, not, nat_eq, nat_lt, if◌then◌else◌, List, [], ◌∷◌, ◌++◌, map, filter, length, drop, slice_index, slice_index_or, Option, Some, None, codes}
 use Rattle.std.specs.List.{list_any, find, enumerate_from}
 use Rattle.std.specs.Set.{distinct_count}
 use Rattle.std.specs.Cmp.Lexicographic.{pointwise}
 use Rattle.dom_base.specs.Lines.{words, first_word}
+use Rattle.dom_base.specs.declared.kind.Kind.{Kind}
+use Rattle.dom_base.specs.declared.kind.Kind.TheVariants.{N as nch, P as pch, Keep}
 use Rattle.deck.specs.DeckText.{deck_lines, is_of_card, continues, added_words}
+use Rattle.deck.specs.NamedDevices.{NamedDevice}
 
 -- a card of a deck: the number of its first line, from 1, and its words
 pub record NumberedCard : Type 0 where
@@ -70,9 +73,21 @@ is_deck_form card =
     else (if has_first_word dot_ends card then nat_lt (length card.words) 3
     else true))
 
+-- the word of this index of a card, from 0, or no bytes where there is none
+abbrev pub word_at : NumberedCard → ℕ → List ℕ
+word_at card index = slice_index_or card.words index []
+
 -- a word for a kind of device
 abbrev pub is_model_word : List ℕ → Bool
 is_model_word word = pointwise nat_eq word (codes "nch") || pointwise nat_eq word (codes "pch") || pointwise nat_eq word (codes "pkeep")
+
+-- the kind of device of one of the words for kinds
+abbrev pub kind_of : List ℕ → Kind
+kind_of word = if pointwise nat_eq word (codes "nch") then nch else (if pointwise nat_eq word (codes "pch") then pch else Keep)
+
+-- the device of a card
+abbrev pub device_of_card : NumberedCard → NamedDevice (List ℕ)
+device_of_card card = record { kind = kind_of (word_at card 5); drain = word_at card 1; gate = word_at card 2; source = word_at card 3 }
 
 -- the ports that a card `.subckt` names, behind the name of the subcircuit
 abbrev pub port_names : NumberedCard → List (List ℕ)

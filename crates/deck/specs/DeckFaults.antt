@@ -36,35 +36,58 @@ has_end_fault _ all = false
 abbrev pub end_line : List ℕ → ℕ
 end_line text = if list_any is_end (deck_lines text) then length (deck_lines text) else length (deck_lines text) + 1
 
--- the card of this number has a fault of this kind; its context is what the cards before it say
-pub record IsFaultOfCard (text : List ℕ) (number : ℕ) (kind : DeckKind) : Type 0 where
-  -- the cards before it, the nearest first
-  pub before : List NumberedCard
-  pub card : NumberedCard
-  pub after : List NumberedCard
-  pub cards_are : numbered_cards text ≡ reverse before ++ card ∷ after
-  pub number_is : card.number ≡ number
-  pub fault : has_deck_fault kind before card ≡ true
+-- A table of faults of decks, by kinds that have numbers: of two faults of a line the one with the smaller number is reported.
+pub record FaultTable (Kind : Type 0) : Type 0 where
+  pub number_of : Kind → ℕ
+  -- a card has a fault of this kind, where the cards before it, the nearest first, are these
+  pub of_card : Kind → List NumberedCard → NumberedCard → Bool
+  -- a deck ends with a fault of this kind, where its cards, the last first, are these
+  pub of_end : Kind → List NumberedCard → Bool
+  -- the kind of a line with `+` that no card stands before
+  pub of_stray : Kind
 
--- the line of this number begins with `+` and no card stands before it
-pub record IsStrayLine (text : List ℕ) (number : ℕ) (kind : DeckKind) : Type 0 where
-  pub before : List (ℕ × List ℕ)
-  pub line : List ℕ
-  pub after : List (ℕ × List ℕ)
-  pub lines_are : numbered_lines text ≡ before ++ (number, line) ∷ after
-  pub line_continues : continues line ≡ true
-  pub no_card : numbered_cards_of before ≡ []
-  pub kind_is : kind ≡ BadCard
+module _ {Kind : Type 0} (table : FaultTable Kind) where
+  -- the card of this number has a fault of this kind; its context is what the cards before it say
+  pub record IsFaultOfCard (text : List ℕ) (number : ℕ) (kind : Kind) : Type 0 where
+    -- the cards before it, the nearest first
+    pub before : List NumberedCard
+    pub card : NumberedCard
+    pub after : List NumberedCard
+    pub cards_are : numbered_cards text ≡ reverse before ++ card ∷ after
+    pub number_is : card.number ≡ number
+    pub fault : table.of_card kind before card ≡ true
 
--- the deck ends at the line of this number with a fault of this kind
-pub record IsFaultOfEnd (text : List ℕ) (number : ℕ) (kind : DeckKind) : Type 0 where
-  pub number_is : number ≡ end_line text
-  pub fault : has_end_fault kind (reverse (numbered_cards text)) ≡ true
+  -- the line of this number begins with `+` and no card stands before it
+  pub record IsStrayLine (text : List ℕ) (number : ℕ) (kind : Kind) : Type 0 where
+    pub before : List (ℕ × List ℕ)
+    pub line : List ℕ
+    pub after : List (ℕ × List ℕ)
+    pub lines_are : numbered_lines text ≡ before ++ (number, line) ∷ after
+    pub line_continues : continues line ≡ true
+    pub no_card : numbered_cards_of before ≡ []
+    pub kind_is : kind ≡ table.of_stray
+
+  -- the deck ends at the line of this number with a fault of this kind
+  pub record IsFaultOfEnd (text : List ℕ) (number : ℕ) (kind : Kind) : Type 0 where
+    pub number_is : number ≡ end_line text
+    pub fault : table.of_end kind (reverse (numbered_cards text)) ≡ true
+
+  -- the text has a fault of this kind at the line of this number
+  abbrev pub IsFaultBy : List ℕ → ℕ → Kind → Type 0
+  IsFaultBy text number kind = IsFaultOfCard text number kind ⊎ IsStrayLine text number kind ⊎ IsFaultOfEnd text number kind
+
+  -- the text is refused at this line for this kind: the first line with a fault, and the smallest kind of it there
+  abbrev pub IsFaultAtBy : List ℕ → ℕ → Kind → Type 0
+  IsFaultAtBy text number kind = IsFirstFault table.number_of (IsFaultBy text) number kind
+
+-- the faults of a deck of one subcircuit without calls
+abbrev pub deck_faults : FaultTable DeckKind
+deck_faults = record { number_of = deck_kind_number; of_card = has_deck_fault; of_end = has_end_fault; of_stray = BadCard }
 
 -- the text has a fault of this kind at the line of this number
 abbrev pub IsDeckFault : List ℕ → ℕ → DeckKind → Type 0
-IsDeckFault text number kind = IsFaultOfCard text number kind ⊎ IsStrayLine text number kind ⊎ IsFaultOfEnd text number kind
+IsDeckFault = IsFaultBy deck_faults
 
--- the text is refused at this line for this kind: the first line with a fault, and the smallest kind of it there
+-- the text is refused at this line for this kind
 abbrev pub IsDeckFaultAt : List ℕ → ℕ → DeckKind → Type 0
-IsDeckFaultAt text number kind = IsFirstFault deck_kind_number (IsDeckFault text) number kind
+IsDeckFaultAt = IsFaultAtBy deck_faults

@@ -1,3 +1,4 @@
+pub mod CardsWithCalls
 pub mod CircuitData
 pub mod CircuitGrowth
 pub mod Cuts
@@ -5,7 +6,9 @@ pub mod DeckCards
 pub mod DeckFaults
 pub mod DeckKinds
 pub mod DeckText
+pub mod DecksWithCalls
 pub mod Escapes
+pub mod FaultsWithCalls
 pub mod Limits
 pub mod NamedDevices
 pub mod Nets
@@ -20,6 +23,7 @@ pub mod Pushes
 pub mod Reach
 pub mod Roles
 pub mod Sources
+pub mod Subckts
 pub mod Switches
 pub mod Whole
 pub mod Worked

@@ -12,6 +12,7 @@ use Rattle.deck.specs.DeckText.{IsDeckOf, bare_circuit, deck_cards, deck_phases,
 use Rattle.deck.specs.NamedDevices.{NamedDevice, with_devices}
 use Rattle.deck.specs.Pushes.{pushed}
 use Rattle.deck.specs.DeckCards.{NumberedCard, numbered_cards, numbered_lines}
+use Rattle.deck.specs.DeckFaults.{deck_faults}
 use Rattle.spice_read.specs.declared.subckt.Subckt.TheVariants.{Closed}
 use Rattle.spice_read.specs.Readers.{BeginsNumbered}
 use Rattle.dom_base.proofs.Names.{visible_words}
@@ -28,7 +29,7 @@ IsVisible card = All (All (λ b. is_control b ≡ false)) card
 abbrev pub AllVisible : List NumberedCard → Type 0
 AllVisible before = AllByRecursion (λ card. IsVisible card.words) before
 
-pub visible_after : (before : List NumberedCard) (card : NumberedCard) → AllVisible before → IsFound before card None → AllVisible (card ∷ before)
+pub visible_after : (before : List NumberedCard) (card : NumberedCard) → AllVisible before → IsFound deck_faults before card None → AllVisible (card ∷ before)
 visible_after before card h clean = (All-from_recursion (All (λ b. is_control b ≡ false)) card.words (visible_words card.words (clean ControlByte)), h)
 
 all-push : {X : Type 0} (P : X → Type 0) (xs acc : List X) → AllByRecursion P xs → AllByRecursion P (reverse xs)
@@ -46,7 +47,7 @@ with_phases c phases (d ∷ ds) = with_phases (pushed c d.kind d.drain d.gate d.
 
 -- a deck whose cards were all passed, and whose subcircuit was closed
 pub accepted : (text : List ℕ) (before : List NumberedCard) (closed circuit : CircuitData) (phases : List Phase)
-    → BeginsNumbered (numbered_lines text) → IsPassed text before [] → AllVisible before → Stands before (Closed closed) → phases ≡ deck_phases text → circuit ≡ record closed { phases = phases }
+    → BeginsNumbered (numbered_lines text) → IsPassed deck_faults text before [] → AllVisible before → Stands before (Closed closed) → phases ≡ deck_phases text → circuit ≡ record closed { phases = phases }
     → IsDeckOf text circuit
 accepted text before closed circuit phases starts p visible s phases_are is =
     let all : numbered_cards text ≡ reverse before = p.split ∙ append-nil (reverse before) in

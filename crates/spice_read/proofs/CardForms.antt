@@ -7,12 +7,12 @@ use Rattle.dom_base.specs.declared.kind.Kind.{Kind}
 use Rattle.dom_base.proofs.Names.{plain_words, visible_words}
 use Rattle.deck.specs.declared.fault.DeckKind.{DeckKind}
 use Rattle.deck.specs.declared.fault.DeckKind.TheVariants.{ControlByte, UnknownCard, BadCard, UnknownDevice}
-use Rattle.deck.specs.DeckCards.{NumberedCard, has_first_word, dot_subckt, dot_ends, dot_end, dot_model, is_device, is_model_word, has_equals}
+use Rattle.deck.specs.DeckCards.{NumberedCard, has_first_word, dot_subckt, dot_ends, dot_end, dot_model, is_device, is_model_word, has_equals, kind_of, word_at}
 use Rattle.spice_read.specs.declared.cards.Form.{Form}
 use Rattle.spice_read.specs.declared.cards.Form.TheVariants.{Device, Subckt as Opening, Ends, Skipped}
 use Rattle.spice_read.specs.declared.subckt.Subckt.{Subckt}
 use Rattle.spice_read.specs.declared.subckt.Subckt.TheVariants.{Before, Open, Closed}
-use Rattle.spice_read.specs.Forms.{card_form, is_deck_subckt, kind_of, word_at}
+use Rattle.spice_read.specs.Forms.{card_form, is_deck_subckt}
 use Rattle.spice_read.specs.Subckts.{ending_fault, fault_by, fault_in, opened, opening_fault, room_fault, with_device, HasNames, IsWordedCard}
 
 abbrev pub device_fault : Subckt → NumberedCard → Option DeckKind

@@ -1,22 +1,21 @@
 -- Cards without a fault.
-use Rattle.std.proofs.Common.{◌≡◌, ◌≢◌, ◌<◌, ◌≤◌, ℕ, Bool, true, false, ◌==◌, ◌||◌, ◌&&◌, not, if◌then◌else◌, List, [], ◌∷◌, length, drop, nat_eq, nat_lt, codes, slice_index, slice_index_or, refl, sym, ap, ◌∙◌, arith, Option, Some, None, eqb-true, eq-eqb, All, subst}
+use Rattle.std.proofs.Common.{◌≡◌, ◌<◌, ◌≤◌, ℕ, Bool, true, false, ◌==◌, ◌||◌, ◌&&◌, not, if◌then◌else◌, List, [], ◌∷◌, length, drop, nat_eq, nat_lt, codes, slice_index, slice_index_or, refl, sym, ap, ◌∙◌, arith, Option, Some, None, eqb-true, All, subst}
 use Rattle.std.specs.List.{AllByRecursion, list_any}
 use Rattle.std.specs.Cmp.Lexicographic.{pointwise, bytes_decides}
 use Rattle.std.proofs.lemmas.Bool.{true≢false}
 use Rattle.std.proofs.lemmas.Bool.Decides.{nat_tests}
 use Rattle.std.proofs.lemmas.List.Elements.{All-from_recursion}
 use Rattle.dom_base.specs.Lines.{is_control, first_word}
-use Rattle.dom_base.specs.declared.kind.Kind.TheVariants.{N as nch, P as pch, Keep}
 use Rattle.deck.specs.declared.fault.DeckKind.{DeckKind}
 use Rattle.deck.specs.declared.fault.DeckKind.TheVariants.{ControlByte, UnknownCard, BadCard, UnknownDevice, NoSubckt, SecondSubckt, TooMany}
 use Rattle.deck.specs.CircuitData.{CircuitData}
 use Rattle.deck.specs.DeckText.{model_word, HasNoEquals, IsDeviceCard}
-use Rattle.deck.specs.NamedDevices.{NamedDevice}
-use Rattle.deck.specs.DeckCards.{NumberedCard, has_first_word, dot_subckt, dot_ends, dot_end, dot_model, is_device, is_model_word, has_equals, port_names}
+use Rattle.deck.specs.DeckCards.{NumberedCard, has_first_word, dot_subckt, dot_ends, dot_end, dot_model, is_device, is_model_word, has_equals, port_names, kind_of, word_at, device_of_card}
 use Rattle.deck.specs.Limits.{most_devices}
+use Rattle.deck.proofs.WordTests.{model_word-kind, words_no_equals}
 use Rattle.spice_read.specs.declared.subckt.Subckt.{Subckt}
 use Rattle.spice_read.specs.declared.subckt.Subckt.TheVariants.{Before, Open, Closed}
-use Rattle.spice_read.specs.Forms.{is_deck_subckt, kind_of, word_at}
+use Rattle.spice_read.specs.Forms.{is_deck_subckt}
 use Rattle.spice_read.specs.Subckts.{fault_in, ports_fault, room_fault, subckt_after}
 use Rattle.spice_read.proofs.CardForms.{after_tests, device_fault, ends_fault, fault_in-tests, subckt_fault}
 
@@ -123,22 +122,7 @@ no_control_byte subckt card clean = by (list_any (list_any is_control) card.word
     by false e h = e
 
 -- the words of such cards
-
-model_word-kind : (word : List ℕ) → is_model_word word ≡ true → word ≡ model_word (kind_of word)
-model_word-kind word is = by (pointwise nat_eq word (codes "nch")) (pointwise nat_eq word (codes "pch")) (pointwise nat_eq word (codes "pkeep")) refl refl refl is
-  where
-    by : (a b d : Bool) → pointwise nat_eq word (codes "nch") ≡ a → pointwise nat_eq word (codes "pch") ≡ b → pointwise nat_eq word (codes "pkeep") ≡ d → (a || b || d) ≡ true
-        → word ≡ model_word (kind_of word)
-    by true b d x y z h = (bytes_decides word (codes "nch")).0 x ∙ ap (λ (t : Bool). model_word (if t then nch else (if pointwise nat_eq word (codes "pch") then pch else Keep))) (sym x)
-    by false true d x y z h = (bytes_decides word (codes "pch")).0 y ∙ (λ i. model_word (if sym x i then nch else (if sym y i then pch else Keep)))
-    by false false true x y z h = (bytes_decides word (codes "pkeep")).0 z ∙ (λ i. model_word (if sym x i then nch else (if sym y i then pch else Keep)))
-    by false false false x y z h = absurd (true≢false (sym h))
-
--- the device of a card
-abbrev pub device_of : NumberedCard → NamedDevice (List ℕ)
-device_of card = record { kind = kind_of (word_at card 5); drain = word_at card 1; gate = word_at card 2; source = word_at card 3 }
-
-pub device_card : (card : NumberedCard) → is_device card ≡ true → 5 < length card.words → is_model_word (word_at card 5) ≡ true → IsDeviceCard card.words (device_of card)
+pub device_card : (card : NumberedCard) → is_device card ≡ true → 5 < length card.words → is_model_word (word_at card 5) ≡ true → IsDeviceCard card.words (device_of_card card)
 device_card card is long known = by card.words refl is long (model_word-kind (word_at card 5) known)
   where
     first_m : (word : List ℕ) → (slice_index word 0 == 109) ≡ true → (rest : List ℕ) × (word ≡ 109 ∷ rest)
@@ -146,7 +130,7 @@ device_card card is long known = by card.words refl is long (model_word-kind (wo
     first_m (b ∷ bs) h = (bs, ap (λ x. x ∷ bs) (eqb-true b 109 h))
 
     by : (all : List (List ℕ)) → card.words ≡ all → (slice_index (first_word all) 0 == 109) ≡ true → 5 < length all → slice_index_or all 5 [] ≡ model_word (kind_of (slice_index_or all 5 []))
-        → IsDeviceCard card.words (device_of card)
+        → IsDeviceCard card.words (device_of_card card)
     by [] e m l k = absurd (omega (arith, l))
     by (a ∷ []) e m l k = absurd (omega (arith, l))
     by (a ∷ b ∷ []) e m l k = absurd (omega (arith, l))
@@ -162,22 +146,6 @@ device_card card is long known = by card.words refl is long (model_word-kind (wo
 pub record IsSubcktCard (card : NumberedCard) : Type 0 where
   pub words_are : card.words ≡ codes ".subckt" ∷ word_at card 1 ∷ port_names card
   pub no_equals : All HasNoEquals (word_at card 1 ∷ port_names card)
-
-byte_no_equals : (word : List ℕ) → has_equals word ≡ false → AllByRecursion (λ b. b ≢ 61) word
-byte_no_equals [] h = tt
-byte_no_equals (b ∷ bs) h = by (b == 61) refl h (λ rest. byte_no_equals bs rest)
-  where
-    by : (t : Bool) → (b == 61) ≡ t → (t || list_any (λ x. x == 61) bs) ≡ false → (list_any (λ x. x == 61) bs ≡ false → AllByRecursion (λ x. x ≢ 61) bs) → AllByRecursion (λ x. x ≢ 61) (b ∷ bs)
-    by true e f rest = absurd (true≢false f)
-    by false e f rest = ((λ same. true≢false (sym (eq-eqb b 61 same) ∙ e)), rest f)
-
-words_no_equals : (all : List (List ℕ)) → list_any has_equals all ≡ false → AllByRecursion HasNoEquals all
-words_no_equals [] h = tt
-words_no_equals (word ∷ all) h = by (has_equals word) refl h (λ rest. words_no_equals all rest)
-  where
-    by : (t : Bool) → has_equals word ≡ t → (t || list_any has_equals all) ≡ false → (list_any has_equals all ≡ false → AllByRecursion HasNoEquals all) → AllByRecursion HasNoEquals (word ∷ all)
-    by true e f rest = absurd (true≢false f)
-    by false e f rest = (All-from_recursion (λ b. b ≢ 61) word (byte_no_equals word e), rest f)
 
 pub subckt_words : (card : NumberedCard) → has_first_word dot_subckt card ≡ true → is_deck_subckt card ≡ true → IsSubcktCard card
 subckt_words card is form = by (nat_lt 1 (length card.words)) (list_any has_equals card.words) refl refl form

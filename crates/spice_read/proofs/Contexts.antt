@@ -6,11 +6,11 @@ use Rattle.std.proofs.lemmas.Bool.{true≢false}
 use Rattle.dom_base.specs.Lines.{is_control, first_word}
 use Rattle.deck.specs.declared.fault.DeckKind.{DeckKind}
 use Rattle.deck.specs.declared.fault.DeckKind.TheVariants.{ControlByte, UnknownCard, BadCard, UnknownDevice, NoSubckt, SecondSubckt, NotClosed, DuplicatePort, TooMany}
-use Rattle.deck.specs.DeckCards.{NumberedCard, has_first_word, dot_subckt, dot_ends, dot_end, dot_model, is_device, is_deck_form, is_model_word, names_twice, port_names, is_open, has_subckt, device_count}
+use Rattle.deck.specs.DeckCards.{NumberedCard, has_first_word, dot_subckt, dot_ends, dot_end, dot_model, is_device, is_deck_form, is_model_word, names_twice, port_names, is_open, has_subckt, device_count, word_at}
 use Rattle.deck.specs.Limits.{most_devices, most_ports}
 use Rattle.spice_read.specs.declared.subckt.Subckt.{Subckt}
 use Rattle.spice_read.specs.declared.subckt.Subckt.TheVariants.{Before, Open, Closed}
-use Rattle.spice_read.specs.Forms.{is_deck_subckt, word_at}
+use Rattle.spice_read.specs.Forms.{is_deck_subckt}
 use Rattle.spice_read.specs.Subckts.{fault_in, is_open_subckt, has_begun, room_fault}
 use Rattle.spice_read.proofs.CardForms.{fault_in-tests}
 use Rattle.spice_read.proofs.KindNumbers.{smallest_fault}

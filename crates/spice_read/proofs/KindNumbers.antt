@@ -6,14 +6,14 @@ use Rattle.dom_base.proofs.Faults.{number_of-injective, smallest_found}
 use Rattle.deck.specs.declared.fault.DeckKind.{DeckKind}
 use Rattle.deck.specs.declared.fault.DeckKind.TheVariants.{ControlByte, UnknownCard, BadCard, UnknownDevice, NoSubckt, SecondSubckt, NotClosed, DuplicatePort, TooMany}
 use Rattle.deck.specs.DeckCards.{NumberedCard}
-use Rattle.deck.specs.DeckFaults.{has_deck_fault}
+use Rattle.deck.specs.DeckFaults.{deck_faults, has_deck_fault, FaultTable}
 use Rattle.deck.specs.DeckKinds.{deck_kind_number}
 
 -- the kinds by rising number
-abbrev kinds : List DeckKind
+abbrev pub kinds : List DeckKind
 kinds = ControlByte ∷ UnknownCard ∷ BadCard ∷ UnknownDevice ∷ NoSubckt ∷ SecondSubckt ∷ NotClosed ∷ DuplicatePort ∷ TooMany ∷ []
 
-is_kind : (kind : DeckKind) → IsAmong kind kinds
+pub is_kind : (kind : DeckKind) → IsAmong kind kinds
 is_kind ControlByte = inl refl
 is_kind UnknownCard = inr (inl refl)
 is_kind BadCard = inr (inr (inl refl))
@@ -24,7 +24,7 @@ is_kind NotClosed = inr (inr (inr (inr (inr (inr (inl refl))))))
 is_kind DuplicatePort = inr (inr (inr (inr (inr (inr (inr (inl refl)))))))
 is_kind TooMany = inr (inr (inr (inr (inr (inr (inr (inr (inl refl))))))))
 
-kinds_rise : RisesAbove deck_kind_number 0 kinds
+pub kinds_rise : RisesAbove deck_kind_number 0 kinds
 kinds_rise = (omega arith, (omega arith, (omega arith, (omega arith, (omega arith, (omega arith, (omega arith, (omega arith, (omega arith, tt)))))))))
 
 -- kinds of one number are the same
@@ -36,8 +36,8 @@ abbrev pub smallest_fault : List NumberedCard → NumberedCard → Option DeckKi
 smallest_fault before card = find (λ kind. has_deck_fault kind before card) kinds
 
 -- no kind of fault, or the smallest one
-abbrev pub IsFound : List NumberedCard → NumberedCard → Option DeckKind → Type 0
-IsFound before card found = IsSmallest deck_kind_number (λ kind. has_deck_fault kind before card) found
+abbrev pub IsFound : {Kind : Type 0} → FaultTable Kind → List NumberedCard → NumberedCard → Option Kind → Type 0
+IsFound table before card found = IsSmallest table.number_of (λ kind. table.of_card kind before card) found
 
-pub smallest_is : (before : List NumberedCard) (card : NumberedCard) → IsFound before card (smallest_fault before card)
+pub smallest_is : (before : List NumberedCard) (card : NumberedCard) → IsFound deck_faults before card (smallest_fault before card)
 smallest_is before card = smallest_found deck_kind_number 0 kinds kinds_rise is_kind (λ kind. has_deck_fault kind before card)

@@ -1,25 +1,23 @@
 -- A deck that has a circuit has no fault.
-use Rattle.std.proofs.Common.{◌≡◌, ◌≢◌, ℕ, ◌≤◌, ◌<◌, ◌+◌, ◌^◌, Bool, true, false, cond, ◌==◌, ◌||◌, ◌&&◌, not, if◌then◌else◌, List, [], ◌∷◌, ◌++◌, length, map, filter, drop, nat_eq, nat_lt, codes, slice_index, slice_index_or, refl, sym, ap, ◌∙◌, subst, arith, All, None, length-append, ne_eqb}
+use Rattle.std.proofs.Common.{◌≡◌, ℕ, ◌≤◌, ◌<◌, ◌+◌, ◌^◌, Bool, true, false, cond, ◌==◌, ◌||◌, ◌&&◌, not, if◌then◌else◌, List, [], ◌∷◌, ◌++◌, length, map, filter, drop, nat_eq, nat_lt, codes, slice_index, slice_index_or, refl, sym, ap, ◌∙◌, subst, arith, All, None, length-append}
 use Rattle.std.specs.List.{AllByRecursion, AllZip, list_any}
 use Rattle.std.specs.Cmp.Lexicographic.{bytes_decides, pointwise}
 use Rattle.std.proofs.lemmas.Bool.Decides.{nat_tests}
 use Rattle.std.proofs.lemmas.List.Elements.{recursion_from_All}
 use Rattle.std.proofs.lemmas.Map.Made.{distinct_count-from_IsDistinct}
 use Rattle.dom_base.specs.Lines.{is_control, first_word}
-use Rattle.dom_base.specs.declared.kind.Kind.{Kind}
-use Rattle.dom_base.specs.declared.kind.Kind.TheVariants.{N as nch, P as pch, Keep}
-use Rattle.dom_base.proofs.Lists.{list_any-none}
 use Rattle.deck.specs.declared.fault.DeckKind.{DeckKind}
 use Rattle.deck.specs.CircuitData.{CircuitData}
-use Rattle.deck.specs.DeckText.{HasNoEquals, IsDeckOf, IsDeviceCard, deck_cards, is_skipped, model_word}
+use Rattle.deck.specs.DeckText.{HasNoEquals, IsDeckOf, IsDeviceCard, deck_cards, is_skipped}
 use Rattle.deck.specs.NamedDevices.{NamedDevice}
-use Rattle.deck.specs.DeckCards.{NumberedCard, has_first_word, dot_end, dot_ends, has_equals, is_device, is_model_word, dot_model, names_twice, numbered_cards, port_names, dot_subckt}
+use Rattle.deck.specs.DeckCards.{NumberedCard, has_first_word, dot_end, dot_ends, has_equals, is_device, is_model_word, dot_model, names_twice, numbered_cards, port_names, dot_subckt, kind_of, word_at}
 use Rattle.deck.specs.Limits.{most_ports}
-use Rattle.deck.specs.DeckFaults.{IsDeckFault}
+use Rattle.deck.specs.DeckFaults.{IsDeckFault, deck_faults}
 use Rattle.dom_base.proofs.Names.{names_equal}
+use Rattle.deck.proofs.WordTests.{model_known, none_has_control, none_has_equals}
 use Rattle.spice_read.specs.declared.subckt.Subckt.{Subckt}
 use Rattle.spice_read.specs.declared.subckt.Subckt.TheVariants.{Before, Open, Closed}
-use Rattle.spice_read.specs.Forms.{is_deck_subckt, kind_of, word_at}
+use Rattle.spice_read.specs.Forms.{is_deck_subckt}
 use Rattle.spice_read.specs.Subckts.{fault_in, opened, ports_fault, subckt_after, with_device}
 use Rattle.spice_read.proofs.CardForms.{after_tests}
 use Rattle.spice_read.proofs.AcceptedDecks.{IsVisible}
@@ -43,25 +41,7 @@ clean_fault (Open c) card (ending d no_subckt is short) no_control =
     rw (no_control, d, no_subckt, is, three) refl
 clean_fault subckt card (skipped d no_subckt no_ends is) no_control = rw (no_control, d, no_subckt, no_ends, is) refl
 
-no_control_word : (word : List ℕ) → All (λ b. is_control b ≡ false) word → list_any is_control word ≡ false
-no_control_word word h = list_any-none is_control word (recursion_from_All (λ b. is_control b ≡ false) word h)
-
-no_control_words : (all : List (List ℕ)) → AllByRecursion (All (λ b. is_control b ≡ false)) all → AllByRecursion (λ word. list_any is_control word ≡ false) all
-no_control_words [] h = tt
-no_control_words (word ∷ all) h = (no_control_word word h.0, no_control_words all h.1)
-
-visible_clean : (all : List (List ℕ)) → IsVisible all → list_any (list_any is_control) all ≡ false
-visible_clean all h = list_any-none (list_any is_control) all (no_control_words all (recursion_from_All (All (λ b. is_control b ≡ false)) all h))
-
 -- a `.subckt` of a deck
-no_equals_byte : (word : List ℕ) → AllByRecursion (λ b. b ≢ 61) word → AllByRecursion (λ b. (b == 61) ≡ false) word
-no_equals_byte [] h = tt
-no_equals_byte (b ∷ bs) h = (ne_eqb b 61 h.0, no_equals_byte bs h.1)
-
-no_equals_words : (all : List (List ℕ)) → AllByRecursion HasNoEquals all → AllByRecursion (λ word. has_equals word ≡ false) all
-no_equals_words [] h = tt
-no_equals_words (word ∷ all) h = (list_any-none (λ b. b == 61) word (no_equals_byte word (recursion_from_All (λ b. b ≢ 61) word h.0)), no_equals_words all h.1)
-
 ports_clean : (card : NumberedCard) → HasGoodPorts (port_names card) → ports_fault card ≡ None
 ports_clean card good =
     let same = distinct_count-from_IsDistinct names_equal (port_names card) good.differ in
@@ -73,7 +53,7 @@ opening_card : (card : NumberedCard) (name : List ℕ) (ports : List (List ℕ))
 opening_card card name ports is no_equals good =
     let first : has_first_word dot_subckt card ≡ true = ap (λ ws. pointwise nat_eq (first_word ws) (codes ".subckt")) is in
     let not_m : is_device card ≡ false = ap (λ ws. slice_index (first_word ws) 0 == 109) is in
-    let none : list_any has_equals (name ∷ ports) ≡ false = list_any-none has_equals (name ∷ ports) (no_equals_words (name ∷ ports) (recursion_from_All HasNoEquals (name ∷ ports) no_equals)) in
+    let none : list_any has_equals (name ∷ ports) ≡ false = none_has_equals (name ∷ ports) no_equals in
     let form : is_deck_subckt card ≡ true = ap (λ ws. nat_lt 1 (length ws) && not (list_any has_equals ws)) is ∙ form_of name ports none in
     opening not_m first form (ports_clean card (subst (λ ws. HasGoodPorts (drop 2 ws)) (sym is) good))
   where
@@ -86,11 +66,6 @@ ending_card : (c : CircuitData) (card : NumberedCard) (closing : List (List ℕ)
 ending_card c card closing is few =
     ending (ap (λ ws. slice_index (first_word ws) 0 == 109) is) (ap (λ ws. pointwise nat_eq (first_word ws) (codes ".subckt")) is) (ap (λ ws. pointwise nat_eq (first_word ws) (codes ".ends")) is)
     (omega (arith, ap length is, few))
-
-model_known : (kind : Kind) → is_model_word (model_word kind) ≡ true
-model_known nch = refl
-model_known pch = refl
-model_known Keep = refl
 
 device_card : (c : CircuitData) (card : NumberedCard) (d : NamedDevice (List ℕ)) → IsDeviceCard card.words d → length c.devices < 2 ^ 24 → CleanCard (Open c) card
 device_card c card d is room =
@@ -122,14 +97,14 @@ skipped_card subckt card h =
     skipped parts.0 parts.1 parts.2 (or_swap (has_first_word dot_model card) (has_first_word dot_end card) h)
 
 -- the words of the cards that are left and add to the circuit
-abbrev left : List NumberedCard → List (List (List ℕ))
+abbrev pub left : List NumberedCard → List (List (List ℕ))
 left rest = filter (λ card. not (is_skipped card)) (map (λ card. card.words) rest)
 
-left-more : (card : NumberedCard) (rest : List NumberedCard) → is_skipped card.words ≡ false → left (card ∷ rest) ≡ card.words ∷ left rest
-left-more card rest e = ap (λ t. cond (not t) (card.words ∷ left rest) (left rest)) e
+pub left_more : (card : NumberedCard) (rest : List NumberedCard) → is_skipped card.words ≡ false → left (card ∷ rest) ≡ card.words ∷ left rest
+left_more card rest e = ap (λ t. cond (not t) (card.words ∷ left rest) (left rest)) e
 
-left-same : (card : NumberedCard) (rest : List NumberedCard) → is_skipped card.words ≡ true → left (card ∷ rest) ≡ left rest
-left-same card rest e = ap (λ t. cond (not t) (card.words ∷ left rest) (left rest)) e
+pub left_same : (card : NumberedCard) (rest : List NumberedCard) → is_skipped card.words ≡ true → left (card ∷ rest) ≡ left rest
+left_same card rest e = ap (λ t. cond (not t) (card.words ∷ left rest) (left rest)) e
 
 -- devices that are left of a deck whose `.ends` has these words behind it
 record DevicesLeft (closing : List (List ℕ)) (c : CircuitData) (rest : List NumberedCard) : Type 0 where
@@ -161,12 +136,12 @@ taken_skipped h subckt card rest e l clean =
     let parts = skipped_parts card e in
     record {
       clean = clean;
-      rest_left = subst (λ s. IsLeft h s rest) (sym (tests_skipped subckt card parts.0 parts.1 parts.2)) (left_again h subckt card rest (left-same card rest e) l);
+      rest_left = subst (λ s. IsLeft h s rest) (sym (tests_skipped subckt card parts.0 parts.1 parts.2)) (left_again h subckt card rest (left_same card rest e) l);
     }
 
 after_opening : {text : List ℕ} {circuit : CircuitData} (h : IsDeckOf text circuit) (card : NumberedCard) (rest : List NumberedCard) → is_skipped card.words ≡ false → IsLeft h Before (card ∷ rest) → IsTaken h Before card rest
 after_opening h card rest e l =
-    let all = sym (left-more card rest e) ∙ l in
+    let all = sym (left_more card rest e) ∙ l in
     let words : card.words ≡ codes ".subckt" ∷ h.name ∷ h.ports = cc in
     let more : left rest ≡ h.device_cards ++ (codes ".ends" ∷ h.closing) ∷ [] = cc in
     let first : has_first_word dot_subckt card ≡ true = ap (λ ws. pointwise nat_eq (first_word ws) (codes ".subckt")) words in
@@ -205,8 +180,8 @@ taken h subckt card rest l = by (is_skipped card.words) refl
   where
     other : (s : Subckt) → is_skipped card.words ≡ false → IsLeft h s (card ∷ rest) → IsTaken h s card rest
     other Before e k = after_opening h card rest e k
-    other (Open c) e k = after_open h c card rest k.cards k.devices (sym (left-more card rest e) ∙ k.order) k.cards_are k.few
-    other (Closed c) e k = absurd (let all : card.words ∷ left rest ≡ [] = sym (left-more card rest e) ∙ k in omega (arith, ap length all))
+    other (Open c) e k = after_open h c card rest k.cards k.devices (sym (left_more card rest e) ∙ k.order) k.cards_are k.few
+    other (Closed c) e k = absurd (let all : card.words ∷ left rest ≡ [] = sym (left_more card rest e) ∙ k in omega (arith, ap length all))
 
     by : (t : Bool) → is_skipped card.words ≡ t → IsTaken h subckt card rest
     by true e = taken_skipped h subckt card rest e l (skipped_card subckt card e)
@@ -219,15 +194,15 @@ nothing_left h (Open c) l f = absurd (omega (arith, ap length l.order, length-ap
 nothing_left h (Closed c) l f = f c refl
 
 deck_walk : (text : List ℕ) (circuit : CircuitData) (h : IsDeckOf text circuit) (before rest : List NumberedCard) (subckt : Subckt)
-    → IsPassed text before rest → Stands before subckt → AllByRecursion (λ card. IsVisible card.words) rest → IsLeft h subckt rest
+    → IsPassed deck_faults text before rest → Stands before subckt → AllByRecursion (λ card. IsVisible card.words) rest → IsLeft h subckt rest
     → (n : ℕ) (kind : DeckKind) → IsDeckFault text n kind → ⊥
 deck_walk text circuit h before [] subckt p s v l n kind f =
     nothing_left h subckt l (λ c is. no_fault text before c (begins_numbered text h.begins) p (subst (λ e. IsContext before e) is s.context) n kind f)
 deck_walk text circuit h before (card ∷ rest) subckt p s v l n kind f =
     let t = taken h subckt card rest l in
-    let clean = clean_fault subckt card t.clean (visible_clean card.words v.0) in
-    let found : IsFound before card None = subst (IsFound before card) (sym (fault_in-smallest before subckt card s.context) ∙ clean) (smallest_is before card) in
-    deck_walk text circuit h (card ∷ before) rest (subckt_after subckt card) (one_passed text before card rest p found) (stands_after before subckt card s clean) v.1 (subst (λ s. IsLeft h s rest) (sym (after_clean_card subckt card t.clean (visible_clean card.words v.0))) t.rest_left) n kind f
+    let clean = clean_fault subckt card t.clean (none_has_control card.words v.0) in
+    let found : IsFound deck_faults before card None = subst (IsFound deck_faults before card) (sym (fault_in-smallest before subckt card s.context) ∙ clean) (smallest_is before card) in
+    deck_walk text circuit h (card ∷ before) rest (subckt_after subckt card) (one_passed deck_faults text before card rest p found) (stands_after before subckt card s clean) v.1 (subst (λ s. IsLeft h s rest) (sym (after_clean_card subckt card t.clean (none_has_control card.words v.0))) t.rest_left) n kind f
 
 visible_unmap : (cards : List NumberedCard) → AllByRecursion IsVisible (map (λ card. card.words) cards) → AllByRecursion (λ card. IsVisible card.words) cards
 visible_unmap [] h = tt
@@ -238,5 +213,5 @@ pub deck_no_fault : (text : List ℕ) (circuit : CircuitData) → IsDeckOf text 
 deck_no_fault text circuit h =
     let cards = deck_cards-numbered text in
     let visible = subst (AllByRecursion IsVisible) (sym cards) (recursion_from_All IsVisible (deck_cards text) h.visible) in
-    deck_walk text circuit h [] (numbered_cards text) Before (none_passed text) starts (visible_unmap (numbered_cards text) visible)
+    deck_walk text circuit h [] (numbered_cards text) Before (none_passed deck_faults text) starts (visible_unmap (numbered_cards text) visible)
     (ap (filter (λ card. not (is_skipped card))) cards ∙ h.order)

@@ -10,11 +10,10 @@ use Rattle.indexmap.proofs.SetLemmas.{set_all_distinct}
 use Rattle.deck.specs.Nets.{with_net, IsCircuit}
 use Rattle.deck.specs.Numbers.{with_all}
 use Rattle.deck.specs.declared.fault.DeckKind.TheVariants.{DuplicatePort, TooMany}
-use Rattle.deck.specs.DeckCards.{NumberedCard, port_names, names_twice}
+use Rattle.deck.specs.DeckCards.{NumberedCard, port_names, names_twice, word_at}
 use Rattle.deck.specs.Limits.{most_ports}
 use Rattle.deck.specs.declared.device.Device.{Device}
 use Rattle.deck.specs.declared.phase.Phase.{Phase}
-use Rattle.spice_read.specs.Forms.{word_at}
 use Rattle.spice_read.specs.Subckts.{opened, ports_fault}
 use Rattle.dom_base.proofs.Names.{names_equal}
 use Rattle.deck.proofs.NetNumbers.{IsDistinct-with_net}

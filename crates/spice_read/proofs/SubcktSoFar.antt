@@ -7,16 +7,15 @@ use Rattle.std.proofs.lemmas.List.Elements.{filter-append}
 use Rattle.deck.specs.CircuitData.{CircuitData}
 use Rattle.deck.specs.DeckText.{HasNoEquals, IsDeviceCard, bare_circuit, is_skipped}
 use Rattle.deck.specs.NamedDevices.{NamedDevice, with_devices}
-use Rattle.deck.specs.DeckCards.{NumberedCard, has_first_word, dot_subckt, dot_ends, dot_end, dot_model, is_device, begins_some, is_open, has_subckt, device_count, port_names}
+use Rattle.deck.specs.DeckCards.{NumberedCard, has_first_word, dot_subckt, dot_ends, dot_end, dot_model, is_device, begins_some, is_open, has_subckt, device_count, port_names, kind_of, word_at, device_of_card}
 use Rattle.deck.specs.Limits.{most_devices}
 use Rattle.deck.proofs.CircuitGrowth.{with_devices-push}
 use Rattle.spice_read.specs.declared.subckt.Subckt.{Subckt}
 use Rattle.spice_read.specs.declared.subckt.Subckt.TheVariants.{Before, Open, Closed}
-use Rattle.spice_read.specs.Forms.{kind_of, word_at}
 use Rattle.spice_read.specs.Subckts.{fault_in, opened, subckt_after, with_device}
 use Rattle.spice_read.proofs.CardForms.{after_tests}
 use Rattle.spice_read.proofs.Ports.{HasGoodPorts, good_ports}
-use Rattle.spice_read.proofs.CleanCards.{CleanCard, device, opening, ending, skipped, after_clean_card, clean_card, no_control_byte, device_card, device_of, subckt_words, ends_words}
+use Rattle.spice_read.proofs.CleanCards.{CleanCard, device, opening, ending, skipped, after_clean_card, clean_card, no_control_byte, device_card, subckt_words, ends_words}
 use Rattle.spice_read.proofs.Contexts.{IsContext, begins_one, not_device}
 use Rattle.dom_base.proofs.Bools.{or_swap}
 
@@ -93,7 +92,7 @@ not_skipped : (card : NumberedCard) → has_first_word dot_model card ≡ false 
 not_skipped card e f = ap (λ b. b || has_first_word dot_end card) e ∙ f
 
 after_device : (before : List NumberedCard) (c : CircuitData) (card : NumberedCard) → Stands before (Open c) → is_device card ≡ true → CleanCard (Open c) card
-    → IsDeviceCard card.words (device_of card) → (length c.devices == most_devices) ≡ false → Stands (card ∷ before) (Open (with_device c (kind_of (word_at card 5)) card))
+    → IsDeviceCard card.words (device_of_card card) → (length c.devices == most_devices) ≡ false → Stands (card ∷ before) (Open (with_device c (kind_of (word_at card 5)) card))
 after_device before c card s d clean is room =
     let no_subckt = not_device card dot_subckt d refl in
     let no_ends = not_device card dot_ends d refl in
@@ -110,16 +109,16 @@ after_device before c card s d clean is room =
         name = h.name;
         ports = h.ports;
         device_cards = h.device_cards ++ card.words ∷ [];
-        devices = h.devices ++ device_of card ∷ [];
+        devices = h.devices ++ device_of_card card ∷ [];
         order = kept-more card before (not_skipped card (not_device card dot_model d refl) (not_device card dot_end d refl))
             ∙ ap (λ l. l ++ card.words ∷ []) (h.order ∙ ap (λ l. (codes ".subckt" ∷ h.name ∷ h.ports) ∷ l) (append-nil h.device_cards))
             ∙ ap (λ l. (codes ".subckt" ∷ h.name ∷ h.ports) ∷ l) (sym (append-nil (h.device_cards ++ card.words ∷ [])));
         no_equals = h.no_equals;
         good = h.good;
-        few_devices = grind (arith, nat_tests, h.few_devices, h.count_is, room, length-append h.devices (device_of card ∷ []));
-        count_is = count ∙ ap (λ (n : ℕ). n + 1) h.count_is ∙ sym (length-append h.devices (device_of card ∷ []));
-        cards_are = AllZip-push h.device_cards h.devices card.words (device_of card) h.cards_are is;
-        circuit_is = ap (λ e. with_device e (kind_of (word_at card 5)) card) h.circuit_is ∙ sym (with_devices-push (bare_circuit h.name [] h.ports) h.devices (device_of card));
+        few_devices = grind (arith, nat_tests, h.few_devices, h.count_is, room, length-append h.devices (device_of_card card ∷ []));
+        count_is = count ∙ ap (λ (n : ℕ). n + 1) h.count_is ∙ sym (length-append h.devices (device_of_card card ∷ []));
+        cards_are = AllZip-push h.device_cards h.devices card.words (device_of_card card) h.cards_are is;
+        circuit_is = ap (λ e. with_device e (kind_of (word_at card 5)) card) h.circuit_is ∙ sym (with_devices-push (bare_circuit h.name [] h.ports) h.devices (device_of_card card));
       };
     }
 

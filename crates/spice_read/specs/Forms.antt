@@ -1,23 +1,13 @@
 -- What a card of a deck is, by its words alone: the forms of cards, and the faults that no other card matters for.
-use Rattle.std.specs.Prelude.{ℕ, Bool, ◌||◌, ◌&&◌, not, nat_eq, nat_lt, if◌then◌else◌, List, [], length, slice_index_or, Option, Some, None, Result, Ok, Err, codes}
+use Rattle.std.specs.Prelude.{ℕ, Bool, ◌||◌, ◌&&◌, not, nat_lt, if◌then◌else◌, List, length, Option, Some, None, Result, Ok, Err}
 use Rattle.std.specs.List.{list_any}
-use Rattle.std.specs.Cmp.Lexicographic.{pointwise}
 use Rattle.dom_base.specs.Lines.{is_control}
 use Rattle.dom_base.specs.declared.kind.Kind.{Kind}
-use Rattle.dom_base.specs.declared.kind.Kind.TheVariants.{N as nch, P as pch, Keep}
 use Rattle.deck.specs.declared.fault.DeckKind.{DeckKind}
 use Rattle.deck.specs.declared.fault.DeckKind.TheVariants.{ControlByte, UnknownCard, BadCard, UnknownDevice}
-use Rattle.deck.specs.DeckCards.{NumberedCard, has_first_word, dot_subckt, dot_ends, dot_end, dot_model, is_device, has_equals, is_model_word}
+use Rattle.deck.specs.DeckCards.{NumberedCard, has_first_word, dot_subckt, dot_ends, dot_end, dot_model, is_device, has_equals, is_model_word, word_at, kind_of}
 use Rattle.spice_read.specs.declared.cards.Form.{Form}
 use Rattle.spice_read.specs.declared.cards.Form.TheVariants.{Device, Subckt, Ends, Skipped}
-
--- the word of this index of a card, or no bytes where there is none
-abbrev pub word_at : NumberedCard → ℕ → List ℕ
-word_at card index = slice_index_or card.words index []
-
--- the kind of device of one of the words for kinds
-abbrev pub kind_of : List ℕ → Kind
-kind_of word = if pointwise nat_eq word (codes "nch") then nch else (if pointwise nat_eq word (codes "pch") then pch else Keep)
 
 -- the kind of device of a word, where it is one of the words for kinds
 abbrev pub known_kind : List ℕ → Option Kind

@@ -11,7 +11,7 @@ use Rattle.deck.specs.declared.phase.Phase.{Phase}
 use Rattle.deck.specs.CircuitData.{CircuitData}
 use Rattle.deck.specs.DeckText.{bare_circuit}
 use Rattle.deck.specs.Pushes.{pushed}
-use Rattle.deck.specs.DeckCards.{NumberedCard, port_names, names_twice}
+use Rattle.deck.specs.DeckCards.{NumberedCard, port_names, names_twice, word_at}
 use Rattle.deck.specs.Limits.{most_devices, most_ports}
 use Rattle.spice_read.specs.declared.cards.Form.{Form}
 use Rattle.spice_read.specs.declared.cards.Form.TheVariants.{Device, Subckt as Opening, Ends, Skipped}
@@ -19,7 +19,7 @@ use Rattle.spice_read.specs.declared.faults.DeckFault.{DeckFault}
 use Rattle.spice_read.specs.declared.faults.DeckFault.TheVariants.{At}
 use Rattle.spice_read.specs.declared.subckt.Subckt.{Subckt}
 use Rattle.spice_read.specs.declared.subckt.Subckt.TheVariants.{Before, Open, Closed}
-use Rattle.spice_read.specs.Forms.{card_form, word_at}
+use Rattle.spice_read.specs.Forms.{card_form}
 
 -- whether a subcircuit is open
 abbrev pub is_open_subckt : Subckt → Bool

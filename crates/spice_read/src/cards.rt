@@ -8,8 +8,8 @@ ghost use Rattle.dom_base.specs.Lines.{is_control, words};
 ghost use Rattle.deck.specs.declared.fault.DeckKind.{DeckKind};
 ghost use Rattle.deck.specs.declared.fault.DeckKind.TheVariants.{BadCard};
 ghost use Rattle.deck.specs.DeckText.{phase_of};
-ghost use Rattle.deck.specs.DeckCards.{has_first_word, has_equals, is_device, numbered_lines, port_names};
-ghost use Rattle.spice_read.specs.Forms.{card_form, device_form, known_kind, word_at};
+ghost use Rattle.deck.specs.DeckCards.{has_first_word, has_equals, is_device, numbered_lines, port_names, word_at};
+ghost use Rattle.spice_read.specs.Forms.{card_form, device_form, known_kind};
 ghost use Rattle.spice_read.specs.Readers.{continued_words, IsAtFirstCard, IsNextRead, IsStrayAt};
 
 use crate::DeckFault;
@@ -41,7 +41,7 @@ pub struct Card<'a> {
 impl<'a> Model for Card<'a> {
     ghost use Rattle.std.specs.Prelude.{map};
     ghost use Rattle.std.specs.Str.{str_to_ascii_lowercase};
-    ghost use Rattle.deck.specs.DeckCards.{NumberedCard};
+    ghost use Rattle.deck.specs.DeckCards.{NumberedCard, word_at};
 
     ghost Value = { NumberedCard };
 

@@ -26,7 +26,7 @@ use Rattle.deck.proofs.PortDecisions.{has_roles}
 use Rattle.spice_text.proofs.WrittenRows.{header_row, phase_row, opening_row, card_row, card_rows, ending_row, comment_rows, rows_behind, rows_of_cards, text_with-rows, eights-groups}
 
 -- a row without control bytes
-plain_visible : (row : List (List ℕ)) → IsPlainRow row → All (All (λ b. is_control b ≡ false)) row
+pub plain_visible : (row : List (List ℕ)) → IsPlainRow row → All (All (λ b. is_control b ≡ false)) row
 plain_visible [] h = absurd h
 plain_visible (first ∷ others) h =
     All-weaker IsNetName (All (λ b. is_control b ≡ false)) no_control-name (first ∷ others) (All-from_recursion IsNetName (first ∷ others) h)
@@ -44,7 +44,7 @@ one_phase : (net : List ℕ) (plus : Bool) → IsNetName net → phase_of (codes
 one_phase net true h = rw (no_control_in-name net h) refl
 one_phase net false h = rw (no_control_in-name net h) refl
 
-phases-rows : (phases : List Phase) → AllByRecursion (λ phase. IsNetName phase.net) phases → filter_map phase_of (map phase_row phases) ≡ phases
+pub phases-rows : (phases : List Phase) → AllByRecursion (λ phase. IsNetName phase.net) phases → filter_map phase_of (map phase_row phases) ≡ phases
 phases-rows [] h = refl
 phases-rows (phase ∷ phases) h = rw (one_phase phase.net phase.plus h.0) (ap (λ l. phase ∷ l) (phases-rows phases h.1))
 
@@ -52,12 +52,12 @@ sign_plain : (plus : Bool) → IsNetName (sign_of plus)
 sign_plain true = IsNetName-from_test (codes "+") refl
 sign_plain false = IsNetName-from_test (codes "-") refl
 
-phases_plain : (phases : List Phase) → AllByRecursion (λ phase. IsNetName phase.net) phases → AllByRecursion IsPlainRow (map phase_row phases)
+pub phases_plain : (phases : List Phase) → AllByRecursion (λ phase. IsNetName phase.net) phases → AllByRecursion IsPlainRow (map phase_row phases)
 phases_plain [] h = tt
 phases_plain (phase ∷ phases) h =
     ((IsNetName-from_test (codes "*") refl, (IsNetName-from_test (codes "phase") refl, (h.0, (sign_plain phase.plus, tt)))), phases_plain phases h.1)
 
-plus_plain : (groups : List (List (List ℕ))) → AllByRecursion (AllByRecursion IsNetName) groups → AllByRecursion IsPlainRow (plus_rows groups)
+pub plus_plain : (groups : List (List (List ℕ))) → AllByRecursion (AllByRecursion IsNetName) groups → AllByRecursion IsPlainRow (plus_rows groups)
 plus_plain [] h = tt
 plus_plain (group ∷ groups) h = ((IsNetName-from_test (codes "+") refl, h.0), plus_plain groups h.1)
 
@@ -93,12 +93,12 @@ behind_plain c w =
     ((IsNetName-from_test (codes ".ends") refl, (w.names.name_is, tt)), tt)
 
 -- the names of ports, as they are written
-record AreWrittenPorts (c : CircuitData) (leading : List (List ℕ)) (groups : List (List (List ℕ))) : Type 0 where
-  lead_plain : AllByRecursion IsNetName leading
-  groups_plain : AllByRecursion (AllByRecursion IsNetName) (flat_map eights groups)
-  are : leading ++ flat_map (λ group. group) (flat_map eights groups) ≡ take c.ports c.nets
+pub record AreWrittenPorts (c : CircuitData) (leading : List (List ℕ)) (groups : List (List (List ℕ))) : Type 0 where
+  pub lead_plain : AllByRecursion IsNetName leading
+  pub groups_plain : AllByRecursion (AllByRecursion IsNetName) (flat_map eights groups)
+  pub are : leading ++ flat_map (λ group. group) (flat_map eights groups) ≡ take c.ports c.nets
 
-written_ports : (c : CircuitData) → IsWritable c → (leading : List (List ℕ)) (groups : List (List (List ℕ)))
+pub written_ports : (c : CircuitData) → IsWritable c → (leading : List (List ℕ)) (groups : List (List (List ℕ)))
     → leading ++ flat_map (λ group. group) groups ≡ take c.ports c.nets → AreWrittenPorts c leading groups
 written_ports c w leading groups e =
     let plain : AllByRecursion IsNetName (take c.ports c.nets) = recursion_from_All IsNetName (take c.ports c.nets) (All-take IsNetName c.ports c.nets w.names.nets_are) in
@@ -110,7 +110,7 @@ written_ports c w leading groups e =
       are = are;
     }
 
-opening_plain : (c : CircuitData) → IsWritable c → (ports : List (List ℕ)) → AllByRecursion IsNetName ports → IsPlainRow (opening_row c.name ports)
+pub opening_plain : (c : CircuitData) → IsWritable c → (ports : List (List ℕ)) → AllByRecursion IsNetName ports → IsPlainRow (opening_row c.name ports)
 opening_plain c w ports h = (IsNetName-from_test (codes ".subckt") refl, (w.names.name_is, h))
 
 -- what is known of all rows
@@ -167,7 +167,7 @@ written_begins c leading groups text r e =
     subst BeginsACard (sym same) first
 
 -- the circuit, from its name, its phases, its ports and its devices
-same_circuit : (c : CircuitData) → IsCircuit c.ports c.nets c.devices → (phases : List Phase) → phases ≡ c.phases
+pub same_circuit : (c : CircuitData) → IsCircuit c.ports c.nets c.devices → (phases : List Phase) → phases ≡ c.phases
     → c ≡ with_devices (bare_circuit c.name phases (take c.ports c.nets)) (map (named_device c.nets) c.devices)
 same_circuit c is phases e =
     let within : c.ports ≤ length c.nets = omega (arith, is.all_used, numbers_used-ge c.ports (ends c.devices)) in

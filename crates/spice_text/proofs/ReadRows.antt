@@ -115,11 +115,11 @@ abbrev pub plus_rows : List (List (List ℕ)) → List (List (List ℕ))
 plus_rows groups = map (λ group. codes "+" ∷ group) groups
 
 -- where each row begins a card, the first adds no words to a card before it
-added-none : (rows : List (List (List ℕ))) → AllByRecursion Begins rows → added_words (map row_line rows) ≡ []
+pub added-none : (rows : List (List (List ℕ))) → AllByRecursion Begins rows → added_words (map row_line rows) ≡ []
 added-none [] h = refl
 added-none (row ∷ rows) h = rw h.0 refl
 
-cards_of-begins : (rows : List (List (List ℕ))) → AllByRecursion IsPlainRow rows → AllByRecursion Begins rows → cards_of (map row_line rows) ≡ rows
+pub cards_of-begins : (rows : List (List (List ℕ))) → AllByRecursion IsPlainRow rows → AllByRecursion Begins rows → cards_of (map row_line rows) ≡ rows
 cards_of-begins [] h b = refl
 cards_of-begins (row ∷ rows) h b =
     let first : words (row_line row) ++ added_words (map row_line rows) ≡ row = ap (λ l. words (row_line row) ++ l) (added-none rows b.1) ∙ append-nil (words (row_line row)) ∙ words-row row h.0 in

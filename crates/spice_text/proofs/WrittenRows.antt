@@ -52,17 +52,17 @@ abbrev pub rows_of_cards : CircuitData → List (List ℕ) → List (List (List 
 rows_of_cards c leading groups = opening_row c.name leading ∷ plus_rows (flat_map eights groups) ++ rows_behind c
 
 -- texts that are those of rows, one for each element
-flat_map-rows : {X : Type 0} (f : X → List ℕ) (g : X → List (List ℕ)) → ((x : X) → f x ≡ ended (row_line (g x))) → (xs : List X)
+pub flat_map-rows : {X : Type 0} (f : X → List ℕ) (g : X → List (List ℕ)) → ((x : X) → f x ≡ ended (row_line (g x))) → (xs : List X)
     → flat_map f xs ≡ text_of_rows (map g xs)
 flat_map-rows f g same [] = refl
 flat_map-rows f g same (x ∷ xs) =
     ap (λ t. t ++ flat_map f xs) (same x) ∙ ap (λ t. ended (row_line (g x)) ++ t) (flat_map-rows f g same xs)
 
-text_of_rows-append : (xs ys : List (List (List ℕ))) → text_of_rows (xs ++ ys) ≡ text_of_rows xs ++ text_of_rows ys
+pub text_of_rows-append : (xs ys : List (List (List ℕ))) → text_of_rows (xs ++ ys) ≡ text_of_rows xs ++ text_of_rows ys
 text_of_rows-append xs ys = flat_map-append (λ row. ended (row_line row)) xs ys
 
 -- the lines with ports
-plus_lines-rows : (groups : List (List (List ℕ))) → flat_map plus_lines groups ≡ text_of_rows (plus_rows (flat_map eights groups))
+pub plus_lines-rows : (groups : List (List (List ℕ))) → flat_map plus_lines groups ≡ text_of_rows (plus_rows (flat_map eights groups))
 plus_lines-rows [] = refl
 plus_lines-rows (names ∷ groups) =
     ap (λ t. t ++ flat_map plus_lines groups) (flat_map-rows (deck_line (codes "+")) (λ group. codes "+" ∷ group) (λ _. refl) (eights names))
