@@ -15,6 +15,7 @@ use Rattle.deck.specs.Switches.{value_of}
 use Rattle.deck.specs.NamedDevices.{NamedDevice, device_of}
 use Rattle.domino_cell.specs.Cell.{CellNets, IsCell, IsStageNet, cell, dynamic_stage, inverter}
 use Rattle.domino_cell.specs.Stage.{Spot, Top, Inside, IsSpot, Branch, stage, IsStage}
+use Rattle.domino_cell.specs.Tapped.{IsTapped}
 use Rattle.sp_network.specs.Tree.{Tree, Leaf, Series, inner_count, joins, tree_conduction}
 use Rattle.domino_cell.specs.Spelling.{spell}
 use Rattle.dom_base.proofs.Lists.{AllByRecursion-append, AllByRecursion-both, AllByRecursion-contains, AllByRecursion-left, AllByRecursion-map, AllByRecursion-weaker}
@@ -22,6 +23,7 @@ use Rattle.deck.specs.Reach.{Reach}
 use Rattle.deck.proofs.Reach.{Reach-kept}
 use Rattle.domino_cell.proofs.Spellings.{spell-same}
 use Rattle.domino_cell.proofs.Stages.{goes, through}
+use Rattle.domino_cell.proofs.Untapped.{as_tapped}
 use Rattle.domino_cell.specs.Steps.{IsStep, IsStrongStep}
 use Rattle.sp_network.specs.Known.{IsTest}
 use Rattle.sp_network.proofs.TreeTests.{joins-conduction}
@@ -102,13 +104,17 @@ module _ (devices : List Device) (is_source : ℕ → Bool) (nets : CellNets ℕ
         alone = λ d a h c e. subst (λ cs. Contains (map device_of cs) d) (sym (stage-cell nets tree)) (is.alone d (cell_spots nets a) c (spot_net a h) e);
       }
 
+  -- and it has no taps
+  IsTapped-cell : IsTapped devices is_source (cell_spots nets) (cell_branches nets tree) []
+  IsTapped-cell = as_tapped devices is_source (cell_spots nets) (cell_branches nets tree) IsStage-cell
+
   module _ (values : List Tri) (test : Tri → Bool) (t : IsTest test) where
     -- a path from the dynamic net to ground, by devices that all pass the test, goes through the clock and the tree
     ground_through : (Q : Device → Type 0) → ((d : Device) → Q d → Contains devices d)
         → ((d : Device) → Q d → test (conduction d.kind (value_of values d.gate)) ≡ true) → Reach Q is_source nets.dynamic nets.vss
         → (test (value_of values nets.clock) ≡ true) × (test (tree_conduction nch (value_of values) tree) ≡ true)
     ground_through Q of pass r =
-        let w = through devices is_source (cell_spots nets) (cell_branches nets tree) IsStage-cell Q (λ kind gate. test (conduction kind (value_of values gate))) of pass nets.vss r is.vss_is in
+        let w = through devices is_source (cell_spots nets) (cell_branches nets tree) [] IsTapped-cell Q (λ kind gate. test (conduction kind (value_of values gate))) of pass nets.vss r is.vss_is in
         AllByRecursion-contains
         (λ b. nets.vss ≡ b.supply → joins (λ gate. test (conduction b.kind (value_of values gate))) b.tree ≡ true
         → (test (value_of values nets.clock) ≡ true) × (test (tree_conduction nch (value_of values) tree) ≡ true))
@@ -147,7 +153,7 @@ module _ (devices : List Device) (is_source : ℕ → Bool) (nets : CellNets ℕ
         to : (test (value_of values nets.clock) ≡ true) × (test (tree_conduction nch (value_of values) tree) ≡ true)
             → Reach (IsStrongStep devices test values) is_source nets.dynamic nets.vss
         to h =
-            goes devices is_source (cell_spots nets) (cell_branches nets tree) IsStage-cell (IsStrongStep devices test values) g 2
+            goes devices is_source (cell_spots nets) (cell_branches nets tree) [] IsTapped-cell (IsStrongStep devices test values) g 2
             (record { kind = nch; tree = Series tree (Leaf nets.clock); supply = nets.vss }) refl
             (λ d c k o. record { of = c; pass = o; strong = λ z. no_keeper (sym k ∙ z) })
             (both_true (joins (λ gate. test (value_of values gate)) tree) (test (value_of values nets.clock)) (sym same ∙ h.1) h.0)

@@ -15,3 +15,4 @@ pub mod SmallestCell
 pub mod Spellings
 pub mod Stages
 pub mod Trees
+pub mod Untapped

@@ -33,6 +33,7 @@ use Rattle.domino_cell.specs.PushedPaths.{IsDrivenByTree, named_value}
 use Rattle.domino_cell.specs.Spelling.{spell}
 use Rattle.domino_cell.specs.Stage.{Branch, IsSpot, IsStage, Spot, Inside, Top, stage}
 use Rattle.domino_cell.specs.Steps.{IsStep, IsStrongStep}
+use Rattle.domino_cell.specs.Tapped.{IsTapped, ways}
 use Rattle.domino_cell.proofs.AppendedNets.{HasNumber-old, HasNumber-port, behind_no_source, devices_behind, new_behind, old_in_range, old_number, old_source, port_is_source}
 use Rattle.domino_cell.proofs.CellCircuits.{with_devices-append}
 use Rattle.domino_cell.proofs.CellNetNames.{first_apart, supplies_apart}
@@ -42,18 +43,22 @@ use Rattle.domino_cell.proofs.PushedCells.{each_behind}
 use Rattle.domino_cell.proofs.PushedTrees.{dual-map_tree, inner_count-below, leaves-dual}
 use Rattle.domino_cell.proofs.Spellings.{spell-map_tree}
 use Rattle.domino_cell.proofs.Stages.{goes, through}
+use Rattle.domino_cell.proofs.Untapped.{as_tapped}
 
 -- the branches of a static gate: from its output to vdd, and to vss
 abbrev pub gate_branches : ℕ → ℕ → Tree ℕ → Tree ℕ → List Branch
 gate_branches vdd vss upper lower = record { kind = pch; tree = upper; supply = vdd } ∷ record { kind = nch; tree = lower; supply = vss } ∷ []
 
 module _ (devices : List Device) (is_source : ℕ → Bool) (at : Spot → ℕ) (bs : List Branch) (is : IsStage devices is_source at bs) (values : List Tri) where
+  is_tapped : IsTapped devices is_source at bs []
+  is_tapped = as_tapped devices is_source at bs is
+
   -- a branch that conducts joins the top of its stage to its supply
   pub joined_through : (i : ℕ) (b : Branch) → slice_get bs i ≡ Some b → b.kind ≢ Keep → tree_conduction b.kind (value_of values) b.tree ≡ One
       → DefiniteStrong devices is_source values (at Top) b.supply
   joined_through i b e strong one =
       definite_from_Reach devices is_source values (at Top) b.supply
-      (goes devices is_source at bs is (IsStrongStep devices is_one values) (λ kind gate. is_one (conduction kind (value_of values gate))) i b e
+      (goes devices is_source at bs [] is_tapped (IsStrongStep devices is_one values) (λ kind gate. is_one (conduction kind (value_of values gate))) i b e
       (λ d has k on. record { of = has; pass = on; strong = λ z. strong (sym k ∙ z) })
       (sym (joins-conduction is_one IsTest-is_one b.kind (value_of values) b.tree) ∙ ap is_one one))
 
@@ -61,10 +66,10 @@ module _ (devices : List Device) (is_source : ℕ → Bool) (at : Spot → ℕ) 
   pub apart_from : (s : ℕ) → is_source s ≡ true → AllByRecursion (λ b. s ≡ b.supply → tree_conduction b.kind (value_of values) b.tree ≡ Zero) bs
       → Possible devices is_source values (at Top) s → ⊥
   apart_from s source none p =
-      let w = through devices is_source at bs is (IsStep devices is_not_zero values) (λ kind gate. is_not_zero (conduction kind (value_of values gate))) (λ d q. q.of) (λ d q. q.pass) s (Reach-from_any devices is_source values (at Top) s p) source in
+      let w = through devices is_source at bs [] is_tapped (IsStep devices is_not_zero values) (λ kind gate. is_not_zero (conduction kind (value_of values gate))) (λ d q. q.of) (λ d q. q.pass) s (Reach-from_any devices is_source values (at Top) s p) source in
       let same = joins-conduction is_not_zero IsTest-is_not_zero w.branch.kind (value_of values) w.branch.tree in
       is_not_zero-true _ (same ∙ w.conducts)
-      (AllByRecursion-contains (λ b. s ≡ b.supply → tree_conduction b.kind (value_of values) b.tree ≡ Zero) bs w.branch none w.among w.ends)
+      (AllByRecursion-contains (λ b. s ≡ b.supply → tree_conduction b.kind (value_of values) b.tree ≡ Zero) (ways bs []) w.branch (rw append-nil none) w.among w.ends)
 
 -- a name with more behind it is another name
 longer_apart : (out front more : List ℕ) → 0 < length more → out ≢ (out ++ front) ++ more

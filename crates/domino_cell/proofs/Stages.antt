@@ -1,19 +1,20 @@
--- A path from the top of a stage that ends at a source goes through one branch, which joins them.
-use Rattle.std.proofs.Common.{◌≡◌, ℕ, zero, suc, ◌+◌, ◌<◌, Bool, true, false, eqb, List, [], ◌∷◌, refl, sym, ◌∙◌, inl, inr, arith, add-zero, zero-add}
-use Rattle.std.specs.Prelude.{◌⊎◌, Contains, Option, Some, None, slice_get}
+-- A path from the top of a stage with taps that ends at a source goes through one way out, which is open.
+use Rattle.std.specs.Prelude.{Contains, None, Option, Some, slice_get, ◌⊎◌}
 use Rattle.std.specs.List.{AllByRecursion}
+use Rattle.std.proofs.Common.{◌≡◌, ℕ, zero, suc, ◌+◌, ◌<◌, Bool, true, false, eqb, List, [], ◌∷◌, map, refl, sym, ◌∙◌, inl, inr, arith, add-zero, zero-add}
 use Rattle.std.proofs.lemmas.Bool.Decides.{eqb_tells}
-use Rattle.std.proofs.lemmas.List.Elements.{recursion_from_All}
+use Rattle.std.proofs.lemmas.List.Elements.{Contains-append_left, Contains-append_right, recursion_from_All}
 use Rattle.dom_base.specs.declared.kind.Kind.{Kind}
+use Rattle.dom_base.proofs.Lists.{AllByRecursion-append, AllByRecursion-both, AllByRecursion-contains, AllByRecursion-left, AllByRecursion-map, AllByRecursion-right, AllByRecursion-weaker, Contains-first, Contains-later, Contains-slice_get}
 use Rattle.deck.specs.declared.device.Device.{Device}
 use Rattle.deck.specs.Paths.{Ends}
 use Rattle.deck.specs.NamedDevices.{NamedDevice, device_of}
-use Rattle.domino_cell.specs.Stage.{Spot, Top, Inside, IsSpot, Branch, stage, IsStage}
-use Rattle.sp_network.specs.Tree.{inner_count, joins}
-use Rattle.domino_cell.specs.Spelling.{spell}
-use Rattle.dom_base.proofs.Lists.{AllByRecursion-append, AllByRecursion-left, AllByRecursion-right, AllByRecursion-weaker, AllByRecursion-both, AllByRecursion-map, AllByRecursion-contains, Contains-slice_get}
 use Rattle.deck.specs.Reach.{Reach}
 use Rattle.deck.proofs.Reach.{Reach-kept}
+use Rattle.sp_network.specs.Tree.{inner_count, joins}
+use Rattle.domino_cell.specs.Spelling.{spell}
+use Rattle.domino_cell.specs.Stage.{Branch, Inside, IsSpot, Spot, Top, stage}
+use Rattle.domino_cell.specs.Tapped.{IsTapped, Tap, tap_branch, tap_card, tapped, ways}
 use Rattle.domino_cell.specs.TreeColours.{IsApart, IsIn, IsOutside, Paints, painting}
 use Rattle.domino_cell.proofs.Trees.{Paints-painting, Reach-spell, spell-ends, spell-kind}
 
@@ -30,12 +31,12 @@ each_branch F at i (b ∷ bs) h =
     step_index i j = omega arith
 
 -- Q is a property of devices, and g a test that the gates of devices with Q pass.
-module _ (devices : List Device) (is_source : ℕ → Bool) (at : Spot → ℕ) (bs : List Branch) (is : IsStage devices is_source at bs)
+module _ (devices : List Device) (is_source : ℕ → Bool) (at : Spot → ℕ) (bs : List Branch) (taps : List Tap) (is : IsTapped devices is_source at bs taps)
     (Q : Device → Type 0) (g : Kind → ℕ → Bool) where
-  -- a branch that ends at y and joins its ends, and a device of its kind with Q
+  -- a way that ends at y and is open, and a device of its kind with Q
   pub record Through (y : ℕ) : Type 0 where
     pub branch : Branch
-    pub among : Contains bs branch
+    pub among : Contains (ways bs taps) branch
     pub ends : y ≡ branch.supply
     pub conducts : joins (g branch.kind) branch.tree ≡ true
     pub device : Device
@@ -56,7 +57,7 @@ module _ (devices : List Device) (is_source : ℕ → Bool) (at : Spot → ℕ) 
   not_spot s a i h e = let f : is_source s ≡ false = rw e (is.free a i) in cc
 
   supply_is : (i : ℕ) (b : Branch) → slice_get bs i ≡ Some b → is_source b.supply ≡ true
-  supply_is i b e = AllByRecursion-contains (λ b. is_source b.supply ≡ true) bs b (recursion_from_All (λ b. is_source b.supply ≡ true) bs is.supplies) (Contains-slice_get bs i b e)
+  supply_is i b e = AllByRecursion-contains (λ b. is_source b.supply ≡ true) bs b (AllByRecursion-left _ bs (map tap_branch taps) (recursion_from_All (λ b. is_source b.supply ≡ true) (ways bs taps) is.supplies)) (Contains-slice_get bs i b e)
 
   -- the colours before the inner nets of a branch have theirs: true everywhere, or at the top alone
   base : Bool → ℕ → Bool
@@ -153,7 +154,7 @@ module _ (devices : List Device) (is_source : ℕ → Bool) (at : Spot → ℕ) 
             rw w sup,
             record {
               branch = b;
-              among = Contains-slice_get bs i b e;
+              among = Contains-append_left bs (map tap_branch taps) b (Contains-slice_get bs i b e);
               ends = w;
               device = d;
               has = q;
@@ -165,14 +166,56 @@ module _ (devices : List Device) (is_source : ℕ → Bool) (at : Spot → ℕ) 
           )
       leave d q k y (inr (inr (j, le, lt, w))) t = inl (Inside i j, IsSpot-inside i b e j lt, w, colour-inside i b e j ∙ (rw w at t))
 
-  -- a path from the top that ends at a source goes through a branch to it
+  tap_source : (t : Tap) → Contains taps t → is_source t.supply ≡ true
+  tap_source t c =
+      AllByRecursion-contains (λ t. is_source t.supply ≡ true) taps t
+      (each_tap taps (AllByRecursion-right (λ b. is_source b.supply ≡ true) bs (map tap_branch taps) (recursion_from_All (λ b. is_source b.supply ≡ true) (ways bs taps) is.supplies))) c
+    where
+      each_tap : (ts : List Tap) → AllByRecursion (λ b. is_source b.supply ≡ true) (map tap_branch ts) → AllByRecursion (λ t. is_source t.supply ≡ true) ts
+      each_tap [] h = tt
+      each_tap (t ∷ ts) h = (h.0, each_tap ts h.1)
+
+  Contains-tap : (ts : List Tap) (t : Tap) → Contains ts t → Contains (map tap_branch ts) (tap_branch t)
+  Contains-tap ts t c = AllByRecursion-contains (λ t. Contains (map tap_branch ts) (tap_branch t)) ts t (each ts (λ b h. h)) c
+    where
+      each : (us : List Tap) → ((b : Branch) → Contains (map tap_branch us) b → Contains (map tap_branch ts) b) → AllByRecursion (λ t. Contains (map tap_branch ts) (tap_branch t)) us
+      each [] f = tt
+      each (u ∷ us) f = (f (tap_branch u) (Contains-first (tap_branch u) (map tap_branch us)), each us (λ b h. f b (Contains-later (tap_branch u) (map tap_branch us) b h)))
+
+  -- a tap leads out of the stage
+  step_tap : ((d : Device) → Q d → g d.kind d.gate ≡ true) → (t : Tap) → Contains taps t → Steps (device_of (tap_card at t))
+  unfolding Steps Lit colour
+  step_tap on t c x y q f lit =
+      elim f [
+        | inl z ↦ inr (
+          rw (← z.1) (tap_source t c),
+          record {
+            branch = tap_branch t;
+            among = Contains-append_right bs (map tap_branch taps) (tap_branch t) (Contains-tap taps t c);
+            ends = sym z.1;
+            conducts = on (device_of (tap_card at t)) q;
+            device = device_of (tap_card at t);
+            has = q;
+            of_kind = refl;
+          },
+        )
+        | inr z ↦ absurd (not_spot t.supply lit.0 lit.1 (tap_source t c) (z.0 ∙ lit.2))
+      ]
+
+  steps_taps : ((d : Device) → Q d → g d.kind d.gate ≡ true) → (ts : List Tap) → ((t : Tap) → Contains ts t → Contains taps t) → AllByRecursion (λ t. Steps (device_of (tap_card at t))) ts
+  steps_taps on [] f = tt
+  steps_taps on (t ∷ ts) f = (step_tap on t (f t (Contains-first t ts)), steps_taps on ts (λ u c. f u (Contains-later t ts u c)))
+
+  -- a path from the top that ends at a source goes through a way to it
   pub through : ((d : Device) → Q d → Contains devices d) → ((d : Device) → Q d → g d.kind d.gate ≡ true)
       → (y : ℕ) → Reach Q is_source (at Top) y → is_source y ≡ true → Through y
   unfolding Steps Lit colour
   through of on y r s =
       elim (Reach-kept Lit Through
       (λ d a b q e lit. AllByRecursion-contains Steps _ d
-      (AllByRecursion-map Steps device_of _ (each_branch (λ c. Steps (device_of c)) at 0 bs (λ j b z. rw zero-add (steps_branch on j b z))))
+      (AllByRecursion-map Steps device_of _ (AllByRecursion-append (λ c. Steps (device_of c)) (stage at 0 bs) (map (tap_card at) taps)
+      (each_branch (λ c. Steps (device_of c)) at 0 bs (λ j b z. rw zero-add (steps_branch on j b z)))
+      (AllByRecursion-map (λ c. Steps (device_of c)) (tap_card at) taps (steps_taps on taps (λ t c. c)))))
       (is.alone d lit.0 lit.1 (of d q) (elim e [ inl z ↦ inl (z.0 ∙ lit.2) | inr z ↦ inr (z.0 ∙ lit.2) ])) a b q e lit)
       (Top, tt, refl, refl) r) [
         | inl lit ↦ absurd (not_spot y lit.0 lit.1 s lit.2)
@@ -186,7 +229,7 @@ module _ (devices : List Device) (is_source : ℕ → Bool) (at : Spot → ℕ) 
       Reach-spell Q is_source (g b.kind) b.kind (λ j. at (Inside i j)) b.tree (at Top) b.supply 0
       (λ j le lt. is.free (Inside i j) (IsSpot-inside i b e j lt))
       (AllByRecursion-weaker _ (λ c. g b.kind c.gate ≡ true → Q (device_of c)) (λ c k o. on (device_of c) k.0 k.1 (rw k.1 o)) _
-      (AllByRecursion-both _ _ _ (rw zero-add at (branch_there bs 0 i b e (recursion_from_All (λ c. Contains devices (device_of c)) (stage at 0 bs) is.there))) (spell-kind b.kind (λ j. at (Inside i j)) b.tree (at Top) b.supply 0))) h
+      (AllByRecursion-both _ _ _ (rw zero-add at (branch_there bs 0 i b e (AllByRecursion-left _ (stage at 0 bs) (map (tap_card at) taps) (recursion_from_All (λ c. Contains devices (device_of c)) (tapped at bs taps) is.there)))) (spell-kind b.kind (λ j. at (Inside i j)) b.tree (at Top) b.supply 0))) h
     where
       branch_there : (cs : List Branch) (k i : ℕ) (b : Branch) → slice_get cs i ≡ Some b → AllByRecursion (λ c. Contains devices (device_of c)) (stage at k cs)
           → AllByRecursion (λ c. Contains devices (device_of c)) (spell b.kind (λ j. at (Inside (k + i) j)) b.tree (at Top) b.supply 0)

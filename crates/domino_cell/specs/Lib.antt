@@ -10,5 +10,8 @@ pub mod PushedPaths
 pub mod Spelling
 pub mod Stage
 pub mod Steps
+pub mod Style
+pub mod StyledCells
+pub mod Tapped
 pub mod TreeColours
 pub mod Worked

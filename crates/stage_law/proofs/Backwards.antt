@@ -2,7 +2,7 @@
 use Rattle.std.specs.List.{AllByRecursion}
 use Rattle.std.proofs.Common.{Bool, List, [], inl, inr, ℕ, ◌++◌, ◌∷◌}
 use Rattle.dom_base.proofs.Lists.{AllByRecursion-append, AllByRecursion-left, AllByRecursion-right}
-use Rattle.deck.specs.Paths.{Ends, IsWeak, Path, more, one}
+use Rattle.deck.specs.Paths.{IsWeak, Path, more, one}
 use Rattle.deck.specs.declared.device.Device.{Device}
 use Rattle.switch_model.proofs.Joined.{IsWeak-append, Path-append}
 use Rattle.stage_law.proofs.Between.{Ends-swap}

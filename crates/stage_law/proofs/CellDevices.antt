@@ -15,7 +15,7 @@ use Rattle.domino_cell.specs.Spelling.{spell}
 use Rattle.domino_cell.specs.TreeColours.{IsIn}
 use Rattle.domino_cell.proofs.Trees.{spell-ends, spell-kind}
 use Rattle.stage_law.specs.Precharged.{inner_taps, precharged, taps_from}
-use Rattle.stage_law.specs.Tapped.{IsTapped, Tap, tap_card, tapped, ways}
+use Rattle.domino_cell.specs.Tapped.{IsTapped, Tap, tap_card, tapped, ways}
 use Rattle.stage_law.proofs.GateCards.{spell-gates}
 
 module _ (devices : List Device) (is_source : ℕ → Bool) (at : Spot → ℕ) (vdd vss clock : ℕ) (t : Tree ℕ)

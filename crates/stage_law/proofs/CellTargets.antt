@@ -23,7 +23,7 @@ use Rattle.domino_cell.proofs.Paths.{Reach-from_any, Reach-from_definite, Reach-
 use Rattle.switch_model.specs.Targets.{IsTarget, Pulls}
 use Rattle.switch_model.proofs.Targets.{definite-possible_strong, definite-possible_weak}
 use Rattle.stage_law.specs.Precharged.{IsPrecharged, inner_taps, precharged, taps_from}
-use Rattle.stage_law.specs.Tapped.{IsTapped, tap_card}
+use Rattle.domino_cell.specs.Tapped.{IsTapped, tap_card}
 use Rattle.stage_law.proofs.CellDevices.{Among, IsCellDevice, IsCellNet, device_is, inside_spot, net-free, no_source, other_end, vdd_source, vss_source, within}
 use Rattle.stage_law.proofs.Between.{Ends-swap}
 

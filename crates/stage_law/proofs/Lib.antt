@@ -5,6 +5,4 @@ pub mod CellTargets
 pub mod GateCards
 pub mod Held
 pub mod StageTargets
-pub mod TappedStages
 pub mod TappedTargets
-pub mod Untapped

@@ -20,8 +20,8 @@ use Rattle.domino_cell.specs.Steps.{IsStrongStep}
 use Rattle.domino_cell.proofs.Paths.{Reach-from_definite, Reach-from_possible, definite_from_Reach, possible_from_Reach}
 use Rattle.switch_model.specs.Targets.{IsTarget}
 use Rattle.switch_model.proofs.Targets.{definite-possible_strong}
-use Rattle.stage_law.specs.Tapped.{IsTapped, Tap, tap_branch, ways}
-use Rattle.stage_law.proofs.TappedStages.{goes, through}
+use Rattle.domino_cell.specs.Tapped.{IsTapped, Tap, tap_branch, ways}
+use Rattle.domino_cell.proofs.Stages.{goes, through}
 
 module _ (devices : List Device) (is_source : ℕ → Bool) (at : Spot → ℕ) (bs : List Branch) (taps : List Tap) (is : IsTapped devices is_source at bs taps) (values : List Tri) where
   -- a possible strong path to a source goes through a strong branch that is not off

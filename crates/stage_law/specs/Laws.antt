@@ -14,7 +14,7 @@ use Rattle.domino_cell.specs.Stage.{Branch, IsStage, IsSpot, Spot, Top}
 use Rattle.switch_model.specs.Targets.{IsTarget}
 use Rattle.stage_law.specs.Precharged.{IsPrecharged, inner_taps, precharged}
 use Rattle.stage_law.specs.Shut.{IsShut}
-use Rattle.stage_law.specs.Tapped.{IsTapped, Tap, ways}
+use Rattle.domino_cell.specs.Tapped.{IsTapped, Tap, ways}
 
 -- the statement holds of each stage with taps in a circuit, at all values of its nets
 abbrev pub InEachStage : (List Device → (ℕ → Bool) → List Tri → (Spot → ℕ) → List Branch → List Tap → Type 0) → Type 0

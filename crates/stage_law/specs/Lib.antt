@@ -1,4 +1,3 @@
 pub mod Laws
 pub mod Precharged
 pub mod Shut
-pub mod Tapped

@@ -3,7 +3,7 @@ use Rattle.std.specs.Prelude.{List, [], suc, zero, ℕ, ◌+◌, ◌<◌, ◌∷
 use Rattle.dom_base.specs.declared.kind.Kind.TheVariants.{N as nch, P as pch}
 use Rattle.sp_network.specs.Tree.{Leaf, Series, Tree, inner_count}
 use Rattle.domino_cell.specs.Stage.{Branch, Inside, Spot, Top}
-use Rattle.stage_law.specs.Tapped.{Tap}
+use Rattle.domino_cell.specs.Tapped.{Tap}
 
 -- the tree in series with the foot, and the precharge
 abbrev pub precharged : ℕ → ℕ → ℕ → Tree ℕ → List Branch
