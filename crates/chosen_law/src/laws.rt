@@ -7,6 +7,11 @@ ghost use Rattle.chosen_law.specs.Chosen.{
   PowerNeverUnsettled,
   ReadsOwnRun,
 };
+ghost use Rattle.chosen_law.specs.Overlapping.{
+  OverlappingCycleNeverUnsettled,
+  OverlappingEvaluationIsLegal,
+  OverlappingReadsOwnRun,
+};
 
 /// What the simulator runs, in each order: power from the power state to the rest of `released`,
 /// and each cycle to its reading and from there to the rest of `launched`, is a legal run.
@@ -26,4 +31,13 @@ pub fn chosen_runs_read_own_run()
 pub fn chosen_runs_settle()
     ensures power { PowerNeverUnsettled }
     ensures cycle { CycleNeverUnsettled }
+{}
+
+/// Where clocks overlap, and each but the last falls once the rise of the next one has settled, each
+/// cycle to its reading is a legal run, it reads the own run, and none of its settlings ends
+/// unsettled.
+pub fn overlapping_runs_read_own_run()
+    ensures evaluation { OverlappingEvaluationIsLegal }
+    ensures reads { OverlappingReadsOwnRun }
+    ensures cycle { OverlappingCycleNeverUnsettled }
 {}

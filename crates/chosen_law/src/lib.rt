@@ -4,4 +4,7 @@
 
 mod laws;
 
-pub use laws::{chosen_runs_are_legal, chosen_runs_read_own_run, chosen_runs_settle};
+pub use laws::{
+    chosen_runs_are_legal, chosen_runs_read_own_run, chosen_runs_settle,
+    overlapping_runs_read_own_run,
+};

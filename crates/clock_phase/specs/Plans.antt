@@ -15,3 +15,12 @@ clocks_of plans = map (λ (p : GatePlan). p.clock) plans
 abbrev pub ReadEarlierCells : ℕ → List (Tree ℕ) → Type 0
 ReadEarlierCells leaf_count trees =
     (k : ℕ) (tree : Tree ℕ) → slice_get trees k ≡ Some tree → EachLeaf (λ gate. gate < 2 * leaf_count + k) tree
+
+-- a domino cell: its tree over gates, and the number of its clock
+pub record CellPlan : Type 0 where
+  pub tree : Tree ℕ
+  pub clock : ℕ
+
+-- a cell as plain data
+abbrev pub cell_plan : GatePlan → CellPlan
+cell_plan p = record { tree = tree_of p.tree; clock = p.clock }

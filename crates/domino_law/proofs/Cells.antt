@@ -1,6 +1,6 @@
 -- What the dynamic nets of a cell do, in either style.
 use Rattle.std.specs.Prelude.{◌≢◌, ◌⊎◌}
-use Rattle.std.proofs.Common.{Bool, List, arith, inl, inr, sym, true, ℕ, ◌+◌, ◌<◌, ◌∙◌, ◌≡◌}
+use Rattle.std.proofs.Common.{Bool, List, arith, inl, inr, refl, sym, true, ℕ, ◌+◌, ◌<◌, ◌∙◌, ◌≡◌}
 use Rattle.dom_base.specs.declared.kind.Kind.TheVariants.{N as nch}
 use Rattle.dom_base.specs.declared.tri.Tri.{Tri}
 use Rattle.dom_base.specs.declared.tri.Tri.TheVariants.{One, Zero}
@@ -16,16 +16,16 @@ use Rattle.switch_model.specs.Targets.{IsTarget}
 use Rattle.dom_base.proofs.Decided.{dec_tri}
 use Rattle.switch_model.proofs.Targets.{target_exists, target_unique}
 use Rattle.stage_law.specs.Precharged.{IsPrecharged}
-use Rattle.stage_law.specs.Tapped.{IsTapped}
+use Rattle.domino_cell.specs.Tapped.{IsTapped}
 use Rattle.stage_law.proofs.CellTargets as cell
 use Rattle.domino_law.specs.Branches.{dynamic, dynamic_taps, numbered}
 use Rattle.domino_law.specs.Honest.{IsDynamicSpot, cell_conduction}
-use Rattle.domino_law.specs.Nets.{At, Clock, Net, Output, Vdd, Vss, gate_net}
-use Rattle.domino_law.specs.Shape.{DominoCell, Style, WithKeeper, WithPrecharge}
+use Rattle.domino_law.specs.Nets.{At, Clock, Net, Output, Vdd, Vss, gate_net, CellSide}
+use Rattle.domino_law.specs.Shape.{DynamicStage, Style, WithKeeper, WithPrecharge}
 use Rattle.domino_law.proofs.Leaves.{EachLeaf-map, tree_rises}
 use Rattle.domino_law.proofs.Parts.{evaluates, keeper_holds, precharges, pulled_conducts, pulls}
 
-as_precharged : (net : Net → ℕ) (c : DominoCell) (a : Spot) → IsDynamicSpot WithPrecharge c a → IsPrecharged (numbered net c.tree) a
+as_precharged : (net : Net → ℕ) (c : DynamicStage) (a : Spot) → IsDynamicSpot WithPrecharge c a → IsPrecharged (numbered net c.tree) a
 as_precharged net c Top i = tt
 as_precharged net c (Inside i j) p =
     let z = inner_count-map_tree (λ g. net (gate_net g)) c.tree in
@@ -34,7 +34,7 @@ as_precharged net c (Inside i j) p =
     within : (j m n : ℕ) → m ≡ n → j < 1 + n → j < 1 + m
     within j m n z l = omega arith
 
-as_dynamic : (net : Net → ℕ) (c : DominoCell) (a : Spot) → IsPrecharged (numbered net c.tree) a → IsDynamicSpot WithPrecharge c a
+as_dynamic : (net : Net → ℕ) (c : DynamicStage) (a : Spot) → IsPrecharged (numbered net c.tree) a → IsDynamicSpot WithPrecharge c a
 as_dynamic net c Top i = tt
 as_dynamic net c (Inside i j) p =
     let z = inner_count-map_tree (λ g. net (gate_net g)) c.tree in
@@ -46,7 +46,7 @@ as_dynamic net c (Inside i j) p =
 module _ (devices : List Device) (is_source : ℕ → Bool) (net : Net → ℕ) (values : List Tri)
     (high : value_of values (net Vdd) ≡ One) (low : value_of values (net Vss) ≡ Zero) where
   -- with the clock at Zero each dynamic net goes to One
-  pub spot_precharges : (style : Style) (at : Spot → ℕ) (k : ℕ) (c : DominoCell) → IsTapped devices is_source at (dynamic style net k c) (dynamic_taps style net c)
+  pub spot_precharges : (style : Style) (at : Spot → ℕ) (k : CellSide) (c : DynamicStage) → IsTapped devices is_source at (dynamic style net k c) (dynamic_taps style net c)
       → value_of values (net (Clock c.clock)) ≡ Zero → (a : Spot) → IsDynamicSpot style c a → IsTarget devices is_source values (at a) One
   spot_precharges style at k c is z Top i = precharges devices is_source net values high low style at k c is z
   spot_precharges WithKeeper at k c is z (Inside i j) p = absurd p
@@ -58,10 +58,10 @@ module _ (devices : List Device) (is_source : ℕ → Bool) (net : Net → ℕ) 
   IsHeldAt x = (value_of values x ≡ One) ⊎ ((value_of values x ≡ Zero) × DefiniteStrong devices is_source values x (net Vss))
 
   -- with the clock at One a dynamic net that isn't at its target is One, and falls by a definite strong path to ground
-  pub spot_falls : (style : Style) (at : Spot → ℕ) (k : ℕ) (c : DominoCell) → IsTapped devices is_source at (dynamic style net k c) (dynamic_taps style net c)
+  pub spot_falls : (style : Style) (at : Spot → ℕ) (k : CellSide) (c : DynamicStage) → IsTapped devices is_source at (dynamic style net k c) (dynamic_taps style net c)
       → is_source (net Vss) ≡ true → value_of values (net (Clock c.clock)) ≡ One → EachLeaf (λ g. IsKnown (value_of values (net (gate_net g)))) c.tree
       → ((a : Spot) → IsDynamicSpot style c a → IsHeldAt (at a))
-      → (value_of values (at Top) ≡ One → value_of values (net (At (Output k) Top)) ≡ Zero)
+      → (style ≡ WithKeeper → value_of values (at Top) ≡ One → value_of values (net (At (Output k.cell) Top)) ≡ Zero)
       → (a : Spot) → IsDynamicSpot style c a → (v : Tri) → IsTarget devices is_source values (at a) v → value_of values (at a) ≢ v
       → (value_of values (at a) ≡ One) × (v ≡ Zero) × DefiniteStrong devices is_source values (at a) (net Vss)
   spot_falls WithPrecharge at k c is src on leaves held out a i v t ne =
@@ -73,7 +73,7 @@ module _ (devices : List Device) (is_source : ℕ → Bool) (net : Net → ℕ) 
     where
       by : IsKnown (cell_conduction net values c) → IsHeldAt (at Top) → (value_of values (at Top) ≡ One) × (v ≡ Zero) × DefiniteStrong devices is_source values (at Top) (net Vss)
       by (inl z) (inl one) =
-          let k = target_unique devices is_source values (at Top) v One t (keeper_holds devices is_source net values high low at k c is on z (out one)) in
+          let k = target_unique devices is_source values (at Top) v One t (keeper_holds devices is_source net values high low at k c is on z (out refl one)) in
           absurd (ne (one ∙ sym k))
       by (inl z) (inr h) = let o = pulled_conducts devices is_source net values high low WithKeeper at k c is src h.1 in let y : Zero ≡ One = sym z ∙ o in absurd (cc)
       by (inr z) (inl one) =
@@ -83,10 +83,10 @@ module _ (devices : List Device) (is_source : ℕ → Bool) (net : Net → ℕ) 
           absurd (ne (h.0 ∙ sym w))
 
   -- a cell whose tree doesn't conduct holds its dynamic net at One
-  pub spot_holds : (style : Style) (at : Spot → ℕ) (k : ℕ) (c : DominoCell) → IsTapped devices is_source at (dynamic style net k c) (dynamic_taps style net c)
+  pub spot_holds : (style : Style) (at : Spot → ℕ) (k : CellSide) (c : DynamicStage) → IsTapped devices is_source at (dynamic style net k c) (dynamic_taps style net c)
       → is_source (net Vss) ≡ true → value_of values (net (Clock c.clock)) ≡ One → EachLeaf (λ g. IsKnown (value_of values (net (gate_net g)))) c.tree
       → ((a : Spot) → IsDynamicSpot style c a → IsHeldAt (at a))
-      → (value_of values (at Top) ≡ One → value_of values (net (At (Output k) Top)) ≡ Zero)
+      → (style ≡ WithKeeper → value_of values (at Top) ≡ One → value_of values (net (At (Output k.cell) Top)) ≡ Zero)
       → value_of values (at Top) ≡ One → cell_conduction net values c ≡ Zero → IsTarget devices is_source values (at Top) One
   spot_holds style at k c is src on leaves held out one z =
       let e = target_exists devices is_source values (at Top) (is.free Top tt) in
@@ -101,7 +101,7 @@ module _ (devices : List Device) (is_source : ℕ → Bool) (net : Net → ℕ) 
 -- a definite strong path to ground stays while leaves rise
 module _ (devices : List Device) (is_source : ℕ → Bool) (net : Net → ℕ) (before after : List Tri)
     (high : value_of before (net Vdd) ≡ One) (low : value_of before (net Vss) ≡ Zero) (high' : value_of after (net Vdd) ≡ One) (low' : value_of after (net Vss) ≡ Zero) where
-  pub spot_pulled : (style : Style) (at : Spot → ℕ) (k : ℕ) (c : DominoCell) → IsTapped devices is_source at (dynamic style net k c) (dynamic_taps style net c)
+  pub spot_pulled : (style : Style) (at : Spot → ℕ) (k : CellSide) (c : DynamicStage) → IsTapped devices is_source at (dynamic style net k c) (dynamic_taps style net c)
       → is_source (net Vss) ≡ true → value_of before (net (Clock c.clock)) ≡ One → value_of after (net (Clock c.clock)) ≡ One
       → EachLeaf (λ g. value_of before (net (gate_net g)) ≡ One → value_of after (net (gate_net g)) ≡ One) c.tree
       → (a : Spot) → IsDynamicSpot style c a → DefiniteStrong devices is_source before (at a) (net Vss) → DefiniteStrong devices is_source after (at a) (net Vss)

@@ -7,17 +7,18 @@ use Rattle.dom_base.specs.declared.kind.Kind.TheVariants.{Keep, N as nch, P as p
 use Rattle.dom_base.proofs.Lists.{AllByRecursion-append, AllByRecursion-contains, AllByRecursion-map, AllByRecursion-weaker}
 use Rattle.deck.specs.declared.device.Device.{Device}
 use Rattle.deck.specs.NamedDevices.{device_of}
-use Rattle.sp_network.specs.Tree.{Leaf, Series, inner_count}
+use Rattle.sp_network.specs.Tree.{EachLeaf, Leaf, Parallel, Series, Tree, dual, inner_count, map_tree}
 use Rattle.sp_network.proofs.TreeImages.{inner_count-map_tree}
 use Rattle.domino_cell.specs.Stage.{Branch, Inside, Spot, Top, stage}
 use Rattle.domino_cell.specs.Spelling.{spell}
 use Rattle.domino_cell.proofs.Trees.{spell-kind}
 use Rattle.stage_law.specs.Precharged.{taps_from}
-use Rattle.stage_law.specs.Tapped.{Tap, tap_card, tapped}
-use Rattle.domino_law.specs.Branches.{dynamic, dynamic_taps, keepers, numbered}
+use Rattle.domino_cell.specs.Tapped.{Tap, tap_card, tapped}
+use Rattle.domino_law.specs.Branches.{dynamic, dynamic_taps, keepers, numbered, static_branches}
 use Rattle.domino_law.specs.Honest.{IsDynamicSpot}
-use Rattle.domino_law.specs.Nets.{At, Clock, Net, Output, Vdd, Vss, gate_net}
-use Rattle.domino_law.specs.Shape.{DominoCell, Style, WithKeeper, WithPrecharge}
+use Rattle.domino_law.specs.Nets.{At, Clock, Net, Output, Vdd, Vss, gate_net, CellSide}
+use Rattle.domino_law.specs.Shape.{DynamicStage, Style, WithKeeper, WithPrecharge}
+use Rattle.domino_law.proofs.Statics.{IsSeries}
 
 pub untap : (at : Spot → ℕ) (bs : List Branch) (d : Device) → Contains (map device_of (tapped at bs [])) d → Contains (map device_of (stage at 0 bs)) d
 untap at bs d m = rw append-nil at m
@@ -26,10 +27,10 @@ pub untap_as : (at : Spot → ℕ) (bs bs' : List Branch) (taps : List Tap) (d :
 untap_as at bs bs' taps d e y m = rw e at (untap at bs d (rw y at m))
 
 -- the tree and the foot are nch; each dynamic net has a precharge, and the top may have a keeper
-pub dynamic_devices : (net : Net → ℕ) (F : Device → Type 0) (style : Style) (at : Spot → ℕ) (k : ℕ) (c : DominoCell)
+pub dynamic_devices : (net : Net → ℕ) (F : Device → Type 0) (style : Style) (at : Spot → ℕ) (k : CellSide) (c : DynamicStage)
     → ((d : Device) → d.kind ≡ nch → F d)
     → ((a : Spot) → IsDynamicSpot style c a → F (record { kind = pch; drain = at a; gate = net (Clock c.clock); source = net Vdd }))
-    → (style ≡ WithKeeper → F (record { kind = Keep; drain = at Top; gate = net (At (Output k) Top); source = net Vdd }))
+    → (style ≡ WithKeeper → F (record { kind = Keep; drain = at Top; gate = net (At (Output k.cell) Top); source = net Vdd }))
     → (d : Device) → Contains (map device_of (tapped at (dynamic style net k c) (dynamic_taps style net c))) d → F d
 dynamic_devices net F style at k c nchs pulls keep d m =
     AllByRecursion-contains F (map device_of (tapped at (dynamic style net k c) (dynamic_taps style net c))) d
@@ -40,7 +41,7 @@ dynamic_devices net F style at k c nchs pulls keep d m =
     (pulls Top tt, kept style keep))
     (AllByRecursion-map (λ c. F (device_of c)) (tap_card at) (dynamic_taps style net c) (taps style pulls)))) m
   where
-    kept : (style : Style) → (style ≡ WithKeeper → F (record { kind = Keep; drain = at Top; gate = net (At (Output k) Top); source = net Vdd }))
+    kept : (style : Style) → (style ≡ WithKeeper → F (record { kind = Keep; drain = at Top; gate = net (At (Output k.cell) Top); source = net Vdd }))
         → AllByRecursion (λ c. F (device_of c)) (stage at 2 (keepers style net k))
     kept WithKeeper f = (f refl, tt)
     kept WithPrecharge f = tt
@@ -59,3 +60,21 @@ dynamic_devices net F style at k c nchs pulls keep d m =
       where
         within : (j m n : ℕ) → m ≡ n → j < 1 + 0 + m → j < 1 + n
         within j m n z l = omega arith
+
+-- the pull-up devices of a static gate whose nets stand in series, from its top to the high supply, one for each net; the others are nch
+pub static_devices : (net : Net → ℕ) (F : Device → Type 0) (at : Spot → ℕ) (t : Tree Net) → IsSeries t → ((d : Device) → d.kind ≡ nch → F d)
+    → EachLeaf (λ a. F (record { kind = pch; drain = at Top; gate = net a; source = net Vdd })) t
+    → (d : Device) → Contains (map device_of (stage at 0 (static_branches net t))) d → F d
+static_devices net F at t series nchs pulls d m =
+    AllByRecursion-contains F (map device_of (stage at 0 (static_branches net t))) d
+    (AllByRecursion-map F device_of (stage at 0 (static_branches net t))
+    (AllByRecursion-append (λ c. F (device_of c)) (spell pch (λ j. at (Inside 0 j)) (map_tree net (dual t)) (at Top) (net Vdd) 0) _
+    (up t series 0 pulls)
+    (AllByRecursion-append (λ c. F (device_of c)) (spell nch (λ j. at (Inside 1 j)) (map_tree net t) (at Top) (net Vss) 0) []
+    (AllByRecursion-weaker _ (λ c. F (device_of c)) (λ f z. nchs (device_of f) z) _ (spell-kind nch (λ j. at (Inside 1 j)) (map_tree net t) (at Top) (net Vss) 0)) tt))) m
+  where
+    up : (t : Tree Net) → IsSeries t → (k : ℕ) → EachLeaf (λ a. F (record { kind = pch; drain = at Top; gate = net a; source = net Vdd })) t
+        → AllByRecursion (λ c. F (device_of c)) (spell pch (λ j. at (Inside 0 j)) (map_tree net (dual t)) (at Top) (net Vdd) k)
+    up (Leaf gate) i k h = (h, tt)
+    up (Series l r) i k h = AllByRecursion-append (λ c. F (device_of c)) _ _ (up l i.0 k h.0) (up r i.1 (k + inner_count (map_tree net (dual l))) h.1)
+    up (Parallel l r) i k h = absurd i

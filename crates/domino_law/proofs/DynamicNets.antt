@@ -1,6 +1,6 @@
 -- The nets of cells are dynamic nets and domino outputs.
 use Rattle.std.specs.List.{AllByRecursion}
-use Rattle.std.specs.Prelude.{Contains}
+use Rattle.std.specs.Prelude.{Contains, None, Option, Some}
 use Rattle.std.proofs.Common.{[], arith, inl, inr, map, refl, subst, suc, zero, ℕ, ◌+◌, ◌<◌, ◌∙◌, ◌≡◌}
 use Rattle.std.proofs.lemmas.List.Elements.{recursion_from_All}
 use Rattle.dom_base.specs.declared.kind.Kind.TheVariants.{N as nch, P as pch}
@@ -14,20 +14,21 @@ use Rattle.deck.specs.declared.device.Device.{Device}
 use Rattle.deck.specs.declared.role.Roles.{Roles}
 use Rattle.domino_cell.specs.Spelling.{spell}
 use Rattle.domino_cell.specs.Stage.{Inside, Spot, Top, stage}
-use Rattle.sp_network.specs.Tree.{Leaf, Series, inner_count}
+use Rattle.sp_network.specs.Tree.{Leaf, Series, Tree, inner_count}
 use Rattle.sp_network.proofs.TreeImages.{inner_count-map_tree}
-use Rattle.switch_model.specs.LinksData.{is_first, links_of}
+use Rattle.switch_model.specs.LinksData.{links_of}
 use Rattle.stage_law.specs.Precharged.{taps_from}
-use Rattle.stage_law.specs.Tapped.{tap_card, tapped}
+use Rattle.domino_cell.specs.Tapped.{tap_card, tapped}
 use Rattle.port_runs.specs.Periods.{IsClockPort, IsDynamicNet}
-use Rattle.domino_law.specs.Branches.{dynamic, dynamic_taps, inverter_branches, numbered}
+use Rattle.domino_law.specs.Branches.{dynamic, dynamic_taps, numbered, static_branches}
 use Rattle.domino_law.specs.DynamicNets.{CellsAreDynamic, CellsAreDynamicByPorts, InvertersAreDomino, OutputsAreDominoByPorts}
 use Rattle.domino_law.specs.Honest.{IsDynamicSpot}
-use Rattle.domino_law.specs.Nets.{At, Clock, Dynamic, Net, Output, Vdd, Vss, gate_net}
+use Rattle.domino_law.specs.Nets.{At, Clock, Dynamic, Net, Output, Vdd, Vss, gate_net, CellSide, Gate, left_side}
 use Rattle.domino_law.specs.Periods.{IsDeckDynamicNet}
 use Rattle.domino_law.specs.Settings.{HasPorts}
-use Rattle.domino_law.specs.Shape.{DominoCell, Shape, Style, WithKeeper, WithPrecharge}
+use Rattle.domino_law.specs.Shape.{DynamicStage, Shape, Style, WithKeeper, WithPrecharge, dynamic_nets}
 use Rattle.domino_law.proofs.DeckParts.{dynamic_is}
+use Rattle.domino_law.proofs.Statics.{left_is}
 
 -- the precharge of a spot
 abbrev precharge_of : ℕ → ℕ → ℕ → Device
@@ -44,7 +45,7 @@ tap_there F at vdd clock i (suc n) h j a b =
     ]
 
 -- each dynamic spot of a cell has its precharge
-precharge_there : (F : Device → Type 0) (net : Net → ℕ) (style : Style) (at : Spot → ℕ) (k : ℕ) (c : DominoCell)
+precharge_there : (F : Device → Type 0) (net : Net → ℕ) (style : Style) (at : Spot → ℕ) (k : CellSide) (c : DynamicStage)
     → AllByRecursion (λ d. F (device_of d)) (tapped at (dynamic style net k c) (dynamic_taps style net c))
     → (a : Spot) → IsDynamicSpot style c a → F (precharge_of (at a) (net (Clock c.clock)) (net Vdd))
 precharge_there F net style at k c h Top i =
@@ -65,7 +66,7 @@ cells_are_dynamic links net s loose k c e a i =
     record {
       precharge = precharge_of (net (At (Dynamic k) a)) (net (Clock c.clock)) (net Vdd);
       there = precharge_there (Contains links.devices) net s.style (λ x. net (At (Dynamic k) x)) k c
-          (recursion_from_All _ _ (dynamic_is links.devices (is_first links.sources) net s loose.deck k c e).there) a i;
+          (recursion_from_All _ _ (dynamic_is loose.deck k c e).there) a i;
       kind_is = refl;
       clock = c.clock;
       clock_is = (loose.deck.shape).clocks_are k c e;
@@ -73,16 +74,22 @@ cells_are_dynamic links net s loose k c e a i =
       joined = inl (refl, refl);
     }
 
+-- the pull-up device of a cell's left dynamic net
+first_card : (F : Device → Type 0) (net : Net → ℕ) (at : Spot → ℕ) (k : ℕ) (r : Option (Tree Gate))
+    → AllByRecursion (λ d. F (device_of d)) (tapped at (static_branches net (dynamic_nets k r)) []) → F (precharge_of (at Top) (net (At (Dynamic (left_side k)) Top)) (net Vdd))
+first_card F net at k None h = h.0
+first_card F net at k (Some t) h = h.0
+
 pub inverters_are_domino : InvertersAreDomino
 inverters_are_domino links net s loose k c e part b =
     let cards =
-    recursion_from_All (λ d. Contains links.devices (device_of d)) (tapped (λ a. net (At part a)) (inverter_branches net (At (Dynamic k) Top)) [])
-    (loose.deck.stages part (inverter_branches net (At (Dynamic k) Top)) [] b).there in
+    recursion_from_All (λ d. Contains links.devices (device_of d)) (tapped (λ a. net (At part a)) (static_branches net (dynamic_nets k c.right)) [])
+    (loose.deck.stages part (static_branches net (dynamic_nets k c.right)) [] b).there in
     record {
-      pull_up = precharge_of (net (At part Top)) (net (At (Dynamic k) Top)) (net Vdd);
-      there = cards.0;
+      pull_up = precharge_of (net (At part Top)) (net (At (Dynamic (left_side k)) Top)) (net Vdd);
+      there = first_card (Contains links.devices) net (λ a. net (At part a)) k c.right cards;
       kind_is = refl;
-      gated = cells_are_dynamic links net s loose k c e Top tt;
+      gated = cells_are_dynamic links net s loose (left_side k) _ (left_is s k c e) Top tt;
       joined = inl (refl, refl);
     }
 

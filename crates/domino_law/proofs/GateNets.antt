@@ -1,17 +1,19 @@
 -- Each net that gates a device of a deck is a source of the deck or the top of a part.
 use Rattle.std.specs.List.{AllByRecursion}
 use Rattle.std.specs.Prelude.{Contains, ◌⊎◌}
-use Rattle.std.proofs.Common.{Bool, List, false, inl, inr, refl, sym, true, ℕ, ◌∙◌, ◌≡◌}
+use Rattle.std.proofs.Common.{Bool, List, [], false, inl, inr, refl, sym, true, ℕ, ◌∙◌, ◌≡◌}
 use Rattle.deck.specs.declared.device.Device.{Device}
-use Rattle.sp_network.specs.Tree.{EachLeaf}
+use Rattle.sp_network.specs.Tree.{EachLeaf, Leaf, Tree, dual}
 use Rattle.domino_cell.specs.Stage.{Branch, Top}
 use Rattle.circuit_law.specs.Counts.{Gates}
-use Rattle.stage_law.specs.Tapped.{Tap, ways}
-use Rattle.domino_law.specs.Branches.{HasBranches, reset_branch}
+use Rattle.domino_cell.specs.Tapped.{Tap, ways}
+use Rattle.domino_cell.proofs.PushedTrees.{EachLeaf-dual}
+use Rattle.domino_law.specs.Branches.{HasBranches, reset_branch, static_branches}
 use Rattle.domino_law.specs.LooseDeck.{HoldsDeck, IsPart, IsSourceNet}
-use Rattle.domino_law.specs.Nets.{At, Clock, Complement, Dynamic, FromDynamic, FromLatch, FromOutput, FromPin, Gate, High, Lm, Lmb, Low, Ls, Lsb, Master, Minus, Net, Next, Output, Part, Pin, Plus, Rs, Rsb, Sink, Slave, Vdd, Vss, gate_net}
-use Rattle.domino_law.specs.Shape.{IsGate, IsShape, Shape}
+use Rattle.domino_law.specs.Nets.{At, Clock, Complement, Dynamic, FromLatch, FromPin, Gate, Lm, Lmb, Ls, Lsb, Master, Net, Next, Output, Part, Pin, Plus, Rs, Rsb, Sink, Slave, Vdd, Vss, gate_net, own, DeckSignal}
+use Rattle.domino_law.specs.Shape.{IsGate, IsShape, IsSignal, Shape, dynamic_nets, gate_tree}
 use Rattle.domino_law.proofs.DeckParts.{leaf_is_gate}
+use Rattle.domino_law.proofs.Statics.{each_dynamic, gate_nets, leaf_net}
 use Rattle.domino_law.proofs.Ways.{other_ways, tapped-gates}
 use Rattle.domino_law.proofs.Leaves.{EachLeaf-map, EachLeaf-weaker}
 
@@ -25,29 +27,32 @@ main_source net s a i = inl (a, i, refl)
 pub main_part : (net : Net → ℕ) (s : Shape) (part : Part) → IsPart s part → IsMain net s (net (At part Top))
 main_part net s part a = inr (part, a, refl)
 
-pub main_gate : (net : Net → ℕ) (s : Shape) → IsShape s → (g : Gate) → IsGate s g → IsMain net s (net (gate_net g))
-main_gate net s shape (Plus (FromPin p)) a = main_source net s (Pin p) a
-main_gate net s shape (Plus (FromLatch j)) a = main_part net s (Slave j) a
-main_gate net s shape (Minus l) a = main_part net s (Complement l) a
-main_gate net s shape (FromOutput k) a = main_part net s (Output k) a
-main_gate net s shape (FromDynamic k) a = main_part net s (Dynamic k) a
-main_gate net s shape High a = main_source net s Vdd tt
-main_gate net s shape Low a = main_source net s Vss tt
+pub main_gate : (net : Net → ℕ) (s : Shape) → IsShape s → (g : Gate) → IsGate s g → EachLeaf (λ a. IsMain net s (net a)) (gate_tree s g)
+main_gate net s shape =
+    gate_nets s (λ a. IsMain net s (net a)) signal (λ l a. main_part net s (Complement l) a) (λ k c e. main_part net s (Output k) (c, e))
+    (λ k c e. main_part net s (Dynamic k) (c, e)) (main_source net s Vdd tt) (main_source net s Vss tt)
+  where
+    signal : (l : DeckSignal) → IsSignal s l → IsMain net s (net (own l))
+    signal (FromPin p) a = main_source net s (Pin p) a
+    signal (FromLatch j) a = main_part net s (Slave j) a
 
-module _ (devices : List Device) (is_source : ℕ → Bool) (net : Net → ℕ) (s : Shape) (deck : HoldsDeck devices is_source net s) where
+module _ {devices : List Device} {is_source : ℕ → Bool} {net : Net → ℕ} {s : Shape} (deck : HoldsDeck devices is_source net s) where
+  static : (t : Tree Net) → EachLeaf (λ a. IsMain net s (net a)) t → AllByRecursion (λ b. EachLeaf (IsMain net s) b.tree) (ways (static_branches net t) [])
+  static t h = (EachLeaf-map (IsMain net s) net (dual t) (EachLeaf-dual (λ a. IsMain net s (net a)) t h), (EachLeaf-map (IsMain net s) net t h, tt))
+
   main_branches : (part : Part) (bs : List Branch) (taps : List Tap) → HasBranches s net part bs taps → AllByRecursion (λ b. EachLeaf (IsMain net s) b.tree) (ways bs taps)
   main_branches (Dynamic k) bs taps (c, e, z, y) =
       let clock = main_source net s (Clock c.clock) ((deck.shape).clocks_are k c e) in
       rw (z, y) (
         (
           EachLeaf-map (IsMain net s) (λ g. net (gate_net g)) c.tree
-              (EachLeaf-weaker _ (λ g. IsMain net s (net (gate_net g))) (λ g l. main_gate net s deck.shape g (leaf_is_gate s k g l)) c.tree ((deck.shape).leaves k c e)),
+              (EachLeaf-weaker _ (λ g. IsMain net s (net (gate_net g))) (λ g l. leaf_net s (λ a. IsMain net s (net a)) k.cell g l (main_gate net s deck.shape g (leaf_is_gate s k.cell g l))) c.tree ((deck.shape).leaves k c e)),
           clock,
         ),
-        (clock, other_ways net (λ b. EachLeaf (IsMain net s) b.tree) s.style k c clock (main_part net s (Output k) (c, e))),
+        (clock, other_ways net (λ b. EachLeaf (IsMain net s) b.tree) s.style k c clock (main_part net s (Output k.cell) (e.0, e.1))),
       )
-  main_branches (Output k) bs taps (c, e, z, y) = let g = main_part net s (Dynamic k) (c, e) in rw (z, y) (g, (g, tt))
-  main_branches (Complement l) bs taps (e, z, y) = let g = main_gate net s deck.shape (Plus l) ((deck.shape).complements_are l e) in rw (z, y) (g, (g, tt))
+  main_branches (Output k) bs taps (c, e, z, y) = rw (z, y) (static (dynamic_nets k c.right) (each_dynamic s (λ a. IsMain net s (net a)) k c e (λ d q side i. main_part net s (Dynamic _) (d, i))))
+  main_branches (Complement l) bs taps (e, z, y) = rw (z, y) (static (Leaf (own l)) (main_gate net s deck.shape (Plus l) ((deck.shape).complements_are l e)))
   main_branches (Master j) bs taps (b, e, z, y) =
       let g = main_part net s (Next j) (b, e) in rw (z, y) ((main_source net s Lmb tt, g), ((main_source net s Lm tt, g), tt))
   main_branches (Slave j) bs taps (b, e, z, y) =
@@ -56,8 +61,8 @@ module _ (devices : List Device) (is_source : ℕ → Bool) (net : Net → ℕ) 
       reset : (v : Bool) → EachLeaf (IsMain net s) (reset_branch net v).tree
       reset false = main_source net s Rs tt
       reset true = main_source net s Rsb tt
-  main_branches (Next j) bs taps (b, e, z, y) = let g = main_gate net s deck.shape b.next ((deck.shape).nexts j b e) in rw (z, y) (g, (g, tt))
-  main_branches (Sink i) bs taps (g, e, z, y) = let m = main_gate net s deck.shape g ((deck.shape).outputs_are i g e) in rw (z, y) (m, (m, tt))
+  main_branches (Next j) bs taps (b, e, z, y) = rw (z, y) (static (gate_tree s b.next) (main_gate net s deck.shape b.next ((deck.shape).nexts j b e)))
+  main_branches (Sink i) bs taps (g, e, z, y) = rw (z, y) (static (gate_tree s g) (main_gate net s deck.shape g ((deck.shape).outputs_are i g e)))
 
   pub gates_are_main : (d : Device) → Contains devices d → IsMain net s d.gate
   gates_are_main d c = let w = deck.whole d c in tapped-gates (IsMain net s) (λ a. net (At w.0 a)) w.1 w.2 (main_branches w.0 w.1 w.2 w.3) d w.4

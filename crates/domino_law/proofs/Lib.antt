@@ -1,7 +1,10 @@
 pub mod Alike
 pub mod AlikeLaws
 pub mod Carried
+pub mod CellCards
+pub mod CellStates
 pub mod Cells
+pub mod ClockOrder
 pub mod Contests
 pub mod DeckLists
 pub mod DeckParts
@@ -17,6 +20,7 @@ pub mod Goals
 pub mod HonestLaws
 pub mod HonestTargets
 pub mod InStep
+pub mod KeptCells
 pub mod Lags
 pub mod Leaves
 pub mod LooseDecks
@@ -30,6 +34,7 @@ pub mod PartGoals
 pub mod Parts
 pub mod Periods
 pub mod Places
+pub mod PortLaws
 pub mod PortRunLaws
 pub mod PowerStates
 pub mod ReadRuns
@@ -40,12 +45,15 @@ pub mod RunsHonest
 pub mod SettingMoves
 pub mod SettingPorts
 pub mod Shorts
+pub mod SimpleCells
 pub mod SpelledDecks
 pub mod SpelledParts
 pub mod Starts
+pub mod Statics
 pub mod Stretches
 pub mod Tracked
 pub mod Waking
 pub mod Ways
+pub mod WorkedCompound
 pub mod WorkedDecks
 pub mod Worlds

@@ -8,7 +8,7 @@ use Rattle.dom_base.proofs.Lists.{AllByRecursion-append, AllByRecursion-contains
 use Rattle.deck.specs.Nets.{ends}
 use Rattle.deck.specs.declared.device.Device.{Device}
 use Rattle.deck.specs.NamedDevices.{NamedDevice, device_of}
-use Rattle.sp_network.specs.Tree.{Leaf, Series, inner_count}
+use Rattle.sp_network.specs.Tree.{Leaf, Series, Tree, inner_count}
 use Rattle.sp_network.proofs.TreeImages.{inner_count-map_tree}
 use Rattle.domino_cell.specs.Stage.{Branch, Inside, IsSpot, Spot, Top, stage}
 use Rattle.domino_cell.proofs.Stages.{each_branch}
@@ -17,12 +17,13 @@ use Rattle.domino_cell.proofs.Trees.{spell-ends}
 use Rattle.switch_model.specs.LinksData.{LinksData, is_first}
 use Rattle.switch_model.proofs.Searches.{clash, first-false, first-true}
 use Rattle.stage_law.specs.Precharged.{taps_from}
-use Rattle.stage_law.specs.Tapped.{IsTapped, Tap, tap_branch, tap_card, tapped, ways}
-use Rattle.domino_law.specs.Branches.{HasBranches, clocked, dynamic, dynamic_taps, inverter_branches, numbered, reset_branch}
+use Rattle.domino_cell.specs.Tapped.{IsTapped, Tap, tap_branch, tap_card, tapped, ways}
+use Rattle.domino_law.specs.Branches.{HasBranches, clocked, dynamic, dynamic_taps, numbered, reset_branch, static_branches}
 use Rattle.domino_law.specs.LooseDeck.{IsNet, IsSourceNet, IsSpotOf}
-use Rattle.domino_law.specs.Nets.{At, Clock, Complement, Dynamic, Gate, Lm, Lmb, Ls, Lsb, Master, Net, Next, Output, Part, Sink, Slave, Vdd, Vss, gate_net, own}
-use Rattle.domino_law.specs.Shape.{DominoCell, Latch, Shape, Style, WithKeeper, WithPrecharge}
+use Rattle.domino_law.specs.Nets.{At, Clock, Complement, Dynamic, Gate, Lm, Lmb, Ls, Lsb, Master, Net, Next, Output, Part, Sink, Slave, Vdd, Vss, gate_net, own, CellSide}
+use Rattle.domino_law.specs.Shape.{DominoCell, DynamicStage, Latch, Shape, Style, WithKeeper, WithPrecharge, dynamic_nets, gate_tree}
 use Rattle.domino_law.specs.Spelled.{IsSpelledDeck, SpelledIsLoose}
+use Rattle.domino_law.proofs.Statics.{IsSeries, dual_inner, dynamic_series, gate_series, side_unique}
 use Rattle.domino_law.proofs.Ways.{other_ways}
 use Rattle.domino_law.proofs.DeckLists.{StagePart, deck_parts, part_devices, parts_devices}
 use Rattle.domino_law.proofs.SpelledDecks.{listed, named_all}
@@ -30,11 +31,11 @@ use Rattle.domino_law.proofs.SpelledParts.{deck_devices_are}
 
 -- a part has one list of branches
 one_list : (s : Shape) (net : Net → ℕ) (part : Part) (bs cs : List Branch) (ts us : List Tap) → HasBranches s net part bs ts → HasBranches s net part cs us → (bs ≡ cs) × (ts ≡ us)
-one_list s net (Dynamic k) bs cs ts us (c, e, z, z') (d, f, y, y') = let same : c ≡ d = some_same (sym e ∙ f) in (z ∙ (rw same (sym y)), z' ∙ (rw same (sym y')))
+one_list s net (Dynamic k) bs cs ts us (c, e, z, z') (d, f, y, y') = let same : c ≡ d = side_unique s k c d e f in (z ∙ (rw same (sym y)), z' ∙ (rw same (sym y')))
+one_list s net (Output k) bs cs ts us (c, e, z, z') (d, f, y, y') = let same : c ≡ d = some_same (sym e ∙ f) in (z ∙ (rw same (sym y)), z' ∙ sym y')
   where
     some_same : {c d : DominoCell} → Some c ≡ Some d → c ≡ d
     some_same e = cc
-one_list s net (Output k) bs cs ts us (c, e, z, z') (d, f, y, y') = (z ∙ sym y, z' ∙ sym y')
 one_list s net (Complement l) bs cs ts us (e, z, z') (f, y, y') = (z ∙ sym y, z' ∙ sym y')
 one_list s net (Master j) bs cs ts us (b, e, z, z') (d, f, y, y') = (z ∙ sym y, z' ∙ sym y')
 one_list s net (Slave j) bs cs ts us (b, e, z, z') (d, f, y, y') = let same : b ≡ d = some_same (sym e ∙ f) in (z ∙ (rw same (sym y)), z' ∙ sym y')
@@ -76,13 +77,13 @@ spot_count bs i j (b, e, l) = rw e l
 below_zero : {X : Type 0} (j : ℕ) → j < 0 → X
 below_zero j l = absurd (omega arith)
 
-inverter_spot : {X : Type 0} (net : Net → ℕ) (gate : Net) (i j : ℕ) → IsSpot (inverter_branches net gate) (Inside i j) → X
+static_spot : (net : Net → ℕ) (t : Tree Net) → IsSeries t → (i j : ℕ) → IsSpot (static_branches net t) (Inside i j) → (i ≡ 1) × (j < inner_count t)
 unfolding inner_of
-inverter_spot net gate zero j h = below_zero j (spot_count (inverter_branches net gate) 0 j h)
-inverter_spot net gate (suc zero) j h = below_zero j (spot_count (inverter_branches net gate) 1 j h)
-inverter_spot net gate (suc (suc i)) j h = below_zero j (spot_count (inverter_branches net gate) (suc (suc i)) j h)
+static_spot net t series zero j h = below_zero j (rw (dual_inner net t series) at (spot_count (static_branches net t) 0 j h))
+static_spot net t series (suc zero) j h = (refl, rw (inner_count-map_tree net t) at (spot_count (static_branches net t) 1 j h))
+static_spot net t series (suc (suc i)) j h = below_zero j (spot_count (static_branches net t) (suc (suc i)) j h)
 
-dynamic_spot : (style : Style) (net : Net → ℕ) (k : ℕ) (c : DominoCell) (i j : ℕ) → IsSpot (dynamic style net k c) (Inside i j) → (i ≡ 0) × (j < 1 + inner_count c.tree)
+dynamic_spot : (style : Style) (net : Net → ℕ) (k : CellSide) (c : DynamicStage) (i j : ℕ) → IsSpot (dynamic style net k c) (Inside i j) → (i ≡ 0) × (j < 1 + inner_count c.tree)
 unfolding inner_of
 dynamic_spot style net k c zero j h = (refl, within j (inner_count (numbered net c.tree)) (inner_count-map_tree (λ g. net (gate_net g)) c.tree) (spot_count (dynamic style net k c) 0 j h))
   where
@@ -113,9 +114,9 @@ unfolding inner_of
 spot_of s net (Dynamic k) bs taps (c, e, z, y) Top h = (c, e)
 spot_of s net (Dynamic k) bs taps (c, e, z, y) (Inside i j) h = let d = dynamic_spot s.style net k c i j (rw z at h) in (c, e, d.0, d.1)
 spot_of s net (Output k) bs taps (c, e, z, y) Top h = (c, e)
-spot_of s net (Output k) bs taps (c, e, z, y) (Inside i j) h = inverter_spot net (At (Dynamic k) Top) i j (rw z at h)
+spot_of s net (Output k) bs taps (c, e, z, y) (Inside i j) h = let d = static_spot net (dynamic_nets k c.right) (dynamic_series k c.right) i j (rw z at h) in (c, e, d.0, d.1)
 spot_of s net (Complement l) bs taps (e, z, y) Top h = e
-spot_of s net (Complement l) bs taps (e, z, y) (Inside i j) h = inverter_spot net (own l) i j (rw z at h)
+spot_of s net (Complement l) bs taps (e, z, y) (Inside i j) h = let d = static_spot net (Leaf (own l)) tt i j (rw z at h) in below_zero j d.1
 spot_of s net (Master k) bs taps (b, e, z, y) Top h = (b, e)
 spot_of s net (Master k) bs taps (b, e, z, y) (Inside i j) h = let d = clocked_spot net Lmb Lm (At (Next k) Top) [] i j nothing (rw z at h) in ((b, e), d.0, d.1)
 spot_of s net (Slave k) bs taps (b, e, z, y) Top h = (b, e)
@@ -126,9 +127,9 @@ spot_of s net (Slave k) bs taps (b, e, z, y) (Inside i j) h = let d = clocked_sp
     reset true zero = refl
     reset v (suc m) = refl
 spot_of s net (Next k) bs taps (b, e, z, y) Top h = (b, e)
-spot_of s net (Next k) bs taps (b, e, z, y) (Inside i j) h = inverter_spot net (gate_net b.next) i j (rw z at h)
+spot_of s net (Next k) bs taps (b, e, z, y) (Inside i j) h = let d = static_spot net (gate_tree s b.next) (gate_series s b.next) i j (rw z at h) in (b, e, d.0, d.1)
 spot_of s net (Sink k) bs taps (g, e, z, y) Top h = (g, e)
-spot_of s net (Sink k) bs taps (g, e, z, y) (Inside i j) h = inverter_spot net (gate_net g) i j (rw z at h)
+spot_of s net (Sink k) bs taps (g, e, z, y) (Inside i j) h = let d = static_spot net (gate_tree s g) (gate_series s g) i j (rw z at h) in (g, e, d.0, d.1)
 
 module _ (links : LinksData) (net : Net → ℕ) (s : Shape) (deck : IsSpelledDeck links net s) where
   -- a device of a part

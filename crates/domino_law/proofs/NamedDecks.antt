@@ -1,7 +1,9 @@
 -- A circuit of a deck's cards under names is a loose domino deck.
+use Rattle.domino_cell.specs.StyledCells.{behind_precharge, pull_down_cards}
 use Rattle.std.specs.List.{AllByRecursion}
 use Rattle.std.specs.Prelude.{Some, slice_get, ◌≢◌}
-use Rattle.std.proofs.Common.{List, [], add-zero, ap, arith, inl, inr, length, length-append, map, refl, subst, suc, sym, zero, zero-add, ℕ, ◌++◌, ◌+◌, ◌<◌, ◌∙◌, ◌∷◌, ◌≡◌, ◌≤◌, take, ap₂}
+use Rattle.std.proofs.Common.{List, [], ap, arith, inl, inr, length, length-append, map, refl, subst, suc, sym, zero, zero-add, ℕ, ◌++◌, ◌+◌, ◌<◌, ◌∙◌, ◌∷◌, ◌≡◌, ◌≤◌, take, ap₂}
+use Rattle.std.proofs.lemmas.Option.{slice_get_within}
 use Rattle.dom_base.specs.declared.kind.Kind.{Kind}
 use Rattle.dom_base.specs.declared.kind.Kind.TheVariants.{N as nch, P as pch}
 use Rattle.dom_base.proofs.Lists.{AllByRecursion-contains, AllByRecursion-left, AllByRecursion-right, AllByRecursion-weaker, slice_get-left}
@@ -13,20 +15,18 @@ use Rattle.deck.specs.PortLayout.{source_count, first_output}
 use Rattle.deck.specs.NumberedDevices.{HasNumber, IsNumberedDevice}
 use Rattle.deck.proofs.NetNumbers.{HasNumber-append, HasNumber-from, net_number-append, same_number}
 use Rattle.deck.proofs.CircuitGrowth.{with_devices-grew, with_devices-numbered}
-use Rattle.sp_network.specs.Tree.{Leaf, Parallel, Series, Tree, inner_count, map_tree}
+use Rattle.sp_network.specs.Tree.{Leaf, Parallel, Series, Tree, dual, inner_count, map_tree}
 use Rattle.sp_network.proofs.TreeImages.{inner_count-map_tree}
-use Rattle.domino_cell.specs.Cell.{inverter as inverter_cards}
 use Rattle.domino_cell.specs.Stage.{Inside, Spot, Top}
 use Rattle.domino_cell.specs.Spelling.{spell}
 use Rattle.switch_model.specs.LinksData.{links_of}
 use Rattle.dom_base.proofs.Decided.{dec_nat, lt_or_ge}
 use Rattle.domino_law.specs.LooseDeck.{IsNet, IsSourceNet, IsSpotOf}
 use Rattle.domino_law.specs.NamedDeck.{HasDeckNames, NamedIsLoose}
-use Rattle.domino_law.specs.Nets.{At, Clock, Complement, Dynamic, Gate, Lm, Lmb, Ls, Lsb, Master, Net, Next, Output, Part, Pin, Rs, Rsb, DeckSignal, Sink, Slave, Vdd, Vss, gate_net}
+use Rattle.domino_law.specs.Nets.{At, Clock, Complement, Dynamic, Gate, Lm, Lmb, Ls, Lsb, Master, Net, Next, Output, Part, Pin, Rs, Rsb, DeckSignal, Sink, Slave, Vdd, Vss, gate_net, CellSide, Left, Right, Side, left_side}
 use Rattle.domino_law.specs.Settings.{HasPorts, port_number}
-use Rattle.domino_law.specs.Shape.{DominoCell, IsCellAt, IsLatchAt, Latch, Shape, IsOutputAt}
-use Rattle.domino_law.specs.Spelled.{IsSpelledDeck, after_precharge, cell_cards, complement_cards, shape_cards, named_circuit, latch_cards, net_cell, next_cards, one_latch, output_cards, pull_down, styled_cell}
-use Rattle.domino_law.proofs.OwnRuns.{below_length}
+use Rattle.domino_law.specs.Shape.{DominoCell, DynamicStage, IsCellAt, IsSideAt, IsLatchAt, Latch, Shape, IsOutputAt, dynamic_nets, gate_tree, left_stage, side_of}
+use Rattle.domino_law.specs.Spelled.{IsSpelledDeck, cell_cards, complement_cards, shape_cards, named_circuit, latch_cards, net_cell, next_cards, one_cell, one_latch, output_cards, right_cards, side_cards, static_cards}
 use Rattle.domino_law.proofs.SpelledParts.{named_is_spelled}
 use Rattle.domino_law.specs.DominoDeck.{IsLooseDominoDeck}
 use Rattle.deck.specs.Roles.{AreRoles, ports_of}
@@ -64,6 +64,14 @@ spell_nets P kind inner (Parallel l r) top bottom k h =
       ]),
     )
 
+-- and what holds of their drains holds of its top
+spell_top : (P : Net → Type 0) (kind : Kind) (inner : ℕ → Net) (t : Tree Net) (top bottom : Net) (k : ℕ) → AllByRecursion (λ c. P c.drain) (spell kind inner t top bottom k) → P top
+spell_top P kind inner (Leaf gate) top bottom k h = h.0
+spell_top P kind inner (Series l r) top bottom k h =
+    spell_top P kind inner l top (inner k) (k + 1) (AllByRecursion-left (λ c. P c.drain) (spell kind inner l top (inner k) (k + 1)) (spell kind inner r (inner k) bottom (k + 1 + inner_count l)) h)
+spell_top P kind inner (Parallel l r) top bottom k h =
+    spell_top P kind inner l top bottom k (AllByRecursion-left (λ c. P c.drain) (spell kind inner l top bottom k) (spell kind inner r top bottom (k + inner_count l)) h)
+
 inner_count-gates : (t : Tree Gate) → inner_count (map_tree gate_net t) ≡ inner_count t
 inner_count-gates t = inner_count-map_tree gate_net t
 
@@ -72,20 +80,34 @@ module _ (P : Net → Type 0) (s : Shape) where
   abbrev pub EndsHave : NamedDevice Net → Type 0
   EndsHave c = P c.drain × P c.source
 
-  cell_nets_have : (k i : ℕ) (cs : List DominoCell) (c : DominoCell) → slice_get cs i ≡ Some c → AllByRecursion EndsHave (cell_cards s.style k cs) → AllByRecursion EndsHave (styled_cell s.style (net_cell (k + i) c) (map_tree gate_net c.tree))
+  cell_nets_have : (k i : ℕ) (cs : List DominoCell) (c : DominoCell) → slice_get cs i ≡ Some c → AllByRecursion EndsHave (cell_cards s.style k cs) → AllByRecursion EndsHave (one_cell s.style (k + i) c)
   cell_nets_have k i [] c e h = absurd (cc)
   cell_nets_have k zero (d ∷ cs) c e h =
       let z : d ≡ c = cc in
-      subst (λ x. AllByRecursion EndsHave (styled_cell s.style (net_cell (k + 0) x) (map_tree gate_net x.tree))) z
-      (subst (λ m. AllByRecursion EndsHave (styled_cell s.style (net_cell m d) (map_tree gate_net d.tree))) (none_more k) (AllByRecursion-left EndsHave (styled_cell s.style (net_cell k d) (map_tree gate_net d.tree)) (cell_cards s.style (k + 1) cs) h))
+      subst (λ x. AllByRecursion EndsHave (one_cell s.style (k + 0) x)) z
+      (subst (λ m. AllByRecursion EndsHave (one_cell s.style m d)) (none_more k) (AllByRecursion-left EndsHave (one_cell s.style k d) (cell_cards s.style (k + 1) cs) h))
     where
       none_more : (k : ℕ) → k ≡ k + 0
       none_more k = omega arith
   cell_nets_have k (suc i) (d ∷ cs) c e h =
-      subst (λ m. AllByRecursion EndsHave (styled_cell s.style (net_cell m c) (map_tree gate_net c.tree))) (sym (shift k i)) (cell_nets_have (k + 1) i cs c e (AllByRecursion-right EndsHave (styled_cell s.style (net_cell k d) (map_tree gate_net d.tree)) (cell_cards s.style (k + 1) cs) h))
+      subst (λ m. AllByRecursion EndsHave (one_cell s.style m c)) (sym (shift k i)) (cell_nets_have (k + 1) i cs c e (AllByRecursion-right EndsHave (one_cell s.style k d) (cell_cards s.style (k + 1) cs) h))
     where
       shift : (k i : ℕ) → k + suc i ≡ k + 1 + i
       shift k i = omega arith
+
+  -- the nets of a static gate: its top, and the inner nets of its tree
+  static_top : (part : Part) (t : Tree Net) → AllByRecursion EndsHave (static_cards part t) → P (At part Top)
+  static_top part t h =
+      spell_top P pch (λ j. At part (Inside 0 j)) (dual t) (At part Top) Vdd 0
+      (AllByRecursion-weaker EndsHave (λ c. P c.drain) (λ c h. h.0) (spell pch (λ j. At part (Inside 0 j)) (dual t) (At part Top) Vdd 0)
+      (AllByRecursion-left EndsHave (spell pch (λ j. At part (Inside 0 j)) (dual t) (At part Top) Vdd 0) (spell nch (λ j. At part (Inside 1 j)) t (At part Top) Vss 0) h))
+
+  static_inner : (part : Part) (t : Tree Net) → AllByRecursion EndsHave (static_cards part t) → (i j : ℕ) → i ≡ 1 → j < inner_count t → P (At part (Inside i j))
+  static_inner part t h i j z l =
+      subst (λ i. P (At part (Inside i j))) (sym z)
+      ((spell_nets P nch (λ j. At part (Inside 1 j)) t (At part Top) Vss 0
+      (AllByRecursion-weaker EndsHave (λ c. P c.source) (λ c h. h.1) (spell nch (λ j. At part (Inside 1 j)) t (At part Top) Vss 0)
+      (AllByRecursion-right EndsHave (spell pch (λ j. At part (Inside 0 j)) (dual t) (At part Top) Vdd 0) (spell nch (λ j. At part (Inside 1 j)) t (At part Top) Vss 0) h))).1 j (omega arith) (omega arith))
 
   latch_nets_have : (k i : ℕ) (bs : List Latch) (b : Latch) → slice_get bs i ≡ Some b → AllByRecursion EndsHave (latch_cards k bs) → AllByRecursion EndsHave (one_latch (k + i) b.init)
   latch_nets_have k i [] b e h = absurd (cc)
@@ -100,18 +122,32 @@ module _ (P : Net → Type 0) (s : Shape) where
       shift : (k i : ℕ) → k + suc i ≡ k + 1 + i
       shift k i = omega arith
 
-  output_nets_have : (k i : ℕ) (gs : List Gate) (g : Gate) → slice_get gs i ≡ Some g → AllByRecursion EndsHave (output_cards k gs) → P (At (Sink (k + i)) Top)
+  output_nets_have : (k i : ℕ) (gs : List Gate) (g : Gate) → slice_get gs i ≡ Some g → AllByRecursion EndsHave (output_cards s k gs) → AllByRecursion EndsHave (static_cards (Sink (k + i)) (gate_tree s g))
   output_nets_have k i [] g e h = absurd (cc)
-  output_nets_have k zero (d ∷ gs) g e h = rw add-zero h.0.0
-  output_nets_have k (suc i) (d ∷ gs) g e h = rw (shift k i) (output_nets_have (k + 1) i gs g e h.1.1)
+  output_nets_have k zero (d ∷ gs) g e h =
+      let z : d ≡ g = cc in
+      subst (λ x. AllByRecursion EndsHave (static_cards (Sink (k + 0)) (gate_tree s x))) z
+      (subst (λ m. AllByRecursion EndsHave (static_cards (Sink m) (gate_tree s d))) (none_more k) (AllByRecursion-left EndsHave (static_cards (Sink k) (gate_tree s d)) (output_cards s (k + 1) gs) h))
+    where
+      none_more : (k : ℕ) → k ≡ k + 0
+      none_more k = omega arith
+  output_nets_have k (suc i) (d ∷ gs) g e h =
+      subst (λ m. AllByRecursion EndsHave (static_cards (Sink m) (gate_tree s g))) (sym (shift k i)) (output_nets_have (k + 1) i gs g e (AllByRecursion-right EndsHave (static_cards (Sink k) (gate_tree s d)) (output_cards s (k + 1) gs) h))
     where
       shift : (k i : ℕ) → k + suc i ≡ k + 1 + i
       shift k i = omega arith
 
-  next_nets_have : (k i : ℕ) (bs : List Latch) (b : Latch) → slice_get bs i ≡ Some b → AllByRecursion EndsHave (next_cards k bs) → P (At (Next (k + i)) Top)
-  next_nets_have k i [] g e h = absurd (cc)
-  next_nets_have k zero (d ∷ bs) g e h = rw add-zero h.0.0
-  next_nets_have k (suc i) (d ∷ bs) g e h = rw (shift k i) (next_nets_have (k + 1) i bs g e h.1.1)
+  next_nets_have : (k i : ℕ) (bs : List Latch) (b : Latch) → slice_get bs i ≡ Some b → AllByRecursion EndsHave (next_cards s k bs) → AllByRecursion EndsHave (static_cards (Next (k + i)) (gate_tree s b.next))
+  next_nets_have k i [] b e h = absurd (cc)
+  next_nets_have k zero (d ∷ bs) b e h =
+      let z : d ≡ b = cc in
+      subst (λ x. AllByRecursion EndsHave (static_cards (Next (k + 0)) (gate_tree s x.next))) z
+      (subst (λ m. AllByRecursion EndsHave (static_cards (Next m) (gate_tree s d.next))) (none_more k) (AllByRecursion-left EndsHave (static_cards (Next k) (gate_tree s d.next)) (next_cards s (k + 1) bs) h))
+    where
+      none_more : (k : ℕ) → k ≡ k + 0
+      none_more k = omega arith
+  next_nets_have k (suc i) (d ∷ bs) b e h =
+      subst (λ m. AllByRecursion EndsHave (static_cards (Next m) (gate_tree s b.next))) (sym (shift k i)) (next_nets_have (k + 1) i bs b e (AllByRecursion-right EndsHave (static_cards (Next k) (gate_tree s d.next)) (next_cards s (k + 1) bs) h))
     where
       shift : (k i : ℕ) → k + suc i ≡ k + 1 + i
       shift k i = omega arith
@@ -124,13 +160,13 @@ module _ (P : Net → Type 0) (s : Shape) where
   part_nets_have h = by
     where
       after_cells : List (NamedDevice Net)
-      after_cells = complement_cards s.complements ++ (latch_cards 0 s.latches ++ (output_cards 0 s.outputs ++ next_cards 0 s.latches))
+      after_cells = complement_cards s.complements ++ (latch_cards 0 s.latches ++ (output_cards s 0 s.outputs ++ next_cards s 0 s.latches))
 
       after_complements : List (NamedDevice Net)
-      after_complements = latch_cards 0 s.latches ++ (output_cards 0 s.outputs ++ next_cards 0 s.latches)
+      after_complements = latch_cards 0 s.latches ++ (output_cards s 0 s.outputs ++ next_cards s 0 s.latches)
 
       sinks : List (NamedDevice Net)
-      sinks = output_cards 0 s.outputs ++ next_cards 0 s.latches
+      sinks = output_cards s 0 s.outputs ++ next_cards s 0 s.latches
 
       cells : AllByRecursion EndsHave (cell_cards s.style 0 s.cells)
       cells = AllByRecursion-left EndsHave (cell_cards s.style 0 s.cells) after_cells h
@@ -147,12 +183,32 @@ module _ (P : Net → Type 0) (s : Shape) where
       from_zero : (k : ℕ) → 0 + k ≡ k
       from_zero k = omega arith
 
-      one_cell : (k : ℕ) (c : DominoCell) → IsCellAt s k c → AllByRecursion EndsHave (styled_cell s.style (net_cell k c) (map_tree gate_net c.tree))
-      one_cell k c e = subst (λ m. AllByRecursion EndsHave (styled_cell s.style (net_cell m c) (map_tree gate_net c.tree))) (from_zero k) (cell_nets_have 0 k s.cells c e cells)
+      cell_of : (k : ℕ) (c : DominoCell) → IsCellAt s k c → AllByRecursion EndsHave (one_cell s.style k c)
+      cell_of k c e = subst (λ m. AllByRecursion EndsHave (one_cell s.style m c)) (from_zero k) (cell_nets_have 0 k s.cells c e cells)
 
-      low_cards : (k : ℕ) (c : DominoCell) → IsCellAt s k c → AllByRecursion EndsHave (pull_down (net_cell k c) (map_tree gate_net c.tree) ++ inverter_cards Vdd Vss (At (Dynamic k) Top) (At (Output k) Top))
-      low_cards k c e =
-          AllByRecursion-right EndsHave (record { kind = pch; drain = At (Dynamic k) Top; gate = Clock c.clock; source = Vdd } ∷ after_precharge s.style (net_cell k c) (inner_count (map_tree gate_net c.tree))) _ (one_cell k c e)
+      after_left : (k : ℕ) (c : DominoCell) → IsCellAt s k c → AllByRecursion EndsHave (right_cards s.style k (side_of c Right) ++ static_cards (Output k) (dynamic_nets k c.right))
+      after_left k c e = AllByRecursion-right EndsHave (side_cards s.style (left_side k) (left_stage c)) _ (cell_of k c e)
+
+      side_is : (k : ℕ) (cell : DominoCell) → IsCellAt s k cell → (side : Side) (c : DynamicStage) → side_of cell side ≡ Some c → AllByRecursion EndsHave (side_cards s.style (record { cell = k; side = side }) c)
+      side_is k cell e Left c z =
+          let y : left_stage cell ≡ c = cc in
+          subst (λ x. AllByRecursion EndsHave (side_cards s.style (left_side k) x)) y
+          (AllByRecursion-left EndsHave (side_cards s.style (left_side k) (left_stage cell)) (right_cards s.style k (side_of cell Right) ++ static_cards (Output k) (dynamic_nets k cell.right)) (cell_of k cell e))
+      side_is k cell e Right c z =
+          subst (λ o. AllByRecursion EndsHave (right_cards s.style k o)) z
+          (AllByRecursion-left EndsHave (right_cards s.style k (side_of cell Right)) (static_cards (Output k) (dynamic_nets k cell.right)) (after_left k cell e))
+
+      one_side : (k : CellSide) (c : DynamicStage) → IsSideAt s k c → AllByRecursion EndsHave (side_cards s.style k c)
+      one_side k c e = side_is k.cell e.0 e.1 k.side c e.2
+
+      output_of : (k : ℕ) (c : DominoCell) → IsCellAt s k c → AllByRecursion EndsHave (static_cards (Output k) (dynamic_nets k c.right))
+      output_of k c e = AllByRecursion-right EndsHave (right_cards s.style k (side_of c Right)) (static_cards (Output k) (dynamic_nets k c.right)) (after_left k c e)
+
+      next_of : (j : ℕ) (b : Latch) → IsLatchAt s j b → AllByRecursion EndsHave (static_cards (Next j) (gate_tree s b.next))
+      next_of j b e = rw zero-add at (next_nets_have 0 j s.latches b e (AllByRecursion-right EndsHave (output_cards s 0 s.outputs) (next_cards s 0 s.latches) rest_3))
+
+      sink_of : (i : ℕ) (g : Gate) → IsOutputAt s i g → AllByRecursion EndsHave (static_cards (Sink i) (gate_tree s g))
+      sink_of i g e = rw zero-add at (output_nets_have 0 i s.outputs g e (AllByRecursion-left EndsHave (output_cards s 0 s.outputs) (next_cards s 0 s.latches) rest_3))
 
       latch_of : (j : ℕ) (b : Latch) → IsLatchAt s j b → AllByRecursion EndsHave (one_latch j b.init)
       latch_of j b e = subst (λ m. AllByRecursion EndsHave (one_latch m b.init)) (from_zero j) (latch_nets_have 0 j s.latches b e (AllByRecursion-left EndsHave (latch_cards 0 s.latches) sinks rest_2))
@@ -166,7 +222,7 @@ module _ (P : Net → Type 0) (s : Shape) where
           beyond i l = omega arith
 
       by : (part : Part) (spot : Spot) → IsSpotOf s part spot → P (At part spot)
-      by (Dynamic k) Top (c, e) = (one_cell k c e).0.0
+      by (Dynamic k) Top (c, e) = (one_side k c e).0.0
       by (Dynamic k) (Inside i j) (c, e, z, l) = rw z (inner j l)
         where
           tree_cards : List (NamedDevice Net)
@@ -175,7 +231,7 @@ module _ (P : Net → Type 0) (s : Shape) where
           nets : P (At (Dynamic k) (Inside 0 0)) × ((j : ℕ) → 0 ≤ j → j < 0 + inner_count (map_tree gate_net c.tree) → P (At (Dynamic k) (Inside 0 (1 + j))))
           nets = spell_nets P nch (net_cell k c).inner (map_tree gate_net c.tree) (At (Dynamic k) Top) (At (Dynamic k) (Inside 0 0)) 0
               (AllByRecursion-weaker EndsHave (λ c. P c.source) (λ c h. h.1) tree_cards (AllByRecursion-left EndsHave tree_cards _
-              (AllByRecursion-left EndsHave (pull_down (net_cell k c) (map_tree gate_net c.tree)) (inverter_cards Vdd Vss (At (Dynamic k) Top) (At (Output k) Top)) (low_cards k c e))))
+              (AllByRecursion-right EndsHave (record { kind = pch; drain = At (Dynamic k) Top; gate = Clock c.clock; source = Vdd } ∷ behind_precharge s.style (net_cell k c) (inner_count (map_tree gate_net c.tree))) (pull_down_cards (net_cell k c) (map_tree gate_net c.tree)) (one_side k c e))))
 
           inner : (j : ℕ) → j < 1 + inner_count c.tree → P (At (Dynamic k) (Inside 0 j))
           inner zero l = nets.0
@@ -186,9 +242,8 @@ module _ (P : Net → Type 0) (s : Shape) where
 
               within : (j n : ℕ) → n ≡ inner_count c.tree → suc j < 1 + inner_count c.tree → j < 0 + n
               within j n e l = omega arith
-      by (Output k) Top (c, e) =
-          (AllByRecursion-right EndsHave (pull_down (net_cell k c) (map_tree gate_net c.tree)) (inverter_cards Vdd Vss (At (Dynamic k) Top) (At (Output k) Top)) (low_cards k c e)).0.0
-      by (Output k) (Inside i j) h = absurd h
+      by (Output k) Top (c, e) = static_top (Output k) (dynamic_nets k c.right) (output_of k c e)
+      by (Output k) (Inside i j) (c, e, z, l) = static_inner (Output k) (dynamic_nets k c.right) (output_of k c e) i j z l
       by (Complement l) Top e =
           AllByRecursion-contains (λ l. P (At (Complement l) Top)) s.complements l (complement_nets_have s.complements (AllByRecursion-left EndsHave (complement_cards s.complements) after_complements rest)) e
       by (Complement l) (Inside i j) h = absurd h
@@ -196,10 +251,10 @@ module _ (P : Net → Type 0) (s : Shape) where
       by (Master j) (Inside i n) ((b, e), l, z) = (half j i n b e l z).0
       by (Slave j) Top (b, e) = (latch_of j b e).1.1.1.1.0.0
       by (Slave j) (Inside i n) ((b, e), l, z) = (half j i n b e l z).1
-      by (Next j) Top (b, e) = rw zero-add at (next_nets_have 0 j s.latches b e (AllByRecursion-right EndsHave (output_cards 0 s.outputs) (next_cards 0 s.latches) rest_3))
-      by (Next j) (Inside i n) h = absurd h
-      by (Sink i) Top (g, e) = rw zero-add at (output_nets_have 0 i s.outputs g e (AllByRecursion-left EndsHave (output_cards 0 s.outputs) (next_cards 0 s.latches) rest_3))
-      by (Sink i) (Inside j n) h = absurd h
+      by (Next j) Top (b, e) = static_top (Next j) (gate_tree s b.next) (next_of j b e)
+      by (Next j) (Inside i n) (b, e, z, l) = static_inner (Next j) (gate_tree s b.next) (next_of j b e) i n z l
+      by (Sink i) Top (g, e) = static_top (Sink i) (gate_tree s g) (sink_of i g e)
+      by (Sink i) (Inside j n) (g, e, z, l) = static_inner (Sink i) (gate_tree s g) (sink_of i g e) j n z l
 
 module _ (ports : CircuitData) (roles : Roles) (name : Net → List ℕ) (s : Shape) (h : HasDeckNames ports roles name s) where
   more : List (List ℕ)
@@ -261,7 +316,7 @@ module _ (ports : CircuitData) (roles : Roles) (name : Net → List ℕ) (s : Sh
       | inr g ↦ g
       | inl l ↦ absurd (h.others part spot i _ l (sym (slice_get-left ports.nets more _ (before l h.few)) ∙ (ap (λ ns. slice_get ns (net_number (named_circuit ports name s).nets (name (At part spot)))) (sym nets_are) ∙ part_stands part spot i)))
     ],
-    below_length (named_circuit ports name s).nets _ (name (At part spot)) (part_stands part spot i),
+    slice_get_within (named_circuit ports name s).nets _ (name (At part spot)) (part_stands part spot i),
   )
     where
       before : {a b c : ℕ} → a < b → b ≤ c → a < c

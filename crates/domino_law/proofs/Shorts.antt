@@ -14,39 +14,39 @@ use Rattle.deck.specs.NamedDevices.{device_of}
 use Rattle.deck.specs.Reach.{Reach, last, step}
 use Rattle.deck.proofs.Reach.{Reach-weaker}
 use Rattle.sp_network.specs.Known.{IsKnown, is_not_zero}
-use Rattle.sp_network.specs.Tree.{tree_conduction}
+use Rattle.sp_network.specs.Tree.{tree_conduction, Leaf, Tree}
 use Rattle.domino_cell.specs.Stage.{Branch, IsStage, Top}
 use Rattle.domino_cell.specs.Steps.{IsStep, IsStrongStep}
 use Rattle.domino_cell.proofs.Paths.{Reach-from_possible, possible_from_Reach}
-use Rattle.stage_law.specs.Tapped.{IsTapped, Tap, tapped}
+use Rattle.domino_cell.specs.Tapped.{IsTapped, Tap, tapped}
 use Rattle.stage_law.proofs.Between.{between}
 use Rattle.stage_law.proofs.CellTargets.{one_source}
-use Rattle.stage_law.proofs.Untapped.{untapped}
+use Rattle.domino_cell.proofs.Untapped.{untapped}
 use Rattle.stage_law.proofs.StageTargets.{strong_through}
 use Rattle.port_runs.specs.Environment.{Captured, Launch, Launched, Place, Precharge, bit}
-use Rattle.domino_law.specs.Branches.{HasBranches, clocked, dynamic, dynamic_taps, inverter_branches, numbered, reset_branch, slave}
-use Rattle.domino_law.specs.Honest.{IsHonestFrame, IsMasterAt}
+use Rattle.domino_law.specs.Branches.{HasBranches, clocked, dynamic, dynamic_taps, numbered, reset_branch, slave, static_branches}
+use Rattle.domino_law.specs.Honest.{IsHonestFrame, IsMasterAt, static_value}
 use Rattle.domino_law.specs.LooseDeck.{HoldsDeck}
-use Rattle.domino_law.specs.Nets.{At, Clock, Complement, Dynamic, FromDynamic, Lm, Lmb, Ls, Lsb, Master, Net, Next, Output, Part, Plus, Rs, Rsb, Sink, Slave, Vdd, Vss, gate_net, own}
-use Rattle.domino_law.specs.Places.{ls_at, rs_at}
-use Rattle.domino_law.specs.Shape.{DominoCell, IsCellAt, IsLatchAt, Latch, Shape, Style, WithKeeper, WithPrecharge}
-use Rattle.domino_law.proofs.DeckParts.{AreKnownGates, clock-known, complement_is, dynamic_is, master_is, next_is, opposite-known, output_is, sink_is, slave_is}
+use Rattle.domino_law.specs.Nets.{At, Clock, Complement, Dynamic, Lm, Lmb, Ls, Lsb, Master, Net, Next, Output, Part, Plus, Rs, Rsb, Sink, Slave, Vdd, Vss, own, CellSide}
+use Rattle.domino_law.specs.Places.{ls_at, rs_at, ClockState}
+use Rattle.domino_law.specs.Shape.{IsLatchAt, Latch, Shape, Style, WithKeeper, WithPrecharge, DynamicStage, IsSideAt, dynamic_nets, gate_tree}
+use Rattle.domino_law.proofs.DeckParts.{AreKnownGates, clock-known, complement_is, dynamic_is, master_is, next_is, opposite-known, output_is, sink_is, slave_is, cell_value-known, value-known}
 use Rattle.domino_law.proofs.DynamicDevices.{untap}
-use Rattle.domino_law.proofs.Parts.{both-right_zero}
 use Rattle.domino_law.proofs.Places.{bit-known}
+use Rattle.domino_law.proofs.Statics.{both-right_zero, pull_down, pull_up}
 
 -- the strong branches that are not off lead to supplies of one value
 abbrev Agreeing : List Tri → Tri → List Branch → Type 0
 Agreeing values w bs = AllByRecursion (λ b. (b.kind ≡ Keep) ⊎ ((tree_conduction b.kind (value_of values) b.tree ≡ Zero) ⊎ (value_of values b.supply ≡ w))) bs
 
-module _ (devices : List Device) (is_source : ℕ → Bool) (net : Net → ℕ) (s : Shape) (deck : HoldsDeck devices is_source net s)
-    (place : Place) (up : ℕ → Bool) (old new pins : ℕ → Bool) (kept : ℕ → Tri) (values : List Tri) (frame : IsHonestFrame net s place up old new pins kept values)
+module _ {devices : List Device} {is_source : ℕ → Bool} {net : Net → ℕ} {s : Shape} (deck : HoldsDeck devices is_source net s)
+    {place : Place} {up : ℕ → ClockState} {old new pins : ℕ → Bool} {kept : ℕ → Tri} {values : List Tri} (frame : IsHonestFrame net s place up old new pins kept values)
     (gates : AreKnownGates net s values) where
-  agree_inverter : (gate : Net) → IsKnown (value_of values (net gate)) → (w : Tri) × Agreeing values w (inverter_branches net gate)
-  agree_inverter gate (inl z) = (One, (inr (inr (frame.sources Vdd tt)), (inr (inl z), tt)))
-  agree_inverter gate (inr z) = (Zero, (inr (inl (rw z refl)), (inr (inr (frame.sources Vss tt)), tt)))
+  agree_static : (t : Tree Net) → IsKnown (static_value net values t) → (w : Tri) × Agreeing values w (static_branches net t)
+  agree_static t (inl z) = (One, (inr (inr (frame.sources Vdd tt)), (inr (inl (pull_down net values t ∙ z)), tt)))
+  agree_static t (inr z) = (Zero, (inr (inl (pull_up net values t ∙ rw z refl)), (inr (inr (frame.sources Vss tt)), tt)))
 
-  -- a clocked inverter_branches that is shut, or whose gate is known
+  -- a clocked inverter that is shut, or whose gate is known
   agree_shut : (up down gate : Net) (more : List Branch) (w : Tri) → value_of values (net up) ≡ One → value_of values (net down) ≡ Zero → Agreeing values w more → Agreeing values w (clocked net up down gate more)
   agree_shut up down gate more w u d m = (inr (inl (rw u refl)), (inr (inl (rw d refl)), m))
 
@@ -86,25 +86,25 @@ module _ (devices : List Device) (is_source : ℕ → Bool) (net : Net → ℕ) 
           known z = rw (at_launch place _ z (frame.masters j b e)) (opposite-known _ (bit-known (new j)))
       go _ z = shut (rw z refl)
 
-  agree_dynamic : (k : ℕ) (c : DominoCell) → IsCellAt s k c → (w : Tri) × Agreeing values w (dynamic WithKeeper net k c)
+  agree_dynamic : (k : CellSide) (c : DynamicStage) → IsSideAt s k c → (w : Tri) × Agreeing values w (dynamic WithKeeper net k c)
   agree_dynamic k c e =
-      elim (clock-known devices is_source net s deck place up old new pins kept values frame k c e) [
+      elim (clock-known deck frame k c e) [
         | inl z ↦ (One, (inr (inl (rw z (both-right_zero (tree_conduction nch (value_of values) (numbered net c.tree))))), (inr (inr (frame.sources Vdd tt)), (inl refl, tt))))
         | inr z ↦ (Zero, (inr (inr (frame.sources Vss tt)), (inr (inl (rw z refl)), (inl refl, tt))))
       ]
 
-  part_stage : (part : Part) (bs : List Branch) (taps : List Tap) → HasBranches s net part bs taps → (style : Style) → s.style ≡ style → (style ≡ WithPrecharge → (k : ℕ) → part ≢ Dynamic k)
+  part_stage : (part : Part) (bs : List Branch) (taps : List Tap) → HasBranches s net part bs taps → (style : Style) → s.style ≡ style → (style ≡ WithPrecharge → (k : CellSide) → part ≢ Dynamic k)
       → (taps ≡ []) × (IsStage devices is_source (λ a. net (At part a)) bs × ((w : Tri) × Agreeing values w bs))
   part_stage (Dynamic k) bs taps (c, e, z, y) WithPrecharge u f = absurd (f refl k refl)
   part_stage (Dynamic k) bs taps (c, e, z, y) WithKeeper u f =
-      let is : IsTapped devices is_source (λ a. net (At (Dynamic k) a)) (dynamic WithKeeper net k c) [] = rw u at (dynamic_is devices is_source net s deck k c e) in
+      let is : IsTapped devices is_source (λ a. net (At (Dynamic k) a)) (dynamic WithKeeper net k c) [] = rw u at (dynamic_is deck k c e) in
       (y ∙ rw u refl, rw (z, u) (untapped devices is_source (λ a. net (At (Dynamic k) a)) (dynamic WithKeeper net k c) is, agree_dynamic k c e))
-  part_stage (Output k) bs taps (c, e, z, y) style u f = (y, rw z (output_is devices is_source net s deck k c e, agree_inverter (At (Dynamic k) Top) (gates (FromDynamic k) (c, e))))
-  part_stage (Complement l) bs taps (e, z, y) style u f = (y, rw z (complement_is devices is_source net s deck l e, agree_inverter (own l) (gates (Plus l) ((deck.shape).complements_are l e))))
-  part_stage (Master j) bs taps (b, e, z, y) style u f = (y, rw z (master_is devices is_source net s deck j b e, agree_master (At (Next j) Top) (frame.nexts j b e)))
-  part_stage (Slave j) bs taps (b, e, z, y) style u f = (y, rw z (slave_is devices is_source net s deck j b e, agree_slave j b e))
-  part_stage (Next j) bs taps (b, e, z, y) style u f = (y, rw z (next_is devices is_source net s deck j b e, agree_inverter (gate_net b.next) (gates b.next ((deck.shape).nexts j b e))))
-  part_stage (Sink i) bs taps (g, e, z, y) style u f = (y, rw z (sink_is devices is_source net s deck i g e, agree_inverter (gate_net g) (gates g ((deck.shape).outputs_are i g e))))
+  part_stage (Output k) bs taps (c, e, z, y) style u f = (y, rw z (output_is deck k c e, agree_static (dynamic_nets k c.right) (cell_value-known net s values gates k c e)))
+  part_stage (Complement l) bs taps (e, z, y) style u f = (y, rw z (complement_is deck l e, agree_static (Leaf (own l)) (gates (Plus l) ((deck.shape).complements_are l e))))
+  part_stage (Master j) bs taps (b, e, z, y) style u f = (y, rw z (master_is deck j b e, agree_master (At (Next j) Top) (frame.nexts j b e)))
+  part_stage (Slave j) bs taps (b, e, z, y) style u f = (y, rw z (slave_is deck j b e, agree_slave j b e))
+  part_stage (Next j) bs taps (b, e, z, y) style u f = (y, rw z (next_is deck j b e, agree_static (gate_tree s b.next) (value-known net s values gates b.next ((deck.shape).nexts j b e))))
+  part_stage (Sink i) bs taps (g, e, z, y) style u f = (y, rw z (sink_is deck i g e, agree_static (gate_tree s g) (value-known net s values gates g ((deck.shape).outputs_are i g e))))
 
   -- a net is the end of a path, or the path goes on from it
   abbrev IsRest : ℕ → ℕ → Type 0
@@ -137,12 +137,12 @@ module _ (devices : List Device) (is_source : ℕ → Bool) (net : Net → ℕ) 
       step_of : (d : Device) → IsStrongStep devices is_not_zero values d → IsStep devices is_not_zero values d
       step_of d q = record { of = q.of; pass = q.pass }
 
-      by_cell : (d : Device) (m : ℕ) (k : ℕ) (c : DominoCell) → IsCellAt s k c → s.style ≡ WithPrecharge → IsStrongStep devices is_not_zero values d
+      by_cell : (d : Device) (m : ℕ) (k : CellSide) (c : DynamicStage) → IsSideAt s k c → s.style ≡ WithPrecharge → IsStrongStep devices is_not_zero values d
           → Contains (map device_of (tapped (λ a. net (At (Dynamic k) a)) (dynamic s.style net k c) (dynamic_taps s.style net c))) d → Ends d a m → IsRest b m → value_of values a ≡ value_of values b
       by_cell d m k c g u q n e r =
-          let is : IsTapped devices is_source (λ a. net (At (Dynamic k) a)) (dynamic WithPrecharge net k c) (dynamic_taps WithPrecharge net c) = rw u at (dynamic_is devices is_source net s deck k c g) in
+          let is : IsTapped devices is_source (λ a. net (At (Dynamic k) a)) (dynamic WithPrecharge net k c) (dynamic_taps WithPrecharge net c) = rw u at (dynamic_is deck k c g) in
           let z : a ≡ b = one_source devices is_source (λ a. net (At (Dynamic k) a)) (net Vdd) (net Vss) (net (Clock c.clock)) (numbered net c.tree) is values
-          (clock-known devices is_source net s deck place up old new pins kept values frame k c g) d m sa sb (step_of d q) (rw u at n) e
+          (clock-known deck frame k c g) d m sa sb (step_of d q) (rw u at n) e
           (elim r [ inl z ↦ inl z | inr z ↦ inr (z.0, Reach-weaker step_of z.1) ]) in
           rw z refl
 

@@ -1,26 +1,26 @@
 -- The parts of a deck are its cells and latches, device by device.
-use Rattle.std.specs.Prelude.{Contains}
+use Rattle.domino_cell.specs.StyledCells.{behind_precharge, inner_precharges, pull_down_cards}
+use Rattle.std.specs.Prelude.{Contains, None, Option, Some}
 use Rattle.std.proofs.Common.{Bool, List, [], ap, append_assoc, false, inl, inr, map, refl, suc, sym, true, zero, zero-add, ℕ, ◌++◌, ◌+◌, ◌∙◌, ◌∷◌, ◌≡◌}
-use Rattle.std.proofs.lemmas.List.{map-append}
+use Rattle.std.proofs.lemmas.List.{append-nil, map-append}
 use Rattle.std.proofs.lemmas.List.Elements.{Contains-append_cases, Contains-append_left, Contains-append_right}
 use Rattle.dom_base.specs.declared.kind.Kind.TheVariants.{N as nch, P as pch}
 use Rattle.deck.specs.Nets.{net_number}
 use Rattle.deck.specs.declared.device.Device.{Device}
 use Rattle.deck.specs.NamedDevices.{NamedDevice, device_of, map_device}
 use Rattle.deck.proofs.CircuitGrowth.{with_devices-devices}
-use Rattle.sp_network.specs.Tree.{Leaf, Parallel, Series, Tree, inner_count, map_tree}
+use Rattle.sp_network.specs.Tree.{Leaf, Parallel, Series, Tree, dual, inner_count, map_tree}
 use Rattle.sp_network.proofs.TreeImages.{inner_count-map_tree}
-use Rattle.domino_cell.specs.Cell.{inverter as inverter_cards}
 use Rattle.domino_cell.specs.Stage.{Inside, Top, stage}
 use Rattle.domino_cell.specs.Spelling.{spell}
 use Rattle.domino_cell.proofs.Spellings.{spell-map_tree, spell-same}
 use Rattle.stage_law.specs.Precharged.{taps_from}
-use Rattle.stage_law.specs.Tapped.{tap_card}
-use Rattle.domino_law.specs.Branches.{clocked, dynamic, dynamic_taps, inverter_branches, keepers, master, numbered, reset_branch, slave}
-use Rattle.domino_law.specs.Nets.{At, Clock, Complement, Dynamic, Gate, Ls, Lsb, Master, Net, Next, Output, DeckSignal, Sink, Slave, Vdd, Vss, gate_net, own}
-use Rattle.domino_law.specs.Shape.{DominoCell, Latch, Shape, Style, WithKeeper, WithPrecharge}
-use Rattle.domino_law.specs.Spelled.{NamedIsSpelled, after_precharge, cell_cards, complement_cards, shape_cards, named_circuit, deck_devices, inner_cards, latch_cards, net_cell, next_cards, one_latch, output_cards, pull_down, styled_cell}
-use Rattle.domino_law.proofs.DeckLists.{LatchIsSpelled, StagePart, cell_parts, complement_parts, deck_parts, latch_devices, latch_parts, next_parts, output_parts, part_devices, parts_devices}
+use Rattle.domino_cell.specs.Tapped.{tap_card}
+use Rattle.domino_law.specs.Branches.{clocked, dynamic, dynamic_taps, keepers, master, numbered, reset_branch, slave, static_branches}
+use Rattle.domino_law.specs.Nets.{At, Clock, Complement, Dynamic, Gate, Ls, Lsb, Master, Net, Next, Output, DeckSignal, Sink, Slave, Vdd, Vss, gate_net, own, CellSide, Part, Right, left_side, right_side}
+use Rattle.domino_law.specs.Shape.{DominoCell, DynamicStage, Latch, Shape, Style, WithKeeper, WithPrecharge, dynamic_nets, gate_tree, left_stage, side_of}
+use Rattle.domino_law.specs.Spelled.{NamedIsSpelled, cell_cards, complement_cards, shape_cards, named_circuit, deck_devices, latch_cards, net_cell, next_cards, one_cell, one_latch, output_cards, right_cards, side_cards, static_cards}
+use Rattle.domino_law.proofs.DeckLists.{LatchIsSpelled, StagePart, cell_parts, complement_parts, deck_parts, group_parts, latch_devices, latch_parts, next_parts, output_parts, part_devices, parts_devices, right_parts, side_part, static_part}
 
 latch_is : LatchIsSpelled
 latch_is net j b = by net j b.init
@@ -72,7 +72,7 @@ Same-trans : (a b c : List Device) → Same a b → Same b c → Same a c
 Same-trans a b c s t = record { to = λ d m. t.to d (s.to d m); from = λ d m. s.from d (t.from d m) }
 
 -- the tree and the foot
-pull_down_devices : (net : Net → ℕ) (k : ℕ) (c : DominoCell) → devices net (pull_down (net_cell k c) (map_tree gate_net c.tree))
+pull_down_devices : (net : Net → ℕ) (k : CellSide) (c : DynamicStage) → devices net (pull_down_cards (net_cell k c) (map_tree gate_net c.tree))
     ≡ map device_of (spell nch (λ j. net (At (Dynamic k) (Inside 0 j))) (Series (numbered net c.tree) (Leaf (net (Clock c.clock)))) (net (At (Dynamic k) Top)) (net Vss) 0)
 unfolding devices
 pull_down_devices net k c =
@@ -82,14 +82,14 @@ pull_down_devices net k c =
     ∙ (ap (λ t. spell nch (λ j. net (At (Dynamic k) (Inside 0 (1 + j)))) t (net (At (Dynamic k) Top)) (net (At (Dynamic k) (Inside 0 0))) 0) (map_tree-map_tree gate_net net c.tree)
     ∙ spell-same nch (λ j. net (At (Dynamic k) (Inside 0 (1 + j)))) (λ j. net (At (Dynamic k) (Inside 0 j))) (numbered net c.tree) (net (At (Dynamic k) Top)) (net (At (Dynamic k) (Inside 0 0))) 0 1 (λ j lt. rw zero-add refl))))
 
-inner_devices : (net : Net → ℕ) (k : ℕ) (c : DominoCell) (i n : ℕ) → devices net (inner_cards (net_cell k c) i n)
+inner_devices : (net : Net → ℕ) (k : CellSide) (c : DynamicStage) (i n : ℕ) → devices net (inner_precharges (net_cell k c) i n)
     ≡ map device_of (map (tap_card (λ a. net (At (Dynamic k) a))) (taps_from (net Vdd) (net (Clock c.clock)) i n))
 unfolding devices
 inner_devices net k c i zero = refl
 inner_devices net k c i (suc n) = ap (λ ds. record { kind = pch; drain = net (At (Dynamic k) (Inside 0 (1 + i))); gate = net (Clock c.clock); source = net Vdd } ∷ ds) (inner_devices net k c (i + 1) n)
 
 -- the precharge and what follows it
-head_devices : (style : Style) (net : Net → ℕ) (k : ℕ) (c : DominoCell) → devices net (after_precharge style (net_cell k c) (inner_count (map_tree gate_net c.tree)))
+head_devices : (style : Style) (net : Net → ℕ) (k : CellSide) (c : DynamicStage) → devices net (behind_precharge style (net_cell k c) (inner_count (map_tree gate_net c.tree)))
     ≡ map device_of (stage (λ a. net (At (Dynamic k) a)) 2 (keepers style net k) ++ map (tap_card (λ a. net (At (Dynamic k) a))) (dynamic_taps style net c))
 unfolding devices
 head_devices WithKeeper net k c = refl
@@ -97,7 +97,7 @@ head_devices WithPrecharge net k c =
     inner_devices net k c 0 (inner_count (map_tree gate_net c.tree))
     ∙ ap (λ n. map device_of (map (tap_card (λ a. net (At (Dynamic k) a))) (taps_from (net Vdd) (net (Clock c.clock)) 0 n))) (inner_count-map_tree gate_net c.tree ∙ sym (inner_count-map_tree (λ g. net (gate_net g)) c.tree))
 
-module _ (style : Style) (net : Net → ℕ) (k : ℕ) (c : DominoCell) where
+module _ (style : Style) (net : Net → ℕ) (k : CellSide) (c : DynamicStage) where
   abbrev A : List Device
   A = record { kind = pch; drain = net (At (Dynamic k) Top); gate = net (Clock c.clock); source = net Vdd }
       ∷ map device_of (stage (λ a. net (At (Dynamic k) a)) 2 (keepers style net k) ++ map (tap_card (λ a. net (At (Dynamic k) a))) (dynamic_taps style net c))
@@ -105,19 +105,16 @@ module _ (style : Style) (net : Net → ℕ) (k : ℕ) (c : DominoCell) where
   abbrev T : List Device
   T = map device_of (spell nch (λ j. net (At (Dynamic k) (Inside 0 j))) (Series (numbered net c.tree) (Leaf (net (Clock c.clock)))) (net (At (Dynamic k) Top)) (net Vss) 0)
 
-  abbrev O : List Device
-  O = part_devices net (record { part = Output k; branches = inverter_branches net (At (Dynamic k) Top); taps = [] })
-
   abbrev P : List Device
   P = part_devices net (record { part = Dynamic k; branches = dynamic style net k c; taps = dynamic_taps style net c })
 
-  whole : devices net (styled_cell style (net_cell k c) (map_tree gate_net c.tree)) ≡ (A ++ T) ++ O
+  whole : devices net (side_cards style k c) ≡ A ++ T
   unfolding devices
   whole =
-      devices-append net (record { kind = pch; drain = At (Dynamic k) Top; gate = Clock c.clock; source = Vdd } ∷ after_precharge style (net_cell k c) (inner_count (map_tree gate_net c.tree))) (pull_down (net_cell k c) (map_tree gate_net c.tree) ++ inverter_cards Vdd Vss (At (Dynamic k) Top) (At (Output k) Top))
-      ∙ (ap (λ l. l ++ devices net (pull_down (net_cell k c) (map_tree gate_net c.tree) ++ inverter_cards Vdd Vss (At (Dynamic k) Top) (At (Output k) Top)))
+      devices-append net (record { kind = pch; drain = At (Dynamic k) Top; gate = Clock c.clock; source = Vdd } ∷ behind_precharge style (net_cell k c) (inner_count (map_tree gate_net c.tree))) (pull_down_cards (net_cell k c) (map_tree gate_net c.tree))
+      ∙ (ap (λ l. l ++ devices net (pull_down_cards (net_cell k c) (map_tree gate_net c.tree)))
       (ap (λ l. record { kind = pch; drain = net (At (Dynamic k) Top); gate = net (Clock c.clock); source = net Vdd } ∷ l) (head_devices style net k c))
-      ∙ (ap (λ l. A ++ l) (devices-append net (pull_down (net_cell k c) (map_tree gate_net c.tree)) (inverter_cards Vdd Vss (At (Dynamic k) Top) (At (Output k) Top)) ∙ ap (λ l. l ++ O) (pull_down_devices net k c)) ∙ sym (append_assoc A T O)))
+      ∙ ap (λ l. A ++ l) (pull_down_devices net k c))
 
   split : T ++ A ≡ P
   split =
@@ -127,10 +124,18 @@ module _ (style : Style) (net : Net → ℕ) (k : ℕ) (c : DominoCell) where
       (map (tap_card (λ a. net (At (Dynamic k) a))) (dynamic_taps style net c)))
       ∙ map-append device_of (spell nch (λ j. net (At (Dynamic k) (Inside 0 j))) (Series (numbered net c.tree) (Leaf (net (Clock c.clock)))) (net (At (Dynamic k) Top)) (net Vss) 0) _)
 
-  cell_devices : Same (devices net (styled_cell style (net_cell k c) (map_tree gate_net c.tree)))
-      (part_devices net (record { part = Dynamic k; branches = dynamic style net k c; taps = dynamic_taps style net c }) ++ part_devices net (record { part = Output k; branches = inverter_branches net (At (Dynamic k) Top); taps = [] }))
-  cell_devices =
-      Same-trans _ ((A ++ T) ++ O) _ (same_as _ ((A ++ T) ++ O) whole) (Same-append (A ++ T) O P O (Same-trans (A ++ T) (T ++ A) P (Same-swap A T) (same_as (T ++ A) P split)) (Same-refl O))
+  side_devices : Same (devices net (side_cards style k c)) (part_devices net (side_part style net k c))
+  side_devices = Same-trans _ (A ++ T) P (same_as _ (A ++ T) whole) (Same-trans (A ++ T) (T ++ A) P (Same-swap A T) (same_as (T ++ A) P split))
+
+-- the cards of a static gate
+static_devices : (net : Net → ℕ) (part : Part) (t : Tree Net) → devices net (static_cards part t) ≡ part_devices net (static_part net part t)
+unfolding devices
+static_devices net part t =
+    ap (map device_of) (map-append (map_device net) (spell pch (λ j. At part (Inside 0 j)) (dual t) (At part Top) Vdd 0) (spell nch (λ j. At part (Inside 1 j)) t (At part Top) Vss 0)
+    ∙ (rw (spell-map_tree net pch (λ j. At part (Inside 0 j)) (dual t) (At part Top) Vdd 0, spell-map_tree net nch (λ j. At part (Inside 1 j)) t (At part Top) Vss 0) refl
+    ∙ (ap (λ l. spell pch (λ j. net (At part (Inside 0 j))) (map_tree net (dual t)) (net (At part Top)) (net Vdd) 0 ++ l)
+    (sym (append-nil (spell nch (λ j. net (At part (Inside 1 j))) (map_tree net t) (net (At part Top)) (net Vss) 0)))
+    ∙ sym (append-nil (stage (λ a. net (At part a)) 0 (static_branches net t))))))
 
 latch_part_devices : (net : Net → ℕ) (j : ℕ) (b : Latch) → devices net (one_latch j b.init)
     ≡ part_devices net (record { part = Master j; branches = master net j; taps = [] }) ++ part_devices net (record { part = Slave j; branches = slave net j b; taps = [] })
@@ -141,20 +146,10 @@ latch_part_devices net j b = by b.init ∙ sym (latch_is net j b)
     by false = refl
     by true = refl
 
-cells_same : (style : Style) (net : Net → ℕ) (k : ℕ) (cs : List DominoCell) → Same (devices net (cell_cards style k cs)) (parts_devices net (cell_parts style net k cs))
-unfolding devices
-cells_same style net k [] = Same-refl []
-cells_same style net k (c ∷ cs) =
-    Same-trans _ (devices net (styled_cell style (net_cell k c) (map_tree gate_net c.tree)) ++ devices net (cell_cards style (k + 1) cs)) _
-    (same_as _ _ (devices-append net (styled_cell style (net_cell k c) (map_tree gate_net c.tree)) (cell_cards style (k + 1) cs)))
-    (Same-trans _ ((part_devices net (record { part = Dynamic k; branches = dynamic style net k c; taps = dynamic_taps style net c }) ++ part_devices net (record { part = Output k; branches = inverter_branches net (At (Dynamic k) Top); taps = [] })) ++ parts_devices net (cell_parts style net (k + 1) cs)) _
-    (Same-append _ _ _ _ (cell_devices style net k c) (cells_same style net (k + 1) cs))
-    (same_as _ _ (append_assoc (part_devices net (record { part = Dynamic k; branches = dynamic style net k c; taps = dynamic_taps style net c })) (part_devices net (record { part = Output k; branches = inverter_branches net (At (Dynamic k) Top); taps = [] })) (parts_devices net (cell_parts style net (k + 1) cs)))))
-
 complements_same : (net : Net → ℕ) (ls : List DeckSignal) → devices net (complement_cards ls) ≡ parts_devices net (complement_parts net ls)
 unfolding devices
 complements_same net [] = refl
-complements_same net (l ∷ ls) = ap (λ ds. part_devices net (record { part = Complement l; branches = inverter_branches net (own l); taps = [] }) ++ ds) (complements_same net ls)
+complements_same net (l ∷ ls) = ap (λ ds. part_devices net (static_part net (Complement l) (Leaf (own l))) ++ ds) (complements_same net ls)
 
 latches_same : (net : Net → ℕ) (j : ℕ) (bs : List Latch) → devices net (latch_cards j bs) ≡ parts_devices net (latch_parts net j bs)
 unfolding devices
@@ -165,15 +160,21 @@ latches_same net j (b ∷ bs) =
     ∙ (append_assoc (part_devices net (record { part = Master j; branches = master net j; taps = [] })) (part_devices net (record { part = Slave j; branches = slave net j b; taps = [] })) (devices net (latch_cards (j + 1) bs))
     ∙ ap (λ l. part_devices net (record { part = Master j; branches = master net j; taps = [] }) ++ (part_devices net (record { part = Slave j; branches = slave net j b; taps = [] }) ++ l)) (latches_same net (j + 1) bs)))
 
-outputs_same : (net : Net → ℕ) (i : ℕ) (gs : List Gate) → devices net (output_cards i gs) ≡ parts_devices net (output_parts net i gs)
+outputs_same : (net : Net → ℕ) (s : Shape) (i : ℕ) (gs : List Gate) → devices net (output_cards s i gs) ≡ parts_devices net (output_parts net s i gs)
 unfolding devices
-outputs_same net i [] = refl
-outputs_same net i (g ∷ gs) = ap (λ ds. part_devices net (record { part = Sink i; branches = inverter_branches net (gate_net g); taps = [] }) ++ ds) (outputs_same net (i + 1) gs)
+outputs_same net s i [] = refl
+outputs_same net s i (g ∷ gs) =
+    devices-append net (static_cards (Sink i) (gate_tree s g)) (output_cards s (i + 1) gs)
+    ∙ (ap (λ ds. ds ++ devices net (output_cards s (i + 1) gs)) (static_devices net (Sink i) (gate_tree s g))
+    ∙ ap (λ ds. part_devices net (static_part net (Sink i) (gate_tree s g)) ++ ds) (outputs_same net s (i + 1) gs))
 
-nexts_same : (net : Net → ℕ) (j : ℕ) (bs : List Latch) → devices net (next_cards j bs) ≡ parts_devices net (next_parts net j bs)
+nexts_same : (net : Net → ℕ) (s : Shape) (j : ℕ) (bs : List Latch) → devices net (next_cards s j bs) ≡ parts_devices net (next_parts net s j bs)
 unfolding devices
-nexts_same net j [] = refl
-nexts_same net j (b ∷ bs) = ap (λ ds. part_devices net (record { part = Next j; branches = inverter_branches net (gate_net b.next); taps = [] }) ++ ds) (nexts_same net (j + 1) bs)
+nexts_same net s j [] = refl
+nexts_same net s j (b ∷ bs) =
+    devices-append net (static_cards (Next j) (gate_tree s b.next)) (next_cards s (j + 1) bs)
+    ∙ (ap (λ ds. ds ++ devices net (next_cards s (j + 1) bs)) (static_devices net (Next j) (gate_tree s b.next))
+    ∙ ap (λ ds. part_devices net (static_part net (Next j) (gate_tree s b.next)) ++ ds) (nexts_same net s (j + 1) bs))
 
 parts_devices-append : (net : Net → ℕ) (a b : List StagePart) → parts_devices net (a ++ b) ≡ parts_devices net a ++ parts_devices net b
 parts_devices-append net [] b = refl
@@ -186,6 +187,25 @@ both_append net a b p q e f =
     Same-trans _ (devices net a ++ devices net b) _ (same_as _ _ (devices-append net a b))
     (Same-trans _ (parts_devices net p ++ parts_devices net q) _ (Same-append _ _ _ _ e f) (same_as _ _ (sym (parts_devices-append net p q))))
 
+one_part : (net : Net → ℕ) (a : List (NamedDevice Net)) (p : StagePart) → Same (devices net a) (part_devices net p) → Same (devices net a) (parts_devices net (p ∷ []))
+one_part net a p e = Same-trans _ (part_devices net p) _ e (same_as _ _ (sym (append-nil (part_devices net p))))
+
+right_same : (style : Style) (net : Net → ℕ) (k : ℕ) (o : Option DynamicStage) → Same (devices net (right_cards style k o)) (parts_devices net (right_parts style net k o))
+unfolding devices
+right_same style net k None = Same-refl []
+right_same style net k (Some c) = one_part net (side_cards style (right_side k) c) (side_part style net (right_side k) c) (side_devices style net (right_side k) c)
+
+cells_same : (style : Style) (net : Net → ℕ) (k : ℕ) (cs : List DominoCell) → Same (devices net (cell_cards style k cs)) (parts_devices net (cell_parts style net k cs))
+unfolding devices
+cells_same style net k [] = Same-refl []
+cells_same style net k (c ∷ cs) =
+    both_append net (one_cell style k c) (cell_cards style (k + 1) cs) (group_parts style net k c) (cell_parts style net (k + 1) cs)
+    (both_append net (side_cards style (left_side k) (left_stage c)) (right_cards style k (side_of c Right) ++ static_cards (Output k) (dynamic_nets k c.right)) (side_part style net (left_side k) (left_stage c) ∷ [])
+    (right_parts style net k (side_of c Right) ++ static_part net (Output k) (dynamic_nets k c.right) ∷ []) (one_part net (side_cards style (left_side k) (left_stage c)) (side_part style net (left_side k) (left_stage c)) (side_devices style net (left_side k) (left_stage c)))
+    (both_append net (right_cards style k (side_of c Right)) (static_cards (Output k) (dynamic_nets k c.right)) (right_parts style net k (side_of c Right)) (static_part net (Output k) (dynamic_nets k c.right) ∷ []) (right_same style net k (side_of c Right))
+    (one_part net (static_cards (Output k) (dynamic_nets k c.right)) (static_part net (Output k) (dynamic_nets k c.right)) (same_as _ _ (static_devices net (Output k) (dynamic_nets k c.right))))))
+    (cells_same style net (k + 1) cs)
+
 -- the devices of the deck's cards are those of its parts
 pub deck_devices_are : (net : Net → ℕ) (s : Shape) → Same (deck_devices net s) (parts_devices net (deck_parts net s))
 unfolding devices
@@ -193,7 +213,7 @@ deck_devices_are net s =
     both_append net (cell_cards s.style 0 s.cells) _ (cell_parts s.style net 0 s.cells) _ (cells_same s.style net 0 s.cells)
     (both_append net (complement_cards s.complements) _ (complement_parts net s.complements) _ (same_as _ _ (complements_same net s.complements))
     (both_append net (latch_cards 0 s.latches) _ (latch_parts net 0 s.latches) _ (same_as _ _ (latches_same net 0 s.latches))
-    (both_append net (output_cards 0 s.outputs) _ (output_parts net 0 s.outputs) _ (same_as _ _ (outputs_same net 0 s.outputs)) (same_as _ _ (nexts_same net 0 s.latches)))))
+    (both_append net (output_cards s 0 s.outputs) _ (output_parts net s 0 s.outputs) _ (same_as _ _ (outputs_same net s 0 s.outputs)) (same_as _ _ (nexts_same net s 0 s.latches)))))
 
 pub named_is_spelled : NamedIsSpelled
 named_is_spelled ports name s none =

@@ -12,17 +12,20 @@ use Rattle.switch_model.specs.Targets.{IsPending}
 use Rattle.dom_base.proofs.Decided.{dec_nat}
 use Rattle.switch_model.proofs.Searches.{clash}
 use Rattle.port_runs.specs.Environment.{Reset, bit}
-use Rattle.domino_law.specs.Branches.{inverter_branches}
+use Rattle.domino_law.specs.Branches.{static_branches}
 use Rattle.domino_law.specs.LooseDeck.{HoldsDeck, IsPart}
-use Rattle.domino_law.specs.Nets.{At, Clock, Complement, Dynamic, FromDynamic, FromLatch, FromOutput, FromPin, Gate, High, Lm, Lmb, Low, Ls, Lsb, Master, Minus, Net, Next, Output, Part, Pin, Plus, Rs, Rsb, DeckSignal, Sink, Slave, Vdd, Vss, gate_net}
+use Rattle.domino_law.specs.Nets.{At, Clock, Complement, Dynamic, FromDynamic, FromLatch, FromOutput, FromPin, Gate, High, Lm, Lmb, Low, Ls, Lsb, Master, Minus, Net, Next, Output, Part, Pin, Plus, Rs, Rsb, DeckSignal, Sink, Slave, Vdd, Vss, CellSide}
 use Rattle.domino_law.specs.Places.{AreSources}
-use Rattle.domino_law.specs.Shape.{DominoCell, HasComplement, IsCellAt, IsGate, IsLatchAt, IsOutputAt, IsSignal, Latch, Shape}
+use Rattle.domino_law.specs.Shape.{DominoCell, HasComplement, IsCellAt, IsGate, IsLatchAt, IsOutputAt, IsSignal, Latch, Shape, DynamicStage, IsSideAt, dynamic_nets, gate_tree}
 use Rattle.domino_law.proofs.DeckParts.{complement_is, dynamic_is, master_is, next_is, opposite-known, output_is, sink_is, slave_is}
 use Rattle.domino_law.proofs.NetEvents.{kept_at, moved_to, no_event, now_at, source_kept, stays_at_target}
-use Rattle.domino_law.proofs.Parts.{inverter_target, inverter_unknown, master_held, precharges, slave_reset}
+use Rattle.domino_law.proofs.Parts.{master_held, precharges, slave_reset, static_target, static_unknown}
 use Rattle.domino_law.proofs.Places.{bit-known}
+use Rattle.sp_network.specs.Tree.{EachLeaf, Tree, both}
+use Rattle.domino_law.specs.Honest.{gate_value, static_value}
+use Rattle.domino_law.proofs.Statics.{EachLeaf-with, cell_gate, each_dynamic, left_is, right_is, tree_all}
 
-module _ (devices : List Device) (is_source : ℕ → Bool) (net : Net → ℕ) (s : Shape) (deck : HoldsDeck devices is_source net s) (risen : ℕ) (pins : ℕ → Bool) where
+module _ {devices : List Device} {is_source : ℕ → Bool} {net : Net → ℕ} {s : Shape} (deck : HoldsDeck devices is_source net s) (risen : ℕ) (fallen : ℕ → Bool) (pins : ℕ → Bool) where
   -- the value of a signal and of a gate at the rest of reset
   abbrev pub wake_latch : Option Latch → Tri
   wake_latch None = Unknown
@@ -50,14 +53,18 @@ module _ (devices : List Device) (is_source : ℕ → Bool) (net : Net → ℕ) 
   wake_goal (Next j) a = opposite (wake_gate (a.0).next)
   wake_goal (Sink i) a = opposite (wake_gate a.0)
 
-  -- an inverter_branches is Unknown, or it has its value and its gate has its own
+  -- the nets of the gate have their value
+  abbrev pub HasWoken : List Tri → Gate → Type 0
+  HasWoken values g = EachLeaf (λ a. value_of values (net a) ≡ wake_gate g) (gate_tree s g)
+
+  -- a static gate is Unknown, or it has its value and its gate has its own
   abbrev pub Awakes : List Tri → Part → Gate → Tri → Type 0
-  Awakes values part g goal = (value_of values (net (At part Top)) ≡ Unknown) ⊎ ((value_of values (net (At part Top)) ≡ goal) × (value_of values (net (gate_net g)) ≡ wake_gate g))
+  Awakes values part g goal = (value_of values (net (At part Top)) ≡ Unknown) ⊎ ((value_of values (net (At part Top)) ≡ goal) × HasWoken values g)
 
   pub record IsAwaking (values : List Tri) : Type 0 where
-    pub sources : AreSources net s Reset risen pins values
+    pub sources : AreSources net s Reset risen fallen pins values
     pub masters : (j : ℕ) (b : Latch) → IsLatchAt s j b → value_of values (net (At (Master j) Top)) ≡ Unknown
-    pub dynamics : (k : ℕ) (c : DominoCell) → IsCellAt s k c → (value_of values (net (At (Dynamic k) Top)) ≡ Unknown) ⊎ (value_of values (net (At (Dynamic k) Top)) ≡ One)
+    pub dynamics : (k : CellSide) (c : DynamicStage) → IsSideAt s k c → (value_of values (net (At (Dynamic k) Top)) ≡ Unknown) ⊎ (value_of values (net (At (Dynamic k) Top)) ≡ One)
     pub slaves : (j : ℕ) (b : Latch) → IsLatchAt s j b → (value_of values (net (At (Slave j) Top)) ≡ Unknown) ⊎ (value_of values (net (At (Slave j) Top)) ≡ wake_own (FromLatch j))
     pub cell_outputs : (k : ℕ) (c : DominoCell) → IsCellAt s k c → Awakes values (Output k) (FromDynamic k) Zero
     pub complements : (l : DeckSignal) → HasComplement s l → Awakes values (Complement l) (Plus l) (opposite (wake_own l))
@@ -68,6 +75,9 @@ module _ (devices : List Device) (is_source : ℕ → Bool) (net : Net → ℕ) 
       → (value_of values (net (At part Top)) ≡ Unknown) ⊎ (value_of values (net (At part Top)) ≡ goal)
   first_of values part g goal (inl e) = inl e
   first_of values part g goal (inr e) = inr e.0
+
+  cell_output : (k : ℕ) (c : DominoCell) → IsCellAt s k c → IsStage devices is_source (λ a. net (At (Output k) a)) (static_branches net (gate_tree s (FromDynamic k)))
+  cell_output k c e = rw (cell_gate s k c e) (output_is deck k c e)
 
   wake_own-known : (l : DeckSignal) → IsSignal s l → IsKnown (wake_own l)
   wake_own-known (FromPin p) a = bit-known (pins p)
@@ -83,30 +93,41 @@ module _ (devices : List Device) (is_source : ℕ → Bool) (net : Net → ℕ) 
 
   module _ (before : List Tri) (h : IsAwaking before) where
     -- a gate is Unknown, or it has its value
-    gate_wakes : (g : Gate) → IsGate s g → (value_of before (net (gate_net g)) ≡ Unknown) ⊎ (value_of before (net (gate_net g)) ≡ wake_gate g)
+    gate_wakes : (g : Gate) → IsGate s g → (gate_value net s before g ≡ Unknown) ⊎ HasWoken before g
     gate_wakes (Plus (FromPin p)) a = inr (h.sources (Pin p) a)
     gate_wakes (Plus (FromLatch j)) a = h.slaves j a.0 a.1
     gate_wakes (Minus l) a = first_of before (Complement l) (Plus l) _ (h.complements l a)
     gate_wakes (FromOutput k) a = first_of before (Output k) (FromDynamic k) _ (h.cell_outputs k a.0 a.1)
-    gate_wakes (FromDynamic k) a = h.dynamics k a.0 a.1
+    gate_wakes (FromDynamic k) a = rw (cell_gate s k a.0 a.1) (by (a.0).right refl)
+      where
+        two : (x y : Tri) → (x ≡ Unknown) ⊎ (x ≡ One) → (y ≡ Unknown) ⊎ (y ≡ One) → (both x y ≡ Unknown) ⊎ ((x ≡ One) × (y ≡ One))
+        two x y (inl p) (inl q) = inl (rw (p, q) refl)
+        two x y (inl p) (inr q) = inl (rw (p, q) refl)
+        two x y (inr p) (inl q) = inl (rw (p, q) refl)
+        two x y (inr p) (inr q) = inr (p, q)
+
+        by : (r : Option (Tree Gate)) → (a.0).right ≡ r → (static_value net before (dynamic_nets k r) ≡ Unknown) ⊎ EachLeaf (λ x. value_of before (net x) ≡ One) (dynamic_nets k r)
+        by None z = h.dynamics _ _ (left_is s k a.0 a.1)
+        by (Some t) z = two _ _ (h.dynamics _ _ (left_is s k a.0 a.1)) (h.dynamics _ _ (right_is s k a.0 t a.1 z))
     gate_wakes High a = inr (h.sources Vdd tt)
     gate_wakes Low a = inr (h.sources Vss tt)
 
     module _ (n : ℕ) (v : Tri) (lt : n < length before) (pending : IsPending devices is_source before n v) where
-      -- an event of an inverter_branches gives it its value, and its gate has its own
-      inverter_wakes : (part : Part) (g : Gate) (goal : Tri) → IsGate s g → IsStage devices is_source (λ a. net (At part a)) (inverter_branches net (gate_net g)) → goal ≡ opposite (wake_gate g)
-          → Awakes before part g goal → net (At part Top) ≡ n → (v ≡ goal) × (value_of before (net (gate_net g)) ≡ wake_gate g)
-      inverter_wakes part g goal a is z k m =
+      -- an event of a static gate gives it its value, and its gate has its own
+      static_wakes : (part : Part) (g : Gate) (goal : Tri) → IsGate s g → IsStage devices is_source (λ a. net (At part a)) (static_branches net (gate_tree s g)) → goal ≡ opposite (wake_gate g)
+          → Awakes before part g goal → net (At part Top) ≡ n → (v ≡ goal) × HasWoken before g
+      static_wakes part g goal a is z k m =
           elim (gate_wakes g a) [
-            | inr e ↦ (
-              moved_to devices is_source before n v pending (net (At part Top)) (opposite (value_of before (net (gate_net g)))) m
-                  (inverter_target devices is_source net before (h.sources Vdd tt) (h.sources Vss tt) (λ b. net (At part b)) (gate_net g) is (rw e (wake_gate-known g a)))
-                  ∙ (rw e (sym z)),
-              e,
-            )
+            | inr e ↦
+                let w : gate_value net s before g ≡ wake_gate g = tree_all (λ a. value_of before (net a)) (wake_gate g) (gate_tree s g) e in (
+                  moved_to devices is_source before n v pending (net (At part Top)) (opposite (gate_value net s before g)) m
+                      (static_target devices is_source net before (h.sources Vdd tt) (h.sources Vss tt) (λ b. net (At part b)) (gate_tree s g) is (rw w (wake_gate-known g a)))
+                      ∙ (rw w (sym z)),
+                  e,
+                )
             | inl e ↦ absurd (elim k [
-              | inl u ↦ pending.2 ((rw m at u) ∙ sym (moved_to devices is_source before n v pending (net (At part Top)) Unknown m (inverter_unknown devices is_source net before (h.sources Vdd tt) (h.sources Vss tt) (λ b. net (At part b)) (gate_net g) is e)))
-              | inr u ↦ unknown (wake_gate g) (wake_gate-known g a) (sym u.1 ∙ e)
+              | inl u ↦ pending.2 ((rw m at u) ∙ sym (moved_to devices is_source before n v pending (net (At part Top)) Unknown m (static_unknown devices is_source net before (h.sources Vdd tt) (h.sources Vss tt) (λ b. net (At part b)) (gate_tree s g) is e)))
+              | inr u ↦ unknown (wake_gate g) (wake_gate-known g a) (sym (tree_all (λ a. value_of before (net a)) (wake_gate g) (gate_tree s g) u.1) ∙ e)
             ])
           ]
         where
@@ -114,32 +135,32 @@ module _ (devices : List Device) (is_source : ℕ → Bool) (net : Net → ℕ) 
           unknown w (inl x) y = let z : Zero ≡ Unknown = sym x ∙ y in cc
           unknown w (inr x) y = let z : One ≡ Unknown = sym x ∙ y in cc
 
-      dynamic_wakes : (k : ℕ) (c : DominoCell) → IsCellAt s k c → net (At (Dynamic k) Top) ≡ n → v ≡ One
+      dynamic_wakes : (k : CellSide) (c : DynamicStage) → IsSideAt s k c → net (At (Dynamic k) Top) ≡ n → v ≡ One
       dynamic_wakes k c e m =
           moved_to devices is_source before n v pending (net (At (Dynamic k) Top)) One m
-          (precharges devices is_source net before (h.sources Vdd tt) (h.sources Vss tt) s.style (λ a. net (At (Dynamic k) a)) k c (dynamic_is devices is_source net s deck k c e) (h.sources (Clock c.clock) ((deck.shape).clocks_are k c e)))
+          (precharges devices is_source net before (h.sources Vdd tt) (h.sources Vss tt) s.style (λ a. net (At (Dynamic k) a)) k c (dynamic_is deck k c e) (h.sources (Clock c.clock) ((deck.shape).clocks_are k c e)))
 
       slave_wakes : (j : ℕ) (b : Latch) → IsLatchAt s j b → net (At (Slave j) Top) ≡ n → v ≡ wake_own (FromLatch j)
       slave_wakes j b e m =
           rw e (moved_to devices is_source before n v pending (net (At (Slave j) Top)) (bit b.init) m
-          (slave_reset devices is_source net before (h.sources Vdd tt) (h.sources Vss tt) (λ a. net (At (Slave j) a)) (At (Master j) Top) b.init (slave_is devices is_source net s deck j b e)
+          (slave_reset devices is_source net before (h.sources Vdd tt) (h.sources Vss tt) (λ a. net (At (Slave j) a)) (At (Master j) Top) b.init (slave_is deck j b e)
           (h.sources Lsb tt) (h.sources Ls tt) (h.sources Rs tt) (h.sources Rsb tt)))
 
       master_sleeps : (j : ℕ) (b : Latch) → IsLatchAt s j b → net (At (Master j) Top) ≢ n
       master_sleeps j b e m =
           no_event devices is_source before n v pending lt (net (At (Master j) Top)) m
           (stays_at_target devices is_source before n v pending (net (At (Master j) Top)) (value_of before (net (At (Master j) Top))) refl
-          (master_held devices is_source net before (h.sources Vdd tt) (h.sources Vss tt) (λ a. net (At (Master j) a)) (At (Next j) Top) (master_is devices is_source net s deck j b e) (h.sources Lmb tt) (h.sources Lm tt)))
+          (master_held devices is_source net before (h.sources Vdd tt) (h.sources Vss tt) (λ a. net (At (Master j) a)) (At (Next j) Top) (master_is deck j b e) (h.sources Lmb tt) (h.sources Lm tt)))
 
       -- an event gives a part its value
       pub wakes : (part : Part) (a : IsPart s part) → net (At part Top) ≡ n → v ≡ wake_goal part a
       wakes (Dynamic k) a m = dynamic_wakes k a.0 a.1 m
-      wakes (Output k) a m = (inverter_wakes (Output k) (FromDynamic k) Zero a (output_is devices is_source net s deck k a.0 a.1) refl (h.cell_outputs k a.0 a.1) m).0
-      wakes (Complement l) a m = (inverter_wakes (Complement l) (Plus l) _ ((deck.shape).complements_are l a) (complement_is devices is_source net s deck l a) refl (h.complements l a) m).0
+      wakes (Output k) a m = (static_wakes (Output k) (FromDynamic k) Zero a (cell_output k a.0 a.1) refl (h.cell_outputs k a.0 a.1) m).0
+      wakes (Complement l) a m = (static_wakes (Complement l) (Plus l) _ ((deck.shape).complements_are l a) (complement_is deck l a) refl (h.complements l a) m).0
       wakes (Master j) a m = absurd (master_sleeps j a.0 a.1 m)
       wakes (Slave j) a m = slave_wakes j a.0 a.1 m
-      wakes (Next j) a m = (inverter_wakes (Next j) (a.0).next _ ((deck.shape).nexts j a.0 a.1) (next_is devices is_source net s deck j a.0 a.1) refl (h.nexts j a.0 a.1) m).0
-      wakes (Sink i) a m = (inverter_wakes (Sink i) a.0 _ ((deck.shape).outputs_are i a.0 a.1) (sink_is devices is_source net s deck i a.0 a.1) refl (h.outputs i a.0 a.1) m).0
+      wakes (Next j) a m = (static_wakes (Next j) (a.0).next _ ((deck.shape).nexts j a.0 a.1) (next_is deck j a.0 a.1) refl (h.nexts j a.0 a.1) m).0
+      wakes (Sink i) a m = (static_wakes (Sink i) a.0 _ ((deck.shape).outputs_are i a.0 a.1) (sink_is deck i a.0 a.1) refl (h.outputs i a.0 a.1) m).0
 
       simple_after : (part : Part) (goal : Tri) → (net (At part Top) ≡ n → v ≡ goal) → (value_of before (net (At part Top)) ≡ Unknown) ⊎ (value_of before (net (At part Top)) ≡ goal)
           → (value_of (slice_set before n v) (net (At part Top)) ≡ Unknown) ⊎ (value_of (slice_set before n v) (net (At part Top)) ≡ goal)
@@ -150,27 +171,28 @@ module _ (devices : List Device) (is_source : ℕ → Bool) (net : Net → ℕ) 
           ]
 
       -- a gate that has its value keeps it
-      gate_keeps : (g : Gate) → IsGate s g → value_of before (net (gate_net g)) ≡ wake_gate g → value_of (slice_set before n v) (net (gate_net g)) ≡ wake_gate g
+      gate_keeps : (g : Gate) → IsGate s g → HasWoken before g → HasWoken (slice_set before n v) g
       gate_keeps g a e =
-          elim (dec_nat (net (gate_net g)) n) [
-            | inl m ↦ now_at before n v lt (net (gate_net g)) m ∙ at g a m
-            | inr m ↦ kept_at before n v (net (gate_net g)) m ∙ e
-          ]
+          EachLeaf-with (λ x. value_of before (net x) ≡ wake_gate g) (λ x. net x ≡ n → v ≡ wake_gate g) (λ x. value_of (slice_set before n v) (net x) ≡ wake_gate g)
+          (λ x e f. elim (dec_nat (net x) n) [
+            | inl m ↦ now_at before n v lt (net x) m ∙ f m
+            | inr m ↦ kept_at before n v (net x) m ∙ e
+          ]) (gate_tree s g) e (at g a)
         where
-          at : (g : Gate) → IsGate s g → net (gate_net g) ≡ n → v ≡ wake_gate g
-          at (Plus (FromPin p)) a m = absurd (clash (is_source n) (rw (← m) (deck.sources (Pin p) a)) pending.0)
-          at (Plus (FromLatch j)) a m = slave_wakes j a.0 a.1 m
-          at (Minus l) a m = wakes (Complement l) a m
-          at (FromOutput k) a m = wakes (Output k) a m
-          at (FromDynamic k) a m = dynamic_wakes k a.0 a.1 m
-          at High a m = absurd (clash (is_source n) (rw (← m) (deck.sources Vdd tt)) pending.0)
-          at Low a m = absurd (clash (is_source n) (rw (← m) (deck.sources Vss tt)) pending.0)
+          at : (g : Gate) → IsGate s g → EachLeaf (λ x. net x ≡ n → v ≡ wake_gate g) (gate_tree s g)
+          at (Plus (FromPin p)) a = λ m. absurd (clash (is_source n) (rw (← m) (deck.sources (Pin p) a)) pending.0)
+          at (Plus (FromLatch j)) a = slave_wakes j a.0 a.1
+          at (Minus l) a = wakes (Complement l) a
+          at (FromOutput k) a = wakes (Output k) a
+          at (FromDynamic k) a = rw (a.1) (each_dynamic s (λ x. net x ≡ n → v ≡ One) k a.0 a.1 (λ d z side i. dynamic_wakes _ d i))
+          at High a = λ m. absurd (clash (is_source n) (rw (← m) (deck.sources Vdd tt)) pending.0)
+          at Low a = λ m. absurd (clash (is_source n) (rw (← m) (deck.sources Vss tt)) pending.0)
 
-      inverter_after : (part : Part) (g : Gate) (goal : Tri) → IsGate s g → IsStage devices is_source (λ a. net (At part a)) (inverter_branches net (gate_net g)) → goal ≡ opposite (wake_gate g)
+      static_after : (part : Part) (g : Gate) (goal : Tri) → IsGate s g → IsStage devices is_source (λ a. net (At part a)) (static_branches net (gate_tree s g)) → goal ≡ opposite (wake_gate g)
           → Awakes before part g goal → Awakes (slice_set before n v) part g goal
-      inverter_after part g goal a is z k =
+      static_after part g goal a is z k =
           elim (dec_nat (net (At part Top)) n) [
-            | inl m ↦ let w = inverter_wakes part g goal a is z k m in inr (now_at before n v lt (net (At part Top)) m ∙ w.0, gate_keeps g a w.1)
+            | inl m ↦ let w = static_wakes part g goal a is z k m in inr (now_at before n v lt (net (At part Top)) m ∙ w.0, gate_keeps g a w.1)
             | inr m ↦ elim k [
               | inl e ↦ inl (kept_at before n v (net (At part Top)) m ∙ e)
               | inr e ↦ inr (kept_at before n v (net (At part Top)) m ∙ e.0, gate_keeps g a e.1)
@@ -184,14 +206,14 @@ module _ (devices : List Device) (is_source : ℕ → Bool) (net : Net → ℕ) 
             masters = λ j b e. kept_at before n v (net (At (Master j) Top)) (master_sleeps j b e) ∙ h.masters j b e;
             dynamics = λ k c e. simple_after (Dynamic k) One (dynamic_wakes k c e) (h.dynamics k c e);
             slaves = λ j b e. simple_after (Slave j) (wake_own (FromLatch j)) (slave_wakes j b e) (h.slaves j b e);
-            cell_outputs = λ k c e. inverter_after (Output k) (FromDynamic k) Zero (c, e) (output_is devices is_source net s deck k c e) refl (h.cell_outputs k c e);
-            complements = λ l a. inverter_after (Complement l) (Plus l) _ ((deck.shape).complements_are l a) (complement_is devices is_source net s deck l a) refl (h.complements l a);
-            nexts = λ j b e. inverter_after (Next j) b.next _ ((deck.shape).nexts j b e) (next_is devices is_source net s deck j b e) refl (h.nexts j b e);
-            outputs = λ i g e. inverter_after (Sink i) g _ ((deck.shape).outputs_are i g e) (sink_is devices is_source net s deck i g e) refl (h.outputs i g e);
+            cell_outputs = λ k c e. static_after (Output k) (FromDynamic k) Zero (c, e) (cell_output k c e) refl (h.cell_outputs k c e);
+            complements = λ l a. static_after (Complement l) (Plus l) _ ((deck.shape).complements_are l a) (complement_is deck l a) refl (h.complements l a);
+            nexts = λ j b e. static_after (Next j) b.next _ ((deck.shape).nexts j b e) (next_is deck j b e) refl (h.nexts j b e);
+            outputs = λ i g e. static_after (Sink i) g _ ((deck.shape).outputs_are i g e) (sink_is deck i g e) refl (h.outputs i g e);
           }
 
   -- where all parts are Unknown they are to wake
-  pub awaking-unknown : (values : List Tri) → AreSources net s Reset risen pins values → ((part : Part) → IsPart s part → value_of values (net (At part Top)) ≡ Unknown) → IsAwaking values
+  pub awaking-unknown : (values : List Tri) → AreSources net s Reset risen fallen pins values → ((part : Part) → IsPart s part → value_of values (net (At part Top)) ≡ Unknown) → IsAwaking values
   awaking-unknown values src u =
       record {
         sources = src;

@@ -9,18 +9,18 @@ use Rattle.deck.specs.NamedDevices.{device_of}
 use Rattle.sp_network.specs.Tree.{EachLeaf, Leaf, inner_count}
 use Rattle.domino_cell.specs.Stage.{Branch, Spot, Top, stage}
 use Rattle.stage_law.specs.Precharged.{taps_from}
-use Rattle.stage_law.specs.Tapped.{Tap, tap_branch, tap_card, tapped, ways}
+use Rattle.domino_cell.specs.Tapped.{Tap, tap_branch, tap_card, tapped, ways}
 use Rattle.stage_law.proofs.GateCards.{stage-card_gates}
 use Rattle.domino_law.specs.Branches.{dynamic_taps, keepers, numbered}
-use Rattle.domino_law.specs.Nets.{At, Clock, Net, Output, Vdd}
-use Rattle.domino_law.specs.Shape.{DominoCell, Style, WithKeeper, WithPrecharge}
+use Rattle.domino_law.specs.Nets.{At, Clock, Net, Output, Vdd, CellSide}
+use Rattle.domino_law.specs.Shape.{DynamicStage, Style, WithKeeper, WithPrecharge}
 
-abbrev pub pre_branch : (Net → ℕ) → DominoCell → Branch
+abbrev pub pre_branch : (Net → ℕ) → DynamicStage → Branch
 pre_branch net c = record { kind = pch; tree = Leaf (net (Clock c.clock)); supply = net Vdd }
 
 -- but for the tree and the precharge they are a keeper, or do what the precharge does
-pub other_ways : (net : Net → ℕ) (F : Branch → Type 0) (style : Style) (k : ℕ) (c : DominoCell) → F (pre_branch net c)
-    → F (record { kind = Keep; tree = Leaf (net (At (Output k) Top)); supply = net Vdd }) → AllByRecursion F (keepers style net k ++ map tap_branch (dynamic_taps style net c))
+pub other_ways : (net : Net → ℕ) (F : Branch → Type 0) (style : Style) (k : CellSide) (c : DynamicStage) → F (pre_branch net c)
+    → F (record { kind = Keep; tree = Leaf (net (At (Output k.cell) Top)); supply = net Vdd }) → AllByRecursion F (keepers style net k ++ map tap_branch (dynamic_taps style net c))
 other_ways net F WithKeeper k c p h = (h, tt)
 other_ways net F WithPrecharge k c p h = each 0 (inner_count (numbered net c.tree))
   where

@@ -8,25 +8,25 @@ use Rattle.deck.specs.Switches.{value_of}
 use Rattle.sp_network.specs.Tree.{inner_count}
 use Rattle.domino_cell.specs.Stage.{Inside, Spot, Top}
 use Rattle.switch_model.specs.LinksData.{is_first}
-use Rattle.port_runs.specs.Environment.{Reset}
+use Rattle.port_runs.specs.Environment.{Reset, none_fallen}
 use Rattle.domino_law.specs.LooseDeck.{IsNet, IsSourceNet}
-use Rattle.domino_law.specs.Nets.{At, Clock, Complement, Dynamic, FromDynamic, FromLatch, FromPin, Lm, Lmb, Ls, Lsb, Master, Minus, Net, Next, Output, Part, Pin, Rs, Rsb, Sink, Slave, Vdd, Vss}
+use Rattle.domino_law.specs.Nets.{At, Clock, Complement, Dynamic, FromDynamic, FromLatch, FromPin, Lm, Lmb, Ls, Lsb, Master, Minus, Net, Next, Output, Part, Pin, Rs, Rsb, Sink, Slave, Vdd, Vss, CellSide, Left, Right, Side, left_side}
 use Rattle.domino_law.specs.OwnRun.{bit_at}
 use Rattle.domino_law.specs.Places.{AreSources}
-use Rattle.domino_law.specs.Shape.{HasComplement, IsShape, IsSignal, Latch}
+use Rattle.domino_law.specs.Shape.{HasComplement, IsShape, IsSignal, Latch, DynamicStage, IsSideAt, WithKeeper, WithPrecharge, dynamic_nets, gate_tree, left_stage, side_of}
 use Rattle.domino_law.specs.WorkedDeck.{ToggleHasPower, ToggleIsDeck, ToggleRuns, toggle_cell, toggle_net, toggle_power, toggle_shape}
 use Rattle.domino_law.proofs.PowerStates.{unknown-at}
 
 -- its nets in order of number
 names : List Net
 names =
-    Vdd ∷ Vss ∷ Clock 0 ∷ Lm ∷ Lmb ∷ Ls ∷ Lsb ∷ Rs ∷ Rsb ∷ Pin 0 ∷ At (Sink 0) Top ∷ At (Dynamic 0) Top ∷ At (Output 0) Top
-    ∷ At (Dynamic 0) (Inside 0 1) ∷ At (Complement (FromLatch 0)) Top ∷ At (Dynamic 0) (Inside 0 0) ∷ At (Complement (FromPin 0)) Top
-    ∷ At (Dynamic 0) (Inside 0 2) ∷ At (Slave 0) Top ∷ At (Master 0) Top ∷ At (Master 0) (Inside 0 0) ∷ At (Next 0) Top
+    Vdd ∷ Vss ∷ Clock 0 ∷ Lm ∷ Lmb ∷ Ls ∷ Lsb ∷ Rs ∷ Rsb ∷ Pin 0 ∷ At (Sink 0) Top ∷ At (Dynamic (left_side 0)) Top ∷ At (Output 0) Top
+    ∷ At (Dynamic (left_side 0)) (Inside 0 1) ∷ At (Complement (FromLatch 0)) Top ∷ At (Dynamic (left_side 0)) (Inside 0 0) ∷ At (Complement (FromPin 0)) Top
+    ∷ At (Dynamic (left_side 0)) (Inside 0 2) ∷ At (Slave 0) Top ∷ At (Master 0) Top ∷ At (Master 0) (Inside 0 0) ∷ At (Next 0) Top
     ∷ At (Master 0) (Inside 1 0) ∷ At (Slave 0) (Inside 0 0) ∷ At (Slave 0) (Inside 1 0) ∷ []
 
 -- a one-element list has its element at 0 alone
-only_first : {X : Type 0} (x c : X) (k : ℕ) → slice_get (x ∷ []) k ≡ Some c → (k ≡ 0) × (x ≡ c)
+pub only_first : {X : Type 0} (x c : X) (k : ℕ) → slice_get (x ∷ []) k ≡ Some c → (k ≡ 0) × (x ≡ c)
 only_first x c zero e = (refl, cc)
 only_first x c (suc k) e = absurd (cc)
 
@@ -36,7 +36,7 @@ toggle_latch = record { init = false; next = FromDynamic 0 }
 Is_named : Net → Type 0
 Is_named a = slice_get names (toggle_net a) ≡ Some a
 
-dynamic_named : (i j : ℕ) → i ≡ 0 → j < 3 → Is_named (At (Dynamic 0) (Inside i j))
+dynamic_named : (i j : ℕ) → i ≡ 0 → j < 3 → Is_named (At (Dynamic (left_side 0)) (Inside i j))
 unfolding Is_named names
 dynamic_named i zero e l = rw e refl
 dynamic_named i (suc zero) e l = rw e refl
@@ -62,6 +62,19 @@ two_complements = (refl, (refl, tt))
 below_one_is : (j : ℕ) → suc j < 1 → ⊥
 below_one_is j l = omega arith
 
+none : (j : ℕ) → j < 0 → ⊥
+none j l = omega arith
+
+-- the one cell has one side
+toggle_side : (k : CellSide) (c : DynamicStage) → IsSideAt toggle_shape k c → (k ≡ left_side 0) × (left_stage toggle_cell ≡ c)
+toggle_side k c e =
+    let f = only_first toggle_cell e.0 k.cell e.1 in
+    by k.cell k.side f.0 (subst (λ cell. side_of cell k.side ≡ Some c) (sym f.1) e.2)
+  where
+    by : (n : ℕ) (side : Side) → n ≡ 0 → side_of toggle_cell side ≡ Some c → (record { cell = n; side = side } ≡ left_side 0) × (left_stage toggle_cell ≡ c)
+    by n Left z y = (rw z refl, cc)
+    by n Right z y = absurd (cc)
+
 is_named : (a : Net) → IsNet toggle_shape a → Is_named a
 unfolding Is_named names toggle_latch
 is_named Vdd h = refl
@@ -76,11 +89,11 @@ is_named Rs h = refl
 is_named Rsb h = refl
 is_named (Pin zero) h = refl
 is_named (Pin (suc p)) h = absurd (below_one_is p h)
-is_named (At (Dynamic k) Top) (c, e) = rw ((only_first toggle_cell c k e).0) refl
+is_named (At (Dynamic k) Top) (c, e) = rw ((toggle_side k c e).0) refl
 is_named (At (Dynamic k) (Inside i j)) (c, e, z, l) =
-    let f = only_first toggle_cell c k e in rw f.0 (dynamic_named i j z (subst (λ d. j < 1 + inner_count d.tree) (sym f.1) l))
+    let f = toggle_side k c e in rw f.0 (dynamic_named i j z (subst (λ d. j < 1 + inner_count d.tree) (sym f.1) l))
 is_named (At (Output k) Top) (c, e) = rw ((only_first toggle_cell c k e).0) refl
-is_named (At (Output k) (Inside i j)) h = absurd h
+is_named (At (Output k) (Inside i j)) (c, e, z, l) = absurd (none j (subst (λ d. j < inner_count (dynamic_nets k d.right)) (sym ((only_first toggle_cell c k e).1)) l))
 is_named (At (Complement l) Top) e = AllByRecursion-contains (λ l. Is_named (At (Complement l) Top)) (FromPin 0 ∷ FromLatch 0 ∷ []) l two_complements e
 is_named (At (Complement l) (Inside i j)) h = absurd h
 is_named (At (Master k) Top) (b, e) = rw ((only_first toggle_latch b k e).0) refl
@@ -88,9 +101,9 @@ is_named (At (Master k) (Inside i j)) ((b, e), l, z) = rw ((only_first toggle_la
 is_named (At (Slave k) Top) (b, e) = rw ((only_first toggle_latch b k e).0) refl
 is_named (At (Slave k) (Inside i j)) ((b, e), l, z) = rw ((only_first toggle_latch b k e).0) ((halves_named i j l z).1)
 is_named (At (Next k) Top) (b, e) = rw ((only_first toggle_latch b k e).0) refl
-is_named (At (Next k) (Inside i j)) h = absurd h
+is_named (At (Next k) (Inside i j)) (b, e, z, l) = absurd (none j (subst (λ d. j < inner_count (gate_tree toggle_shape d.next)) (sym ((only_first toggle_latch b k e).1)) l))
 is_named (At (Sink k) Top) (g, e) = rw ((only_first (Minus (FromLatch 0)) g k e).0) refl
-is_named (At (Sink k) (Inside i j)) h = absurd h
+is_named (At (Sink k) (Inside i j)) (g, e, z, l) = absurd (none j (subst (λ d. j < inner_count (gate_tree toggle_shape d)) (sym ((only_first (Minus (FromLatch 0)) g k e).1)) l))
 
 toggle_apart : (a b : Net) → IsNet toggle_shape a → IsNet toggle_shape b → toggle_net a ≡ toggle_net b → a ≡ b
 unfolding Is_named
@@ -139,12 +152,17 @@ toggle_is_shape : IsShape toggle_shape
 unfolding toggle_latch
 toggle_is_shape =
     record {
-      clocks_are = λ k c e. let f = only_first toggle_cell c k e in rw (← f.1) (omega arith);
-      leaves = λ k c e. let f = only_first toggle_cell c k e in rw (← f.1) ((omega arith, latch_has), (pin_has, (toggle_latch, refl)));
+      clocks_are = λ k c e. let f = toggle_side k c e in rw (← f.1) (omega arith);
+      leaves = λ k c e. let f = toggle_side k c e in rw (← f.1) ((omega arith, latch_has), (pin_has, (toggle_latch, refl)));
+      simple = λ z k c e. absurd (no z);
       complements_are = λ l c. AllByRecursion-contains (IsSignal toggle_shape) (FromPin 0 ∷ FromLatch 0 ∷ []) l (omega arith, ((toggle_latch, refl), tt)) c;
       nexts = λ j b e. let f = only_first toggle_latch b j e in rw (← f.1) (toggle_cell, refl);
       outputs_are = λ i g e. let f = only_first (Minus (FromLatch 0)) g i e in rw (← f.1) latch_has;
+      overlap = λ e. absurd (cc);
     }
+  where
+    no : WithPrecharge ≡ WithKeeper → ⊥
+    no z = cc
 
 pub toggle_is_deck : ToggleIsDeck
 toggle_is_deck =
@@ -169,7 +187,7 @@ toggle_unknown (suc (suc (suc (suc (suc (suc (suc (suc zero)))))))) h = absurd (
 toggle_unknown (suc (suc (suc (suc (suc (suc (suc (suc (suc zero))))))))) h = absurd (cc)
 toggle_unknown (suc (suc (suc (suc (suc (suc (suc (suc (suc (suc n)))))))))) h = unknown-at 15 n
 
-toggle_power_sources : AreSources toggle_net toggle_shape Reset 0 (bit_at []) toggle_power.values
+toggle_power_sources : AreSources toggle_net toggle_shape Reset 0 none_fallen (bit_at []) toggle_power.values
 toggle_power_sources Vdd i = refl
 toggle_power_sources Vss i = refl
 toggle_power_sources (Clock c) i = refl
@@ -187,6 +205,7 @@ toggle_has_power =
     record {
       place = refl;
       no_clock = refl;
+      no_fall = refl;
       no_past = refl;
       no_pins = refl;
       whole = refl;

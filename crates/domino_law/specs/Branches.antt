@@ -2,42 +2,42 @@
 -- precharge of inner nets; registers of clocked inverters).
 use Rattle.std.specs.Prelude.{Bool, List, [], false, true, ℕ, ◌∷◌, ◌≡◌}
 use Rattle.dom_base.specs.declared.kind.Kind.TheVariants.{Keep, N as nch, P as pch}
-use Rattle.sp_network.specs.Tree.{Leaf, Series, Tree, map_tree}
+use Rattle.sp_network.specs.Tree.{Leaf, Series, Tree, dual, map_tree}
 use Rattle.domino_cell.specs.Stage.{Branch, Top}
 use Rattle.stage_law.specs.Precharged.{inner_taps}
-use Rattle.stage_law.specs.Tapped.{Tap}
-use Rattle.domino_law.specs.Nets.{At, Clock, Complement, Dynamic, Gate, Lm, Lmb, Ls, Lsb, Master, Net, Next, Output, Part, Rs, Rsb, Sink, Slave, Vdd, Vss, gate_net, own}
-use Rattle.domino_law.specs.Shape.{DominoCell, HasComplement, IsCellAt, IsLatchAt, IsOutputAt, Latch, Shape, Style, WithKeeper, WithPrecharge}
+use Rattle.domino_cell.specs.Tapped.{Tap}
+use Rattle.domino_law.specs.Nets.{At, CellSide, Clock, Complement, Dynamic, Gate, Lm, Lmb, Ls, Lsb, Master, Net, Next, Output, Part, Rs, Rsb, Sink, Slave, Vdd, Vss, gate_net, own}
+use Rattle.domino_law.specs.Shape.{DominoCell, DynamicStage, HasComplement, IsCellAt, IsLatchAt, IsOutputAt, IsSideAt, Latch, Shape, Style, WithKeeper, WithPrecharge, dynamic_nets, gate_tree}
 
--- an inverter_branches
-abbrev pub inverter_branches : (Net → ℕ) → Net → List Branch
-inverter_branches net gate =
-    record { kind = pch; tree = Leaf (net gate); supply = net Vdd }
-    ∷ record { kind = nch; tree = Leaf (net gate); supply = net Vss }
+-- a static gate of nets: the dual tree to the high supply and the tree to the low one; that of one net is an inverter
+abbrev pub static_branches : (Net → ℕ) → Tree Net → List Branch
+static_branches net t =
+    record { kind = pch; tree = map_tree net (dual t); supply = net Vdd }
+    ∷ record { kind = nch; tree = map_tree net t; supply = net Vss }
     ∷ []
 
--- the tree of a cell over numbers
+-- the tree of a side over numbers
 abbrev pub numbered : (Net → ℕ) → Tree Gate → Tree ℕ
 numbered net t = map_tree (λ g. net (gate_net g)) t
 
 -- the keeper, in the style that has one
-abbrev pub keepers : Style → (Net → ℕ) → ℕ → List Branch
-keepers WithKeeper net k = record { kind = Keep; tree = Leaf (net (At (Output k) Top)); supply = net Vdd } ∷ []
+abbrev pub keepers : Style → (Net → ℕ) → CellSide → List Branch
+keepers WithKeeper net k = record { kind = Keep; tree = Leaf (net (At (Output k.cell) Top)); supply = net Vdd } ∷ []
 keepers WithPrecharge net k = []
 
 -- the tree in series with the foot, the precharge and the keeper
-abbrev pub dynamic : Style → (Net → ℕ) → ℕ → DominoCell → List Branch
+abbrev pub dynamic : Style → (Net → ℕ) → CellSide → DynamicStage → List Branch
 dynamic style net k c =
     record { kind = nch; tree = Series (numbered net c.tree) (Leaf (net (Clock c.clock))); supply = net Vss }
     ∷ record { kind = pch; tree = Leaf (net (Clock c.clock)); supply = net Vdd }
     ∷ keepers style net k
 
 -- the precharge devices of the inner nets, in the style that has them
-abbrev pub dynamic_taps : Style → (Net → ℕ) → DominoCell → List Tap
+abbrev pub dynamic_taps : Style → (Net → ℕ) → DynamicStage → List Tap
 dynamic_taps WithKeeper net c = []
 dynamic_taps WithPrecharge net c = inner_taps (net Vdd) (net (Clock c.clock)) (numbered net c.tree)
 
--- an inverter_branches whose two halves a pair of clocks opens, and more branches
+-- an inverter whose two halves a pair of clocks opens, and more branches
 abbrev pub clocked : (Net → ℕ) → Net → Net → Net → List Branch → List Branch
 clocked net up down gate more =
     record { kind = pch; tree = Series (Leaf (net up)) (Leaf (net gate)); supply = net Vdd }
@@ -59,10 +59,10 @@ slave net j b = clocked net Lsb Ls (At (Master j) Top) (reset_branch net b.init 
 -- the part is one of the deck's, and these are its branches and its taps
 abbrev pub HasBranches : Shape → (Net → ℕ) → Part → List Branch → List Tap → Type 0
 HasBranches s net (Dynamic k) bs taps =
-    (c : DominoCell) × IsCellAt s k c × (bs ≡ dynamic s.style net k c) × (taps ≡ dynamic_taps s.style net c)
-HasBranches s net (Output k) bs taps = (c : DominoCell) × IsCellAt s k c × (bs ≡ inverter_branches net (At (Dynamic k) Top)) × (taps ≡ [])
-HasBranches s net (Complement l) bs taps = HasComplement s l × (bs ≡ inverter_branches net (own l)) × (taps ≡ [])
+    (c : DynamicStage) × IsSideAt s k c × (bs ≡ dynamic s.style net k c) × (taps ≡ dynamic_taps s.style net c)
+HasBranches s net (Output k) bs taps = (c : DominoCell) × IsCellAt s k c × (bs ≡ static_branches net (dynamic_nets k c.right)) × (taps ≡ [])
+HasBranches s net (Complement l) bs taps = HasComplement s l × (bs ≡ static_branches net (Leaf (own l))) × (taps ≡ [])
 HasBranches s net (Master j) bs taps = (b : Latch) × IsLatchAt s j b × (bs ≡ master net j) × (taps ≡ [])
 HasBranches s net (Slave j) bs taps = (b : Latch) × IsLatchAt s j b × (bs ≡ slave net j b) × (taps ≡ [])
-HasBranches s net (Next j) bs taps = (b : Latch) × IsLatchAt s j b × (bs ≡ inverter_branches net (gate_net b.next)) × (taps ≡ [])
-HasBranches s net (Sink i) bs taps = (g : Gate) × IsOutputAt s i g × (bs ≡ inverter_branches net (gate_net g)) × (taps ≡ [])
+HasBranches s net (Next j) bs taps = (b : Latch) × IsLatchAt s j b × (bs ≡ static_branches net (gate_tree s b.next)) × (taps ≡ [])
+HasBranches s net (Sink i) bs taps = (g : Gate) × IsOutputAt s i g × (bs ≡ static_branches net (gate_tree s g)) × (taps ≡ [])

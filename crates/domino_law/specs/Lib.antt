@@ -1,6 +1,9 @@
 pub mod Branches
+pub mod CellCards
+pub mod CellStates
 pub mod DominoDeck
 pub mod DynamicNets
+pub mod EveryRun
 pub mod Honest
 pub mod Joins
 pub mod Laws
@@ -16,4 +19,5 @@ pub mod Runs
 pub mod Settings
 pub mod Shape
 pub mod Spelled
+pub mod WorkedCompound
 pub mod WorkedDeck

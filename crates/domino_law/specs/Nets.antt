@@ -7,18 +7,34 @@ pub data DeckSignal : Type 0 where
   FromPin : ℕ → DeckSignal
   FromLatch : ℕ → DeckSignal
 
+-- the sides of a cell: a simple cell has the left one, a compound cell both
+pub data Side : Type 0 where
+  Left : Side
+  Right : Side
+
+-- a side of the cell with this number
+pub record CellSide : Type 0 where
+  pub cell : ℕ
+  pub side : Side
+
+abbrev pub left_side : ℕ → CellSide
+left_side k = record { cell = k; side = Left }
+
+abbrev pub right_side : ℕ → CellSide
+right_side k = record { cell = k; side = Right }
+
 -- the parts of a deck; each is a stage with one net that it drives
 pub data Part : Type 0 where
-  -- the dynamic net of a cell with its precharge, its keeper, its tree and its foot
-  Dynamic : ℕ → Part
-  -- the output inverter of a cell
+  -- the dynamic net of a side of a cell with its precharge, its keeper where it has one, its tree and its foot
+  Dynamic : CellSide → Part
+  -- the static gate of a cell's dynamic nets
   Output : ℕ → Part
   -- the inverter of a complement
   Complement : DeckSignal → Part
   -- the master and the slave of a latch
   Master : ℕ → Part
   Slave : ℕ → Part
-  -- the inverter of a latch input, and that of an output port
+  -- the static gate of a latch input, and that of an output port
   Next : ℕ → Part
   Sink : ℕ → Part
 
@@ -41,7 +57,7 @@ abbrev pub own : DeckSignal → Net
 own (FromPin p) = Pin p
 own (FromLatch j) = At (Slave j) Top
 
--- what may gate a leaf of a tree or a sink: a rail of a signal, the output or the dynamic net of a cell, or a supply
+-- what may gate a leaf of a tree or a sink: a rail of a signal, the output of a cell, its dynamic nets in series, or a supply
 pub data Gate : Type 0 where
   Plus : DeckSignal → Gate
   Minus : DeckSignal → Gate
@@ -50,11 +66,11 @@ pub data Gate : Type 0 where
   High : Gate
   Low : Gate
 
--- the net of a gate
+-- the net of a gate; of a cell's dynamic nets it is the left one
 abbrev pub gate_net : Gate → Net
 gate_net (Plus l) = own l
 gate_net (Minus l) = At (Complement l) Top
 gate_net (FromOutput k) = At (Output k) Top
-gate_net (FromDynamic k) = At (Dynamic k) Top
+gate_net (FromDynamic k) = At (Dynamic (left_side k)) Top
 gate_net High = Vdd
 gate_net Low = Vss

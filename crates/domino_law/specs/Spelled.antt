@@ -1,57 +1,58 @@
 -- The cards of a loose domino deck, in order (SPICE M cards).
-use Rattle.std.specs.Prelude.{Bool, List, [], false, map, suc, true, zero, ℕ, ◌++◌, ◌+◌, ◌<◌, ◌∷◌, ◌≡◌, ◌≤◌}
-use Rattle.dom_base.specs.declared.kind.Kind.TheVariants.{Keep, N as nch, P as pch}
+use Rattle.domino_cell.specs.StyledCells.{behind_precharge, pull_down_cards}
+use Rattle.std.specs.Prelude.{Bool, List, None, Option, Some, [], false, map, true, ℕ, ◌++◌, ◌+◌, ◌<◌, ◌∷◌, ◌≡◌, ◌≤◌}
+use Rattle.dom_base.specs.declared.kind.Kind.TheVariants.{N as nch, P as pch}
 use Rattle.deck.specs.CircuitData.{CircuitData}
 use Rattle.deck.specs.Nets.{net_number}
 use Rattle.deck.specs.declared.device.Device.{Device}
 use Rattle.deck.specs.NamedDevices.{NamedDevice, device_of, map_device, with_devices}
-use Rattle.sp_network.specs.Tree.{Tree, inner_count, map_tree}
+use Rattle.sp_network.specs.Tree.{Tree, dual, inner_count, map_tree}
 use Rattle.domino_cell.specs.Cell.{CellNets, inverter as inverter_cards}
 use Rattle.domino_cell.specs.Stage.{Inside, Spot, Top}
 use Rattle.domino_cell.specs.Spelling.{spell}
 use Rattle.switch_model.specs.LinksData.{LinksData}
 use Rattle.domino_law.specs.LooseDeck.{IsLooseDeck, IsNet, IsSourceNet}
-use Rattle.domino_law.specs.Nets.{At, Clock, Complement, Dynamic, Gate, Lm, Lmb, Ls, Lsb, Master, Net, Next, Output, Part, Rs, Rsb, DeckSignal, Sink, Slave, Vdd, Vss, gate_net, own}
-use Rattle.domino_law.specs.Shape.{DominoCell, IsShape, Latch, Shape, Style, WithKeeper, WithPrecharge}
+use Rattle.domino_law.specs.Nets.{At, CellSide, Clock, Complement, Dynamic, Gate, Lm, Lmb, Ls, Lsb, Master, Net, Next, Output, Part, Rs, Rsb, DeckSignal, Sink, Slave, Vdd, Vss, Right, gate_net, left_side, own, right_side}
+use Rattle.domino_law.specs.Shape.{DominoCell, DynamicStage, IsShape, Latch, Shape, Style, dynamic_nets, gate_tree, left_stage, side_of}
 
--- the nets of a cell
-abbrev pub net_cell : ℕ → DominoCell → CellNets Net
+-- the nets of a side of a cell
+abbrev pub net_cell : CellSide → DynamicStage → CellNets Net
 net_cell k c = record {
   vdd = Vdd;
   vss = Vss;
   clock = Clock c.clock;
   dynamic = At (Dynamic k) Top;
-  output = At (Output k) Top;
+  output = At (Output k.cell) Top;
   foot = At (Dynamic k) (Inside 0 0);
   inner = λ j. At (Dynamic k) (Inside 0 (1 + j));
 }
 
--- the precharge devices of so many inner nets from number j on
-abbrev pub inner_cards : CellNets Net → ℕ → ℕ → List (NamedDevice Net)
-inner_cards nets j zero = []
-inner_cards nets j (suc n) = record { kind = pch; drain = nets.inner j; gate = nets.clock; source = nets.vdd } ∷ inner_cards nets (j + 1) n
+-- a side of a cell of a style
+abbrev pub side_cards : Style → CellSide → DynamicStage → List (NamedDevice Net)
+side_cards style k c =
+    (record { kind = pch; drain = At (Dynamic k) Top; gate = Clock c.clock; source = Vdd }
+    ∷ behind_precharge style (net_cell k c) (inner_count (map_tree gate_net c.tree)))
+    ++ pull_down_cards (net_cell k c) (map_tree gate_net c.tree)
 
--- what follows the precharge of a cell with so many inner nets: the keeper, or the precharge of each inner net
-abbrev pub after_precharge : Style → CellNets Net → ℕ → List (NamedDevice Net)
-after_precharge WithKeeper nets n = record { kind = Keep; drain = nets.dynamic; gate = nets.output; source = nets.vdd } ∷ []
-after_precharge WithPrecharge nets n = inner_cards nets 0 n
+-- a static gate of nets: the dual tree to the high supply, then the tree to the low one
+abbrev pub static_cards : Part → Tree Net → List (NamedDevice Net)
+static_cards part t =
+    spell pch (λ j. At part (Inside 0 j)) (dual t) (At part Top) Vdd 0 ++ spell nch (λ j. At part (Inside 1 j)) t (At part Top) Vss 0
 
--- the tree and the foot
-abbrev pub pull_down : CellNets Net → Tree Net → List (NamedDevice Net)
-pull_down nets tree =
-    spell nch nets.inner tree nets.dynamic nets.foot 0
-    ++ record { kind = nch; drain = nets.foot; gate = nets.clock; source = nets.vss } ∷ []
+-- a cell: its left side, its right one if it is compound, and the static gate of its dynamic nets
+abbrev pub right_cards : Style → ℕ → Option DynamicStage → List (NamedDevice Net)
+right_cards style k None = []
+right_cards style k (Some c) = side_cards style (right_side k) c
 
--- a cell of a style
-abbrev pub styled_cell : Style → CellNets Net → Tree Net → List (NamedDevice Net)
-styled_cell style nets tree =
-    (record { kind = pch; drain = nets.dynamic; gate = nets.clock; source = nets.vdd } ∷ after_precharge style nets (inner_count tree))
-    ++ (pull_down nets tree ++ inverter_cards nets.vdd nets.vss nets.dynamic nets.output)
+abbrev pub one_cell : Style → ℕ → DominoCell → List (NamedDevice Net)
+one_cell style k c =
+    side_cards style (left_side k) (left_stage c)
+    ++ (right_cards style k (side_of c Right) ++ static_cards (Output k) (dynamic_nets k c.right))
 
 -- the cells from number k on
 abbrev pub cell_cards : Style → ℕ → List DominoCell → List (NamedDevice Net)
 cell_cards style k [] = []
-cell_cards style k (c ∷ cs) = styled_cell style (net_cell k c) (map_tree gate_net c.tree) ++ cell_cards style (k + 1) cs
+cell_cards style k (c ∷ cs) = one_cell style k c ++ cell_cards style (k + 1) cs
 
 -- the inverters of complements
 abbrev pub complement_cards : List DeckSignal → List (NamedDevice Net)
@@ -81,20 +82,20 @@ abbrev pub latch_cards : ℕ → List Latch → List (NamedDevice Net)
 latch_cards j [] = []
 latch_cards j (b ∷ bs) = one_latch j b.init ++ latch_cards (j + 1) bs
 
--- the inverters of output ports, and those of latch inputs
-abbrev pub output_cards : ℕ → List Gate → List (NamedDevice Net)
-output_cards i [] = []
-output_cards i (g ∷ gs) = inverter_cards Vdd Vss (gate_net g) (At (Sink i) Top) ++ output_cards (i + 1) gs
+-- the static gates of output ports, and those of latch inputs
+abbrev pub output_cards : Shape → ℕ → List Gate → List (NamedDevice Net)
+output_cards s i [] = []
+output_cards s i (g ∷ gs) = static_cards (Sink i) (gate_tree s g) ++ output_cards s (i + 1) gs
 
-abbrev pub next_cards : ℕ → List Latch → List (NamedDevice Net)
-next_cards j [] = []
-next_cards j (b ∷ bs) = inverter_cards Vdd Vss (gate_net b.next) (At (Next j) Top) ++ next_cards (j + 1) bs
+abbrev pub next_cards : Shape → ℕ → List Latch → List (NamedDevice Net)
+next_cards s j [] = []
+next_cards s j (b ∷ bs) = static_cards (Next j) (gate_tree s b.next) ++ next_cards s (j + 1) bs
 
 -- the cells, the complements, the latches and the sinks
 abbrev pub shape_cards : Shape → List (NamedDevice Net)
 shape_cards s =
     cell_cards s.style 0 s.cells
-    ++ (complement_cards s.complements ++ (latch_cards 0 s.latches ++ (output_cards 0 s.outputs ++ next_cards 0 s.latches)))
+    ++ (complement_cards s.complements ++ (latch_cards 0 s.latches ++ (output_cards s 0 s.outputs ++ next_cards s 0 s.latches)))
 
 -- their devices, where `net` numbers the nets
 abbrev pub deck_devices : (Net → ℕ) → Shape → List Device

@@ -1,12 +1,12 @@
 -- A deck of the style with precharge, with one cell, two complements, one latch and one output: while its pin is 1 it changes
 -- its state in each cycle.
-use Rattle.std.specs.Prelude.{[], false, replicate, suc, true, zero, ℕ, ◌∷◌, ◌≡◌}
+use Rattle.std.specs.Prelude.{[], false, replicate, suc, true, zero, ℕ, ◌∷◌, ◌≡◌, None}
 use Rattle.dom_base.specs.declared.kind.Kind.TheVariants.{N as nch, P as pch}
 use Rattle.dom_base.specs.declared.tri.Tri.TheVariants.{One, Unknown, Zero}
 use Rattle.sp_network.specs.Tree.{Leaf, Parallel, Series}
 use Rattle.domino_cell.specs.Stage.{Inside, Top}
 use Rattle.switch_model.specs.LinksData.{LinksData}
-use Rattle.port_runs.specs.Environment.{Reset, World}
+use Rattle.port_runs.specs.Environment.{Reset, Together, World, none_fallen}
 use Rattle.domino_law.specs.Nets.{At, Clock, Complement, Dynamic, FromDynamic, FromLatch, FromPin, Lm, Lmb, Ls, Lsb, Master, Minus, Net, Next, Output, Pin, Plus, Rs, Rsb, Sink, Slave, Vdd, Vss}
 use Rattle.domino_law.specs.OwnRun.{outputs_of, state_after}
 use Rattle.domino_law.specs.Runs.{IsPower}
@@ -20,11 +20,13 @@ toggle_cell = record {
   tree = Parallel
       (Series (Leaf (Plus (FromPin 0))) (Leaf (Minus (FromLatch 0))))
       (Series (Leaf (Minus (FromPin 0))) (Leaf (Plus (FromLatch 0))));
+  right = None;
 }
 
 abbrev pub toggle_shape : Shape
 toggle_shape = record {
   style = WithPrecharge;
+  clocking = Together;
   pins = 1;
   clocks = 1;
   complements = FromPin 0 ∷ FromLatch 0 ∷ [];
@@ -33,7 +35,7 @@ toggle_shape = record {
   outputs = Minus (FromLatch 0) ∷ [];
 }
 
--- its nets by number: the ports in the order of roles, then the others in order of first appearance
+-- its nets by number: the ports in the order of roles, then the others, each with a number of its own
 abbrev pub toggle_net : Net → ℕ
 toggle_net Vdd = 0
 toggle_net Vss = 1
@@ -102,6 +104,7 @@ abbrev pub toggle_power : World
 toggle_power = record {
   place = Reset;
   risen = 0;
+  fallen = none_fallen;
   past = [];
   pins = [];
   values = One ∷ Zero ∷ Zero ∷ Zero ∷ One ∷ Zero ∷ One ∷ One ∷ Zero ∷ Zero ∷ replicate 15 Unknown;

@@ -11,9 +11,14 @@ ghost use Rattle.domino_law.specs.OrderLaws.{
   OfRuns,
   OutputRisesOnce,
   RestsAlike,
+  RestsAlikeByClocks,
 };
+ghost use Rattle.domino_law.specs.CellCards.{CellsHaveCards};
+ghost use Rattle.domino_law.specs.CellStates.{CompoundCellsAreHonest, SimpleCellsHavePairs};
 ghost use Rattle.domino_law.specs.DominoDeck.{
+  DecksRunAsDomino,
   DominoDeckIsLoose,
+  DominoDeckOverlaps,
   PortsReadOwnRun,
   PortsRestAlike,
 };
@@ -34,6 +39,7 @@ ghost use Rattle.domino_law.specs.RunLaws.{
 ghost use Rattle.domino_law.specs.NamedDeck.{NamedIsLoose};
 ghost use Rattle.domino_law.specs.Settings.{MovesAreSettings, PowerIsPower, SettingsAreMoves};
 ghost use Rattle.domino_law.specs.Spelled.{NamedIsSpelled, SpelledIsLoose};
+ghost use Rattle.domino_law.specs.WorkedCompound.{OrHasPower, OrIsDeck, OrRuns};
 ghost use Rattle.domino_law.specs.WorkedDeck.{ToggleHasPower, ToggleIsDeck, ToggleRuns};
 ghost use Rattle.domino_law.specs.Laws.{
   CaptureLaunches,
@@ -49,12 +55,16 @@ ghost use Rattle.domino_law.specs.Laws.{
 /// Each legal event and each legal move takes an honest state to an honest state. From the rest
 /// of reset on every state of every legal run is honest. In an honest state all nets that the
 /// parts drive but the masters' are `Zero` or `One`, and in capture and captured the cells, the
-/// latch inputs and the outputs hold their targets.
+/// latch inputs and the outputs hold their targets. Of a simple cell an honest state says which pairs of
+/// values its dynamic net and its output have, and of a compound cell what its two dynamic nets and its
+/// output have.
 pub fn keeps_honest()
     ensures step { KeepsHonest }
     ensures run { RunsAreHonest }
     ensures known { HonestIsKnown }
     ensures targets { CapturedAtTargets }
+    ensures simple { SimpleCellsHavePairs }
+    ensures compound { CompoundCellsAreHonest }
 {}
 
 /// At the rest of reset, and until the first pins are taken, each latch has its start value.
@@ -82,9 +92,10 @@ pub fn realises_own_run()
 
 /// Two legal runs from power that took the same stream of pins and rest at the same place have the
 /// same value on each net that gates a device and on each output port, whatever the order of their
-/// events and, outside evaluation, the moments at which their clocks rose.
+/// events, where their clocks stand alike; and they do where their clocks have the same values.
 pub fn rests_alike()
-    ensures { RestsAlike }
+    ensures alike { RestsAlike }
+    ensures clocks { RestsAlikeByClocks }
 {}
 
 /// In an evaluation period a dynamic net has at most one event, a fall, and a domino output at
@@ -131,19 +142,24 @@ pub fn counts_events()
 /// the latches and of the sinks is a loose domino deck. A circuit that is made by pushing these
 /// cards under names has these devices, each net numbered by the place of its name, and where the
 /// names differ and the ports stand in order it is a loose domino deck by these numbers, whose ports
-/// have their roles.
+/// have their roles. Cells have so many devices.
 pub fn spelled_decks_are_loose()
     ensures loose { SpelledIsLoose }
     ensures named { NamedIsSpelled }
     ensures deck { NamedIsLoose }
+    ensures counts { CellsHaveCards }
 {}
 
 /// A deck of the style with precharge, with a cell, two complements, a latch and an output, meets
-/// what the laws ask of a deck and of its power state, and its own run is the toggle's.
+/// what the laws ask of a deck and of its power state, and its own run is the toggle's. So does a deck
+/// with a compound cell, whose own run is the Or of three pins.
 pub fn worked_deck_is_loose()
     ensures deck { ToggleIsDeck }
     ensures power { ToggleHasPower }
     ensures run { ToggleRuns }
+    ensures compound_deck { OrIsDeck }
+    ensures compound_power { OrHasPower }
+    ensures compound_run { OrRuns }
 {}
 
 /// Where the ports of a deck stand in the order of roles, to set the ports of a move together is
@@ -169,9 +185,12 @@ pub fn runs_stand_in_order()
 
 /// In a loose domino deck the output ports have the outputs of the own run at each reading of a
 /// legal run, and the same values in two runs that took the same stream of pins and rest at the same
-/// place.
+/// place. A deck whose clocks may overlap is one whose clocks do. In each legal run in which all clocks
+/// fall together, or as the deck's do, the deck does what is said of domino circuits.
 pub fn output_ports_read()
     ensures loose { DominoDeckIsLoose }
+    ensures overlaps { DominoDeckOverlaps }
     ensures reads { PortsReadOwnRun }
     ensures alike { PortsRestAlike }
+    ensures domino { DecksRunAsDomino }
 {}

@@ -2,7 +2,7 @@
 use Rattle.std.specs.List.{AllByRecursion}
 use Rattle.std.specs.Prelude.{◌⊎◌}
 use Rattle.std.proofs.Common.{Bool, List, [], ap, append_assoc, append-nil, arith, inl, inr, length, length-append, refl, subst, suc, sym, ℕ, ◌++◌, ◌+◌, ◌<◌, ◌∙◌, ◌∷◌, ◌≡◌}
-use Rattle.port_runs.specs.Environment.{Capture, Captured, Evaluation, Happens, IsNext, Launch, Launched, Moves, Open, Pins, Place, Precharge, Released, Reset, Rise, Step, Take, World, after_move, is_over, risen_at, stream_of}
+use Rattle.port_runs.specs.Environment.{Capture, Captured, Evaluation, Fall, Happens, IsNext, Launch, Launched, Moves, Open, Pins, Place, Precharge, Released, Reset, Rise, Step, Take, World, after_move, is_over, risen_at, stream_of, Clocking}
 use Rattle.port_runs.specs.Order.{Proceeds, StandsAfter, risen_before}
 
 -- a place is opened
@@ -35,29 +35,32 @@ rises clocks stream Evaluation risen past pins e l h = (h.0, omega (arith, h.1),
 rises clocks stream _ risen past pins e l h = absurd (cc)
 
 -- the stream goes on with what the steps take
-pub stands_after : (clocks count : ℕ) (stream : List (List Bool)) (steps : List Step) (w w' : World) → Proceeds clocks count steps w w'
+pub stands_after : (clocking : Clocking) (clocks count : ℕ) (stream : List (List Bool)) (steps : List Step) (w w' : World) → Proceeds clocking clocks count steps w w'
     → StandsAfter clocks stream w.place w.risen w.past w.pins → StandsAfter clocks (stream ++ stream_of steps) w'.place w'.risen w'.past w'.pins
-stands_after clocks count stream [] w w' r h =
+stands_after clocking clocks count stream [] w w' r h =
     subst (λ u. StandsAfter clocks (stream ++ []) u.place u.risen u.past u.pins) (sym r) (rw append-nil h)
-stands_after clocks count stream (Happens n ∷ steps) w w' r h = stands_after clocks count stream steps (record w { values = r.0 }) w' r.1 h
-stands_after clocks count stream (Moves (Open place) ∷ steps) w w' r h =
-    stands_after clocks count stream steps (record (after_move (Open place) w) { values = r.0 }) w' r.2
+stands_after clocking clocks count stream (Happens n ∷ steps) w w' r h = stands_after clocking clocks count stream steps (record w { values = r.0 }) w' r.1 h
+stands_after clocking clocks count stream (Moves (Open place) ∷ steps) w w' r h =
+    stands_after clocking clocks count stream steps (record (after_move (Open place) w) { values = r.0 }) w' r.2
     (opens clocks stream w.place place w.risen w.past w.pins (r.1).0 (r.1).1 h)
-stands_after clocks count stream (Moves (Take bits) ∷ steps) w w' r h =
+stands_after clocking clocks count stream (Moves (Take bits) ∷ steps) w w' r h =
     subst (λ l. StandsAfter clocks l w'.place w'.risen w'.past w'.pins) (append_assoc stream (bits ∷ []) (stream_of steps))
-    (stands_after clocks count (stream ++ bits ∷ []) steps (record (after_move (Take bits) w) { values = r.0 }) w' r.2
+    (stands_after clocking clocks count (stream ++ bits ∷ []) steps (record (after_move (Take bits) w) { values = r.0 }) w' r.2
     (takes clocks stream w.place w.risen w.past w.pins bits (r.1).0 h))
-stands_after clocks count stream (Moves Rise ∷ steps) w w' r h =
-    stands_after clocks count stream steps (record (after_move Rise w) { values = r.0 }) w' r.2
+stands_after clocking clocks count stream (Moves Rise ∷ steps) w w' r h =
+    stands_after clocking clocks count stream steps (record (after_move Rise w) { values = r.0 }) w' r.2
     (rises clocks stream w.place w.risen w.past w.pins (r.1).0 (r.1).1 h)
+stands_after clocking clocks count stream (Moves (Fall k) ∷ steps) w w' r h =
+    stands_after clocking clocks count stream steps (record (after_move (Fall k) w) { values = r.0 }) w' r.2 h
 
 -- each cycle has one bit for each pin
-pub bits_taken : (clocks count : ℕ) (steps : List Step) (w w' : World) → Proceeds clocks count steps w w' → AllByRecursion (λ bits. length bits ≡ count) (stream_of steps)
-bits_taken clocks count [] w w' r = tt
-bits_taken clocks count (Happens n ∷ steps) w w' r = bits_taken clocks count steps (record w { values = r.0 }) w' r.1
-bits_taken clocks count (Moves (Open place) ∷ steps) w w' r = bits_taken clocks count steps (record (after_move (Open place) w) { values = r.0 }) w' r.2
-bits_taken clocks count (Moves (Take bits) ∷ steps) w w' r = ((r.1).1, bits_taken clocks count steps (record (after_move (Take bits) w) { values = r.0 }) w' r.2)
-bits_taken clocks count (Moves Rise ∷ steps) w w' r = bits_taken clocks count steps (record (after_move Rise w) { values = r.0 }) w' r.2
+pub bits_taken : (clocking : Clocking) (clocks count : ℕ) (steps : List Step) (w w' : World) → Proceeds clocking clocks count steps w w' → AllByRecursion (λ bits. length bits ≡ count) (stream_of steps)
+bits_taken clocking clocks count [] w w' r = tt
+bits_taken clocking clocks count (Happens n ∷ steps) w w' r = bits_taken clocking clocks count steps (record w { values = r.0 }) w' r.1
+bits_taken clocking clocks count (Moves (Open place) ∷ steps) w w' r = bits_taken clocking clocks count steps (record (after_move (Open place) w) { values = r.0 }) w' r.2
+bits_taken clocking clocks count (Moves (Take bits) ∷ steps) w w' r = ((r.1).1, bits_taken clocking clocks count steps (record (after_move (Take bits) w) { values = r.0 }) w' r.2)
+bits_taken clocking clocks count (Moves Rise ∷ steps) w w' r = bits_taken clocking clocks count steps (record (after_move Rise w) { values = r.0 }) w' r.2
+bits_taken clocking clocks count (Moves (Fall k) ∷ steps) w w' r = bits_taken clocking clocks count steps (record (after_move (Fall k) w) { values = r.0 }) w' r.2
 
 pub snoc_same : {X : Type 0} (xs ys : List X) (x y : X) → xs ++ x ∷ [] ≡ ys ++ y ∷ [] → (xs ≡ ys) × (x ≡ y)
 snoc_same [] [] x y e = (refl, cc)
@@ -77,30 +80,15 @@ snoc_same (a ∷ xs) (b ∷ ys) x y e =
     tails : a ∷ (xs ++ x ∷ []) ≡ b ∷ (ys ++ y ∷ []) → xs ++ x ∷ [] ≡ ys ++ y ∷ []
     tails z = cc
 
--- runs with one stream that stand at one place, in evaluation with as many clocks up, have the same clocks up, and the same pins
-pub stand_alike : (clocks : ℕ) (stream : List (List Bool)) (pl : Place) (risen risen' : ℕ) (past past' : List (List Bool)) (pins pins' : List Bool)
-    → (pl ≡ Evaluation → risen ≡ risen') → StandsAfter clocks stream pl risen past pins → StandsAfter clocks stream pl risen' past' pins'
-    → (risen ≡ risen') × (past ≡ past') × (pins ≡ pins')
-stand_alike clocks stream Reset risen risen' past past' pins pins' up h k = (h.3 ∙ sym k.3, h.1 ∙ sym k.1, h.2 ∙ sym k.2)
-stand_alike clocks stream Released risen risen' past past' pins pins' up h k = (h.3 ∙ sym k.3, h.1 ∙ sym k.1, h.2 ∙ sym k.2)
-stand_alike clocks stream Pins risen risen' past past' pins pins' up h k =
-    let same = snoc_same past past' pins pins' (sym h.0 ∙ k.0) in
-    (h.1 ∙ (ap (risen_before clocks) same.0 ∙ sym k.1), same.0, same.1)
-stand_alike clocks stream Evaluation risen risen' past past' pins pins' up h k =
-    let same = snoc_same past past' pins pins' (sym h.0 ∙ k.0) in
-    (up refl, same.0, same.1)
-stand_alike clocks stream Capture risen risen' past past' pins pins' up h k =
-    let same = snoc_same past past' pins pins' (sym h.0 ∙ k.0) in
-    (h.1 ∙ sym k.1, same.0, same.1)
-stand_alike clocks stream Captured risen risen' past past' pins pins' up h k =
-    let same = snoc_same past past' pins pins' (sym h.0 ∙ k.0) in
-    (h.1 ∙ sym k.1, same.0, same.1)
-stand_alike clocks stream Precharge risen risen' past past' pins pins' up h k =
-    let same = snoc_same past past' pins pins' (sym h.0 ∙ k.0) in
-    (h.1 ∙ sym k.1, same.0, same.1)
-stand_alike clocks stream Launch risen risen' past past' pins pins' up h k =
-    let same = snoc_same past past' pins pins' (sym h.0 ∙ k.0) in
-    (h.1 ∙ sym k.1, same.0, same.1)
-stand_alike clocks stream Launched risen risen' past past' pins pins' up h k =
-    let same = snoc_same past past' pins pins' (sym h.0 ∙ k.0) in
-    (h.1 ∙ sym k.1, same.0, same.1)
+-- runs with one stream that stand at one place took the same pins
+pub pins_alike : (clocks : ℕ) (stream : List (List Bool)) (pl : Place) (risen risen' : ℕ) (past past' : List (List Bool)) (pins pins' : List Bool)
+    → StandsAfter clocks stream pl risen past pins → StandsAfter clocks stream pl risen' past' pins' → (past ≡ past') × (pins ≡ pins')
+pins_alike clocks stream Reset risen risen' past past' pins pins' h k = (h.1 ∙ sym k.1, h.2 ∙ sym k.2)
+pins_alike clocks stream Released risen risen' past past' pins pins' h k = (h.1 ∙ sym k.1, h.2 ∙ sym k.2)
+pins_alike clocks stream Pins risen risen' past past' pins pins' h k = snoc_same past past' pins pins' (sym h.0 ∙ k.0)
+pins_alike clocks stream Evaluation risen risen' past past' pins pins' h k = snoc_same past past' pins pins' (sym h.0 ∙ k.0)
+pins_alike clocks stream Capture risen risen' past past' pins pins' h k = snoc_same past past' pins pins' (sym h.0 ∙ k.0)
+pins_alike clocks stream Captured risen risen' past past' pins pins' h k = snoc_same past past' pins pins' (sym h.0 ∙ k.0)
+pins_alike clocks stream Precharge risen risen' past past' pins pins' h k = snoc_same past past' pins pins' (sym h.0 ∙ k.0)
+pins_alike clocks stream Launch risen risen' past past' pins pins' h k = snoc_same past past' pins pins' (sym h.0 ∙ k.0)
+pins_alike clocks stream Launched risen risen' past past' pins pins' h k = snoc_same past past' pins pins' (sym h.0 ∙ k.0)

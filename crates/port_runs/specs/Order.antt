@@ -1,20 +1,21 @@
 -- The order of the environment's moves in a run, whatever the values of the nets are.
 use Rattle.std.specs.Prelude.{Bool, List, [], length, ℕ, ◌++◌, ◌<◌, ◌∷◌, ◌≡◌, ◌≤◌, ◌⊎◌}
 use Rattle.dom_base.specs.declared.tri.Tri.{Tri}
-use Rattle.port_runs.specs.Environment.{Capture, Evaluation, Happens, IsNext, Launched, Move, Moves, Open, Pins, Place, Released, Reset, Rise, Step, Take, World, after_move}
+use Rattle.port_runs.specs.Environment.{Capture, Evaluation, Happens, Fall, IsNext, Launched, Move, Moves, Open, Pins, Place, Released, Reset, Rise, Step, Take, World, after_move, Clocking, Overlapping}
 
 -- what a move needs but for rest, with so many clocks and pins
-abbrev pub Allows : ℕ → ℕ → Move → World → Type 0
-Allows clocks pins (Open place) w = IsNext w.place place × (place ≡ Capture → w.risen ≡ clocks)
-Allows clocks pins (Take bits) w = ((w.place ≡ Released) ⊎ (w.place ≡ Launched)) × (length bits ≡ pins)
-Allows clocks pins Rise w = (w.place ≡ Evaluation) × (w.risen < clocks)
+abbrev pub Allows : Clocking → ℕ → ℕ → Move → World → Type 0
+Allows clocking clocks pins (Open place) w = IsNext w.place place × (place ≡ Capture → w.risen ≡ clocks)
+Allows clocking clocks pins (Take bits) w = ((w.place ≡ Released) ⊎ (w.place ≡ Launched)) × (length bits ≡ pins)
+Allows clocking clocks pins Rise w = (w.place ≡ Evaluation) × (w.risen < clocks)
+Allows clocking clocks pins (Fall k) w = (w.place ≡ Evaluation) × (clocking ≡ Overlapping)
 
 -- the steps are events and such moves
-abbrev pub Proceeds : ℕ → ℕ → List Step → World → World → Type 0
-Proceeds clocks pins [] w w' = w' ≡ w
-Proceeds clocks pins (Happens n ∷ steps) w w' = (values : List Tri) × Proceeds clocks pins steps (record w { values = values }) w'
-Proceeds clocks pins (Moves move ∷ steps) w w' =
-    (values : List Tri) × Allows clocks pins move w × Proceeds clocks pins steps (record (after_move move w) { values = values }) w'
+abbrev pub Proceeds : Clocking → ℕ → ℕ → List Step → World → World → Type 0
+Proceeds clocking clocks pins [] w w' = w' ≡ w
+Proceeds clocking clocks pins (Happens n ∷ steps) w w' = (values : List Tri) × Proceeds clocking clocks pins steps (record w { values = values }) w'
+Proceeds clocking clocks pins (Moves move ∷ steps) w w' =
+    (values : List Tri) × Allows clocking clocks pins move w × Proceeds clocking clocks pins steps (record (after_move move w) { values = values }) w'
 
 -- how many clocks have risen when pins are taken: none in the first cycle, and all those of the cycle before in a later one
 abbrev pub risen_before : ℕ → List (List Bool) → ℕ

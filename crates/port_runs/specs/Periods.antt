@@ -9,8 +9,8 @@ use Rattle.deck.specs.PortLayout.{first_clock}
 use Rattle.deck.specs.Switches.{value_of}
 use Rattle.deck.specs.declared.device.Device.{Device}
 use Rattle.deck.specs.declared.role.Roles.{Roles}
-use Rattle.port_runs.specs.Environment.{Evaluation, Happens, Moves, Open, Precharge, Step, World}
-use Rattle.port_runs.specs.PortRuns.{Does, Runs}
+use Rattle.port_runs.specs.Environment.{Clocking, Evaluation, Fall, Happens, Moves, Open, Precharge, Step, World}
+use Rattle.port_runs.specs.PortRuns.{Does, Runs, RunsBy}
 
 -- the ports `vdd` and `vss`, and the clock ports behind them
 abbrev pub vdd_port : ℕ
@@ -42,6 +42,10 @@ pub record IsDominoOutput (c : CircuitData) (roles : Roles) (n : ℕ) : Type 0 w
 abbrev pub IsInPeriod : Step → Type 0
 IsInPeriod step = step ≢ Moves (Open Precharge)
 
+-- nor that of clock i, which lasts to its fall where that is before precharge
+abbrev pub IsInPeriodOf : ℕ → Step → Type 0
+IsInPeriodOf i step = IsInPeriod step × (step ≢ Moves (Fall i))
+
 -- no step is an event of the net
 abbrev pub IsNever : ℕ → List Step → Type 0
 IsNever n steps = AllByRecursion (λ step. step ≢ Happens n) steps
@@ -56,6 +60,12 @@ pub record IsInEvaluation (c : CircuitData) (roles : Roles) (steps : List Step) 
   pub earlier : List Step
   pub run : Runs c roles (earlier ++ Moves (Open Evaluation) ∷ steps) w
   pub period : AllByRecursion IsInPeriod steps
+
+-- the last steps of a legal run, since it opened an evaluation in which clock i has not fallen
+pub record IsInPeriodBy (clocking : Clocking) (c : CircuitData) (roles : Roles) (i : ℕ) (steps : List Step) (w : World) : Type 0 where
+  pub earlier : List Step
+  pub run : RunsBy clocking c roles (earlier ++ Moves (Open Evaluation) ∷ steps) w
+  pub period : AllByRecursion (IsInPeriodOf i) steps
 
 -- a net has at most one event in an evaluation period, and it takes the net from one value to the other: among the steps so far
 -- there is at most one, and where one comes next, there is none among them
