@@ -1,10 +1,10 @@
 -- The ports of a deck, and the nets that gate its cells.
-use Rattle.std.proofs.Common.{◌≡◌, ℕ, zero, suc, ◌+◌, ◌-◌, ◌*◌, ◌/◌, ◌%◌, ◌≤◌, ◌<◌, ◌^◌, Bool, true, false, cond, List, [], ◌∷◌, ◌++◌, length, map, take, refl, sym, ap, ◌∙◌, subst, arith, Some, slice_get, append_assoc, nat_lt, nat_eq, zero-add, flat_map}
+use Rattle.domino_cell.specs.Style.{WithKeeper}
+use Rattle.std.proofs.Common.{◌≡◌, ℕ, ◌+◌, ◌-◌, ◌*◌, ◌/◌, ◌%◌, ◌≤◌, ◌<◌, ◌^◌, Bool, true, false, cond, List, [], ◌∷◌, ◌++◌, length, map, take, refl, sym, ap, ◌∙◌, subst, arith, Some, slice_get, append_assoc, nat_lt, zero-add, flat_map}
 use Rattle.std.specs.Prelude.{◌==◌, codes, slice_index_or}
 use Rattle.std.specs.Fmt.{decimal}
-use Rattle.std.specs.List.{AllByRecursion, enumerate_from, starts_with}
-use Rattle.std.proofs.lemmas.Bool.{and_parts, eqb-true, ltb-false, ltb-true}
-use Rattle.std.proofs.lemmas.Fmt.{decimal_digit}
+use Rattle.std.specs.List.{AllByRecursion, enumerate_from}
+use Rattle.std.proofs.lemmas.Bool.{ltb-false, ltb-true}
 use Rattle.std.proofs.lemmas.List.Elements.{All-from_recursion, recursion_from_All}
 use Rattle.std.proofs.lemmas.List.FromFn.{get_or-map-range_with_len, length-map-range_with_len}
 use Rattle.std.proofs.lemmas.Option.{slice_get_within, slice_get-get_or}
@@ -24,14 +24,10 @@ use Rattle.domino_cell.specs.Cell.{cell}
 use Rattle.domino_cell.specs.NamedTrees.{named_tree}
 use Rattle.domino_cell.specs.PushedNames.{IsPort, numbered_cell}
 use Rattle.synth_flow.specs.BareDecks.{cell_plan, gate_nets}
-use Rattle.synth_flow.specs.DeckNets.{clock_net, complement_net, named_cell, named_gate, output_net, own_net, rail_net}
+use Rattle.deck_form.specs.DeckNets.{clock_net, complement_net, named_cell, named_gate, output_net, own_net, rail_net}
 use Rattle.synth_flow.specs.MadeDecks.{AreGated, HasRoomForCells, IsBeforeCell, cells_from}
-use Rattle.synth_flow.proofs.NameParts.{bare_number_is}
-
--- a name that begins with two bytes
-pub begins : (b c : ℕ) (name : List ℕ) → starts_with nat_eq name (b ∷ c ∷ []) ≡ true → (rest : List ℕ) × (name ≡ b ∷ rest)
-begins b c [] e = absurd (cc)
-begins b c (x ∷ name) e = let same : b ≡ x = eqb-true _ _ (and_parts _ _ e).0 in (name, ap (λ y. y ∷ name) (sym same))
+use Rattle.deck_form.proofs.NameParts.{bare_number_is}
+use Rattle.deck_form.proofs.ClockPorts.{begins, clock_at}
 
 -- a property of names by their letter
 pub pins_have : (P : List ℕ → Type 0) → ((rest : List ℕ) → P (105 ∷ rest)) → (pins : List (List ℕ)) → AllByRecursion IsPin pins → AllByRecursion P pins
@@ -46,23 +42,6 @@ pub ports_have : (P : List ℕ → Type 0) (clocks : ℕ) (pins outs : List (Lis
 ports_have P clocks pins outs vdd vss clock latch pin out =
     AllByRecursion-append P (leading_ports clocks ++ pins) outs
     (AllByRecursion-append P (leading_ports clocks) pins (vdd, (vss, AllByRecursion-append P (take clocks clock_ports) latch_ports (AllByRecursion-take P clocks clock_ports clock) latch)) pin) out
-
-clock_named : (n : ℕ) → n < 10 → Some (codes "ck" ++ (48 + n) ∷ []) ≡ Some (clock_net n)
-clock_named n few = ap (λ ds. Some (codes "ck" ++ ds)) (sym (decimal_digit n few))
-
--- a clock stands behind the supplies
-pub clock_at : (clocks i : ℕ) (rest : List (List ℕ)) → clocks ≤ 4 → i < clocks → slice_get (leading_ports clocks ++ rest) (2 + i) ≡ Some (clock_net (1 + i))
-clock_at (suc zero) zero rest few lt = clock_named 1 (omega arith)
-clock_at (suc (suc zero)) zero rest few lt = clock_named 1 (omega arith)
-clock_at (suc (suc zero)) (suc zero) rest few lt = clock_named 2 (omega arith)
-clock_at (suc (suc (suc zero))) zero rest few lt = clock_named 1 (omega arith)
-clock_at (suc (suc (suc zero))) (suc zero) rest few lt = clock_named 2 (omega arith)
-clock_at (suc (suc (suc zero))) (suc (suc zero)) rest few lt = clock_named 3 (omega arith)
-clock_at (suc (suc (suc (suc zero)))) zero rest few lt = clock_named 1 (omega arith)
-clock_at (suc (suc (suc (suc zero)))) (suc zero) rest few lt = clock_named 2 (omega arith)
-clock_at (suc (suc (suc (suc zero)))) (suc (suc zero)) rest few lt = clock_named 3 (omega arith)
-clock_at (suc (suc (suc (suc zero)))) (suc (suc (suc zero))) rest few lt = clock_named 4 (omega arith)
-clock_at clocks i rest few lt = absurd (omega arith)
 
 module _ (name : List ℕ) (phases : List Phase) (clocks : ℕ) (pins outs : List (List ℕ)) where
   abbrev bare : CircuitData
@@ -146,7 +125,7 @@ same_tree names pins lc (Parallel l r) h = λ i. Parallel (same_tree names pins 
 
 -- the cells by the nets of their gates
 pub cells_are : (names pins : List (List ℕ)) (lc k : ℕ) (plans : List GatePlan) → AllByRecursion (λ (p : GatePlan). EachLeaf (λ gate. net_name names gate ≡ named_gate pins lc gate) (tree_of p.tree)) plans
-    → cells_from names k plans ≡ flat_map (named_cell pins lc) (enumerate_from k (map cell_plan plans))
+    → cells_from names k plans ≡ flat_map (named_cell WithKeeper pins lc) (enumerate_from k (map cell_plan plans))
 cells_are names pins lc k [] h = refl
 cells_are names pins lc k (p ∷ plans) h =
     λ i. cell (numbered_cell p.clock k) (same_tree names pins lc (tree_of p.tree) h.0 i) ++ cells_are names pins lc (k + 1) plans h.1 i

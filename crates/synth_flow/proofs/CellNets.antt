@@ -4,7 +4,7 @@ use Rattle.std.proofs.lemmas.List.Elements.{recursion_from_All}
 use Rattle.latch_bind.proofs.LatchParts.{two_parts}
 use Rattle.synth_flow.proofs.LoopItems.{count_with}
 use Rattle.std.proofs.lemmas.List.Sums.{sum_by-cons}
-use Rattle.model_calls.proofs.IndexedLists.{take_get}
+use Rattle.network.proofs.IndexedLists.{take_get}
 use Rattle.std.specs.Prelude.{codes}
 use Rattle.std.specs.Fmt.{decimal}
 use Rattle.std.specs.List.{AllByRecursion}
@@ -28,8 +28,8 @@ use Rattle.domino_cell.proofs.CellCircuits.{with_devices-append}
 use Rattle.tree_map.specs.MappedCover.{plan_trees}
 use Rattle.tree_map.specs.Plans.{cost, tree_cost}
 use Rattle.synth_flow.specs.MadeDecks.{AreGated, HasRoomForCells, IsBeforeCell, cells_from}
-use Rattle.synth_flow.specs.NameParts.{number_of}
-use Rattle.synth_flow.proofs.NameParts.{HasNames, all_nets, bare_number_is, none_named, number_is}
+use Rattle.deck_form.specs.NameParts.{number_of}
+use Rattle.deck_form.proofs.NameParts.{HasNames, all_nets, bare_number_is, none_named, number_is}
 use Rattle.synth_flow.proofs.FigureLoops.{cost_room}
 
 -- a port stays one

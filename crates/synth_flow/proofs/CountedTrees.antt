@@ -16,8 +16,8 @@ use Rattle.tree_map.specs.Plans.{IsArmTree, literal, cut, series, parallel, IsTr
 use Rattle.dual_rail.proofs.Zips.{all_zip_get}
 use Rattle.synth_flow.specs.CellCounts.{AreTreesOf, greatest_read}
 use Rattle.synth_flow.specs.NamedComplements.{MarksAlso}
-use Rattle.synth_flow.specs.NamedDecks.{reads}
-use Rattle.synth_flow.proofs.CellOrder.{root_of_cell}
+use Rattle.deck_form.specs.NamedDecks.{reads}
+use Rattle.deck_form.proofs.CellOrder.{root_of_cell}
 use Rattle.synth_flow.proofs.LeafMarks.{marks_both}
 use Rattle.synth_flow.proofs.PushedDecks.{few_filtered}
 

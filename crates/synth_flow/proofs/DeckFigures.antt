@@ -1,4 +1,5 @@
 -- The figures of a deck by its parts are those of the circuit.
+use Rattle.domino_cell.specs.Style.{WithKeeper}
 use Rattle.std.proofs.Common.{◌≡◌, ℕ, ◌+◌, ◌*◌, ◌==◌, ◌||◌, Bool, List, [], ◌∷◌, ◌++◌, length, map, filter, zip, flat_map, refl, sym, ap, ap₂, ◌∙◌, arith, length-append}
 use Rattle.std.specs.List.{count_by, enumerate_from, list_any, range_with_len}
 use Rattle.std.specs.Prelude.{codes, cond, not}
@@ -6,16 +7,11 @@ use Rattle.std.proofs.lemmas.List.{length-map}
 use Rattle.std.proofs.lemmas.List.FromFn.{length-enumerate_from}
 use Rattle.std.proofs.lemmas.List.Sums.{sum_by-cons}
 use Rattle.std.proofs.lemmas.Slice.Zip.{length-zip}
-use Rattle.dom_base.specs.declared.kind.Kind.TheVariants.{N as nch}
 use Rattle.dom_base.proofs.Lists.{list_any-map}
 use Rattle.deck.specs.CircuitData.{CircuitData}
 use Rattle.deck.specs.Escapes.{escaped}
 use Rattle.deck.specs.NamedDevices.{NamedDevice}
 use Rattle.deck.specs.Pushes.{new_circuit}
-use Rattle.domino_cell.specs.Cell.{dynamic_stage, inverter}
-use Rattle.domino_cell.specs.PushedNames.{numbered_cell}
-use Rattle.domino_cell.specs.Spelling.{spell}
-use Rattle.domino_cell.proofs.Spellings.{length-spell}
 use Rattle.latch_bind.specs.Latches.{data_net, named_latch}
 use Rattle.dual_rail.specs.ForestData.{ForestData}
 use Rattle.dual_rail.specs.Forests.{IsForestOf}
@@ -25,22 +21,24 @@ use Rattle.gate_decompose.specs.GateNodes.{AreGatesOf}
 use Rattle.gate_decompose.specs.GatesData.{GatesData}
 use Rattle.gate_decompose.specs.Sinks.{leaf_count, sink_signals}
 use Rattle.clock_phase.specs.Levels.{AreLevels, clock_of, greatest}
-use Rattle.net_flatten.specs.NetworkData.{NetworkData}
-use Rattle.net_flatten.specs.declared.network.NetLatch.{NetLatch}
+use Rattle.network.specs.NetworkData.{NetworkData}
+use Rattle.network.specs.declared.network.NetLatch.{NetLatch}
 use Rattle.phase_assign.specs.Signs.{AreChosen}
-use Rattle.sp_network.specs.Tree.{Tree, leaves, map_tree}
-use Rattle.sp_network.proofs.TreeImages.{leaves-map_tree}
+use Rattle.sp_network.specs.Tree.{Tree}
 use Rattle.tree_map.specs.LeastPlans.{IsChosenPlan}
-use Rattle.tree_map.specs.Plans.{cost, tree_cost}
+use Rattle.tree_map.specs.Plans.{cost}
 use Rattle.synth_flow.specs.CellCounts.{is_read_in}
-use Rattle.synth_flow.specs.ChosenDecks.{IsChosenDeck, end_at_cell}
-use Rattle.synth_flow.specs.DeckNets.{CellPlan, SinkEnd, named_cell, named_complement, named_gate, named_sink, sink_nets}
-use Rattle.synth_flow.specs.DominoDecks.{cells_of, complements_of, deck_circuit, outs_of, phases_of_sinks, pins_of, signal_name, starts_of}
+use Rattle.deck_form.specs.ChosenDecks.{IsChosenDeck, end_at_cell}
+use Rattle.deck_form.specs.DeckNets.{CellPlan, SinkEnd, named_cell, named_complement, named_sink, sink_nets}
+use Rattle.deck_form.specs.AskedOptions.{deck_options}
+use Rattle.deck_form.specs.DominoDecks.{cells_of, complements_of, deck_circuit, outs_of, phases_of_sinks, pins_of, signal_name, starts_of}
 use Rattle.synth_flow.specs.NamedComplements.{is_plus_end}
-use Rattle.synth_flow.specs.NamedDecks.{is_plus_literal, names_complement, reads}
+use Rattle.deck_form.specs.NamedDecks.{is_plus_literal, names_complement, reads}
 use Rattle.synth_flow.specs.Summaries.{IsSummaryOf, both_nodes, clock_counts, figures}
 use Rattle.synth_flow.specs.SummaryLaws.{DevicesAreCounted}
 use Rattle.synth_flow.specs.SummaryParts.{figures_by, levels_at_clock}
+use Rattle.deck_form.specs.declared.options.SynthOptions.{SynthOptions}
+use Rattle.deck_form.proofs.CellDevices.{cells_count, clocks_stay, trees_stay}
 use Rattle.synth_flow.proofs.LeafMarks.{filter_same}
 use Rattle.synth_flow.proofs.LoopItems.{count_with}
 
@@ -49,48 +47,8 @@ parts_count : {X : Type 0} (part : X → List (NamedDevice (List ℕ))) (n : ℕ
 parts_count part n each [] = omega arith
 parts_count part n each (x ∷ xs) = omega (arith, length-append (part x) (flat_map part xs), each x, parts_count part n each xs)
 
-cell_count : (pins : List (List ℕ)) (lc k : ℕ) (c : CellPlan) → length (named_cell pins lc (k, c)) ≡ leaves c.tree + 5
-cell_count pins lc k c =
-    let nets = numbered_cell c.clock k in
-    let tree = map_tree (named_gate pins lc) c.tree in
-    let spelled = spell nch nets.inner tree nets.dynamic nets.foot 0 in
-    let foot : NamedDevice (List ℕ) = record { kind = nch; drain = nets.foot; gate = nets.clock; source = nets.vss } in
-    omega (
-      arith,
-      length-spell nch nets.inner tree nets.dynamic nets.foot 0,
-      leaves-map_tree (named_gate pins lc) c.tree,
-      length-append spelled (foot ∷ []),
-      length-append (dynamic_stage nets tree) (inverter nets.vdd nets.vss nets.dynamic nets.output),
-    )
-
-cells_count : (pins : List (List ℕ)) (lc k : ℕ) (cells : List CellPlan) → length (flat_map (named_cell pins lc) (enumerate_from k cells)) ≡ cost (map (λ (c : CellPlan). c.tree) cells)
-cells_count pins lc k [] = refl
-cells_count pins lc k (c ∷ cells) = omega (
-  arith,
-  length-append (named_cell pins lc (k, c)) (flat_map (named_cell pins lc) (enumerate_from (k + 1) cells)),
-  cell_count pins lc k c,
-  cells_count pins lc (k + 1) cells,
-  sum_by-cons tree_cost c.tree (map (λ (d : CellPlan). d.tree) cells),
-)
-
 latch_count : (p : ℕ × Bool) → length (named_latch p) ≡ 9
 latch_count (j, start) = refl
-
-module _ (f : ℕ → ℕ) where
-  abbrev with_clock : Tree ℕ × ℕ → CellPlan
-  with_clock p = record { tree = p.0; clock = f p.1 }
-
-  trees_stay : (trees : List (Tree ℕ)) (levels : List ℕ) → length levels ≡ length trees → map (λ (c : CellPlan). c.tree) (map with_clock (zip trees levels)) ≡ trees
-  trees_stay [] [] e = refl
-  trees_stay [] (l ∷ levels) e = refl
-  trees_stay (t ∷ trees) [] e = absurd (omega (arith, e))
-  trees_stay (t ∷ trees) (l ∷ levels) e = ap (λ r. t ∷ r) (trees_stay trees levels (omega (arith, e)))
-
-  clocks_stay : (trees : List (Tree ℕ)) (levels : List ℕ) → length levels ≡ length trees → map (λ (c : CellPlan). c.clock) (map with_clock (zip trees levels)) ≡ map f levels
-  clocks_stay [] [] e = refl
-  clocks_stay [] (l ∷ levels) e = absurd (omega (arith, e))
-  clocks_stay (t ∷ trees) [] e = absurd (omega (arith, e))
-  clocks_stay (t ∷ trees) (l ∷ levels) e = ap (λ r. f l ∷ r) (clocks_stay trees levels (omega (arith, e)))
 
 -- the devices of a deck
 module _ (network : NetworkData) (phases : ℕ) (trees : List (Tree ℕ)) (levels : List ℕ) (signs : List Bool) (ends : List SinkEnd)
@@ -129,10 +87,10 @@ module _ (network : NetworkData) (phases : ℕ) (trees : List (Tree ℕ)) (level
   sinks_count : length (zip (sink_nets outs starts) ends) ≡ length network.outputs + length network.latches
   sinks_count = omega (arith, length-zip (sink_nets outs starts) ends, nets_count, one_end)
 
-  pub deck_count : length (deck_circuit network phases trees levels signs ends).devices
+  pub deck_count : length (deck_circuit WithKeeper network phases (cells_of phases levels trees) signs ends).devices
       ≡ cost trees + 2 * length complements + 9 * length network.latches + 2 * (length network.outputs + length network.latches)
   deck_count =
-      let a = flat_map (named_cell pins lc) (enumerate_from 0 cells) in
+      let a = flat_map (named_cell WithKeeper pins lc) (enumerate_from 0 cells) in
       let b = flat_map (named_complement pins) complements in
       let c = flat_map named_latch (enumerate_from 0 starts) in
       let d = flat_map (named_sink pins) (zip (sink_nets outs starts) ends) in
@@ -160,9 +118,9 @@ ends_count network gates signs kept forest are is =
     ∙ length-append network.outputs (map (λ (l : NetLatch). l.input) network.latches) ∙ ap (λ n. length network.outputs + n) (length-map network.latches (λ (l : NetLatch). l.input))
 
 pub devices_counted : DevicesAreCounted
-devices_counted network w h phases circuit is =
+devices_counted network options circuit is =
     ap (λ (c : CircuitData). length c.devices) is.circuit_is
-    ∙ deck_count network phases is.trees is.levels is.signs (map (end_at_cell is.kept) is.forest.ends) is.levels_are.one_each
+    ∙ deck_count network options.phases is.trees is.levels is.signs (map (end_at_cell is.kept) is.forest.ends) is.levels_are.one_each
     (ends_count network is.gates is.signs is.kept is.forest is.are_gates is.is_forest)
 
 -- the complements that are named
@@ -209,16 +167,16 @@ module _ (phases : ℕ) (trees : List (Tree ℕ)) (levels : List ℕ) (one_level
           ∙ count_mapped (λ (c : CellPlan). c.clock) clock deck_cells
 
 -- the figures
-pub figures_are : (network : NetworkData) (w h phases : ℕ) (gates : GatesData) (signs : List Bool) (forest : ForestData) (kept : List Bool) (trees : List (Tree ℕ)) (levels named : List ℕ) (both : ℕ)
-    → AreGatesOf network gates → AreChosen gates signs → IsForestOf gates signs forest → IsChosenPlan forest w h kept trees → AreLevels (leaf_count network) trees levels
+pub figures_are : (network : NetworkData) (options : SynthOptions) (gates : GatesData) (signs : List Bool) (forest : ForestData) (kept : List Bool) (trees : List (Tree ℕ)) (levels named : List ℕ) (both : ℕ)
+    → AreGatesOf network gates → AreChosen gates signs → IsForestOf gates signs forest → IsChosenPlan forest options.bounds.w options.bounds.h kept trees → AreLevels (leaf_count network) trees levels
     → named ≡ filter (λ leaf. is_read_in trees leaf || list_any (is_plus_end leaf) forest.ends) (range_with_len 0 (leaf_count network))
-    → both ≡ length (both_nodes forest.origin (length gates.nodes)) → IsSummaryOf network w h phases (figures_by network phases signs forest levels (cost trees) named both)
-figures_are network w h phases gates signs forest kept trees levels named both are chosen is plan levels_are named_are both_is = (circuit, deck, same)
+    → both ≡ length (both_nodes forest.origin (length gates.nodes)) → IsSummaryOf network options (figures_by network options.phases signs forest levels (cost trees) named both)
+figures_are network options gates signs forest kept trees levels named both are chosen is plan levels_are named_are both_is = (circuit, deck, same)
   where
     circuit : CircuitData
-    circuit = deck_circuit network phases trees levels signs (map (end_at_cell kept) forest.ends)
+    circuit = deck_circuit WithKeeper network options.phases (cells_of options.phases levels trees) signs (map (end_at_cell kept) forest.ends)
 
-    deck : IsChosenDeck network w h phases circuit
+    deck : IsChosenDeck network (deck_options options) circuit
     deck = record {
       gates = gates;
       signs = signs;
@@ -238,12 +196,12 @@ figures_are network w h phases gates signs forest kept trees levels named both a
         ≡ length circuit.devices
     devices =
         ap (λ (l : List ℕ). cost trees + 2 * length l + 9 * length network.latches + 2 * (length network.outputs + length network.latches))
-        (named_are ∙ complements_same phases trees levels levels_are.one_each network kept forest.ends)
-        ∙ sym (devices_counted network w h phases circuit deck)
+        (named_are ∙ complements_same options.phases trees levels levels_are.one_each network kept forest.ends)
+        ∙ sym (devices_counted network options circuit deck)
 
-    same : figures_by network phases signs forest levels (cost trees) named both ≡ figures deck
+    same : figures_by network options.phases signs forest levels (cost trees) named both ≡ figures deck
     same =
-        let clock_list = clocks_same phases trees levels levels_are.one_each in
+        let clock_list = clocks_same options.phases trees levels levels_are.one_each in
         λ i. record {
           inputs = network.inputs;
           outputs = length network.outputs;

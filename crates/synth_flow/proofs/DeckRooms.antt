@@ -25,9 +25,9 @@ use Rattle.domino_cell.specs.Spelling.{spell}
 use Rattle.domino_cell.proofs.NamedCells.{is_source-inside}
 use Rattle.latch_bind.specs.Latches.{named_latch}
 use Rattle.synth_flow.specs.MadeDecks.{EndsApart, cells_from, inverters, latches_from}
-use Rattle.synth_flow.specs.NameParts.{number_of}
+use Rattle.deck_form.specs.NameParts.{number_of}
 use Rattle.synth_flow.proofs.CellNets.{tree_names}
-use Rattle.synth_flow.proofs.NameParts.{HasNames, bare_number_is, none_named}
+use Rattle.deck_form.proofs.NameParts.{HasNames, bare_number_is, none_named}
 
 -- a property of the two ends of a device
 abbrev pub HasEnds : (List ℕ → Type 0) → NamedDevice (List ℕ) → Type 0

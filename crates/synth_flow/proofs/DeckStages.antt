@@ -24,13 +24,14 @@ use Rattle.dual_rail.proofs.Zips.{all_from}
 use Rattle.std.proofs.lemmas.Option.{slice_get_within}
 use Rattle.clock_phase.proofs.Greatest.{each_leaf_weaker}
 use Rattle.synth_flow.specs.BareDecks.{gate_nets}
-use Rattle.synth_flow.specs.DeckNets.{complement_net, data_net, named_gate, own_net}
+use Rattle.deck_form.specs.DeckNets.{complement_net, data_net, named_gate, own_net}
 use Rattle.synth_flow.specs.MadeDecks.{EndsApart, HasRoomForInverters, IsBeforeLatch, cells_from, inverters, latches_from}
-use Rattle.synth_flow.specs.NameParts.{leading_letter, rest_of}
-use Rattle.synth_flow.proofs.BareDecks.{begins, gate_has, gate_net, own_has, is_port, outs_have, pins_have, ports_have}
+use Rattle.deck_form.specs.NameParts.{leading_letter, rest_of}
+use Rattle.synth_flow.proofs.BareDecks.{gate_has, gate_net, own_has, is_port, outs_have, pins_have, ports_have}
 use Rattle.synth_flow.proofs.DeckRooms.{HasEnds, HoldsOfCells, cells_end, cells_named, ends_apart, inverters_end, inverters_named, latches_end, new_no_source, numbered_apart, output_no_source}
 use Rattle.synth_flow.proofs.LatchNets.{other}
-use Rattle.synth_flow.proofs.NameParts.{all_nets, bare_rest_is}
+use Rattle.deck_form.proofs.NameParts.{all_nets, bare_rest_is}
+use Rattle.deck_form.proofs.ClockPorts.{begins}
 
 -- no complement: a name with the letter `c` has more than a number behind it
 abbrev IsNoComplement : List ℕ → Type 0

@@ -1,7 +1,7 @@
 -- Latches that are appended one by one.
 use Rattle.std.proofs.Common.{◌≡◌, ℕ, zero, suc, ◌+◌, ◌*◌, ◌<◌, ◌≤◌, ◌^◌, Bool, true, false, List, [], ◌∷◌, ◌++◌, length, map, take, refl, sym, ap, ◌∙◌, subst, arith, Some, slice_get, append-nil, append_assoc, add-zero, zero-add, add-one, length-take, get_or, option_map}
 use Rattle.std.proofs.lemmas.Option.{slice_get-get_or, slice_get-map}
-use Rattle.net_flatten.specs.declared.network.NetLatch.{NetLatch}
+use Rattle.network.specs.declared.network.NetLatch.{NetLatch}
 use Rattle.std.specs.Prelude.{◌≢◌, codes}
 use Rattle.std.specs.Fmt.{decimal}
 use Rattle.std.specs.List.{AllByRecursion}
@@ -13,8 +13,8 @@ use Rattle.latch_bind.specs.Latches.{HasRoomForLatch, named_latch, named_reset}
 use Rattle.synth_flow.specs.MadeDecks.{IsBeforeLatch, latches_from}
 use Rattle.latch_bind.proofs.LatchParts.{two_parts}
 use Rattle.synth_flow.proofs.LoopItems.{count_with}
-use Rattle.synth_flow.specs.NameParts.{NoDigit}
-use Rattle.synth_flow.proofs.NameParts.{HasNames, all_nets, bare_number_is, none_named, number_is, rest_is}
+use Rattle.deck_form.specs.NameParts.{NoDigit}
+use Rattle.deck_form.proofs.NameParts.{HasNames, all_nets, bare_number_is, none_named, number_is, rest_is}
 
 -- a name of another kind
 pub other : (j c : ℕ) (cs : List ℕ) → c ≢ 109 → c ≢ 113 → IsBeforeLatch j (c ∷ cs)

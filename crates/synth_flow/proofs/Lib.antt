@@ -1,10 +1,7 @@
 pub mod BareDecks
 pub mod CellNets
-pub mod CellOrder
-pub mod ClockOrder
 pub mod CountedTrees
 pub mod DeckFigures
-pub mod DeckForms
 pub mod DeckRooms
 pub mod DeckStages
 pub mod FigureLoops
@@ -14,11 +11,9 @@ pub mod LeafMarks
 pub mod LoopItems
 pub mod MadeAsNamed
 pub mod MadeCircuits
-pub mod NameParts
 pub mod NetworkDecks
 pub mod PortNets
 pub mod PushedDecks
 pub mod SinkLists
-pub mod SmallTrees
 pub mod SummaryFacts
 pub mod SynthFacts

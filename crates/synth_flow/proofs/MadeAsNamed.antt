@@ -1,4 +1,5 @@
 -- The devices of a deck as the code makes them are its named devices.
+use Rattle.domino_cell.specs.Style.{WithKeeper}
 use Rattle.std.proofs.Common.{◌≡◌, ℕ, ◌+◌, ◌*◌, ◌<◌, ◌||◌, Bool, List, [], ◌∷◌, ◌++◌, length, map, zip, filter, refl, sym, ap, ap₂, ◌∙◌, Some, slice_get, flat_map}
 use Rattle.std.specs.List.{list_any, range_with_len, enumerate_from}
 use Rattle.dom_base.proofs.Lists.{list_any-map}
@@ -8,10 +9,10 @@ use Rattle.sp_network.specs.Tree.{EachLeaf}
 use Rattle.sp_network.specs.TypedTree.{tree_of}
 use Rattle.sp_network.specs.declared.plan.GatePlan.{GatePlan}
 use Rattle.synth_flow.specs.BareDecks.{cell_plan, gate_nets, made_devices, named_leaves}
-use Rattle.synth_flow.specs.DeckNets.{CellPlan, SinkEnd, complement_net, data_net, named_complement, named_devices, named_sink, own_net, sink_gate}
+use Rattle.deck_form.specs.DeckNets.{CellPlan, SinkEnd, complement_net, data_net, named_complement, named_devices, named_sink, own_net, sink_gate}
 use Rattle.synth_flow.specs.MadeDecks.{inverters, latches_from}
 use Rattle.synth_flow.specs.NamedComplements.{are_read, is_plus_end}
-use Rattle.synth_flow.specs.NamedDecks.{is_plus_literal, names_complement, reads}
+use Rattle.deck_form.specs.NamedDecks.{is_plus_literal, names_complement, reads}
 use Rattle.synth_flow.specs.SinkParts.{end_in}
 use Rattle.synth_flow.proofs.BareDecks.{cells_are, gates_are}
 use Rattle.synth_flow.proofs.LeafMarks.{filter_same}
@@ -35,7 +36,7 @@ data_rows j (s ∷ starts) = ap (λ l. data_net j ∷ l) (data_rows (j + 1) star
 pub made_named : (pins outs : List (List ℕ)) (starts : List Bool) (plans : List GatePlan) (ends : List End) (cells : List ℕ)
     → ((k : ℕ) (p : GatePlan) → slice_get plans k ≡ Some p → EachLeaf (λ gate. gate < 2 * (length pins + length starts) + k) (tree_of p.tree))
     → made_devices pins (outs ++ map data_net (range_with_len 0 (length starts))) starts plans ends cells
-    ≡ named_devices pins outs starts (map cell_plan plans) (named_leaves plans ends (length pins + length starts)) (map (end_in cells) ends)
+    ≡ named_devices WithKeeper pins outs starts (map cell_plan plans) (named_leaves plans ends (length pins + length starts)) (map (end_in cells) ends)
 made_named pins outs starts plans ends cells earlier =
     let lc : ℕ = length pins + length starts in
     let leaves = named_leaves plans ends lc in

@@ -1,4 +1,5 @@
 -- The circuit that the code makes of a network is its deck.
+use Rattle.domino_cell.specs.Style.{WithKeeper}
 use Rattle.std.proofs.Common.{◌≡◌, ℕ, ◌+◌, ◌*◌, ◌<◌, Bool, List, [], ◌∷◌, ◌++◌, length, map, zip, filter, refl, sym, ap, ap₂, ◌∙◌, subst, arith, Some, slice_get, All}
 use Rattle.std.specs.Prelude.{codes, slice_index_or}
 use Rattle.std.specs.List.{AllByRecursion, range_with_len}
@@ -16,17 +17,17 @@ use Rattle.sp_network.specs.TypedTree.{tree_of}
 use Rattle.sp_network.specs.declared.plan.GatePlan.{GatePlan}
 use Rattle.clock_phase.specs.Levels.{clock_of, greatest}
 use Rattle.gate_decompose.specs.Sinks.{leaf_count}
-use Rattle.net_flatten.specs.NetworkData.{NetworkData}
-use Rattle.net_flatten.specs.declared.network.NetLatch.{NetLatch}
+use Rattle.network.specs.NetworkData.{NetworkData}
+use Rattle.network.specs.declared.network.NetLatch.{NetLatch}
 use Rattle.tree_map.specs.MappedCover.{plan_trees}
 use Rattle.tree_map.specs.Plans.{cell_of}
 use Rattle.synth_flow.specs.BareDecks.{cell_plan, made_devices, named_leaves}
-use Rattle.synth_flow.specs.ChosenDecks.{end_at_cell}
-use Rattle.synth_flow.specs.DeckNets.{OfDynamic, OfOutput, data_net, named_devices, sink_nets}
-use Rattle.synth_flow.specs.DominoDecks.{cells_of, deck_circuit, outs_of, phases_of_sinks, pins_of, starts_of}
+use Rattle.deck_form.specs.ChosenDecks.{end_at_cell}
+use Rattle.deck_form.specs.DeckNets.{OfDynamic, OfOutput, data_net, named_devices, sink_nets}
+use Rattle.deck_form.specs.DominoDecks.{cells_of, deck_circuit, outs_of, phases_of_sinks, pins_of, starts_of}
 use Rattle.synth_flow.specs.MadeCircuits.{made_deck, sinks_of}
 use Rattle.synth_flow.specs.MadeDecks.{port_net}
-use Rattle.synth_flow.specs.NamedDecks.{names_complement}
+use Rattle.deck_form.specs.NamedDecks.{names_complement}
 use Rattle.synth_flow.specs.SinkParts.{HasCell, end_in, phase_of_sink}
 use Rattle.synth_flow.proofs.MadeAsNamed.{data_rows, leaves_named, made_named}
 
@@ -61,7 +62,7 @@ pub made_is_deck : (network : NetworkData) (phases : ℕ) (signs : List Bool) (p
     → map (λ (p : GatePlan). p.clock) plans ≡ map (clock_of phases (greatest levels)) levels → All (HasCell (length kept)) ends
     → ((k : ℕ) (p : GatePlan) → slice_get plans k ≡ Some p → EachLeaf (λ gate. gate < 2 * leaf_count network + k) (tree_of p.tree))
     → made_deck network phases signs plans ends (map (cell_of kept) (range_with_len 0 (length kept)))
-    ≡ deck_circuit network phases (plan_trees plans) levels signs (map (end_at_cell kept) ends)
+    ≡ deck_circuit WithKeeper network phases (cells_of phases levels (plan_trees plans)) signs (map (end_at_cell kept) ends)
 made_is_deck network phases signs plans levels ends kept clocks low earlier =
     let pins = pins_of network in
     let outs = outs_of network in
@@ -80,8 +81,8 @@ made_is_deck network phases signs plans levels ends kept clocks low earlier =
     let taken = ends_same kept ends (recursion_from_All (HasCell (length kept)) ends low) in
     (λ i. with_devices (new_circuit (escaped network.name) (map phase_of_sink (zip (nets i) signs)) phases pins outs) (made_devices pins (sinks i) starts plans ends numbers))
     ∙ (λ i. with_devices (new_circuit (escaped network.name) (phases_of_sinks network signs) phases pins outs) (named i))
-    ∙ (λ i. with_devices (new_circuit (escaped network.name) (phases_of_sinks network signs) phases pins outs) (named_devices pins outs starts (map cell_plan plans) (leaves i) (map (end_in numbers) ends)))
+    ∙ (λ i. with_devices (new_circuit (escaped network.name) (phases_of_sinks network signs) phases pins outs) (named_devices WithKeeper pins outs starts (map cell_plan plans) (leaves i) (map (end_in numbers) ends)))
     ∙ (λ i. with_devices (new_circuit (escaped network.name) (phases_of_sinks network signs) phases pins outs)
-    (named_devices pins outs starts (cells i) (filter (names_complement (cells i) (taken i)) (range_with_len 0 (leaf_count network))) (taken i)))
+    (named_devices WithKeeper pins outs starts (cells i) (filter (names_complement (cells i) (taken i)) (range_with_len 0 (leaf_count network))) (taken i)))
 
 pub ruleset made_circuits = (made_is_deck)

@@ -10,12 +10,12 @@ use Rattle.deck.specs.CircuitData.{CircuitData}
 use Rattle.deck.specs.Ports.{IsOutput, IsPin}
 use Rattle.deck.specs.Pushes.{new_circuit}
 use Rattle.deck.specs.declared.phase.Phase.{Phase}
-use Rattle.net_flatten.specs.NetworkData.{NetworkData}
-use Rattle.net_flatten.specs.Networks.{IsNetwork}
+use Rattle.network.specs.NetworkData.{NetworkData}
+use Rattle.network.specs.Networks.{IsNetwork}
 use Rattle.sp_network.specs.declared.plan.GatePlan.{GatePlan}
 use Rattle.synth_flow.specs.BareDecks.{IsBareDeck}
-use Rattle.synth_flow.specs.DeckNets.{data_net}
-use Rattle.synth_flow.specs.DominoDecks.{outs_of, pins_of}
+use Rattle.deck_form.specs.DeckNets.{data_net}
+use Rattle.deck_form.specs.DominoDecks.{outs_of, pins_of}
 use Rattle.synth_flow.specs.MadeCircuits.{sinks_of}
 use Rattle.synth_flow.specs.MadeDecks.{port_net}
 use Rattle.synth_flow.proofs.PortNets.{are_outputs, are_pins, nets_apart, ports_apart}

@@ -15,12 +15,12 @@ use Rattle.gate_decompose.specs.Items.{Among}
 use Rattle.sp_network.specs.declared.plan.GatePlan.{GatePlan}
 use Rattle.latch_bind.proofs.LatchParts.{two_parts}
 use Rattle.synth_flow.specs.BareDecks.{ArePlans, IsBareDeck, gate_nets, made_devices, named_leaves}
-use Rattle.synth_flow.specs.DeckNets.{complement_net, own_net, sink_gate}
+use Rattle.deck_form.specs.DeckNets.{complement_net, own_net, sink_gate}
 use Rattle.synth_flow.specs.MadeDecks.{HasRoomForInverters, IsBeforeLatch, cells_from, inverters, latches_from}
 use Rattle.synth_flow.specs.NamedComplements.{are_read, is_plus_end}
 use Rattle.synth_flow.specs.SinkParts.{end_in}
 use Rattle.synth_flow.proofs.CellNets.{cells_length}
-use Rattle.synth_flow.proofs.DeckForms.{rises_in_range}
+use Rattle.deck_form.proofs.DeckForms.{rises_in_range}
 use Rattle.synth_flow.proofs.DeckStages.{complements_before, gates_before, latches_are_new, own_are_before, room_for_complements, room_for_sinks}
 use Rattle.synth_flow.proofs.InverterRows.{inverters_length}
 use Rattle.synth_flow.proofs.LatchNets.{latches_length}

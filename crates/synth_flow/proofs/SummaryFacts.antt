@@ -10,8 +10,8 @@ use Rattle.phase_assign.proofs.ChosenSigns.{chosen_settled}
 use Rattle.sp_network.specs.Tree.{Tree}
 use Rattle.tree_map.specs.Plans.{IsPlan, IsTreeOf, roots}
 use Rattle.synth_flow.specs.CellCounts.{AreTreesOf}
-use Rattle.synth_flow.proofs.DeckForms.{all_zip_length}
-use Rattle.synth_flow.proofs.SmallTrees.{trees_are_small}
+use Rattle.deck_form.proofs.DeckForms.{all_zip_length}
+use Rattle.deck_form.proofs.SmallTrees.{trees_are_small}
 use Rattle.synth_flow.proofs.SynthFacts.{cheap_trees, few_trees, reads_earlier}
 
 -- there is one chosen sign for each sink

@@ -17,13 +17,13 @@ use Rattle.sp_network.specs.declared.plan.GatePlan.{GatePlan}
 use Rattle.clock_phase.specs.Levels.{AreLevels, clock_of, greatest}
 use Rattle.clock_phase.specs.Plans.{ReadEarlierCells}
 use Rattle.clock_phase.proofs.Levels.{clock_within, level_at_most}
-use Rattle.model_calls.proofs.Lists.{get_of_map}
+use Rattle.network.proofs.Lists.{get_of_map}
 use Rattle.tree_map.specs.MappedCover.{plan_trees}
 use Rattle.tree_map.specs.Plans.{IsPlan, IsTreeOf, cost, is_kept, roots}
 use Rattle.tree_map.proofs.PlanCosts.{plan_cost}
 use Rattle.synth_flow.specs.BareDecks.{ArePlans}
-use Rattle.synth_flow.proofs.CellOrder.{root_of_cell, tree_reads}
-use Rattle.synth_flow.proofs.DeckForms.{all_zip_length}
+use Rattle.deck_form.proofs.CellOrder.{root_of_cell, tree_reads}
+use Rattle.deck_form.proofs.DeckForms.{all_zip_length}
 use Rattle.synth_flow.proofs.PushedDecks.{few_filtered}
 
 module _ (forest : ForestData) (kept : List Bool) (w h : ℕ) (trees : List (Tree ℕ)) (plan : IsPlan forest w h kept trees) (is : IsForest forest) where

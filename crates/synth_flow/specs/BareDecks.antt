@@ -1,4 +1,5 @@
 -- Decks without devices, as the code builds on them.
+pub use Rattle.clock_phase.specs.Plans.{cell_plan}
 use Rattle.std.specs.Prelude.{ℕ, ◌+◌, ◌*◌, ◌≤◌, ◌<◌, ◌≡◌, ◌++◌, ◌||◌, Bool, List, nat_eq, length, map, filter, Some, slice_get, All}
 use Rattle.std.specs.List.{IsDistinct, list_any, range_with_len}
 use Rattle.std.specs.Cmp.Lexicographic.{pointwise}
@@ -13,7 +14,7 @@ use Rattle.sp_network.specs.declared.plan.GatePlan.{GatePlan}
 use Rattle.tree_map.specs.MappedCover.{plan_trees}
 use Rattle.tree_map.specs.Plans.{cost}
 use Rattle.dual_rail.specs.declared.forest.End.{End}
-use Rattle.synth_flow.specs.DeckNets.{CellPlan, complement_net, data_net, named_gate, own_net, sink_gate}
+use Rattle.deck_form.specs.DeckNets.{complement_net, data_net, named_gate, own_net, sink_gate}
 use Rattle.synth_flow.specs.MadeDecks.{cells_from, inverters, latches_from}
 use Rattle.synth_flow.specs.NamedComplements.{are_read, is_plus_end}
 use Rattle.synth_flow.specs.SinkParts.{end_in}
@@ -39,10 +40,6 @@ pub record ArePlans (leaves : ℕ) (plans : List GatePlan) : Type 0 where
   pub cheap : cost (plan_trees plans) ≤ 5600000
   -- each reads rails of the leaves and cells before it
   pub earlier : (k : ℕ) (p : GatePlan) → slice_get plans k ≡ Some p → EachLeaf (λ gate. gate < 2 * leaves + k) (tree_of p.tree)
-
--- a cell as plain data
-abbrev pub cell_plan : GatePlan → CellPlan
-cell_plan p = record { tree = tree_of p.tree; clock = p.clock }
 
 -- the nets of the first gates, so many, over so many leaves
 abbrev pub gate_nets : List (List ℕ) → ℕ → ℕ → List (List ℕ)

@@ -6,7 +6,7 @@ use Rattle.clock_phase.specs.Plans.{ReadEarlierCells}
 use Rattle.dual_rail.specs.ForestData.{ForestData}
 use Rattle.sp_network.specs.Tree.{Tree, leaves}
 use Rattle.tree_map.specs.Plans.{IsTreeOf, cost, roots}
-use Rattle.synth_flow.specs.NamedDecks.{reads}
+use Rattle.deck_form.specs.NamedDecks.{reads}
 
 -- the greatest level of the cells that a tree reads, or 0
 abbrev pub greatest_read : ℕ → List ℕ → Tree ℕ → ℕ

@@ -1,17 +1,9 @@
 pub mod BareDecks
 pub mod CellCounts
-pub mod ChosenDecks
 pub mod ClockedPlans
-pub mod DeckClocks
-pub mod DeckLaws
-pub mod DeckNets
-pub mod DeckTexts
-pub mod DominoDecks
 pub mod MadeCircuits
 pub mod MadeDecks
-pub mod NameParts
 pub mod NamedComplements
-pub mod NamedDecks
 pub mod SinkParts
 pub mod Summaries
 pub mod SummaryData

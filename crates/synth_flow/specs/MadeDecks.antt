@@ -15,7 +15,7 @@ use Rattle.domino_cell.specs.Cell.{cell, inverter}
 use Rattle.domino_cell.specs.NamedTrees.{named_tree}
 use Rattle.domino_cell.specs.PushedNames.{IsPort, numbered_cell}
 use Rattle.latch_bind.specs.Latches.{named_latch}
-use Rattle.synth_flow.specs.NameParts.{leading_letter, number_of, rest_of}
+use Rattle.deck_form.specs.NameParts.{leading_letter, number_of, rest_of}
 
 -- an inverter for each gate and output
 abbrev pub inverters : List (List ℕ) → List (List ℕ) → List (NamedDevice (List ℕ))

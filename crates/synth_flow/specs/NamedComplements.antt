@@ -5,7 +5,7 @@ use Rattle.sp_network.specs.TypedTree.{tree_of}
 use Rattle.sp_network.specs.declared.plan.GatePlan.{GatePlan}
 use Rattle.dual_rail.specs.declared.forest.End.{End}
 use Rattle.dual_rail.specs.declared.forest.End.TheVariants.{Const, Literal, FromDynamic, FromOutput}
-use Rattle.synth_flow.specs.NamedDecks.{reads}
+use Rattle.deck_form.specs.NamedDecks.{reads}
 
 -- the leaves that were marked are still, and those that pass the test are marked too
 abbrev pub MarksAlso : List Bool → List Bool → (ℕ → Bool) → Type 0

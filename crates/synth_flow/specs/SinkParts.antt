@@ -3,7 +3,7 @@ use Rattle.std.specs.Prelude.{ℕ, ◌<◌, Bool, List, slice_index_or}
 use Rattle.deck.specs.declared.phase.Phase.{Phase}
 use Rattle.dual_rail.specs.declared.forest.End.{End}
 use Rattle.dual_rail.specs.declared.forest.End.TheVariants.{Const, Literal, FromDynamic, FromOutput}
-use Rattle.synth_flow.specs.DeckNets.{SinkEnd, Fixed, OfLeaf, OfDynamic, OfOutput}
+use Rattle.deck_form.specs.DeckNets.{SinkEnd, Fixed, OfLeaf, OfDynamic, OfOutput}
 
 -- the phase of a sink, by its net and its sign
 abbrev pub phase_of_sink : List ℕ × Bool → Phase

@@ -3,12 +3,15 @@ use Rattle.std.specs.Prelude.{ℕ, ◌≡◌, ◌==◌, ◌&&◌, Bool, true, fa
 use Rattle.std.specs.List.{count_by, list_any, range_with_len}
 use Rattle.deck.specs.CircuitData.{CircuitData}
 use Rattle.clock_phase.specs.Levels.{greatest}
-use Rattle.net_flatten.specs.NetworkData.{NetworkData}
+use Rattle.network.specs.NetworkData.{NetworkData}
 use Rattle.tree_map.specs.Plans.{cost}
-use Rattle.synth_flow.specs.ChosenDecks.{IsChosenDeck}
-use Rattle.synth_flow.specs.DeckNets.{CellPlan}
-use Rattle.synth_flow.specs.DominoDecks.{cells_of}
+use Rattle.deck_form.specs.ChosenDecks.{IsChosenDeck}
+use Rattle.deck_form.specs.DeckNets.{CellPlan}
+use Rattle.deck_form.specs.AskedOptions.{deck_options}
+use Rattle.deck_form.specs.DeckOptions.{DeckOptions}
+use Rattle.deck_form.specs.DominoDecks.{cells_of}
 use Rattle.synth_flow.specs.SummaryData.{SummaryData}
+use Rattle.deck_form.specs.declared.options.SynthOptions.{SynthOptions}
 
 -- a pair is the one of this node and sign
 abbrev pub is_node_with_sign : ℕ → Bool → ℕ × Bool → Bool
@@ -28,8 +31,9 @@ clock_counts phases cells = map (λ clock. count_by (λ (c : CellPlan). c.clock 
 
 -- The figures of a circuit of the network, by the parts that it is made of: the needed pairs, the nodes that are needed in both
 -- signs, the sinks with the sign minus, the cells, their greatest level, the cost of the plan, and all devices.
-abbrev pub figures : {network : NetworkData} {w h phases : ℕ} {circuit : CircuitData} → IsChosenDeck network w h phases circuit → SummaryData
-figures {network} {w} {h} {phases} {circuit} is = record {
+abbrev pub figures : {network : NetworkData} {options : DeckOptions} {circuit : CircuitData}
+    → IsChosenDeck network options circuit → SummaryData
+figures {network} {options} {circuit} is = record {
   inputs = network.inputs;
   outputs = length network.outputs;
   latches = length network.latches;
@@ -40,9 +44,10 @@ figures {network} {w} {h} {phases} {circuit} is = record {
   levels = greatest is.levels;
   cost = cost is.trees;
   devices = length circuit.devices;
-  clocks = clock_counts phases (cells_of phases is.levels is.trees);
+  clocks = clock_counts options.phases (cells_of options.phases is.levels is.trees);
 }
 
 -- the figures of the circuit that synthesis gives of the network
-abbrev pub IsSummaryOf : NetworkData → ℕ → ℕ → ℕ → SummaryData → Type 0
-IsSummaryOf network w h phases summary = (circuit : CircuitData) × (is : IsChosenDeck network w h phases circuit) × (summary ≡ figures is)
+abbrev pub IsSummaryOf : NetworkData → SynthOptions → SummaryData → Type 0
+IsSummaryOf network options summary =
+    (circuit : CircuitData) × (is : IsChosenDeck network (deck_options options) circuit) × (summary ≡ figures is)

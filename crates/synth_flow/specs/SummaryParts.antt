@@ -3,7 +3,7 @@ use Rattle.std.specs.Prelude.{ℕ, ◌+◌, ◌*◌, ◌==◌, Bool, not, List, 
 use Rattle.std.specs.List.{count_by, range_with_len}
 use Rattle.clock_phase.specs.Levels.{clock_of, greatest}
 use Rattle.dual_rail.specs.ForestData.{ForestData}
-use Rattle.net_flatten.specs.NetworkData.{NetworkData}
+use Rattle.network.specs.NetworkData.{NetworkData}
 use Rattle.synth_flow.specs.SummaryData.{SummaryData}
 
 -- how many levels have this clock, in a deck of so many clocks whose greatest level is given

@@ -12,7 +12,7 @@ use crate::sinks::{phases, sink_names};
 use deck::Circuit;
 use dom_base::{Name, OutOfMemory};
 use dual_rail::End;
-use net_flatten::Network;
+use network::Network;
 use sp_network::GatePlan;
 use std::alloc::Global;
 

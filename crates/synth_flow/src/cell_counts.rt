@@ -8,7 +8,7 @@ ghost use Rattle.tree_map.specs.MappedCover.{IsArmInForest, root_cell_numbers};
 ghost use Rattle.tree_map.specs.Plans.{IsArmTree, IsTreeOf, cost, roots};
 ghost use Rattle.synth_flow.specs.CellCounts.{AreTreesOf, greatest_read, is_read_in};
 ghost use Rattle.synth_flow.specs.NamedComplements.{MarksAlso, is_plus_end};
-ghost use Rattle.synth_flow.specs.NamedDecks.{reads};
+ghost use Rattle.deck_form.specs.NamedDecks.{reads};
 
 use crate::complements::{mark_ends, mark_gate};
 use crate::counts::AROUND_TREE;

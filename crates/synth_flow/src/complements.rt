@@ -3,7 +3,7 @@ ghost use Rattle.std.specs.Prelude.{◌≡◌, ◌+◌, ◌*◌, ◌==◌, ◌||
 ghost use Rattle.std.specs.List.{list_any, range_with_len};
 ghost use Rattle.sp_network.specs.TypedTree.{tree_of};
 ghost use Rattle.synth_flow.specs.NamedComplements.{MarksAlso, are_read, is_plus_end};
-ghost use Rattle.synth_flow.specs.NamedDecks.{reads};
+ghost use Rattle.deck_form.specs.NamedDecks.{reads};
 
 use dom_base::{OutOfMemory, ToVss};
 use dual_rail::{End, Rail};

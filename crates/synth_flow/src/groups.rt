@@ -2,9 +2,9 @@
 ghost use Rattle.std.specs.Prelude.{◌≡◌, ◌≤◌, ◌+◌, ◌*◌, OnOk, IfOk, All, ℕ, List, length, map};
 ghost use Rattle.deck.specs.Limits.{most_devices};
 ghost use Rattle.deck.specs.NamedDevices.{with_devices};
-ghost use Rattle.net_flatten.specs.declared.network.NetLatch.{NetLatch};
+ghost use Rattle.network.specs.declared.network.NetLatch.{NetLatch};
 ghost use Rattle.synth_flow.specs.BareDecks.{ArePlans, IsBareDeck, gate_nets, made_devices};
-ghost use Rattle.synth_flow.specs.DeckNets.{complement_net, own_net};
+ghost use Rattle.deck_form.specs.DeckNets.{complement_net, own_net};
 ghost use Rattle.synth_flow.specs.MadeDecks.{HasRoomForInverters, cells_from, inverters};
 ghost use Rattle.synth_flow.specs.SinkParts.{HasCell};
 
@@ -17,7 +17,7 @@ use crate::sinks::sink_gate_names;
 use deck::Circuit;
 use dom_base::{NetName, OutOfMemory};
 use dual_rail::End;
-use net_flatten::NetLatch;
+use network::NetLatch;
 use sp_network::GatePlan;
 use std::alloc::Global;
 

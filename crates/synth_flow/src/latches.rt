@@ -2,13 +2,13 @@
 ghost use Rattle.std.specs.Prelude.{◌≡◌, ◌≤◌, ◌<◌, ◌+◌, ◌*◌, ◌^◌, OnOk, length, map, All};
 ghost use Rattle.deck.specs.Limits.{most_devices};
 ghost use Rattle.deck.specs.NamedDevices.{with_devices};
-ghost use Rattle.net_flatten.specs.declared.network.NetLatch.{NetLatch};
+ghost use Rattle.network.specs.declared.network.NetLatch.{NetLatch};
 ghost use Rattle.synth_flow.specs.MadeDecks.{IsBeforeLatch, latches_from};
 
 use deck::Circuit;
 use dom_base::OutOfMemory;
 use latch_bind::{LatchPorts, push_held_latch};
-use net_flatten::NetLatch;
+use network::NetLatch;
 use std::alloc::Global;
 
 /// Appends the latches with their start values, in order from latch 0. The one error is out of memory,

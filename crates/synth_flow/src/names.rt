@@ -4,7 +4,7 @@ ghost use Rattle.std.specs.List.{range_with_len};
 ghost use Rattle.dom_base.specs.Names.{IsNetByte};
 ghost use Rattle.deck.specs.Escapes.{escaped};
 ghost use Rattle.deck.specs.PortNames.{IsByteName};
-ghost use Rattle.synth_flow.specs.DeckNets.{complement_net, named_gate, own_net};
+ghost use Rattle.deck_form.specs.DeckNets.{complement_net, named_gate, own_net};
 ghost use Rattle.synth_flow.specs.MadeDecks.{port_net};
 
 use deck::esc;

@@ -2,7 +2,7 @@
 ghost use Rattle.std.specs.Prelude.{◌≡◌, ◌≤◌, ◌<◌, ◌+◌, ◌^◌, ◌++◌, All, IfOk, length, map};
 ghost use Rattle.std.specs.List.{range_with_len, zip};
 ghost use Rattle.tree_map.specs.Plans.{cell_of};
-ghost use Rattle.synth_flow.specs.DeckNets.{data_net, sink_gate};
+ghost use Rattle.deck_form.specs.DeckNets.{data_net, sink_gate};
 ghost use Rattle.synth_flow.specs.SinkParts.{HasCell, end_in, phase_of_sink};
 
 use crate::names::{complement_name, copied, copied_names, own_name};

@@ -1,6 +1,6 @@
 //! The figures of the deck of a network, without the deck.
 ghost use Rattle.std.specs.Prelude.{◌≡◌, ◌≤◌, ◌<◌, ◌^◌, All, IfOk, length};
-ghost use Rattle.net_flatten.specs.NetworkData.{NetworkData};
+ghost use Rattle.network.specs.NetworkData.{NetworkData};
 ghost use Rattle.tree_map.specs.Plans.{roots};
 ghost use Rattle.synth_flow.specs.Summaries.{IsSummaryOf};
 ghost use Rattle.synth_flow.specs.SummaryParts.{figures_by};
@@ -10,11 +10,11 @@ use crate::cell_counts::count_cells;
 use crate::complements::marked_leaves;
 use crate::counts::{clock_counts, greatest_level, minus_count};
 use crate::figures::Summary;
-use crate::options::SynthOptions;
+use deck_form::SynthOptions;
 use dom_base::OutOfMemory;
 use dual_rail::{Forest, rails};
 use gate_decompose::decompose;
-use net_flatten::Network;
+use network::Network;
 use phase_assign::assign;
 use std::alloc::Global;
 use tree_map::{cell_numbers, kept_edges};
@@ -33,7 +33,7 @@ pub fn summary(
     requires few_high { options.bounds.h ≤ 6 }
     requires some_phase { 1 ≤ options.phases }
     requires few_phases { options.phases ≤ 4 }
-    ensures { IfOk result (IsSummaryOf network.now options.bounds.w options.bounds.h options.phases) }
+    ensures { IfOk result (IsSummaryOf network.now options) }
 {
     let gates = decompose(alloc, network)?;
     let signs = assign(alloc, &gates)?;

@@ -1,16 +1,17 @@
 //! The circuit of a network.
 ghost use Rattle.std.specs.Prelude.{◌≤◌, IfOk};
-ghost use Rattle.synth_flow.specs.ChosenDecks.{IsChosenDeck};
+ghost use Rattle.deck_form.specs.ChosenDecks.{IsChosenDeck};
+ghost use Rattle.deck_form.specs.AskedOptions.{deck_options};
 
 use crate::bare::deck_of;
 use crate::clocked::clocked;
-use crate::options::SynthOptions;
 use crate::sinks::cell_numbers;
 use deck::Circuit;
+use deck_form::SynthOptions;
 use dom_base::OutOfMemory;
 use dual_rail::rails;
 use gate_decompose::decompose;
-use net_flatten::Network;
+use network::Network;
 use phase_assign::assign;
 use std::alloc::Global;
 use tree_map::{Cover, cover};
@@ -28,7 +29,7 @@ pub fn synth(
     requires few_high { options.bounds.h ≤ 6 }
     requires some_phase { 1 ≤ options.phases }
     requires few_phases { options.phases ≤ 4 }
-    ensures { IfOk result (IsChosenDeck network.now options.bounds.w options.bounds.h options.phases) }
+    ensures { IfOk result (IsChosenDeck network.now (deck_options options)) }
 {
     let gates = decompose(alloc, network)?;
     let signs = assign(alloc, &gates)?;

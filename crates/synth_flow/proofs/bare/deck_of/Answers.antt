@@ -6,12 +6,12 @@ use Rattle.deck.specs.NamedDevices.{with_devices}
 use Rattle.deck.specs.Ports.{IsOutput, IsPin}
 use Rattle.deck.specs.Pushes.{new_circuit}
 use Rattle.deck.specs.Escapes.{escaped}
-use Rattle.net_flatten.specs.declared.network.NetLatch.{NetLatch}
-use Rattle.net_flatten.specs.NetworkData.{NetworkData}
-use Rattle.net_flatten.specs.Networks.{IsNetwork}
+use Rattle.network.specs.declared.network.NetLatch.{NetLatch}
+use Rattle.network.specs.NetworkData.{NetworkData}
+use Rattle.network.specs.Networks.{IsNetwork}
 use Rattle.synth_flow.specs.BareDecks.{ArePlans, IsBareDeck, made_devices}
-use Rattle.synth_flow.specs.DeckNets.{data_net}
-use Rattle.synth_flow.specs.DominoDecks.{outs_of, pins_of}
+use Rattle.deck_form.specs.DeckNets.{data_net}
+use Rattle.deck_form.specs.DominoDecks.{outs_of, pins_of}
 use Rattle.synth_flow.specs.MadeDecks.{port_net}
 use Rattle.synth_flow.specs.SinkParts.{phase_of_sink}
 use Rattle.synth_flow.proofs.NetworkDecks.{all_apart, few_leaves, few_sinks, is_bare, outs_begin, outs_count, pins_begin, pins_count, sinks_count}

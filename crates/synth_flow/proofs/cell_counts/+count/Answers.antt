@@ -7,7 +7,7 @@ use Rattle.tree_map.specs.Plans.{IsArmTree, cell_gate, cell_of, cut}
 use Rattle.tree_map.proofs.ArmTrees.{cell_at, cell_within, length-cells, pair_at}
 use Rattle.tree_map.proofs.PlanOne.{arm_tree_one}
 use Rattle.synth_flow.specs.CellCounts.{greatest_read}
-use Rattle.synth_flow.specs.NamedDecks.{reads}
+use Rattle.deck_form.specs.NamedDecks.{reads}
 use Rattle.synth_flow.proofs.CountedTrees.{both_levels, marks_of_parts, parts_of, tree_at_kept}
 use Rattle.synth_flow.proofs.cell_counts.+count.Goals as goal
 

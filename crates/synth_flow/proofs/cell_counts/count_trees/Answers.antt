@@ -7,9 +7,9 @@ use Rattle.clock_phase.proofs.LevelsUpTo.{AreLevelsUpTo, all_levels, level_withi
 use Rattle.sp_network.specs.Tree.{leaves}
 use Rattle.tree_map.specs.Plans.{IsTreeOf, cost, roots}
 use Rattle.synth_flow.specs.CellCounts.{is_read_in}
-use Rattle.synth_flow.specs.NamedDecks.{reads}
+use Rattle.deck_form.specs.NamedDecks.{reads}
 use Rattle.synth_flow.proofs.CountedTrees.{few_roots, root_there, root_tree}
-use Rattle.synth_flow.proofs.DeckForms.{all_zip_length}
+use Rattle.deck_form.proofs.DeckForms.{all_zip_length}
 use Rattle.synth_flow.proofs.FigureLoops.{cost_next}
 use Rattle.synth_flow.proofs.LeafMarks.{any_more, marks_both}
 use Rattle.synth_flow.proofs.cell_counts.count_trees.Goals as goal

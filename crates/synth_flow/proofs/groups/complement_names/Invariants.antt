@@ -1,5 +1,5 @@
 use Rattle.std.proofs.Common.{◌≡◌, map, take}
-use Rattle.synth_flow.specs.DeckNets.{complement_net}
+use Rattle.deck_form.specs.DeckNets.{complement_net}
 use Rattle.synth_flow.proofs.groups.complement_names.Given as goal
 
 abbrev pub invariant-leaves : goal.invariant-leaves

@@ -1,5 +1,5 @@
 use Rattle.std.proofs.Common.{◌≡◌, map, take}
-use Rattle.synth_flow.specs.DeckNets.{own_net}
+use Rattle.deck_form.specs.DeckNets.{own_net}
 use Rattle.synth_flow.proofs.groups.own_names.Given as goal
 
 abbrev pub invariant-leaves : goal.invariant-leaves

@@ -1,9 +1,9 @@
 use Rattle.std.proofs.Common.{◌+◌, length, map, ap, arith, subst, sym, ◌∙◌}
 use Rattle.std.proofs.lemmas.List.{length-map}
 use Rattle.deck.specs.NamedDevices.{with_devices}
-use Rattle.net_flatten.specs.declared.network.NetLatch.{NetLatch}
+use Rattle.network.specs.declared.network.NetLatch.{NetLatch}
 use Rattle.synth_flow.specs.BareDecks.{IsBareDeck}
-use Rattle.synth_flow.specs.DeckNets.{complement_net, own_net}
+use Rattle.deck_form.specs.DeckNets.{complement_net, own_net}
 use Rattle.synth_flow.specs.MadeDecks.{HasRoomForInverters, inverters}
 use Rattle.synth_flow.proofs.PushedDecks.{complements_fit, deck_made, latches_fit, sinks_fit}
 use Rattle.synth_flow.proofs.groups.push_deck.Goals as goal

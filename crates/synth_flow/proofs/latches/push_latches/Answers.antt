@@ -1,7 +1,7 @@
 use Rattle.std.proofs.Common.{arith, map}
 use Rattle.std.proofs.lemmas.List.{length-map}
 use Rattle.std.proofs.lemmas.List.Elements.{recursion_from_All}
-use Rattle.net_flatten.specs.declared.network.NetLatch.{NetLatch}
+use Rattle.network.specs.declared.network.NetLatch.{NetLatch}
 use Rattle.synth_flow.specs.MadeDecks.{IsBeforeLatch}
 use Rattle.synth_flow.proofs.LatchNets.{next_latch, room_for_next, start_at}
 use Rattle.synth_flow.proofs.latches.push_latches.Goals as goal

@@ -1,6 +1,6 @@
 use Rattle.std.proofs.Common.{◌≡◌, map, take}
 use Rattle.deck.specs.NamedDevices.{with_devices}
-use Rattle.net_flatten.specs.declared.network.NetLatch.{NetLatch}
+use Rattle.network.specs.declared.network.NetLatch.{NetLatch}
 use Rattle.synth_flow.specs.MadeDecks.{latches_from}
 use Rattle.synth_flow.proofs.latches.push_latches.Given as goal
 

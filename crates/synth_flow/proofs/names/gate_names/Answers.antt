@@ -1,6 +1,6 @@
 use Rattle.std.proofs.Common.{sym, zero-add, ◌∙◌}
 use Rattle.std.proofs.lemmas.List.FromFn.{map-range_with_len_more}
-use Rattle.synth_flow.specs.DeckNets.{named_gate}
+use Rattle.deck_form.specs.DeckNets.{named_gate}
 use Rattle.synth_flow.proofs.LoopItems.{pushed_item}
 use Rattle.synth_flow.proofs.names.gate_names.Goals as goal
 

@@ -1,6 +1,6 @@
 use Rattle.std.proofs.Common.{◌≡◌, map}
 use Rattle.std.specs.List.{range_with_len}
-use Rattle.synth_flow.specs.DeckNets.{named_gate}
+use Rattle.deck_form.specs.DeckNets.{named_gate}
 use Rattle.synth_flow.proofs.names.gate_names.Given as goal
 
 abbrev pub invariant-gates : goal.invariant-gates

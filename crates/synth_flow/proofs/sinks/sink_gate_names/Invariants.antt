@@ -1,5 +1,5 @@
 use Rattle.std.proofs.Common.{◌≡◌, map, take}
-use Rattle.synth_flow.specs.DeckNets.{sink_gate}
+use Rattle.deck_form.specs.DeckNets.{sink_gate}
 use Rattle.synth_flow.specs.SinkParts.{end_in}
 use Rattle.synth_flow.proofs.sinks.sink_gate_names.Given as goal
 

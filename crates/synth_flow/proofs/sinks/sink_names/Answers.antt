@@ -1,7 +1,7 @@
 use Rattle.std.proofs.Common.{ap, sym, zero-add, ◌++◌, ◌∷◌, [], ◌∙◌, map, append-nil, append_assoc}
 use Rattle.std.specs.List.{range_with_len}
 use Rattle.std.proofs.lemmas.List.FromFn.{map-range_with_len_more}
-use Rattle.synth_flow.specs.DeckNets.{data_net}
+use Rattle.deck_form.specs.DeckNets.{data_net}
 use Rattle.synth_flow.proofs.LoopItems.{pushed_item}
 use Rattle.synth_flow.proofs.sinks.sink_names.Goals as goal
 

@@ -1,6 +1,6 @@
 use Rattle.std.proofs.Common.{◌≡◌, ◌++◌, map}
 use Rattle.std.specs.List.{range_with_len}
-use Rattle.synth_flow.specs.DeckNets.{data_net}
+use Rattle.deck_form.specs.DeckNets.{data_net}
 use Rattle.synth_flow.proofs.sinks.sink_names.Given as goal
 
 abbrev pub invariant-latches : goal.invariant-latches

@@ -130,6 +130,6 @@ returns c =
     let some_signs = c.as_slice-9.ensures.value in
     let cost_is = c.count_cells-cost.ensures.cost chosen.0 are in
     let sum = c.in_ok-figures.ensures ∙ (λ i. figures_by network phases (some_signs i) forest (levels_now i) (cost_is i) c.as_slice-11.result.now both) in
-    subst (IsSummaryOf network w h phases) (sym sum)
-    (figures_are network w h phases gates signs forest kept chosen.0 levels c.as_slice-11.result.now both c.in_ok-gates.ensures c.in_ok-signs.ensures of_signs chosen.1
+    subst (IsSummaryOf network c.args.options) (sym sum)
+    (figures_are network c.args.options gates signs forest kept chosen.0 levels c.as_slice-11.result.now both c.in_ok-gates.ensures c.in_ok-signs.ensures of_signs chosen.1
     (subst (λ n. AreLevels n chosen.0 levels) leaf_total levels_are) named_now both_is)

@@ -1,4 +1,5 @@
 use Rattle.std.proofs.Common.{◌≡◌, ◌≤◌, All, length, map, ap, arith, subst, sym, ◌∙◌}
+use Rattle.domino_cell.specs.Style.{WithKeeper}
 use Rattle.std.specs.List.{range_with_len}
 use Rattle.std.proofs.lemmas.List.{length-map}
 use Rattle.std.proofs.lemmas.List.FromFn.{length-map-range_with_len}
@@ -17,8 +18,8 @@ use Rattle.tree_map.specs.LeastPlans.{IsChosenPlan}
 use Rattle.tree_map.specs.MappedCover.{plan_trees}
 use Rattle.tree_map.specs.Plans.{cell_of}
 use Rattle.synth_flow.specs.BareDecks.{ArePlans}
-use Rattle.synth_flow.specs.ChosenDecks.{end_at_cell}
-use Rattle.synth_flow.specs.DominoDecks.{deck_circuit}
+use Rattle.deck_form.specs.ChosenDecks.{end_at_cell}
+use Rattle.deck_form.specs.DominoDecks.{cells_of, deck_circuit}
 use Rattle.synth_flow.specs.MadeCircuits.{made_deck}
 use Rattle.synth_flow.specs.SinkParts.{HasCell}
 use Rattle.synth_flow.proofs.MadeCircuits.{made_is_deck}
@@ -187,5 +188,5 @@ returns c =
       circuit_is = c.in_ok-circuit.ensures
           ∙ (λ i. made_deck network phases (some_signs i) (some_plans i) (ends i) (numbers i))
           ∙ deck
-          ∙ ap (λ t. deck_circuit network phases t made.levels signs (map (end_at_cell kept) forest.ends)) made.trees;
+          ∙ ap (λ t. deck_circuit WithKeeper network phases (cells_of phases made.levels t) signs (map (end_at_cell kept) forest.ends)) made.trees;
     }

@@ -12,7 +12,7 @@ use Rattle.deck.specs.CircuitData.{CircuitData}
 use Rattle.deck.specs.NamedDevices.{NamedDevice, with_devices}
 use Rattle.deck.specs.Nets.{with_net}
 use Rattle.deck.specs.Pushes.{pushed}
-use Rattle.synth_flow.specs.NameParts.{NoDigit, behind, front, is_digit, number_of, rest_of}
+use Rattle.deck_form.specs.NameParts.{NoDigit, behind, front, is_digit, number_of, rest_of}
 
 pub front-digits : (ds cs : List ℕ) → AllDigits 10 ds → NoDigit cs → front (ds ++ cs) ≡ ds
 front-digits [] [] d e = refl

@@ -3,9 +3,12 @@ use Rattle.std.specs.Prelude.{ℕ, ◌+◌, ◌-◌, ◌*◌, ◌/◌, ◌%◌, 
 use Rattle.std.specs.Fmt.{decimal}
 use Rattle.std.specs.List.{enumerate_from, zip}
 use Rattle.deck.specs.NamedDevices.{NamedDevice}
-use Rattle.domino_cell.specs.Cell.{cell, inverter}
-use Rattle.sp_network.specs.Tree.{Tree, map_tree}
+use Rattle.domino_cell.specs.Cell.{inverter}
+use Rattle.domino_cell.specs.StyledCells.{styled_cell}
+use Rattle.domino_cell.specs.Style.{Style}
+use Rattle.sp_network.specs.Tree.{map_tree}
 use Rattle.domino_cell.specs.PushedNames.{numbered_cell}
+pub use Rattle.clock_phase.specs.Plans.{CellPlan}
 pub use Rattle.latch_bind.specs.Latches.{data_net, named_latch, named_reset}
 
 abbrev pub vdd : List ℕ
@@ -40,13 +43,8 @@ abbrev pub named_gate : List (List ℕ) → ℕ → ℕ → List ℕ
 named_gate pins leaf_count gate =
     cond (nat_lt gate (2 * leaf_count)) (rail_net pins (gate / 2) (gate % 2 == 0)) (output_net (gate - 2 * leaf_count))
 
--- a domino cell: its tree over gates, and the number of its clock
-pub record CellPlan : Type 0 where
-  pub tree : Tree ℕ
-  pub clock : ℕ
-
-abbrev pub named_cell : List (List ℕ) → ℕ → ℕ × CellPlan → List (NamedDevice (List ℕ))
-named_cell pins leaf_count p = cell (numbered_cell p.1.clock p.0) (map_tree (named_gate pins leaf_count) p.1.tree)
+abbrev pub named_cell : Style → List (List ℕ) → ℕ → ℕ × CellPlan → List (NamedDevice (List ℕ))
+named_cell style pins leaf_count p = styled_cell style (numbered_cell p.1.clock p.0) (map_tree (named_gate pins leaf_count) p.1.tree)
 
 abbrev pub named_complement : List (List ℕ) → ℕ → List (NamedDevice (List ℕ))
 named_complement pins leaf = inverter vdd vss (own_net pins leaf) (complement_net leaf)
@@ -74,9 +72,9 @@ abbrev pub sink_nets : List (List ℕ) → List Bool → List (List ℕ)
 sink_nets outs starts = outs ++ map (λ p. data_net p.0) (enumerate_from 0 starts)
 
 -- the cards of a deck, in order: domino cells, inverters of complements, latches, inverters of sinks
-abbrev pub named_devices : List (List ℕ) → List (List ℕ) → List Bool → List CellPlan → List ℕ → List SinkEnd → List (NamedDevice (List ℕ))
-named_devices pins outs starts cells complements ends =
-    flat_map (named_cell pins (length pins + length starts)) (enumerate_from 0 cells)
+abbrev pub named_devices : Style → List (List ℕ) → List (List ℕ) → List Bool → List CellPlan → List ℕ → List SinkEnd → List (NamedDevice (List ℕ))
+named_devices style pins outs starts cells complements ends =
+    flat_map (named_cell style pins (length pins + length starts)) (enumerate_from 0 cells)
     ++ flat_map (named_complement pins) complements
     ++ flat_map named_latch (enumerate_from 0 starts)
     ++ flat_map (named_sink pins) (zip (sink_nets outs starts) ends)

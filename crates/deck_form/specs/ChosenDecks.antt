@@ -4,15 +4,16 @@ use Rattle.deck.specs.CircuitData.{CircuitData}
 use Rattle.sp_network.specs.Tree.{Tree}
 use Rattle.dual_rail.specs.declared.forest.End.{End}
 use Rattle.dual_rail.specs.declared.forest.End.TheVariants.{Const, Literal, FromDynamic, FromOutput}
-use Rattle.synth_flow.specs.DeckNets.{SinkEnd, Fixed, OfLeaf, OfDynamic, OfOutput}
-use Rattle.synth_flow.specs.DominoDecks.{deck_circuit}
+use Rattle.deck_form.specs.DeckNets.{SinkEnd, Fixed, OfLeaf, OfDynamic, OfOutput}
+use Rattle.deck_form.specs.DeckOptions.{DeckOptions}
+use Rattle.deck_form.specs.DominoDecks.{cells_of, deck_circuit}
 use Rattle.dual_rail.specs.ForestData.{ForestData}
 use Rattle.dual_rail.specs.Forests.{IsForestOf}
 use Rattle.gate_decompose.specs.GateNodes.{AreGatesOf}
 use Rattle.gate_decompose.specs.GatesData.{GatesData}
 use Rattle.tree_map.specs.LeastPlans.{IsChosenPlan}
 use Rattle.clock_phase.specs.Levels.{AreLevels}
-use Rattle.net_flatten.specs.NetworkData.{NetworkData}
+use Rattle.network.specs.NetworkData.{NetworkData}
 use Rattle.gate_decompose.specs.Sinks.{leaf_count}
 use Rattle.tree_map.specs.Plans.{IsPlan, cell_of}
 use Rattle.phase_assign.specs.Signs.{AreChosen}
@@ -25,7 +26,7 @@ end_at_cell kept (FromDynamic place) = OfDynamic (cell_of kept place)
 end_at_cell kept (FromOutput place) = OfOutput (cell_of kept place)
 
 -- a circuit of the network: of the forest of any signs and any plan of it within the bounds
-pub record IsPlannedDeck (network : NetworkData) (w h phases : ℕ) (circuit : CircuitData) : Type 0 where
+pub record IsPlannedDeck (network : NetworkData) (options : DeckOptions) (circuit : CircuitData) : Type 0 where
   pub gates : GatesData
   pub signs : List Bool
   pub forest : ForestData
@@ -34,12 +35,12 @@ pub record IsPlannedDeck (network : NetworkData) (w h phases : ℕ) (circuit : C
   pub levels : List ℕ
   pub are_gates : AreGatesOf network gates
   pub is_forest : IsForestOf gates signs forest
-  pub is_plan : IsPlan forest w h kept trees
+  pub is_plan : IsPlan forest options.width options.height kept trees
   pub levels_are : AreLevels (leaf_count network) trees levels
-  pub circuit_is : circuit ≡ deck_circuit network phases trees levels signs (map (end_at_cell kept) forest.ends)
+  pub circuit_is : circuit ≡ deck_circuit options.style network options.phases (cells_of options.phases levels trees) signs (map (end_at_cell kept) forest.ends)
 
 -- the circuit that synthesis gives of the network: of the chosen signs and the chosen plan
-pub record IsChosenDeck (network : NetworkData) (w h phases : ℕ) (circuit : CircuitData) : Type 0 where
+pub record IsChosenDeck (network : NetworkData) (options : DeckOptions) (circuit : CircuitData) : Type 0 where
   pub gates : GatesData
   pub signs : List Bool
   pub forest : ForestData
@@ -49,13 +50,13 @@ pub record IsChosenDeck (network : NetworkData) (w h phases : ℕ) (circuit : Ci
   pub are_gates : AreGatesOf network gates
   pub are_chosen : AreChosen gates signs
   pub is_forest : IsForestOf gates signs forest
-  pub is_chosen_plan : IsChosenPlan forest w h kept trees
+  pub is_chosen_plan : IsChosenPlan forest options.width options.height kept trees
   pub levels_are : AreLevels (leaf_count network) trees levels
-  pub circuit_is : circuit ≡ deck_circuit network phases trees levels signs (map (end_at_cell kept) forest.ends)
+  pub circuit_is : circuit ≡ deck_circuit options.style network options.phases (cells_of options.phases levels trees) signs (map (end_at_cell kept) forest.ends)
 
 -- which is one of these
-abbrev pub planned : {network : NetworkData} {w h phases : ℕ} {circuit : CircuitData}
-    → IsChosenDeck network w h phases circuit → IsPlannedDeck network w h phases circuit
+abbrev pub planned : {network : NetworkData} {options : DeckOptions} {circuit : CircuitData}
+    → IsChosenDeck network options circuit → IsPlannedDeck network options circuit
 planned is = record {
   gates = is.gates;
   signs = is.signs;

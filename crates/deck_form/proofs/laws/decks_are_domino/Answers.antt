@@ -1,6 +1,6 @@
-use Rattle.synth_flow.proofs.ClockOrder.{clocks_rise}
-use Rattle.synth_flow.proofs.DeckForms.{chosen_decks_are_domino, planned_decks_are_domino, domino_decks_are_loose}
-use Rattle.synth_flow.proofs.laws.decks_are_domino.Goals as goal
+use Rattle.deck_form.proofs.ClockOrder.{clocks_rise}
+use Rattle.deck_form.proofs.DeckForms.{chosen_decks_are_domino, planned_decks_are_domino, domino_decks_are_loose}
+use Rattle.deck_form.proofs.laws.decks_are_domino.Goals as goal
 
 pub returns-clause-planned : goal.returns-clause-planned
 returns-clause-planned c = planned_decks_are_domino

@@ -1,6 +1,6 @@
 -- The circuit of synthesis is a domino deck, and a domino deck is a loose one.
 use Rattle.gate_decompose.proofs.GatesOrder.{network_gates_are_in_place}
-use Rattle.model_calls.proofs.Lists.{get_of_map}
+use Rattle.network.proofs.Lists.{get_of_map}
 use Rattle.gate_decompose.specs.NetworkOrder.{IsOrderedNetwork}
 use Rattle.dual_rail.proofs.ForestOrders.{forests_are_in_place}
 use Rattle.dual_rail.proofs.Zips.{all_from, all_zip_back}
@@ -21,19 +21,20 @@ use Rattle.sp_network.specs.Tree.{Tree, EachLeaf}
 use Rattle.dual_rail.specs.declared.forest.End.{End}
 use Rattle.dual_rail.specs.declared.forest.End.TheVariants.{Const, Literal, FromDynamic, FromOutput}
 use Rattle.gate_decompose.specs.declared.gates.Ref.{Ref}
-use Rattle.synth_flow.specs.ChosenDecks.{IsPlannedDeck, end_at_cell, planned}
-use Rattle.synth_flow.specs.DeckLaws.{ChosenDecksAreDomino, PlannedDecksAreDomino, DominoDecksAreLoose}
-use Rattle.synth_flow.specs.DeckNets.{CellPlan, named_devices}
-use Rattle.synth_flow.specs.DominoDecks.{HasSign, IsDominoDeck, cells_of, complements_of, outs_of, phases_of_sinks, pins_of, signal_name, starts_of}
+use Rattle.deck_form.specs.ChosenDecks.{IsPlannedDeck, end_at_cell, planned}
+use Rattle.deck_form.specs.DeckLaws.{ChosenDecksAreDomino, PlannedDecksAreDomino, DominoDecksAreLoose}
+use Rattle.deck_form.specs.DeckNets.{CellPlan, named_devices}
+use Rattle.deck_form.specs.DeckOptions.{DeckOptions}
+use Rattle.deck_form.specs.DominoDecks.{HasSign, IsDominoDeck, cells_of, complements_of, outs_of, phases_of_sinks, pins_of, signal_name, starts_of}
 use Rattle.dual_rail.specs.Forests.{IsEndOf, end_uses, is_end_from}
 use Rattle.clock_phase.specs.Levels.{clock_of, greatest}
-use Rattle.synth_flow.specs.NamedDecks.{IsEndIn, ReadsBelow, names_complement}
-use Rattle.net_flatten.specs.NetworkData.{NetworkData}
+use Rattle.deck_form.specs.NamedDecks.{IsEndIn, ReadsBelow, names_complement}
+use Rattle.network.specs.NetworkData.{NetworkData}
 use Rattle.gate_decompose.specs.Sinks.{leaf_count, sink_signals}
 use Rattle.tree_map.specs.Plans.{IsTreeOf, cell_of, is_kept, roots}
 use Rattle.gate_decompose.specs.Items.{Among, Rises}
 use Rattle.gate_decompose.proofs.Among.{among-contains, contains-among}
-use Rattle.synth_flow.proofs.CellOrder.{cell_before, root_of_cell, roots_count, tree_reads}
+use Rattle.deck_form.proofs.CellOrder.{cell_before, root_of_cell, roots_count, tree_reads}
 use Rattle.gate_decompose.proofs.Rising.{rises_at}
 use Rattle.std.proofs.lemmas.Option.{same_Some}
 use Rattle.dom_base.proofs.Lists.{All-at}
@@ -73,7 +74,7 @@ counted test (y ∷ xs) (suc k) x e t =
     omega (arith, sum, more)
 
 -- an end that comes from a pair comes from a root
-module _ (network : NetworkData) (w h phases : ℕ) (circuit : CircuitData) (is : IsPlannedDeck network w h phases circuit) (order : AreInOrder is.forest.pairs) (leaves : HasLeaves is.forest)
+module _ (network : NetworkData) (options : DeckOptions) (circuit : CircuitData) (is : IsPlannedDeck network options circuit) (order : AreInOrder is.forest.pairs) (leaves : HasLeaves is.forest)
     (ends : All (IsEndOfForest is.forest) is.forest.ends) where
   pub leaves_are : is.forest.leaves ≡ leaf_count network
   leaves_are = is.is_forest.leaves_are ∙ is.are_gates.leaves_are
@@ -102,9 +103,9 @@ module _ (network : NetworkData) (w h phases : ℕ) (circuit : CircuitData) (is 
       by (FromDynamic p) f low = cell_within p low (counted (is_end_from p) is.forest.ends k (FromDynamic p) f (eq-eqb p p refl))
       by (FromOutput p) f low = cell_within p low (counted (is_end_from p) is.forest.ends k (FromOutput p) f (eq-eqb p p refl))
 
-  pub reads : ReadsBelow (leaf_count network) (cells_of phases is.levels is.trees)
+  pub reads : ReadsBelow (leaf_count network) (cells_of options.phases is.levels is.trees)
   reads k c at =
-      let m = get_of_map (λ (p : Tree ℕ × ℕ). record { tree = p.0; clock = clock_of phases (greatest is.levels) p.1 }) (zip is.trees is.levels) k c at in
+      let m = get_of_map (λ (p : Tree ℕ × ℕ). record { tree = p.0; clock = clock_of options.phases (greatest is.levels) p.1 }) (zip is.trees is.levels) k c at in
       let z = zipped_get is.trees is.levels k m.0 m.1 in
       let r = all_zip_back (IsTreeOf is.forest is.kept) (roots is.kept) is.trees k (m.0).0 is.is_plan.trees_are z.0 in
       let root = root_of_cell is.kept k r.0 r.1 in
@@ -134,9 +135,9 @@ module _ (network : NetworkData) (w h phases : ℕ) (circuit : CircuitData) (is 
             | inr past ↦ absurd (let lt = slice_get_within is.signs k sign f in omega (arith, past.0, is.is_forest.signs_are))
           ]
 
-abbrev pub planned_deck : (network : NetworkData) (w h phases : ℕ) (circuit : CircuitData) (is : IsPlannedDeck network w h phases circuit) → 1 ≤ phases → phases ≤ 4
-    → AreInOrder is.forest.pairs → HasLeaves is.forest → All (IsEndOfForest is.forest) is.forest.ends → IsDominoDeck network w h phases circuit
-planned_deck = λ network w h phases circuit is some few order leaves ends. record {
+abbrev pub planned_deck : (network : NetworkData) (options : DeckOptions) (circuit : CircuitData) (is : IsPlannedDeck network options circuit) → 1 ≤ options.phases → options.phases ≤ 4
+    → AreInOrder is.forest.pairs → HasLeaves is.forest → All (IsEndOfForest is.forest) is.forest.ends → IsDominoDeck network options circuit
+planned_deck = λ network options circuit is some few order leaves ends. record {
   trees = is.trees;
   levels = is.levels;
   signs = is.signs;
@@ -145,25 +146,25 @@ planned_deck = λ network w h phases circuit is some few order leaves ends. reco
   few_clocks = few;
   within = is.is_plan.within;
   levels_are = is.levels_are;
-  reads_below = reads network w h phases circuit is order leaves ends;
-  one_sign = is.is_forest.signs_are ∙ sinks_count network w h phases circuit is order leaves ends;
-  signs_are = signs network w h phases circuit is order leaves ends;
+  reads_below = reads network options circuit is order leaves ends;
+  one_sign = is.is_forest.signs_are ∙ sinks_count network options circuit is order leaves ends;
+  signs_are = signs network options circuit is order leaves ends;
   ends_are = all_from (IsEndIn (leaf_count network) (length is.trees)) (map (end_at_cell is.kept) is.forest.ends)
-      (λ k e at. let m = get_of_map (end_at_cell is.kept) is.forest.ends k e at in subst (IsEndIn (leaf_count network) (length is.trees)) m.2 (end_in network w h phases circuit is order leaves ends k m.0 m.1));
+      (λ k e at. let m = get_of_map (end_at_cell is.kept) is.forest.ends k e at in subst (IsEndIn (leaf_count network) (length is.trees)) m.2 (end_in network options circuit is order leaves ends k m.0 m.1));
   circuit_is = is.circuit_is;
 }
 
 -- the forest of a network's gates is in place
-pub forest_in_place : (network : NetworkData) (w h phases : ℕ) (circuit : CircuitData) (is : IsPlannedDeck network w h phases circuit) → IsOrderedNetwork network → IsForestInPlace is.forest
-forest_in_place network w h phases circuit is order = forests_are_in_place is.gates is.signs is.forest (network_gates_are_in_place network is.gates order is.are_gates) is.is_forest
+pub forest_in_place : (network : NetworkData) (options : DeckOptions) (circuit : CircuitData) (is : IsPlannedDeck network options circuit) → IsOrderedNetwork network → IsForestInPlace is.forest
+forest_in_place network options circuit is order = forests_are_in_place is.gates is.signs is.forest (network_gates_are_in_place network is.gates order is.are_gates) is.is_forest
 
 abbrev pub planned_decks_are_domino : PlannedDecksAreDomino
-planned_decks_are_domino = λ network w h phases circuit is order some few.
-    planned_deck network w h phases circuit is some few (forest_in_place network w h phases circuit is order).in_order (forest_in_place network w h phases circuit is order).has_leaves
-    (forest_in_place network w h phases circuit is order).has_ends
+planned_decks_are_domino = λ network options circuit is order some few.
+    planned_deck network options circuit is some few (forest_in_place network options circuit is order).in_order (forest_in_place network options circuit is order).has_leaves
+    (forest_in_place network options circuit is order).has_ends
 
 abbrev pub chosen_decks_are_domino : ChosenDecksAreDomino
-chosen_decks_are_domino = λ network w h phases circuit is order some few. planned_decks_are_domino network w h phases circuit (planned is) order some few
+chosen_decks_are_domino = λ network options circuit is order some few. planned_decks_are_domino network options circuit (planned is) order some few
 
 pub rises_in_range : (test : ℕ → Bool) (a n : ℕ) → Rises (λ x y. x < y) (filter test (range_with_len a n)) × ((x : ℕ) → Among x (filter test (range_with_len a n)) → (a ≤ x) × (x < a + n) × (test x ≡ true))
 rises_in_range test a zero = (tt, λ x at. absurd at)
@@ -198,28 +199,28 @@ zip_length (x ∷ xs) [] same = absurd (omega arith)
 zip_length (x ∷ xs) (y ∷ ys) same = ap suc (zip_length xs ys (omega arith))
 
 abbrev pub domino_decks_are_loose : DominoDecksAreLoose
-domino_decks_are_loose = λ network w h phases circuit is.
+domino_decks_are_loose = λ network options circuit is.
     let pins = pins_of network in
     let outs = outs_of network in
     let starts = starts_of network in
-    let cells = cells_of phases is.levels is.trees in
+    let cells = cells_of options.phases is.levels is.trees in
     let pin_count : length pins ≡ network.inputs = length-map-range_with_len (λ signal. codes "i_" ++ escaped (signal_name network signal)) 0 network.inputs in
     let start_count : length starts ≡ length network.latches = length_map (λ l. l.init) network.latches in
     let out_count : length outs ≡ length network.outputs = length_map (λ signal. codes "o_" ++ escaped (signal_name network signal)) network.outputs in
     let leaf_total : leaf_count network ≡ length pins + length starts = ap₂ (λ m n. m + n) (sym pin_count) (sym start_count) in
     let cell_count : length cells ≡ length is.trees =
-    length_map (λ (p : Tree ℕ × ℕ). record { tree = p.0; clock = clock_of phases (greatest is.levels) p.1 }) (zip is.trees is.levels) ∙ zip_length is.trees is.levels (sym is.levels_are.one_each) in
+    length_map (λ (p : Tree ℕ × ℕ). record { tree = p.0; clock = clock_of options.phases (greatest is.levels) p.1 }) (zip is.trees is.levels) ∙ zip_length is.trees is.levels (sym is.levels_are.one_each) in
     let range = rises_in_range (names_complement cells is.ends) 0 (leaf_count network) in
     let complements = complements_of network cells is.ends in
     let sinks : length (sink_signals network) ≡ length network.outputs + length network.latches =
     length-append network.outputs (map (λ l. l.input) network.latches) ∙ ap (λ n. length network.outputs + n) (length_map (λ l. l.input) network.latches) in
     let ends_count = all_zip_length HasSign is.signs is.ends is.signs_are in
-    let bare = new_circuit (escaped network.name) (phases_of_sinks network is.signs) phases pins outs in
-    let cards = named_devices pins outs starts cells complements is.ends in
+    let bare = new_circuit (escaped network.name) (phases_of_sinks network is.signs) options.phases pins outs in
+    let cards = named_devices options.style pins outs starts cells complements is.ends in
     let same_name : circuit.name ≡ escaped network.name = ap (λ (c : CircuitData). c.name) is.circuit_is ∙ (named_cards bare cards).0 in
     let same_phases : circuit.phases ≡ phases_of_sinks network is.signs = ap (λ (c : CircuitData). c.phases) is.circuit_is ∙ (named_cards bare cards).1 in
     record {
-      clocks = phases;
+      clocks = options.phases;
       pins = pins;
       outs = outs;
       starts = starts;
@@ -234,21 +235,21 @@ domino_decks_are_loose = λ network w h phases circuit is.
         order = refl;
       };
       reads_below = subst (λ n. ReadsBelow n cells) leaf_total is.reads_below;
-      clocks_are = all_from (λ (c : CellPlan). (1 ≤ c.clock) × (c.clock ≤ phases)) cells (λ k c at. clocks network w h phases circuit is k c at);
+      clocks_are = all_from (λ (c : CellPlan). (1 ≤ c.clock) × (c.clock ≤ options.phases)) cells (λ k c at. clocks network options circuit is k c at);
       in_order = λ i j d lt high. rises_at (λ x y. x < y) complements range.0 i j d lt high;
       of_leaves = all_from (λ leaf. leaf < length pins + length starts) complements
           (λ k leaf at. let f = range.1 leaf (contains-among complements leaf (k, slice_get_within complements k leaf at, get_or_from_slice_get complements k leaf leaf at)) in omega (arith, f.1, leaf_total));
       named = λ leaf lt e. among-contains complements leaf (filter_has (names_complement cells is.ends) 0 (leaf_count network) leaf (omega arith) (omega (arith, lt, leaf_total)) e);
       one_end = omega (arith, ends_count, is.one_sign, sinks, out_count, start_count);
       ends_are = subst (λ n. All (IsEndIn (length pins + length starts) n) is.ends) (sym cell_count) (subst (λ n. All (IsEndIn n (length is.trees)) is.ends) leaf_total is.ends_are);
-      circuit_is = is.circuit_is ∙ (λ i. with_devices (new_circuit (sym same_name i) (sym same_phases i) phases pins outs) (named_devices pins outs starts cells complements is.ends));
+      circuit_is = is.circuit_is ∙ (λ i. with_devices (new_circuit (sym same_name i) (sym same_phases i) options.phases pins outs) (named_devices options.style pins outs starts cells complements is.ends));
     }
   where
-    clocks : (network : NetworkData) (w h phases : ℕ) (circuit : CircuitData) (is : IsDominoDeck network w h phases circuit) (k : ℕ) (c : CellPlan)
-        → slice_get (cells_of phases is.levels is.trees) k ≡ Some c → (1 ≤ c.clock) × (c.clock ≤ phases)
-    clocks network w h phases circuit is k c at =
-        let m = get_of_map (λ (p : Tree ℕ × ℕ). record { tree = p.0; clock = clock_of phases (greatest is.levels) p.1 }) (zip is.trees is.levels) k c at in
+    clocks : (network : NetworkData) (options : DeckOptions) (circuit : CircuitData) (is : IsDominoDeck network options circuit) (k : ℕ) (c : CellPlan)
+        → slice_get (cells_of options.phases is.levels is.trees) k ≡ Some c → (1 ≤ c.clock) × (c.clock ≤ options.phases)
+    clocks network options circuit is k c at =
+        let m = get_of_map (λ (p : Tree ℕ × ℕ). record { tree = p.0; clock = clock_of options.phases (greatest is.levels) p.1 }) (zip is.trees is.levels) k c at in
         let z = zipped_get is.trees is.levels k m.0 m.1 in
         let level = is.levels_are.levels_are k (m.0).0 (m.0).1 z.0 z.1 in
         let high = level_at_most is.levels k (m.0).1 z.1 in
-        subst (λ (d : CellPlan). (1 ≤ d.clock) × (d.clock ≤ phases)) m.2 (clock_within phases (greatest is.levels) (m.0).1 is.some_clock (omega (arith, level)) high)
+        subst (λ (d : CellPlan). (1 ≤ d.clock) × (d.clock ≤ options.phases)) m.2 (clock_within options.phases (greatest is.levels) (m.0).1 is.some_clock (omega (arith, level)) high)

@@ -1,4 +1,5 @@
 -- Loose domino decks: decks of domino cells over any ports in order, as the laws of domino circuits speak of them.
+use Rattle.domino_cell.specs.Style.{Style}
 use Rattle.std.specs.Prelude.{ℕ, ◌+◌, ◌*◌, ◌≤◌, ◌<◌, ◌≡◌, ◌==◌, Bool, true, false, ◌||◌, ◌&&◌, List, ◌++◌, length, Some, slice_get, AllPairs, Contains, All}
 use Rattle.std.specs.List.{list_any}
 use Rattle.deck.specs.CircuitData.{CircuitData}
@@ -6,7 +7,7 @@ use Rattle.deck.specs.Ports.{HasRoles, leading_ports}
 use Rattle.deck.specs.Pushes.{new_circuit}
 use Rattle.deck.specs.NamedDevices.{with_devices}
 use Rattle.sp_network.specs.Tree.{Tree, EachLeaf, Leaf, Series, Parallel}
-use Rattle.synth_flow.specs.DeckNets.{CellPlan, SinkEnd, Fixed, OfLeaf, OfDynamic, OfOutput, named_devices}
+use Rattle.deck_form.specs.DeckNets.{CellPlan, SinkEnd, Fixed, OfLeaf, OfDynamic, OfOutput, named_devices}
 
 -- the gate is one of the tree's
 abbrev pub reads : ℕ → Tree ℕ → Bool
@@ -35,7 +36,7 @@ abbrev pub ReadsBelow : ℕ → List CellPlan → Type 0
 ReadsBelow leaf_count cells =
     (k : ℕ) (c : CellPlan) → slice_get cells k ≡ Some c → EachLeaf (λ gate. gate < 2 * leaf_count + k) c.tree
 
-pub record IsNamedDeck (circuit : CircuitData) : Type 0 where
+pub record IsNamedDeck (style : Style) (circuit : CircuitData) : Type 0 where
   pub clocks : ℕ
   pub pins : List (List ℕ)
   pub outs : List (List ℕ)
@@ -57,4 +58,4 @@ pub record IsNamedDeck (circuit : CircuitData) : Type 0 where
   pub one_end : length ends ≡ length outs + length starts
   pub ends_are : All (IsEndIn (length pins + length starts) (length cells)) ends
   pub circuit_is : circuit ≡ with_devices (new_circuit circuit.name circuit.phases clocks pins outs)
-      (named_devices pins outs starts cells complements ends)
+      (named_devices style pins outs starts cells complements ends)

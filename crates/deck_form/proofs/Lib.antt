@@ -1,0 +1,7 @@
+pub mod CellDevices
+pub mod CellOrder
+pub mod ClockOrder
+pub mod ClockPorts
+pub mod DeckForms
+pub mod NameParts
+pub mod SmallTrees

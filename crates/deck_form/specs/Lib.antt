@@ -1,0 +1,10 @@
+pub mod AskedOptions
+pub mod ChosenDecks
+pub mod DeckClocks
+pub mod DeckLaws
+pub mod DeckNets
+pub mod DeckOptions
+pub mod DeckTexts
+pub mod DominoDecks
+pub mod NameParts
+pub mod NamedDecks
