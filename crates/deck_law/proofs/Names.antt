@@ -3,15 +3,28 @@ use Rattle.std.specs.Prelude.{◌==◌, codes}
 use Rattle.std.specs.Fmt.{decimal}
 use Rattle.std.specs.Char.{digit_value}
 use Rattle.std.specs.Str.Parse.{AllDigits, digits_value}
-use Rattle.std.proofs.Common.{◌≡◌, ℕ, suc, ◌+◌, ◌-◌, ◌<◌, ◌^◌, Bool, true, false, cond, List, [], ◌∷◌, ◌++◌, length, drop, refl, sym, ap, ◌∙◌, subst, arith, nat_lt, append_assoc, append-nil}
+use Rattle.std.proofs.Common.{◌≡◌, ℕ, suc, ◌+◌, ◌-◌, ◌<◌, ◌^◌, Bool, true, false, cond, List, [], ◌∷◌, ◌++◌, length, drop, take, refl, sym, ap, ◌∙◌, subst, arith, nat_lt, append_assoc, append-nil}
 use Rattle.std.proofs.lemmas.Bool.{eqb-true, le-ltb, lt-ltb, ltb-true}
 use Rattle.std.proofs.lemmas.Fmt.{decimal_is_IsNumeral}
 use Rattle.deck.specs.Nets.{net_number}
-use Rattle.synth_flow.specs.NameParts.{NoDigit, behind, front, leading_letter}
-use Rattle.synth_flow.proofs.NameParts.{behind-digits, front-digits}
+use Rattle.deck_form.specs.NameParts.{NoDigit, behind, front, leading_letter}
+use Rattle.deck_form.proofs.NameParts.{behind-digits, front-digits}
 use Rattle.domino_cell.specs.Stage.{Inside, Top}
-use Rattle.domino_law.specs.Nets.{At, Clock, Complement, Dynamic, FromLatch, FromPin, Lm, Lmb, Ls, Lsb, Master, Net, Next, Output, Part, Pin, Rs, Rsb, DeckSignal, Sink, Slave, Vdd, Vss}
+use Rattle.domino_law.specs.Nets.{At, Clock, Complement, Dynamic, FromLatch, FromPin, Lm, Lmb, Ls, Lsb, Master, Net, Next, Output, Part, Pin, Rs, Rsb, DeckSignal, Sink, Slave, Vdd, Vss, left_side, right_side}
 use Rattle.deck_law.specs.NetNames.{leaf_of, deck_name, leaf_signal}
+
+-- a byte that no escape has behind `_`
+abbrev pub is_mark : ℕ → Bool
+is_mark c = cond (c == 110) true (c == 112)
+
+-- what stands before the first `_n` or `_p` of some bytes, and what from it on
+abbrev pub before_mark : List ℕ → List ℕ
+before_mark [] = []
+before_mark (c ∷ cs) = cond (cond (c == 95) (is_mark (leading_letter cs)) false) [] (c ∷ before_mark cs)
+
+abbrev pub behind_mark : List ℕ → List ℕ
+behind_mark [] = []
+behind_mark (c ∷ cs) = cond (cond (c == 95) (is_mark (leading_letter cs)) false) (c ∷ cs) (behind_mark cs)
 
 abbrev pub is_none : List ℕ → Bool
 is_none [] = true
@@ -23,6 +36,17 @@ module _ (pins outs : List (List ℕ)) where
   spot_of [] part = At part Top
   spot_of (c ∷ cs) part = cond (c == 112) (At part (Inside 0 0)) (At part (Inside 1 0))
 
+  abbrev pub static_spot : List ℕ → Part → Net
+  static_spot [] part = At part Top
+  static_spot (c ∷ cs) part =
+      cond (leading_letter cs == 112) (At part (Inside 0 (digits_value 10 (drop 1 cs)))) (At part (Inside 1 (digits_value 10 (drop 1 cs))))
+
+  -- the name of an output, or of an inner net of its static gate
+  abbrev pub read_o : List ℕ → Net
+  read_o name =
+      cond (nat_lt (net_number outs name) (length outs)) (At (Sink (net_number outs name)) Top)
+      (static_spot (behind_mark (drop 2 name)) (Sink (net_number outs (take 2 name ++ before_mark (drop 2 name)))))
+
   abbrev pub read_c : List ℕ → Net
   read_c xs = cond (leading_letter xs == 107) (Clock (digits_value 10 (drop 1 xs) - 1)) (At (Complement (leaf_signal (length pins) (digits_value 10 xs))) Top)
 
@@ -31,19 +55,22 @@ module _ (pins outs : List (List ℕ)) where
 
   abbrev pub read_from : ℕ → List ℕ → Net
   read_from b xs =
-      cond (b == 100) (At (Dynamic (digits_value 10 xs)) Top)
-      (cond (b == 102) (At (Dynamic (digits_value 10 xs)) (Inside 0 0))
-      (cond (b == 116) (At (Dynamic (digits_value 10 (front xs))) (Inside 0 (suc (digits_value 10 (drop 1 (behind xs))))))
-      (cond (b == 122) (At (Output (digits_value 10 xs)) Top)
+      cond (b == 100) (At (Dynamic (left_side (digits_value 10 xs))) Top)
+      (cond (b == 102) (At (Dynamic (left_side (digits_value 10 xs))) (Inside 0 0))
+      (cond (b == 116) (At (Dynamic (left_side (digits_value 10 (front xs)))) (Inside 0 (suc (digits_value 10 (drop 1 (behind xs))))))
+      (cond (b == 101) (At (Dynamic (right_side (digits_value 10 xs))) Top)
+      (cond (b == 103) (At (Dynamic (right_side (digits_value 10 xs))) (Inside 0 0))
+      (cond (b == 117) (At (Dynamic (right_side (digits_value 10 (front xs)))) (Inside 0 (suc (digits_value 10 (drop 1 (behind xs))))))
+      (cond (b == 122) (static_spot (behind xs) (Output (digits_value 10 (front xs))))
       (cond (b == 109) (spot_of (behind xs) (Master (digits_value 10 (front xs))))
       (cond (b == 113) (spot_of (behind xs) (Slave (digits_value 10 (front xs))))
-      (cond (b == 120) (At (Next (digits_value 10 xs)) Top)
+      (cond (b == 120) (static_spot (behind xs) (Next (digits_value 10 (front xs))))
       (cond (b == 105) (Pin (net_number pins (b ∷ xs)))
-      (cond (b == 111) (At (Sink (net_number outs (b ∷ xs))) Top)
+      (cond (b == 111) (read_o (b ∷ xs))
       (cond (b == 99) (read_c xs)
       (cond (b == 108) (read_l xs)
       (cond (b == 118) (cond (leading_letter xs == 100) Vdd Vss)
-      (cond (is_none (drop 1 xs)) Rs Rsb))))))))))))
+      (cond (is_none (drop 1 xs)) Rs Rsb)))))))))))))))
 
   abbrev pub read : List ℕ → Net
   read [] = Vdd
@@ -53,37 +80,43 @@ module _ (pins outs : List (List ℕ)) where
   abbrev pub IsSmall : ℕ → Type 0
   IsSmall n = n < 2 ^ 64
 
-  value-is : (n : ℕ) → IsSmall n → digits_value 10 (decimal n) ≡ n
+  pub value-is : (n : ℕ) → IsSmall n → digits_value 10 (decimal n) ≡ n
   value-is n small = (decimal_is_IsNumeral n small).1
 
-  front-is : (n : ℕ) (cs : List ℕ) → IsSmall n → NoDigit cs → digits_value 10 (front (decimal n ++ cs)) ≡ n
+  pub front-is : (n : ℕ) (cs : List ℕ) → IsSmall n → NoDigit cs → digits_value 10 (front (decimal n ++ cs)) ≡ n
   front-is n cs small e = ap (digits_value 10) (front-digits (decimal n) cs (decimal_is_IsNumeral n small).0.1 e) ∙ value-is n small
 
-  behind-is : (n : ℕ) (cs : List ℕ) → IsSmall n → NoDigit cs → behind (decimal n ++ cs) ≡ cs
+  pub behind-is : (n : ℕ) (cs : List ℕ) → IsSmall n → NoDigit cs → behind (decimal n ++ cs) ≡ cs
   behind-is n cs small e = behind-digits (decimal n) cs (decimal_is_IsNumeral n small).0.1 e
 
   pub read-fixed : (read (deck_name pins outs Vdd) ≡ Vdd) × (read (deck_name pins outs Vss) ≡ Vss) × (read (deck_name pins outs Lm) ≡ Lm) × (read (deck_name pins outs Lmb) ≡ Lmb)
       × (read (deck_name pins outs Ls) ≡ Ls) × (read (deck_name pins outs Lsb) ≡ Lsb) × (read (deck_name pins outs Rs) ≡ Rs) × (read (deck_name pins outs Rsb) ≡ Rsb)
   read-fixed = (refl, refl, refl, refl, refl, refl, refl, refl)
 
-  pub read-dynamic : (k : ℕ) → IsSmall k → read (deck_name pins outs (At (Dynamic k) Top)) ≡ At (Dynamic k) Top
-  read-dynamic k small = ap (λ n. At (Dynamic n) Top) (value-is k small)
+  pub read-dynamic : (k : ℕ) → IsSmall k → read (deck_name pins outs (At (Dynamic (left_side k)) Top)) ≡ At (Dynamic (left_side k)) Top
+  read-dynamic k small = ap (λ n. At (Dynamic (left_side n)) Top) (value-is k small)
 
-  pub read-foot : (k : ℕ) → IsSmall k → read (deck_name pins outs (At (Dynamic k) (Inside 0 0))) ≡ At (Dynamic k) (Inside 0 0)
-  read-foot k small = ap (λ n. At (Dynamic n) (Inside 0 0)) (value-is k small)
+  pub read-foot : (k : ℕ) → IsSmall k → read (deck_name pins outs (At (Dynamic (left_side k)) (Inside 0 0))) ≡ At (Dynamic (left_side k)) (Inside 0 0)
+  read-foot k small = ap (λ n. At (Dynamic (left_side n)) (Inside 0 0)) (value-is k small)
 
-  pub read-inner : (k j : ℕ) → IsSmall k → IsSmall j → read (deck_name pins outs (At (Dynamic k) (Inside 0 (suc j)))) ≡ At (Dynamic k) (Inside 0 (suc j))
+  pub read-inner : (k j : ℕ) → IsSmall k → IsSmall j → read (deck_name pins outs (At (Dynamic (left_side k)) (Inside 0 (suc j)))) ≡ At (Dynamic (left_side k)) (Inside 0 (suc j))
   read-inner k j small low =
       ap (λ l. read (116 ∷ l)) (append_assoc (decimal k) (codes "_") (decimal j))
-      ∙ ap (λ n. At (Dynamic n) (Inside 0 (suc (digits_value 10 (drop 1 (behind (decimal k ++ (codes "_" ++ decimal j)))))))) (front-is k (codes "_" ++ decimal j) small refl)
-      ∙ ap (λ l. At (Dynamic k) (Inside 0 (suc (digits_value 10 (drop 1 l))))) (behind-is k (codes "_" ++ decimal j) small refl)
-      ∙ ap (λ n. At (Dynamic k) (Inside 0 (suc n))) (value-is j low)
+      ∙ ap (λ n. At (Dynamic (left_side n)) (Inside 0 (suc (digits_value 10 (drop 1 (behind (decimal k ++ (codes "_" ++ decimal j)))))))) (front-is k (codes "_" ++ decimal j) small refl)
+      ∙ ap (λ l. At (Dynamic (left_side k)) (Inside 0 (suc (digits_value 10 (drop 1 l))))) (behind-is k (codes "_" ++ decimal j) small refl)
+      ∙ ap (λ n. At (Dynamic (left_side k)) (Inside 0 (suc n))) (value-is j low)
 
   pub read-output : (k : ℕ) → IsSmall k → read (deck_name pins outs (At (Output k) Top)) ≡ At (Output k) Top
-  read-output k small = ap (λ n. At (Output n) Top) (value-is k small)
+  read-output k small =
+      ap (λ l. read (122 ∷ l)) (sym (append-nil (decimal k)))
+      ∙ ap (λ l. static_spot l (Output (digits_value 10 (front (decimal k ++ []))))) (behind-is k [] small tt)
+      ∙ ap (λ n. At (Output n) Top) (front-is k [] small tt)
 
   pub read-next : (k : ℕ) → IsSmall k → read (deck_name pins outs (At (Next k) Top)) ≡ At (Next k) Top
-  read-next k small = ap (λ n. At (Next n) Top) (value-is k small)
+  read-next k small =
+      ap (λ l. read (120 ∷ l)) (sym (append-nil (decimal k)))
+      ∙ ap (λ l. static_spot l (Next (digits_value 10 (front (decimal k ++ []))))) (behind-is k [] small tt)
+      ∙ ap (λ n. At (Next n) Top) (front-is k [] small tt)
 
   pub read-clock : (i : ℕ) → IsSmall (1 + i) → read (deck_name pins outs (Clock i)) ≡ Clock i
   read-clock i small = ap (λ n. Clock (n - 1)) (value-is (1 + i) small) ∙ ap Clock (less i)

@@ -1,5 +1,5 @@
 -- The own run of a planned deck of a network is the network's run.
-use Rattle.std.specs.Prelude.{◌==◌, slice_index_or}
+use Rattle.std.specs.Prelude.{None, ◌==◌, slice_index_or}
 use Rattle.std.specs.List.{range_with_len, zip}
 use Rattle.std.proofs.Common.{Bool, List, [], ap, ap₂, arith, cond, false, true, length, map, not, refl, subst, suc, sym, take, drop, zero, ℕ, ◌*◌, ◌/◌, ◌%◌, ◌++◌, ◌+◌, ◌-◌, ◌<◌, ◌≤◌, ◌∙◌, ◌∷◌, ◌≡◌, Some, slice_get, nat_lt, ltb-true, ltb-false, eq-eqb, length-append, length-take, length-drop}
 use Rattle.std.proofs.lemmas.Option.{get_or_from_slice_get, slice_get_within}
@@ -7,9 +7,9 @@ use Rattle.std.proofs.Math.Bool.{not-not}
 use Rattle.dom_base.proofs.Lists.{slice_get-append, slice_get-behind, All-at}
 use Rattle.deck.specs.CircuitData.{CircuitData}
 use Rattle.sp_network.specs.Tree.{EachLeaf, Leaf, Parallel, Series, Tree, joins, map_tree}
-use Rattle.net_flatten.specs.declared.network.NetLatch.{NetLatch}
-use Rattle.net_flatten.specs.NetworkData.{NetworkData}
-use Rattle.net_flatten.specs.Networks.{IsNetwork}
+use Rattle.network.specs.declared.network.NetLatch.{NetLatch}
+use Rattle.network.specs.NetworkData.{NetworkData}
+use Rattle.network.specs.Networks.{IsNetwork}
 use Rattle.net_run.specs.Runs.{value_at}
 use Rattle.gate_decompose.specs.Needed.{signed}
 use Rattle.gate_decompose.specs.NetworkOrder.{IsOrderedNetwork}
@@ -27,18 +27,20 @@ use Rattle.tree_map.specs.Plans.{IsTreeOf, cell_of, roots}
 use Rattle.tree_map.proofs.PlanValues.{trees_have_values}
 use Rattle.clock_phase.specs.Levels.{clock_of, greatest}
 use Rattle.domino_law.specs.Nets.{Gate, Minus, Plus, DeckSignal}
-use Rattle.domino_law.specs.OwnRun.{bit_at, cell_bits, gate_bit, next_state, outputs_of, signal_bit, sink_bit}
+use Rattle.domino_law.specs.OwnRun.{bit_at, cell_bit, cell_bits, gate_bit, next_state, outputs_of, signal_bit, sink_bit}
 use Rattle.domino_law.specs.Shape.{DominoCell, Latch, Shape}
-use Rattle.synth_flow.specs.ChosenDecks.{IsPlannedDeck, end_at_cell}
-use Rattle.synth_flow.specs.DeckNets.{CellPlan, SinkEnd}
-use Rattle.synth_flow.specs.DominoDecks.{cells_of, outs_of, pins_of, starts_of}
-use Rattle.synth_flow.proofs.CellOrder.{root_of_cell, tree_reads}
-use Rattle.synth_flow.proofs.DeckForms.{cell_within, counted, leaves_are, root_end, zipped_get, length_map, zip_length, forest_in_place}
+use Rattle.domino_law.proofs.SimpleCells.{simple_bit}
+use Rattle.deck_form.specs.ChosenDecks.{IsPlannedDeck, end_at_cell}
+use Rattle.deck_form.specs.DeckNets.{CellPlan, SinkEnd}
+use Rattle.deck_form.specs.DeckOptions.{DeckOptions}
+use Rattle.deck_form.specs.DominoDecks.{cells_of, outs_of, pins_of, starts_of}
+use Rattle.deck_form.proofs.CellOrder.{root_of_cell, tree_reads}
+use Rattle.deck_form.proofs.DeckForms.{cell_within, counted, leaves_are, root_end, zipped_get, length_map, zip_length, forest_in_place}
 use Rattle.deck_law.specs.NetNames.{cell_shape, deck_shape, end_gate, gate_of, latch_shape, rail_of, leaf_signal}
 use Rattle.deck_law.proofs.ForestBits.{gate_value, gate_values, nodes_there, pairs_there, root_back, root_of}
 use Rattle.deck_law.proofs.BitsInTurn.{filled, filled-at}
 use Rattle.deck_law.proofs.SpelledDecks.{taken_get}
-use Rattle.model_calls.proofs.Lists.{get_of_map, get_map}
+use Rattle.network.proofs.Lists.{get_of_map, get_map}
 use Rattle.gate_decompose.specs.GatesOrder.{AreInPlace, AreOrderedGates}
 use Rattle.gate_decompose.proofs.GatesOrder.{gates_are_ordered, network_gates_are_in_place}
 use Rattle.gate_decompose.proofs.NetworkOrder.{networks_are_ordered}
@@ -60,9 +62,9 @@ each_more P Q (Leaf g) h e = h g e
 each_more P Q (Series l r) h e = (each_more P Q l h e.0, each_more P Q r h e.1)
 each_more P Q (Parallel l r) h e = (each_more P Q l h e.0, each_more P Q r h e.1)
 
-cell_filled : (signal : DeckSignal → Bool) (cs : List DominoCell) (before : List Bool) → cell_bits signal cs before ≡ filled (λ l (c : DominoCell). joins (gate_bit signal l) c.tree) cs before
+cell_filled : (signal : DeckSignal → Bool) (cs : List DominoCell) (before : List Bool) → cell_bits signal cs before ≡ filled (λ l (c : DominoCell). cell_bit (gate_bit signal l) c.tree c.right) cs before
 cell_filled signal [] before = refl
-cell_filled signal (c ∷ cs) before = cell_filled signal cs (before ++ joins (gate_bit signal before) c.tree ∷ [])
+cell_filled signal (c ∷ cs) before = cell_filled signal cs (before ++ cell_bit (gate_bit signal before) c.tree c.right ∷ [])
 
 pub map_ext : {X Y Z : Type 0} (f : X → Z) (g : Y → Z) (xs : List X) (ys : List Y) → length xs ≡ length ys
     → ((k : ℕ) (x : X) (y : Y) → slice_get xs k ≡ Some x → slice_get ys k ≡ Some y → f x ≡ g y) → map f xs ≡ map g ys
@@ -104,12 +106,12 @@ dropped_at (suc n) (x ∷ xs) i = dropped_at n xs i ∙ ap (λ m. slice_index_or
     more n i = omega arith
 
 -- one end for each sink
-pub planned_end_count : (network : NetworkData) (w h phases : ℕ) (circuit : CircuitData) (is : IsPlannedDeck network w h phases circuit)
+pub planned_end_count : {network : NetworkData} {options : DeckOptions} {circuit : CircuitData} (is : IsPlannedDeck network options circuit)
     → length (map (end_at_cell is.kept) is.forest.ends) ≡ length network.outputs + length network.latches
-planned_end_count network w h phases circuit is =
+planned_end_count {network = network} is =
     omega (arith, length_map (end_at_cell is.kept) is.forest.ends, is.is_forest.ends_count, ap length is.are_gates.sinks_are ∙ length_map _ (sink_signals network), length-append network.outputs (map (λ (l : NetLatch). l.input) network.latches), length_map (λ (l : NetLatch). l.input) network.latches)
 
-module _ (network : NetworkData) (w h phases : ℕ) (circuit : CircuitData) (is : IsPlannedDeck network w h phases circuit)
+module _ {network : NetworkData} {options : DeckOptions} {circuit : CircuitData} (is : IsPlannedDeck network options circuit)
     (net_is : IsNetwork network)
     (complements : List ℕ) (pins state : List Bool) (cycle : run.Cycle) (is_cycle : run.IsNetworkCycle network pins state cycle) where
   ordered : IsOrderedNetwork network
@@ -122,7 +124,7 @@ module _ (network : NetworkData) (w h phases : ℕ) (circuit : CircuitData) (is 
   gate_order = gates_are_ordered is.gates in_place
 
   forest_is : IsForestInPlace is.forest
-  forest_is = forest_in_place network w h phases circuit is ordered
+  forest_is = forest_in_place network options circuit is ordered
 
   abbrev P : ℕ
   P = length (pins_of network)
@@ -137,7 +139,7 @@ module _ (network : NetworkData) (w h phases : ℕ) (circuit : CircuitData) (is 
   kept = is.kept
 
   abbrev s : Shape
-  s = deck_shape phases (pins_of network) (outs_of network) (starts_of network) (cells_of phases is.levels is.trees) complements (map (end_at_cell is.kept) is.forest.ends)
+  s = deck_shape options.style options.phases (pins_of network) (outs_of network) (starts_of network) (cells_of options.phases is.levels is.trees) complements (map (end_at_cell is.kept) is.forest.ends)
 
   pin_count : P ≡ network.inputs
   pin_count = length_map _ (range_with_len 0 network.inputs) ∙ range_length 0 network.inputs
@@ -146,7 +148,7 @@ module _ (network : NetworkData) (w h phases : ℕ) (circuit : CircuitData) (is 
   start_count = length_map _ network.latches
 
   leaf_total : length (pins_of network) + length (starts_of network) ≡ forest.leaves
-  leaf_total = ap₂ (λ m n. m + n) pin_count start_count ∙ sym (leaves_are network w h phases circuit is forest_is.in_order forest_is.has_leaves forest_is.has_ends)
+  leaf_total = ap₂ (λ m n. m + n) pin_count start_count ∙ sym (leaves_are network options circuit is forest_is.in_order forest_is.has_leaves forest_is.has_ends)
 
   valuation : AreSignalValues network value
   valuation = λ k t e. is_cycle.valuation.tables k t e
@@ -212,14 +214,15 @@ module _ (network : NetworkData) (w h phases : ℕ) (circuit : CircuitData) (is 
 
   -- the cells, with the forest's count of leaves
   abbrev cells : List DominoCell
-  cells = map (cell_shape P forest.leaves) (cells_of phases is.levels is.trees)
+  cells = map (cell_shape P forest.leaves) (cells_of options.phases is.levels is.trees)
 
   cells_same : s.cells ≡ cells
-  cells_same = ap (λ n. map (cell_shape P n) (cells_of phases is.levels is.trees)) leaf_total
+  cells_same = ap (λ n. map (cell_shape P n) (cells_of options.phases is.levels is.trees)) leaf_total
 
   record IsCellOf (k : ℕ) (c : DominoCell) : Type 0 where
     tree : Tree ℕ
     tree_is : c.tree ≡ map_tree (gate_of P forest.leaves) tree
+    simple : c.right ≡ None
     place : ℕ
     root_is : root k ≡ place
     of_place : IsTreeOf is.forest is.kept place tree
@@ -227,14 +230,15 @@ module _ (network : NetworkData) (w h phases : ℕ) (circuit : CircuitData) (is 
 
   cell_of_at : (k : ℕ) (c : DominoCell) → slice_get cells k ≡ Some c → IsCellOf k c
   cell_of_at k c e =
-      let m = get_of_map (cell_shape P forest.leaves) (cells_of phases is.levels is.trees) k c e in
-      let n = get_of_map (λ (p : Tree ℕ × ℕ). record { tree = p.0; clock = clock_of phases (greatest is.levels) p.1 }) (zip is.trees is.levels) k m.0 m.1 in
+      let m = get_of_map (cell_shape P forest.leaves) (cells_of options.phases is.levels is.trees) k c e in
+      let n = get_of_map (λ (p : Tree ℕ × ℕ). record { tree = p.0; clock = clock_of options.phases (greatest is.levels) p.1 }) (zip is.trees is.levels) k m.0 m.1 in
       let z = zipped_get is.trees is.levels k n.0 n.1 in
       let r = all_zip_back (IsTreeOf is.forest is.kept) (roots is.kept) is.trees k (n.0).0 is.is_plan.trees_are z.0 in
       let at = root_of_cell is.kept k r.0 r.1 in
       record {
         tree = (n.0).0;
         tree_is = ap (λ (x : DominoCell). x.tree) (sym m.2) ∙ ap (λ (x : CellPlan). map_tree (gate_of P forest.leaves) x.tree) (sym n.2);
+        simple = ap (λ (x : DominoCell). x.right) (sym m.2);
         place = r.0;
         root_is = get_or_from_slice_get (roots is.kept) k r.0 (length is.kept) r.1;
         of_place = r.2;
@@ -245,23 +249,26 @@ module _ (network : NetworkData) (w h phases : ℕ) (circuit : CircuitData) (is 
   bits = cell_bits signal cells []
 
   abbrev cell_test : List Bool → DominoCell → Bool
-  cell_test l c = joins (gate_bit signal l) c.tree
+  cell_test l c = cell_bit (gate_bit signal l) c.tree c.right
 
   cell_at : (k : ℕ) (c : DominoCell) → slice_get cells k ≡ Some c → bit_at bits k ≡ joins (gate_bit signal bits) c.tree
   cell_at k c e =
-      subst (λ l. bit_at l k ≡ joins (gate_bit signal l) c.tree) (sym (cell_filled signal cells []))
+      subst (λ l. bit_at l k ≡ cell_bit (gate_bit signal l) c.tree c.right) (sym (cell_filled signal cells []))
       (filled-at cell_test cells reads k c e)
+      ∙ simple_bit (gate_bit signal bits) c (cell_of_at k c e).simple
     where
       reads : (n : ℕ) (x : DominoCell) → slice_get cells n ≡ Some x → (a b : List Bool) → ((m : ℕ) → m < 0 + n → bit_at a m ≡ bit_at b m) → cell_test a x ≡ cell_test b x
       reads n x f a b same =
           let t = cell_of_at n x f in
-          ap (joins (gate_bit signal a)) t.tree_is
+          simple_bit (gate_bit signal a) x t.simple
+          ∙ ap (joins (gate_bit signal a)) t.tree_is
           ∙ joins_alike (gate_of P forest.leaves) (gate_bit signal a) (gate_bit signal b) t.tree
           (each_more (λ g. g < 2 * forest.leaves + n) (λ g. gate_bit signal a (gate_of P forest.leaves g) ≡ gate_bit signal b (gate_of P forest.leaves g)) t.tree (λ g lt. gate_alike a b n same g lt) t.low)
           ∙ ap (joins (gate_bit signal b)) (sym t.tree_is)
+          ∙ sym (simple_bit (gate_bit signal b) x t.simple)
 
   cells_count : length cells ≡ length is.trees
-  cells_count = length_map (cell_shape P forest.leaves) (cells_of phases is.levels is.trees) ∙ length_map _ (zip is.trees is.levels) ∙ zip_length is.trees is.levels (sym is.levels_are.one_each)
+  cells_count = length_map (cell_shape P forest.leaves) (cells_of options.phases is.levels is.trees) ∙ length_map _ (zip is.trees is.levels) ∙ zip_length is.trees is.levels (sym is.levels_are.one_each)
 
   cell_value : (n k : ℕ) → k < n → k < length is.trees → bit_at bits k ≡ pair.0 (root k)
   cell_value zero k lt low = absurd (omega arith)
@@ -282,16 +289,16 @@ module _ (network : NetworkData) (w h phases : ℕ) (circuit : CircuitData) (is 
     where
       reach : place < length is.forest.pairs → 1 ≤ end_uses is.forest place → bit_at bits (cell_of is.kept place) ≡ pair.0 place
       reach low some =
-          cell_value (suc (cell_of is.kept place)) (cell_of is.kept place) (omega arith) (cell_within network w h phases circuit is forest_is.in_order forest_is.has_leaves forest_is.has_ends place low some)
-          ∙ ap pair.0 (root_back is.kept place (omega (arith, low, one_each)) (root_end network w h phases circuit is forest_is.in_order forest_is.has_leaves forest_is.has_ends place some))
+          cell_value (suc (cell_of is.kept place)) (cell_of is.kept place) (omega arith) (cell_within network options circuit is forest_is.in_order forest_is.has_leaves forest_is.has_ends place low some)
+          ∙ ap pair.0 (root_back is.kept place (omega (arith, low, one_each)) (root_end network options circuit is forest_is.in_order forest_is.has_leaves forest_is.has_ends place some))
 
   dynamic_bit : (k place : ℕ) → slice_get is.forest.ends k ≡ Some (end_dynamic place) → bit_at bits (cell_of is.kept place) ≡ pair.0 place
   dynamic_bit k place e = reach (All-at (IsEndOfForest is.forest) is.forest.ends k (end_dynamic place) forest_is.has_ends e) (counted (is_end_from place) is.forest.ends k (end_dynamic place) e (eq-eqb place place refl))
     where
       reach : place < length is.forest.pairs → 1 ≤ end_uses is.forest place → bit_at bits (cell_of is.kept place) ≡ pair.0 place
       reach low some =
-          cell_value (suc (cell_of is.kept place)) (cell_of is.kept place) (omega arith) (cell_within network w h phases circuit is forest_is.in_order forest_is.has_leaves forest_is.has_ends place low some)
-          ∙ ap pair.0 (root_back is.kept place (omega (arith, low, one_each)) (root_end network w h phases circuit is forest_is.in_order forest_is.has_leaves forest_is.has_ends place some))
+          cell_value (suc (cell_of is.kept place)) (cell_of is.kept place) (omega arith) (cell_within network options circuit is forest_is.in_order forest_is.has_leaves forest_is.has_ends place low some)
+          ∙ ap pair.0 (root_back is.kept place (omega (arith, low, one_each)) (root_end network options circuit is forest_is.in_order forest_is.has_leaves forest_is.has_ends place some))
 
   end_value : (k : ℕ) (e : End) → slice_get is.forest.ends k ≡ Some e → not (gate_bit signal bits (end_gate P (end_at_cell is.kept e))) ≡ end_bit value pair.0 e
   end_value k (Const false) at = refl

@@ -1,5 +1,9 @@
 pub mod Headline
+pub mod HonestDecks
 pub mod Laws
+pub mod NamesApart
 pub mod NetNames
 pub mod OwnRuns
+pub mod ShapeDecks
+pub mod WorkedCompound
 pub mod WorkedDeck

@@ -1,20 +1,36 @@
 -- The names of a deck's nets, and a deck by names as a shape with a numbering of its nets (SPICE M cards).
-use Rattle.std.specs.Prelude.{Bool, List, [], codes, cond, drop, false, length, map, nat_lt, slice_index_or, suc, take, true, zero, ℕ, ◌*◌, ◌++◌, ◌+◌, ◌-◌, ◌/◌, ◌==◌, ◌%◌}
+use Rattle.std.specs.Prelude.{Bool, List, [], codes, cond, drop, false, length, map, nat_lt, slice_index_or, suc, take, true, zero, ℕ, ◌*◌, ◌++◌, ◌+◌, ◌-◌, ◌/◌, ◌==◌, ◌%◌, None}
 use Rattle.std.specs.Fmt.{decimal}
 use Rattle.std.specs.List.{zip}
 use Rattle.deck.specs.Nets.{net_number}
 use Rattle.sp_network.specs.Tree.{map_tree}
-use Rattle.domino_cell.specs.Stage.{Inside, Top}
-use Rattle.domino_law.specs.Nets.{At, Clock, Complement, Dynamic, FromDynamic, FromLatch, FromOutput, FromPin, Gate, High, Lm, Lmb, Low, Ls, Lsb, Master, Minus, Net, Next, Output, Pin, Plus, Rs, Rsb, DeckSignal, Sink, Slave, Vdd, Vss}
-use Rattle.domino_law.specs.Shape.{DominoCell, Latch, Shape, WithKeeper}
-use Rattle.synth_flow.specs.DeckNets.{SinkEnd, Fixed, OfDynamic, OfLeaf, OfOutput, CellPlan, clock_net, complement_net, data_net, dynamic_net, output_net, vdd, vss}
+use Rattle.domino_cell.specs.Stage.{Inside, Top, Spot}
+use Rattle.domino_law.specs.Nets.{At, Clock, Complement, Dynamic, FromDynamic, FromLatch, FromOutput, FromPin, Gate, High, Lm, Lmb, Low, Ls, Lsb, Master, Minus, Net, Next, Output, Pin, Plus, Rs, Rsb, DeckSignal, Sink, Slave, Vdd, Vss, Left, Right, Side}
+use Rattle.domino_law.specs.Shape.{DominoCell, Latch, Shape, Style}
+use Rattle.deck_form.specs.DeckNets.{SinkEnd, Fixed, OfDynamic, OfLeaf, OfOutput, CellPlan, clock_net, complement_net, data_net, dynamic_net, output_net, vdd, vss}
+use Rattle.port_runs.specs.Environment.{Together}
 
 -- the number of a signal's leaf: pins first, then latches
 abbrev pub leaf_of : ℕ → DeckSignal → ℕ
 leaf_of pins (FromPin p) = p
 leaf_of pins (FromLatch j) = pins + j
 
--- the name of a net
+-- the name of a spot of a side of a cell
+abbrev pub side_name : Side → ℕ → Spot → List ℕ
+side_name Left k Top = dynamic_net k
+side_name Left k (Inside i zero) = codes "f" ++ decimal k
+side_name Left k (Inside i (suc j)) = codes "t" ++ decimal k ++ codes "_" ++ decimal j
+side_name Right k Top = codes "e" ++ decimal k
+side_name Right k (Inside i zero) = codes "g" ++ decimal k
+side_name Right k (Inside i (suc j)) = codes "u" ++ decimal k ++ codes "_" ++ decimal j
+
+-- the name of a spot of a static gate with this output
+abbrev pub static_name : List ℕ → Spot → List ℕ
+static_name out Top = out
+static_name out (Inside zero j) = out ++ (codes "_p" ++ decimal j)
+static_name out (Inside (suc i) j) = out ++ (codes "_n" ++ decimal j)
+
+-- the name of a net of a deck
 abbrev pub deck_name : List (List ℕ) → List (List ℕ) → Net → List ℕ
 deck_name pins outs Vdd = vdd
 deck_name pins outs Vss = vss
@@ -26,10 +42,8 @@ deck_name pins outs Lsb = codes "lsb"
 deck_name pins outs Rs = codes "rs"
 deck_name pins outs Rsb = codes "rsb"
 deck_name pins outs (Pin p) = slice_index_or pins p []
-deck_name pins outs (At (Dynamic k) Top) = dynamic_net k
-deck_name pins outs (At (Dynamic k) (Inside i zero)) = codes "f" ++ decimal k
-deck_name pins outs (At (Dynamic k) (Inside i (suc j))) = codes "t" ++ decimal k ++ codes "_" ++ decimal j
-deck_name pins outs (At (Output k) spot) = output_net k
+deck_name pins outs (At (Dynamic k) spot) = side_name k.side k.cell spot
+deck_name pins outs (At (Output k) spot) = static_name (output_net k) spot
 deck_name pins outs (At (Complement l) spot) = complement_net (leaf_of (length pins) l)
 deck_name pins outs (At (Master j) Top) = codes "m" ++ decimal j
 deck_name pins outs (At (Master j) (Inside zero i)) = codes "m" ++ decimal j ++ codes "p"
@@ -37,8 +51,8 @@ deck_name pins outs (At (Master j) (Inside (suc k) i)) = codes "m" ++ decimal j 
 deck_name pins outs (At (Slave j) Top) = codes "q" ++ decimal j
 deck_name pins outs (At (Slave j) (Inside zero i)) = codes "q" ++ decimal j ++ codes "p"
 deck_name pins outs (At (Slave j) (Inside (suc k) i)) = codes "q" ++ decimal j ++ codes "n"
-deck_name pins outs (At (Next j) spot) = data_net j
-deck_name pins outs (At (Sink i) spot) = slice_index_or outs i []
+deck_name pins outs (At (Next j) spot) = static_name (data_net j) spot
+deck_name pins outs (At (Sink i) spot) = static_name (slice_index_or outs i []) spot
 
 -- the number of a net among all names
 abbrev pub numbering : List (List ℕ) → List (List ℕ) → List (List ℕ) → Net → ℕ
@@ -66,15 +80,16 @@ end_gate pins (OfDynamic k) = FromDynamic k
 end_gate pins (OfOutput k) = FromOutput k
 
 abbrev pub cell_shape : ℕ → ℕ → CellPlan → DominoCell
-cell_shape pins leaf_count c = record { clock = c.clock - 1; tree = map_tree (gate_of pins leaf_count) c.tree }
+cell_shape pins leaf_count c = record { clock = c.clock - 1; tree = map_tree (gate_of pins leaf_count) c.tree; right = None }
 
 abbrev pub latch_shape : ℕ → Bool × SinkEnd → Latch
 latch_shape pins p = record { init = p.0; next = end_gate pins p.1 }
 
 -- the shape of a deck of these pins, outputs, start values, cells, complements and ends
-abbrev pub deck_shape : ℕ → List (List ℕ) → List (List ℕ) → List Bool → List CellPlan → List ℕ → List SinkEnd → Shape
-deck_shape clocks pins outs starts cells complements ends = record {
-  style = WithKeeper;
+abbrev pub deck_shape : Style → ℕ → List (List ℕ) → List (List ℕ) → List Bool → List CellPlan → List ℕ → List SinkEnd → Shape
+deck_shape style clocks pins outs starts cells complements ends = record {
+  style = style;
+  clocking = Together;
   pins = length pins;
   clocks = clocks;
   complements = map (leaf_signal (length pins)) complements;

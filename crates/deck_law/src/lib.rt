@@ -5,5 +5,6 @@
 mod laws;
 
 pub use laws::{
-    decks_are_right, loose_decks_are_spelled, planned_runs_as_network, worked_deck_is_planned,
+    decks_are_honest, decks_are_right, loose_decks_are_spelled, names_are_apart,
+    planned_runs_as_network, shape_decks_are_loose, worked_deck_is_planned,
 };

@@ -1,12 +1,12 @@
 -- The cells of trees that read only cells before their own have levels.
-use Rattle.std.proofs.Common.{◌≡◌, ◌⊎◌, inl, inr, zero, suc, subst, ℕ, ◌+◌, ◌-◌, ◌*◌, ◌<◌, Bool, true, false, cond, List, [], ◌∷◌, length, map, get_or, Option, Some, None, slice_get, refl, sym, ap, ◌∙◌, arith, zero-add, nat_lt, ltb-false}
+use Rattle.std.proofs.Common.{◌≡◌, inl, inr, zero, suc, ℕ, ◌+◌, ◌-◌, ◌*◌, ◌<◌, Bool, true, false, cond, List, [], ◌∷◌, length, map, get_or, Option, Some, None, slice_get, refl, sym, ap, ◌∙◌, arith, zero-add, nat_lt, ltb-false}
 use Rattle.std.specs.List.{AllByRecursion, range_with_len}
 use Rattle.std.proofs.lemmas.List.FromFn.{get_or-map-range_with_len, length-map-range_with_len}
 use Rattle.std.proofs.lemmas.List.{get_or_past}
 use Rattle.std.proofs.lemmas.Option.{get_or_from_slice_get, slice_get-get_or, slice_get_cases, slice_get_within}
 use Rattle.dom_base.proofs.Lists.{AllByRecursion-append, AllByRecursion-weaker}
 use Rattle.sp_network.specs.Tree.{Tree, EachLeaf, Leaf, Series, Parallel}
-use Rattle.model_calls.proofs.Lists.{map_same}
+use Rattle.network.proofs.Lists.{map_same}
 use Rattle.clock_phase.specs.Levels.{AreLevels, cells_read, greatest}
 use Rattle.plan_law.specs.Laws.{LevelsAreThere, TreesReadBelow}
 use Rattle.plan_law.proofs.BuiltLists.{lists_same, values_there}

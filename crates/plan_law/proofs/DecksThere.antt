@@ -6,7 +6,7 @@ use Rattle.deck.proofs.PortDecisions.{has_roles}
 use Rattle.deck.proofs.PortLayout.{HasRoles-same}
 use Rattle.spice_text.specs.Text.{IsWritten, text_with}
 use Rattle.sp_network.specs.Tree.{Tree, EachLeaf}
-use Rattle.net_flatten.specs.NetworkData.{NetworkData}
+use Rattle.network.specs.NetworkData.{NetworkData}
 use Rattle.gate_decompose.specs.GateNodes.{AreGatesOf, network_nodes, node_names, node_of, ref_of}
 use Rattle.gate_decompose.specs.GatesData.{GatesData}
 use Rattle.gate_decompose.specs.Sinks.{leaf_count, sink_signals}
@@ -24,9 +24,10 @@ use Rattle.tree_map.specs.LeastPlans.{IsChosenPlan}
 use Rattle.tree_map.specs.Plans.{IsPlan, IsTreeOf, roots}
 use Rattle.tree_map.proofs.PlanThere.{chosen_plan_there}
 use Rattle.clock_phase.specs.Levels.{AreLevels}
-use Rattle.synth_flow.specs.ChosenDecks.{IsChosenDeck, end_at_cell}
-use Rattle.synth_flow.specs.DominoDecks.{deck_circuit}
-use Rattle.synth_flow.proofs.CellOrder.{root_of_cell, tree_reads}
+use Rattle.deck_form.specs.ChosenDecks.{IsChosenDeck, end_at_cell}
+use Rattle.deck_form.specs.DeckOptions.{DeckOptions}
+use Rattle.deck_form.specs.DominoDecks.{cells_of, deck_circuit}
+use Rattle.deck_form.proofs.CellOrder.{root_of_cell, tree_reads}
 use Rattle.plan_law.specs.Laws.{ChosenDecksAreThere, GatesAreThere, SynthTextsAreThere, TextsAreThere, TreesReadBelow}
 use Rattle.plan_law.proofs.CellLevels.{levels_there}
 use Rattle.plan_law.proofs.ForestThere.{forests_there}
@@ -52,12 +53,12 @@ plan_reads forest w h kept trees is plan = λ k tree at.
     (tree_reads forest kept is.in_order is.has_leaves found.0 (omega (arith, root.2)) tree found.2)
 
 -- the deck of these parts
-deck_of : (network : NetworkData) (w h phases : ℕ) (gates : GatesData) (signs : List Bool) (forest : ForestData) (kept : List Bool)
+deck_of : (network : NetworkData) (options : DeckOptions) (gates : GatesData) (signs : List Bool) (forest : ForestData) (kept : List Bool)
     (trees : List (Tree ℕ)) (levels : List ℕ) → AreGatesOf network gates → AreChosen gates signs → IsForestOf gates signs forest
-    → IsChosenPlan forest w h kept trees → AreLevels (leaf_count network) trees levels
-    → (circuit : CircuitData) × IsChosenDeck network w h phases circuit
-deck_of network w h phases gates signs forest kept trees levels are_gates are_chosen is_forest is_plan levels_are = (
-  deck_circuit network phases trees levels signs (map (end_at_cell kept) forest.ends),
+    → IsChosenPlan forest options.width options.height kept trees → AreLevels (leaf_count network) trees levels
+    → (circuit : CircuitData) × IsChosenDeck network options circuit
+deck_of network options gates signs forest kept trees levels are_gates are_chosen is_forest is_plan levels_are = (
+  deck_circuit options.style network options.phases (cells_of options.phases levels trees) signs (map (end_at_cell kept) forest.ends),
   record {
     gates = gates;
     signs = signs;
@@ -75,7 +76,7 @@ deck_of network w h phases gates signs forest kept trees levels are_gates are_ch
 )
 
 pub decks_there : ChosenDecksAreThere
-decks_there = λ network w h phases is wide tall.
+decks_there = λ network options is wide tall.
     let order = networks_are_ordered network is in
     let gates = gates_there network order in
     let in_place = network_gates_are_in_place network gates.0 order gates.1 in
@@ -83,11 +84,11 @@ decks_there = λ network w h phases is wide tall.
     let signs = chosen_there gates.0 ordered in
     let forest = forests_there gates.0 signs.0 in_place (chosen_settled gates.0 ordered signs.0 signs.1).one_each in
     let stands = forests_are_in_place gates.0 signs.0 forest.0 in_place forest.1 in
-    let plan = chosen_plan_there forest.0 w h wide tall stands.in_order in
+    let plan = chosen_plan_there forest.0 options.width options.height wide tall stands.in_order in
     let leaves : (forest.0).leaves ≡ leaf_count network = (forest.1).leaves_are ∙ (gates.1).leaves_are in
     let levels = levels_there (leaf_count network) plan.1
-    (subst (λ n. TreesReadBelow n plan.1) leaves (plan_reads forest.0 w h plan.0 plan.1 stands (plan.2).plan)) in
-    deck_of network w h phases gates.0 signs.0 forest.0 plan.0 plan.1 levels.0 gates.1 signs.1 forest.1 plan.2 levels.1
+    (subst (λ n. TreesReadBelow n plan.1) leaves (plan_reads forest.0 options.width options.height plan.0 plan.1 stands (plan.2).plan)) in
+    deck_of network options gates.0 signs.0 forest.0 plan.0 plan.1 levels.0 gates.1 signs.1 forest.1 plan.2 levels.1
 
 pub written_there : TextsAreThere
 written_there = λ circuit. by circuit (has_roles (take circuit.ports circuit.nets))
@@ -114,7 +115,7 @@ written_there = λ circuit. by circuit (has_roles (take circuit.ports circuit.ne
     )
 
 pub texts_there : SynthTextsAreThere
-texts_there = λ network bounds phases is wide tall.
-    let deck = decks_there network bounds.w bounds.h phases is wide tall in
+texts_there = λ network options is wide tall.
+    let deck = decks_there network options is wide tall in
     let text = written_there deck.0 in
     (text.0, record { circuit = deck.0; is_chosen = deck.1; written = text.1 })

@@ -3,6 +3,7 @@ pub mod CellLevels
 pub mod DecksThere
 pub mod FilesAnswered
 pub mod ForestThere
+pub mod LeastDecks
 pub mod OneDeck
 pub mod OneForest
 pub mod OneGates

@@ -1,18 +1,14 @@
 -- A network has one deck of the chosen signs and the chosen plan, and one text.
-use Rattle.std.proofs.Common.{◌≡◌, ◌∙◌, refl, sym, ap, subst, ℕ, Bool, true, false, List, map, take, nat_eq}
+use Rattle.std.proofs.Common.{◌≡◌, ◌∙◌, refl, sym, subst, ℕ, Bool, true, false, List, map, take, nat_eq}
 use Rattle.std.specs.Cmp.Lexicographic.{pointwise, bytes_decides}
 use Rattle.deck.specs.CircuitData.{CircuitData}
 use Rattle.deck.specs.Ports.{HasRoles}
 use Rattle.spice_text.specs.Text.{IsWritten}
-use Rattle.sp_network.specs.Tree.{Tree}
-use Rattle.net_flatten.specs.NetworkData.{NetworkData}
-use Rattle.net_flatten.specs.Networks.{IsNetwork}
-use Rattle.gate_decompose.specs.GateNodes.{AreGatesOf}
-use Rattle.gate_decompose.specs.GatesData.{GatesData}
+use Rattle.network.specs.NetworkData.{NetworkData}
+use Rattle.network.specs.Networks.{IsNetwork}
 use Rattle.gate_decompose.specs.Sinks.{leaf_count}
-use Rattle.gate_decompose.proofs.GatesOrder.{gates_are_ordered, network_gates_are_in_place}
+use Rattle.gate_decompose.proofs.GatesOrder.{network_gates_are_in_place}
 use Rattle.gate_decompose.proofs.NetworkOrder.{networks_are_ordered}
-use Rattle.dual_rail.specs.ForestData.{ForestData}
 use Rattle.dual_rail.specs.Forests.{IsForestOf}
 use Rattle.dual_rail.proofs.ForestOrders.{forests_are_in_place}
 use Rattle.phase_assign.specs.Signs.{AreChosen}
@@ -20,8 +16,9 @@ use Rattle.phase_assign.proofs.ChosenSigns.{chosen_signs_one}
 use Rattle.tree_map.specs.LeastPlans.{IsChosenPlan}
 use Rattle.tree_map.proofs.PlanOne.{chosen_plan_one}
 use Rattle.clock_phase.specs.Levels.{AreLevels}
-use Rattle.synth_flow.specs.ChosenDecks.{IsChosenDeck, end_at_cell}
-use Rattle.synth_flow.specs.DominoDecks.{deck_circuit}
+use Rattle.deck_form.specs.ChosenDecks.{IsChosenDeck, end_at_cell}
+use Rattle.deck_form.specs.DeckOptions.{DeckOptions}
+use Rattle.deck_form.specs.DominoDecks.{cells_of, deck_circuit}
 use Rattle.plan_law.specs.Laws.{TreesReadBelow}
 use Rattle.plan_law.specs.OneText.{ChosenDecksAreOne, SynthTextsAreOne, TextsAreOne}
 use Rattle.plan_law.proofs.CellLevels.{levels_one}
@@ -41,21 +38,21 @@ texts_one = λ c a b x y. by c a b x y (pointwise nat_eq a b) refl
         x.without_roles no_roles ∙ sym (y.without_roles no_roles)
 
 -- decks of the same gates: signs, forest, plan and levels are one by one the same
-module _ (network : NetworkData) (is : IsNetwork network) (w h phases : ℕ) where
-  same_levels : (a b : CircuitData) (x : IsChosenDeck network w h phases a) (y : IsChosenDeck network w h phases b)
+module _ (network : NetworkData) (is : IsNetwork network) (options : DeckOptions) where
+  same_levels : (a b : CircuitData) (x : IsChosenDeck network options a) (y : IsChosenDeck network options b)
       → x.gates ≡ y.gates → x.signs ≡ y.signs → x.forest ≡ y.forest → x.kept ≡ y.kept → x.trees ≡ y.trees → a ≡ b
   same_levels a b x y gates signs forest kept trees =
       let in_place = network_gates_are_in_place network y.gates (networks_are_ordered network is) y.are_gates in
       let stands = forests_are_in_place y.gates y.signs y.forest in_place y.is_forest in
       let leaves : (y.forest).leaves ≡ leaf_count network = (y.is_forest).leaves_are ∙ (y.are_gates).leaves_are in
-      let below = subst (λ n. TreesReadBelow n y.trees) leaves (plan_reads y.forest w h y.kept y.trees stands (y.is_chosen_plan).plan) in
+      let below = subst (λ n. TreesReadBelow n y.trees) leaves (plan_reads y.forest options.width options.height y.kept y.trees stands (y.is_chosen_plan).plan) in
       let levels : x.levels ≡ y.levels =
       levels_one (leaf_count network) y.trees below x.levels y.levels (subst (λ ts. AreLevels (leaf_count network) ts x.levels) trees x.levels_are) y.levels_are in
       x.circuit_is
-      ∙ (λ i. deck_circuit network phases (trees i) (levels i) (signs i) (map (end_at_cell (kept i)) ((forest i).ends)))
+      ∙ (λ i. deck_circuit options.style network options.phases (cells_of options.phases (levels i) (trees i)) (signs i) (map (end_at_cell (kept i)) ((forest i).ends)))
       ∙ sym y.circuit_is
 
-  deck_one : (a b : CircuitData) → IsChosenDeck network w h phases a → IsChosenDeck network w h phases b → a ≡ b
+  deck_one : (a b : CircuitData) → IsChosenDeck network options a → IsChosenDeck network options b → a ≡ b
   deck_one a b x y =
       let order = networks_are_ordered network is in
       let gates : x.gates ≡ y.gates = gates_one network order x.gates y.gates x.are_gates y.are_gates in
@@ -64,14 +61,14 @@ module _ (network : NetworkData) (is : IsNetwork network) (w h phases : ℕ) whe
       forest_one y.gates y.signs x.forest y.forest (subst (λ g. IsForestOf g y.signs x.forest) gates (subst (λ s. IsForestOf x.gates s x.forest) signs x.is_forest)) y.is_forest in
       let in_place = network_gates_are_in_place network y.gates order y.are_gates in
       let stands = forests_are_in_place y.gates y.signs y.forest in_place y.is_forest in
-      let plan = chosen_plan_one y.forest w h x.kept y.kept x.trees y.trees stands.in_order
-      (subst (λ f. IsChosenPlan f w h x.kept x.trees) forest x.is_chosen_plan) y.is_chosen_plan in
+      let plan = chosen_plan_one y.forest options.width options.height x.kept y.kept x.trees y.trees stands.in_order
+      (subst (λ f. IsChosenPlan f options.width options.height x.kept x.trees) forest x.is_chosen_plan) y.is_chosen_plan in
       same_levels a b x y gates signs forest plan.0 plan.1
 
 pub decks_one : ChosenDecksAreOne
-decks_one = λ network w h phases a b is x y. deck_one network is w h phases a b x y
+decks_one = λ network options a b is x y. deck_one network is options a b x y
 
 pub synth_texts_one : SynthTextsAreOne
-synth_texts_one = λ network bounds phases a b is x y.
-    let same = decks_one network bounds.w bounds.h phases x.circuit y.circuit is x.is_chosen y.is_chosen in
+synth_texts_one = λ network options a b is x y.
+    let same = decks_one network options x.circuit y.circuit is x.is_chosen y.is_chosen in
     texts_one y.circuit a b (subst (λ c. IsWritten c a) same x.written) y.written

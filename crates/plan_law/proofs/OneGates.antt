@@ -1,5 +1,5 @@
 -- A network has one list of gates.
-use Rattle.std.proofs.Common.{◌≡◌, ◌⊎◌, inl, inr, refl, sym, ap, ap₂, subst, ◌∙◌, ℕ, zero, suc, ◌+◌, ◌-◌, ◌≤◌, ◌<◌, Bool, true, false, cond, ◌||◌, List, [], ◌∷◌, ◌++◌, length, map, flat_map, Some, slice_get, get_or, arith}
+use Rattle.std.proofs.Common.{◌≡◌, ◌⊎◌, inl, inr, refl, sym, ap, ap₂, subst, ◌∙◌, ℕ, zero, suc, ◌+◌, ◌-◌, ◌≤◌, ◌<◌, Bool, true, false, cond, ◌||◌, List, [], ◌∷◌, ◌++◌, length, map, flat_map, Some, slice_get, arith}
 use Rattle.std.specs.Prelude.{All}
 use Rattle.std.specs.List.{AllByRecursion, enumerate_from}
 use Rattle.std.proofs.lemmas.Bool.{cases_lt}
@@ -11,8 +11,8 @@ use Rattle.gate_decompose.specs.Sinks.{leaf_count, sink_signals}
 use Rattle.gate_decompose.specs.Terms.{And, Constant, Not, Or, Signal, Term, rows_term, table_term}
 use Rattle.gate_decompose.proofs.Operands.{folded_same}
 use Rattle.gate_decompose.proofs.TermShapes.{SignalsBelow, rows_are, table_signals}
-use Rattle.net_flatten.specs.NetworkData.{NetTableData, NetworkData}
-use Rattle.model_calls.proofs.Lists.{map_same}
+use Rattle.network.specs.NetworkData.{NetTableData, NetworkData}
+use Rattle.network.proofs.Lists.{map_same}
 
 -- a term whose signals come to the same has the same nodes
 module _ (of other : ℕ → Operand) (table m : ℕ) (same : (s : ℕ) → s < m → of s ≡ other s) where

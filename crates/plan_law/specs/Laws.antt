@@ -7,8 +7,8 @@ use Rattle.deck.specs.CircuitData.{CircuitData}
 use Rattle.spice_text.specs.Text.{IsWritten}
 use Rattle.sp_network.specs.Tree.{Tree, EachLeaf}
 use Rattle.net_flatten.specs.Flattening.{IsNetworkOf}
-use Rattle.net_flatten.specs.NetworkData.{NetworkData}
-use Rattle.net_flatten.specs.Networks.{IsNetwork}
+use Rattle.network.specs.NetworkData.{NetworkData}
+use Rattle.network.specs.Networks.{IsNetwork}
 use Rattle.model_calls.specs.Refusal.{Refusal}
 use Rattle.model_calls.specs.Refusals.{IsRefusal}
 use Rattle.gate_decompose.specs.GateNodes.{AreGatesOf}
@@ -18,8 +18,9 @@ use Rattle.gate_decompose.specs.NetworkOrder.{IsOrderedNetwork}
 use Rattle.dual_rail.specs.ForestData.{ForestData}
 use Rattle.dual_rail.specs.Forests.{IsForestOf}
 use Rattle.clock_phase.specs.Levels.{AreLevels}
-use Rattle.synth_flow.specs.ChosenDecks.{IsChosenDeck}
-use Rattle.synth_flow.specs.DeckTexts.{BoundsData, IsSynthText}
+use Rattle.deck_form.specs.ChosenDecks.{IsChosenDeck}
+use Rattle.deck_form.specs.DeckOptions.{DeckOptions}
+use Rattle.deck_form.specs.DeckTexts.{IsSynthText}
 
 -- a network whose tables read only signals before their own has gates
 abbrev pub GatesAreThere : Type 0
@@ -44,8 +45,8 @@ LevelsAreThere =
 -- a network has a deck of the chosen signs and the chosen plan, within any bounds of at least 2
 abbrev pub ChosenDecksAreThere : Type 0
 ChosenDecksAreThere =
-    (network : NetworkData) (w h phases : ℕ) → IsNetwork network → 2 ≤ w → 2 ≤ h
-    → (circuit : CircuitData) × IsChosenDeck network w h phases circuit
+    (network : NetworkData) (options : DeckOptions) → IsNetwork network → 2 ≤ options.width → 2 ≤ options.height
+    → (circuit : CircuitData) × IsChosenDeck network options circuit
 
 -- each circuit has a text
 abbrev pub TextsAreThere : Type 0
@@ -54,18 +55,18 @@ TextsAreThere = (circuit : CircuitData) → (text : List ℕ) × IsWritten circu
 -- so each network has the text that synthesis gives of it
 abbrev pub SynthTextsAreThere : Type 0
 SynthTextsAreThere =
-    (network : NetworkData) (bounds : BoundsData) (phases : ℕ) → IsNetwork network → 2 ≤ bounds.w → 2 ≤ bounds.h
-    → (text : List ℕ) × IsSynthText text network bounds phases
+    (network : NetworkData) (options : DeckOptions) → IsNetwork network → 2 ≤ options.width → 2 ≤ options.height
+    → (text : List ℕ) × IsSynthText text network options
 
 -- the file's network and the text that synthesis gives of it
-pub record HasSynthText (f : BlifFileData) (bounds : BoundsData) (phases : ℕ) : Type 0 where
+pub record HasSynthText (f : BlifFileData) (options : DeckOptions) : Type 0 where
   pub network : NetworkData
   pub is_network : IsNetworkOf f network
   pub text : List ℕ
-  pub is_text : IsSynthText text network bounds phases
+  pub is_text : IsSynthText text network options
 
 -- a good file is refused for something, or has such a text
 abbrev pub FilesHaveTexts : Type 0
 FilesHaveTexts =
-    (f : BlifFileData) (bounds : BoundsData) (phases : ℕ) → IsGoodFile f → 2 ≤ bounds.w → 2 ≤ bounds.h
-    → ((r : Refusal) × IsRefusal f r) ⊎ HasSynthText f bounds phases
+    (f : BlifFileData) (options : DeckOptions) → IsGoodFile f → 2 ≤ options.width → 2 ≤ options.height
+    → ((r : Refusal) × IsRefusal f r) ⊎ HasSynthText f options

@@ -8,6 +8,7 @@ ghost use Rattle.plan_law.specs.Laws.{
   SynthTextsAreThere,
   TextsAreThere,
 };
+ghost use Rattle.plan_law.specs.LeastDecks.{ChosenDecksAreLeast};
 ghost use Rattle.plan_law.specs.OneText.{ChosenDecksAreOne, SynthTextsAreOne, TextsAreOne};
 
 /// A network has gates, gates have a forest under any signs, and the cells of trees that read only
@@ -26,8 +27,8 @@ pub fn decks_are_there()
     ensures texts { SynthTextsAreThere }
 {}
 
-/// A network has one deck of the chosen signs and the chosen plan within a width and a height, and one
-/// text: what synthesis gives is decided by the network, the bounds and the number of clocks.
+/// A network has one deck of the chosen signs and the chosen plan with the same options, and one text:
+/// what synthesis gives is decided by the network and the options.
 pub fn decks_are_one()
     ensures decks { ChosenDecksAreOne }
     ensures written { TextsAreOne }
@@ -38,4 +39,10 @@ pub fn decks_are_one()
 /// it, for a width and a height of at least 2. Nothing but the file's own refusals stands in the way.
 pub fn files_have_texts()
     ensures { FilesHaveTexts }
+{}
+
+/// The signs of the deck that synthesis gives of a network are settled and need no more pairs than all plus; its cells are the trees
+/// of a plan of least cost, and have exactly as many devices as that plan costs.
+pub fn chosen_decks_are_least()
+    ensures { ChosenDecksAreLeast }
 {}

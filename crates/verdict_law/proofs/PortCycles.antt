@@ -1,6 +1,6 @@
 -- Power and the cycles of a trace, as legal runs by ports: to each reading, and on to where the slaves have been closed.
 use Rattle.std.specs.Prelude.{◌⊎◌}
-use Rattle.std.proofs.Common.{◌≡◌, ℕ, zero, suc, ◌+◌, ◌<◌, ◌≤◌, Bool, List, [], ◌∷◌, ◌++◌, length, map, replicate, refl, sym, subst, ap, ◌∙◌, arith, append-nil, inl, inr}
+use Rattle.std.proofs.Common.{◌≡◌, ℕ, zero, suc, ◌+◌, Bool, List, [], ◌∷◌, ◌++◌, length, map, replicate, refl, sym, subst, ap, ◌∙◌, arith, append-nil, inl, inr}
 use Rattle.dom_base.specs.declared.tri.Tri.{Tri}
 use Rattle.dom_base.specs.declared.tri.Tri.TheVariants.{One}
 use Rattle.deck.specs.CircuitData.{CircuitData}
@@ -10,9 +10,9 @@ use Rattle.switch_model.specs.LinksData.{links_of}
 use Rattle.switch_model.specs.Power.{power_values}
 use Rattle.event_sim.specs.declared.event.Event.{Event}
 use Rattle.event_sim.specs.Chains.{step_after, values_after}
-use Rattle.port_runs.specs.Environment.{Capture, Captured, Evaluation, IsNext, Launch, Launched, Move, Moves, Open, Place, Precharge, Released, Reset, Rise, Step, Take, World, after_move, bit, stream_of}
-use Rattle.port_runs.specs.Moves.{PortValue, set_from}
-use Rattle.port_runs.specs.PortRuns.{Leads, Rests, Runs, power_world}
+use Rattle.port_runs.specs.Environment.{Capture, Captured, Evaluation, IsNext, Launch, Launched, Move, Open, Place, Precharge, Released, Rise, Step, Take, World, after_move, bit, stream_of}
+use Rattle.port_runs.specs.Moves.{set_from}
+use Rattle.port_runs.specs.PortRuns.{Rests, Runs, power_world}
 use Rattle.port_runs.specs.Readings.{IsReading}
 use Rattle.port_runs.proofs.Steps.{leads_on, stream_of-append, stream_of-events}
 use Rattle.trace_tool.specs.Courses.{LeadsTo, State}

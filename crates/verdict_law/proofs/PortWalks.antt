@@ -1,5 +1,5 @@
 -- Settlings and the moves between them, in turn, are a legal run by ports, and none of them ends unsettled where events are few.
-use Rattle.std.proofs.Common.{◌≡◌, ℕ, zero, suc, ◌+◌, ◌-◌, ◌*◌, ◌<◌, ◌≤◌, ◌⊎◌, Bool, List, [], ◌∷◌, ◌++◌, length, map, slice_set, refl, sym, subst, ap, ◌∙◌, inl, inr, arith, append-nil}
+use Rattle.std.proofs.Common.{◌≡◌, ℕ, suc, ◌+◌, ◌-◌, ◌*◌, ◌≤◌, Bool, List, [], ◌∷◌, ◌++◌, length, map, slice_set, refl, sym, subst, ap, ◌∙◌, inl, inr, arith}
 use Rattle.std.proofs.lemmas.List.{length-append, map-append}
 use Rattle.dom_base.specs.declared.tri.Tri.{Tri}
 use Rattle.deck.specs.CircuitData.{CircuitData}
@@ -14,10 +14,10 @@ use Rattle.event_sim.specs.declared.event.Settled.{Settled}
 use Rattle.event_sim.specs.declared.event.Settled.TheVariants.{Rest, Unsettled}
 use Rattle.event_sim.proofs.OneSettling.{chosen_is_event}
 use Rattle.event_sim.proofs.SettlingThere.{settling_there}
-use Rattle.port_runs.specs.Environment.{Happens, Move, Moves, Open, Rise, Step, Take, World, after_move, settings_of, stream_of}
+use Rattle.port_runs.specs.Environment.{Happens, Move, Moves, Open, Rise, Step, Take, World, after_move, settings_of, stream_of, Fall, Overlapping, Together}
 use Rattle.port_runs.specs.Moves.{PortValue, set_all}
 use Rattle.port_runs.specs.Order.{Allows}
-use Rattle.port_runs.specs.PortRuns.{Does, Leads, MayMove, Rests, Runs, power_world}
+use Rattle.port_runs.specs.PortRuns.{Does, Leads, MayMove, Rests, Runs}
 use Rattle.trace_tool.specs.Courses.{LeadsTo, State}
 use Rattle.port_runs.proofs.Steps.{leads_on, stream_of-append, stream_of-events}
 use Rattle.trace_tool.proofs.FailedCourses.{Fails}
@@ -25,7 +25,7 @@ use Rattle.trace_tool.proofs.FailedCourses.{Fails}
 -- each of the moves is allowed after those before it, whatever the values of the nets are
 abbrev pub AreAllowed : Roles → List Move → World → Type 0
 AreAllowed roles [] w = Unit {0}
-AreAllowed roles (move ∷ moves) w = Allows roles.clocks roles.pins move w × AreAllowed roles moves (after_move move w)
+AreAllowed roles (move ∷ moves) w = Allows Together roles.clocks roles.pins move w × AreAllowed roles moves (after_move move w)
 
 -- where they lead, but for the values
 abbrev pub after_moves : List Move → World → World
@@ -53,15 +53,13 @@ same_stream : (move : Move) (a b : List Step) → stream_of a ≡ stream_of b �
 same_stream (Open place) a b e = e
 same_stream (Take pins) a b e = ap (λ l. pins ∷ l) e
 same_stream Rise a b e = e
+same_stream (Fall k) a b e = e
 
 moved_frame : (move : Move) (w : World) (values after : List Tri) → at_values (after_move move (at_values w values)) after ≡ at_values (after_move move w) after
 moved_frame (Open place) w values after = refl
 moved_frame (Take pins) w values after = refl
 moved_frame Rise w values after = refl
-
-happened_long : (events : List Event) → length (happened events) ≡ length events
-happened_long [] = refl
-happened_long (event ∷ events) = ap suc (happened_long events)
+moved_frame (Fall k) w values after = refl
 
 -- where there is no rest some net may take its target
 one_more : (links : LinksData) (values : List Tri) → (IsResting links values → ⊥) → (event : Event) × IsChosen (By first_place) links values event
@@ -91,12 +89,16 @@ module _ (order : ℕ → ℕ → ℕ → Type 0) (c : CircuitData) (roles : Rol
       let changed : List Tri = slice_set values event.net event.after in
       (at_values w changed, (changed, refl, chosen_is_event order (links_of c roles) values event chain.1), chain_leads events w changed _ chain.2)
 
-  may_move : (move : Move) (w : World) (values : List Tri) → Allows roles.clocks roles.pins move w → Rests c roles (at_values w values) → MayMove c roles move (at_values w values)
+  may_move : (move : Move) (w : World) (values : List Tri) → Allows Together roles.clocks roles.pins move w → Rests c roles (at_values w values) → MayMove c roles move (at_values w values)
   may_move (Open place) w values a r = (a.0, r, a.1)
   may_move (Take pins) w values a r = (a.0, r, a.1)
   may_move Rise w values a r = a
+  may_move (Fall k) w values a r = absurd (never a.1)
+    where
+      never : Together ≡ Overlapping → ⊥
+      never e = cc
 
-  moved_to : (move : Move) (w : World) (values : List Tri) → Allows roles.clocks roles.pins move w → Rests c roles (at_values w values)
+  moved_to : (move : Move) (w : World) (values : List Tri) → Allows Together roles.clocks roles.pins move w → Rests c roles (at_values w values)
       → Does c roles (Moves move) (at_values w values) (at_values (after_move move w) (set_all values (settings_of roles move w.risen)))
   moved_to move w values a r =
       (may_move move w values a r, sym (moved_frame move w values (set_all values (settings_of roles move w.risen))))

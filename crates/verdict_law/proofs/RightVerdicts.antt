@@ -1,27 +1,23 @@
 -- A right deck of a text has the verdict that all is the same over each stimulus, and nothing is refused.
 use Rattle.std.specs.Prelude.{slice_index_or}
 use Rattle.std.specs.List.{range_with_len}
-use Rattle.std.proofs.Common.{◌≡◌, ◌≢◌, ℕ, zero, suc, ◌+◌, ◌≤◌, All, Bool, List, [], ◌∷◌, ◌++◌, length, map, take, drop, refl, sym, subst, ap, ap₂, ◌∙◌, arith, inl, inr}
+use Rattle.std.proofs.Common.{◌≡◌, ℕ, zero, suc, ◌+◌, ◌≤◌, All, Bool, List, [], ◌∷◌, ◌++◌, length, map, take, drop, refl, sym, subst, ap, ◌∙◌, arith, inl, inr}
 use Rattle.std.proofs.lemmas.List.{drop_more, length-map, map-id}
 use Rattle.std.proofs.lemmas.List.FromFn.{length-map-range_with_len}
-use Rattle.dom_base.specs.declared.tri.Tri.{Tri}
 use Rattle.dom_base.specs.declared.tri.Tri.TheVariants.{Unknown}
 use Rattle.deck.specs.CircuitData.{CircuitData}
-use Rattle.deck.specs.PortLayout.{first_output, first_pin}
+use Rattle.deck.specs.PortLayout.{first_output}
 use Rattle.deck.specs.PortNames.{output_name, pin_name}
 use Rattle.deck.specs.Ports.{IsPin}
 use Rattle.deck.specs.Roles.{AreRoles, ports_of}
-use Rattle.deck.specs.Switches.{value_of}
 use Rattle.deck.specs.declared.role.Roles.{Roles}
 use Rattle.deck.proofs.NetNames.{pins_are_pins}
 use Rattle.deck.proofs.PortLayout.{AreRoles-same}
-use Rattle.net_flatten.specs.NetworkData.{NetworkData}
-use Rattle.net_flatten.specs.Networks.{IsNetwork}
-use Rattle.net_run.specs.Runs.{Cycle, IsNetworkRun}
+use Rattle.network.specs.NetworkData.{NetworkData}
+use Rattle.network.specs.Networks.{IsNetwork}
+use Rattle.net_run.specs.Runs.{IsNetworkRun}
 use Rattle.event_sim.specs.Orders.{By}
-use Rattle.port_runs.specs.Environment.{Step, World}
-use Rattle.port_runs.specs.PortRuns.{Runs}
-use Rattle.port_runs.specs.Readings.{IsReading}
+use Rattle.port_runs.specs.Environment.{Together}
 use Rattle.port_runs.proofs.RunOrder.{runs_stand_in_order}
 use Rattle.trace_tool.specs.CosimRefusals.{HasNetworkOf, IsCosimRefused}
 use Rattle.trace_tool.specs.Traces.{picked_place}
@@ -38,7 +34,8 @@ use Rattle.trace_tool.proofs.SetupNets.{outputs_within}
 use Rattle.trace_tool.proofs.VerdictThere.{verdict_is_there}
 use Rattle.deck_law.specs.Headline.{IsRightDeck, IsRightInEveryRun, input_ports, output_ports, roles_of}
 use Rattle.stim_text.specs.Stimuli.{IsStimulusOf}
-use Rattle.synth_flow.specs.DominoDecks.{signal_name}
+use Rattle.deck_form.specs.DeckOptions.{DeckOptions}
+use Rattle.deck_form.specs.DominoDecks.{signal_name}
 use Rattle.verdict_law.specs.Laws.{IsSame, RealisedIsSame, RealisesInTime, RightDeckIsAccepted, RightDeckIsSame}
 use Rattle.verdict_law.proofs.SameVerdicts.{none_differ, same_run}
 
@@ -59,13 +56,13 @@ ranged f d xs a (suc n) le =
     ∙ ap (λ l. map f (take (suc n) l)) (sym (drop_more xs a d (omega (arith, le))))
 
 -- what is right in every run realises its network in time
-realises : (network : NetworkData) (c : CircuitData) (roles : Roles) → AreRoles (ports_of c) roles → IsRightInEveryRun network c roles → RealisesInTime network c roles
+realises : (network : NetworkData) (c : CircuitData) (roles : Roles) → AreRoles (ports_of c) roles → IsRightInEveryRun Together network c roles → RealisesInTime network c roles
 realises network c roles are right = record {
-  few_events = right.few_events;
+  few_events = (right.domino).few_events;
   reads = λ steps w run at.
       let read = right.reads steps w run at in
       let within = outputs_within c roles are in
-      let whole = (runs_stand_in_order c roles steps w run).whole (omega (arith, within)) in
+      let whole = (runs_stand_in_order Together c roles steps w run).whole (omega (arith, within)) in
       record {
         cycle = read.cycle;
         is_cycle = read.is_cycle;
@@ -75,7 +72,7 @@ realises network c roles are right = record {
       };
 }
 
-module _ (blif deck : List ℕ) (w h phases : ℕ) (right : IsRightDeck blif w h phases deck) where
+module _ (blif deck : List ℕ) (options : DeckOptions) (right : IsRightDeck blif options deck) where
   abbrev network : NetworkData
   network = right.network
 
@@ -91,7 +88,7 @@ module _ (blif deck : List ℕ) (w h phases : ℕ) (right : IsRightDeck blif w h
   pins_named : map pin_name (take network.inputs network.names) ≡ input_ports network
   pins_named = sym (ranged pin_name [] network.names 0 network.inputs (omega (arith, is_network.count)))
 
-  are : AreRoles (ports_of circuit) (roles_of network phases)
+  are : AreRoles (ports_of circuit) (roles_of network options.phases)
   are = record {
     pins = input_ports network;
     outs = output_ports network;
@@ -106,14 +103,14 @@ module _ (blif deck : List ℕ) (w h phases : ℕ) (right : IsRightDeck blif w h
     out_count = length-map network.outputs (λ signal. output_name (signal_name network signal));
   }
 
-  ports_are : pins_and_outputs circuit (roles_of network phases) ≡ network_ports network
+  ports_are : pins_and_outputs circuit (roles_of network options.phases) ≡ network_ports network
   unfolding are
-  ports_are = pins_and_outputs_are circuit (roles_of network phases) are ∙ ap (λ l. l ++ output_ports network) (sym pins_named)
+  ports_are = pins_and_outputs_are circuit (roles_of network options.phases) are ∙ ap (λ l. l ++ output_ports network) (sym pins_named)
 
   right_same : (stim : List ℕ) (order : Order) (seed : ℕ) (verdict : Verdict) → (v : IsVerdictOf blif deck stim order seed verdict) → IsSame verdict (length v.stream)
   right_same stim order seed verdict v =
-      realised_is_same (picked_place order seed) network circuit (roles_of network phases) v.stream v.cycles verdict is_network are ports_are
-      (realises network circuit (roles_of network phases) are right.right)
+      realised_is_same (picked_place order seed) network circuit (roles_of network options.phases) v.stream v.cycles verdict is_network are ports_are
+      (realises network circuit (roles_of network options.phases) are right.right)
       (subst (λ (n : NetworkData). All (λ pins. length pins ≡ n.inputs) v.stream) networks (v.is_stimulus).widths_are)
       (subst (λ (n : NetworkData). IsNetworkRun n v.stream v.cycles) networks v.is_run)
       (subst (λ (r : Roles). IsVerdict (By (picked_place order seed)) network circuit r v.stream v.cycles verdict) roles
@@ -126,19 +123,19 @@ module _ (blif deck : List ℕ) (w h phases : ℕ) (right : IsRightDeck blif w h
       circuits : v.circuit ≡ circuit
       circuits = right.no_other v.circuit v.is_deck
 
-      roles : v.roles ≡ roles_of network phases
-      roles = AreRoles-same (ports_of circuit) v.roles (roles_of network phases) (subst (λ (c : CircuitData). AreRoles (ports_of c) v.roles) circuits v.are_roles) are
+      roles : v.roles ≡ roles_of network options.phases
+      roles = AreRoles-same (ports_of circuit) v.roles (roles_of network options.phases) (subst (λ (c : CircuitData). AreRoles (ports_of c) v.roles) circuits v.are_roles) are
 
   some_verdict : (stim : List ℕ) (stream : List (List Bool)) (n : NetworkData) → HasNetworkOf blif n → IsStimulusOf n.inputs stim stream → (verdict : Verdict) × IsVerdictOf blif deck stim First 0 verdict
-  some_verdict stim stream n theirs stimulus = verdict_is_there blif deck stim First 0 n circuit (roles_of network phases) stream theirs right.reads_back are stimulus
+  some_verdict stim stream n theirs stimulus = verdict_is_there blif deck stim First 0 n circuit (roles_of network options.phases) stream theirs right.reads_back are stimulus
 
 pub right_deck_is_same : RightDeckIsSame
-right_deck_is_same = λ blif deck stim w h phases order seed verdict right v. record {
+right_deck_is_same = λ blif deck stim options order seed verdict right v. record {
   network = v.network;
   has = v.has;
   stream = v.stream;
   is_stimulus = v.is_stimulus;
-  is_same = right_same blif deck w h phases right stim order seed verdict v;
+  is_same = right_same blif deck options right stim order seed verdict v;
 }
 
 refused_none : (blif deck stim : List ℕ) (verdict : Verdict) (why : TraceFault) → IsVerdictOf blif deck stim First 0 verdict → IsCosimRefused blif deck stim why → why ≡ Memory
@@ -151,6 +148,6 @@ refused_none blif deck stim verdict (NoNet name) v r = absurd r
 refused_none blif deck stim verdict (Stim line kind) v r = absurd (verdict_is_one.apart blif deck stim First 0 verdict (Stim line kind) (λ e. cc) v r)
 
 pub right_deck_is_accepted : RightDeckIsAccepted
-right_deck_is_accepted = λ blif deck stim w h phases n stream why right theirs stimulus refused.
-    let some = some_verdict blif deck w h phases right stim stream n theirs stimulus in
+right_deck_is_accepted = λ blif deck stim options n stream why right theirs stimulus refused.
+    let some = some_verdict blif deck options right stim stream n theirs stimulus in
     refused_none blif deck stim some.0 why some.1 refused

@@ -1,30 +1,27 @@
 -- A circuit that realises a network in time has the verdict that all is the same.
-use Rattle.std.specs.Prelude.{◌⊎◌}
-use Rattle.std.proofs.Common.{◌≡◌, ℕ, zero, suc, ◌+◌, ◌<◌, ◌≤◌, All, Bool, List, [], ◌∷◌, ◌++◌, length, map, Some, slice_get, refl, sym, subst, ap, ◌∙◌, arith, append_assoc, inl, inr, zero-add}
+use Rattle.std.proofs.Common.{◌≡◌, ℕ, suc, ◌+◌, All, Bool, List, [], ◌∷◌, ◌++◌, length, map, Some, slice_get, refl, sym, subst, ap, ◌∙◌, arith, append_assoc, inl, inr, zero-add}
 use Rattle.std.proofs.lemmas.List.Elements.{All-from_recursion, recursion_from_All}
 use Rattle.dom_base.specs.declared.tri.Tri.{Tri}
 use Rattle.dom_base.proofs.Lists.{All-at, AllByRecursion-left, slice_get-behind}
 use Rattle.deck.specs.CircuitData.{CircuitData}
-use Rattle.deck.specs.Roles.{AreRoles, ports_of}
 use Rattle.deck.specs.declared.role.Roles.{Roles}
 use Rattle.switch_model.specs.LinksData.{links_of}
-use Rattle.event_sim.specs.declared.event.Event.{Event}
 use Rattle.event_sim.specs.Orders.{By}
-use Rattle.net_flatten.specs.NetworkData.{NetworkData}
-use Rattle.net_flatten.specs.Networks.{IsNetwork}
-use Rattle.model_calls.proofs.Lists.{get_map}
+use Rattle.network.specs.NetworkData.{NetworkData}
+use Rattle.network.specs.Networks.{IsNetwork}
+use Rattle.network.proofs.Lists.{get_map}
 use Rattle.net_run.specs.Runs.{Cycle, IsNetworkCycle, IsNetworkRun, IsNetworkRunFrom, start}
 use Rattle.net_run.proofs.OneRun.{one_run}
 use Rattle.port_runs.specs.Environment.{bit}
 use Rattle.port_runs.proofs.Order.{snoc_same}
 use Rattle.trace_tool.specs.Courses.{Course, IsCourse, Settled, State, Unsettled}
 use Rattle.trace_tool.specs.Moves.{evaluation_moves, latching_moves, power_moves}
-use Rattle.trace_tool.specs.SetupData.{SetupData, silent}
+use Rattle.trace_tool.specs.SetupData.{silent}
 use Rattle.trace_tool.specs.Traces.{outputs, power_state}
 use Rattle.trace_tool.specs.Verdicts.{DifferFirstAt, IsAfter, IsFirstWrong, IsReadingVerdict, IsRunVerdict, IsVerdictFrom}
 use Rattle.trace_tool.specs.declared.verdict.Verdict.{Verdict}
 use Rattle.trace_tool.specs.declared.verdict.Verdict.TheVariants.{Same}
-use Rattle.trace_tool.proofs.FailedCourses.{Fails, fails}
+use Rattle.trace_tool.proofs.FailedCourses.{fails}
 use Rattle.verdict_law.specs.Laws.{IsSame, RealisesInTime}
 use Rattle.verdict_law.proofs.PortCycles.{IsReadAt, IsReady, evaluates, evaluates_never, latches, latches_never, powers, powers_never}
 

@@ -3,14 +3,13 @@
 use Rattle.std.specs.Prelude.{ℕ, ◌≡◌, ◌≤◌, All, Bool, List, length, map}
 use Rattle.dom_base.specs.declared.tri.Tri.{Tri}
 use Rattle.deck.specs.CircuitData.{CircuitData}
-use Rattle.deck.specs.DeckText.{IsDeckOf}
 use Rattle.deck.specs.Roles.{AreRoles, ports_of}
 use Rattle.deck.specs.declared.role.Roles.{Roles}
 use Rattle.switch_model.specs.LinksData.{links_of}
 use Rattle.event_sim.specs.Orders.{By}
 use Rattle.event_sim.specs.Settling.{most_events}
-use Rattle.net_flatten.specs.NetworkData.{NetworkData}
-use Rattle.net_flatten.specs.Networks.{IsNetwork}
+use Rattle.network.specs.NetworkData.{NetworkData}
+use Rattle.network.specs.Networks.{IsNetwork}
 use Rattle.net_run.specs.Runs.{Cycle, IsNetworkRun}
 use Rattle.port_runs.specs.Environment.{Happens, Step, World, bit, stream_of}
 use Rattle.port_runs.specs.PortRuns.{Leads, Runs}
@@ -24,6 +23,7 @@ use Rattle.trace_tool.specs.declared.fault.TraceFault.TheVariants.{Memory}
 use Rattle.trace_tool.specs.declared.options.Order.{Order}
 use Rattle.trace_tool.specs.declared.verdict.Verdict.{Verdict}
 use Rattle.trace_tool.specs.declared.verdict.Verdict.TheVariants.{Same}
+use Rattle.deck_form.specs.DeckOptions.{DeckOptions}
 use Rattle.deck_law.specs.Headline.{IsCycleOf, IsRightDeck}
 
 -- the outputs are those of the network in the cycle of the last pins that the steps took
@@ -60,15 +60,15 @@ pub record IsSameOver (blif stim : List ℕ) (verdict : Verdict) : Type 0 where
   pub is_stimulus : IsStimulusOf network.inputs stim stream
   pub is_same : IsSame verdict (length stream)
 
--- a right deck of a text has this verdict over each stimulus, in each order of events
+-- a right deck of a text, in either style, has this verdict over each stimulus, in each order of events
 abbrev pub RightDeckIsSame : Type 0
 RightDeckIsSame =
-    (blif deck stim : List ℕ) (w h phases : ℕ) (order : Order) (seed : ℕ) (verdict : Verdict)
-    → IsRightDeck blif w h phases deck → IsVerdictOf blif deck stim order seed verdict → IsSameOver blif stim verdict
+    (blif deck stim : List ℕ) (options : DeckOptions) (order : Order) (seed : ℕ) (verdict : Verdict)
+    → IsRightDeck blif options deck → IsVerdictOf blif deck stim order seed verdict → IsSameOver blif stim verdict
 
 -- and over a stimulus for the inputs of the text's network nothing is refused
 abbrev pub RightDeckIsAccepted : Type 0
 RightDeckIsAccepted =
-    (blif deck stim : List ℕ) (w h phases : ℕ) (network : NetworkData) (stream : List (List Bool)) (why : TraceFault)
-    → IsRightDeck blif w h phases deck → HasNetworkOf blif network → IsStimulusOf network.inputs stim stream
+    (blif deck stim : List ℕ) (options : DeckOptions) (network : NetworkData) (stream : List (List Bool)) (why : TraceFault)
+    → IsRightDeck blif options deck → HasNetworkOf blif network → IsStimulusOf network.inputs stim stream
     → IsCosimRefused blif deck stim why → why ≡ Memory

@@ -1,0 +1,3 @@
+pub mod BufferedPlans
+pub mod BufferedDecks
+pub mod Laws
