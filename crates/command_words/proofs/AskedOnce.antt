@@ -4,7 +4,7 @@ use Rattle.std.specs.Prelude.{IfSome, codes, if◌then◌else◌}
 use Rattle.std.specs.List.{list_all}
 use Rattle.std.specs.Option.{option_map}
 use Rattle.std.specs.Cmp.Lexicographic.{bytes_decides}
-use Rattle.synth_flow.specs.declared.options.SynthOptions.{SynthOptions}
+use Rattle.deck_form.specs.declared.options.SynthOptions.{SynthOptions}
 use Rattle.trace_tool.specs.TraceData.{TraceOptionsData}
 use Rattle.trace_tool.specs.declared.options.Order.{Order}
 use Rattle.command_words.specs.Commands.{Asks, Bench, Command, Cosim, Flat, HasGoodOptions, Report, Run, Sim, Synth, bench_in, bench_of, command_for, command_named, cosim_in, flat_in, report_in, run_in, sim_in, synth_in, taken}

@@ -4,7 +4,7 @@ use Rattle.std.specs.List.{list_all}
 use Rattle.std.specs.Option.{option_map}
 use Rattle.trace_tool.specs.declared.options.Order.{Order}
 use Rattle.trace_tool.specs.TraceData.{TraceOptionsData}
-use Rattle.synth_flow.specs.declared.options.SynthOptions.{SynthOptions}
+use Rattle.deck_form.specs.declared.options.SynthOptions.{SynthOptions}
 use Rattle.command_words.specs.Given.{of_one, of_three, of_two, with_three, with_two}
 use Rattle.command_words.specs.NumberWords.{number_from}
 use Rattle.command_words.specs.SynthOptionWords.{AreGoodOptions, synth_option_names, synth_options}

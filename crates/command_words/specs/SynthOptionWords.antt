@@ -1,6 +1,6 @@
 -- The options of synthesis on the command line, and what they give.
 use Rattle.std.specs.Prelude.{ℕ, ◌≤◌, List, [], ◌∷◌, Option, codes}
-use Rattle.synth_flow.specs.declared.options.SynthOptions.{SynthOptions}
+use Rattle.deck_form.specs.declared.options.SynthOptions.{SynthOptions}
 use Rattle.command_words.specs.Given.{given, with_three}
 use Rattle.command_words.specs.NumberWords.{number_from}
 use Rattle.command_words.specs.Written.{Written, values_of}

@@ -1,5 +1,5 @@
 //! What the program is asked for.
-use synth_flow::SynthOptions;
+use deck_form::SynthOptions;
 use trace_tool::{Order, TraceOptions};
 
 /// What the words of the command line ask for, with the names of the files. A size is 1 to 30,000.

@@ -5,7 +5,7 @@ ghost use Rattle.command_words.specs.SynthOptionWords.{synth_option_names, synth
 ghost use Rattle.command_words.specs.Written.{written};
 
 use crate::values::number_given;
-use synth_flow::SynthOptions;
+use deck_form::SynthOptions;
 use tree_map::Bounds;
 
 /// The options of synthesis that words give: a width of 2 to 8 and a height of 2 to 6, 4 where none is given,

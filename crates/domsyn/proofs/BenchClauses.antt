@@ -2,7 +2,7 @@
 use Rattle.std.proofs.Common.{◌≡◌, ◌≢◌, ◌⊎◌, ℕ, List, inl, inr, subst, arith}
 use Rattle.command_words.specs.Commands.{Asks, Bench, Command}
 use Rattle.command_words.proofs.AskedOnce.{asks_one}
-use Rattle.synth_flow.specs.declared.options.SynthOptions.{SynthOptions}
+use Rattle.deck_form.specs.declared.options.SynthOptions.{SynthOptions}
 use Rattle.domsyn.specs.Benches.{GivesSameBench, IsSameBench}
 use Rattle.domsyn.specs.Headline.{IsRightFor}
 use Rattle.domsyn.specs.Outcomes.{Files, IsOutcome, IsUnread, Refused}

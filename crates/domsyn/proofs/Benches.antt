@@ -6,9 +6,9 @@ use Rattle.command_words.specs.SynthOptionWords.{AreGoodOptions}
 use Rattle.deck.specs.DeckText.{IsDeckOf}
 use Rattle.deck.proofs.DeckUnique.{IsDeckOf-unique}
 use Rattle.deck_law.specs.Headline.{IsRightDeck}
-use Rattle.deck_law.proofs.GoodDecks.{planned_good}
-use Rattle.deck_law.proofs.RightDecks.{chosen_texts_are_right}
-use Rattle.net_flatten.specs.NetworkData.{NetworkData}
+use Rattle.deck_law.proofs.RightDecks.{planned_good}
+use Rattle.deck_law.proofs.RightDecks.{synth_texts_are_right}
+use Rattle.network.specs.NetworkData.{NetworkData}
 use Rattle.net_gen.specs.Stimulus.{stimulus_cycles, stimulus_text}
 use Rattle.net_gen.proofs.AcceptedTexts.{generated_is_accepted}
 use Rattle.net_gen.proofs.StimulusTexts.{stimulus_reads}
@@ -16,11 +16,12 @@ use Rattle.network_law.proofs.NetworkExists.{network_exists}
 use Rattle.plan_law.proofs.DecksThere.{decks_there}
 use Rattle.plan_law.proofs.OneDeck.{decks_one}
 use Rattle.spice_text.proofs.ReadBack.{read_back}
-use Rattle.synth_flow.specs.ChosenDecks.{IsChosenDeck, planned}
+use Rattle.deck_form.specs.ChosenDecks.{IsChosenDeck, planned}
+use Rattle.deck_form.specs.AskedOptions.{deck_options}
 use Rattle.synth_flow.specs.Summaries.{IsSummaryOf, figures}
 use Rattle.synth_flow.specs.SummaryData.{SummaryData}
 use Rattle.synth_flow.specs.SummaryLines.{summary_lines}
-use Rattle.synth_flow.specs.declared.options.SynthOptions.{SynthOptions}
+use Rattle.deck_form.specs.declared.options.SynthOptions.{SynthOptions}
 use Rattle.trace_tool.specs.CosimRefusals.{HasNetworkOf, IsCosimRefused, IsUnflattened}
 use Rattle.trace_tool.specs.VerdictLines.{verdict_line}
 use Rattle.trace_tool.specs.Verdicts.{IsVerdictOf}
@@ -32,7 +33,7 @@ use Rattle.trace_tool.specs.declared.verdict.Verdict.TheVariants.{Same}
 use Rattle.trace_tool.proofs.NetworkTexts.{network_same, no_network_apart, text_network_kept}
 use Rattle.verdict_law.proofs.RightVerdicts.{right_deck_is_accepted}
 use Rattle.domsyn.specs.Benches.{IsBenchOf, IsOwnVerdict, IsSameBench, IsWholeText, OfWholeDeck, bench_text, events_text, generated_text}
-use Rattle.domsyn.specs.Decks.{AreFigureLines, bounds_of}
+use Rattle.domsyn.specs.Decks.{AreFigureLines}
 use Rattle.domsyn.specs.Outcomes.{IsBench, is_same_verdict}
 use Rattle.domsyn.proofs.OneSummary.{summaries_one}
 use Rattle.domsyn.proofs.OwnVerdicts.{own_verdict_of, own_verdict_one, own_verdict_same, own_verdict_there}
@@ -60,8 +61,8 @@ module _ (seed size : ℕ) (options : SynthOptions) where
   bench_there good fits =
       let n = generated_there seed size good in
       let is = text_network_kept (generated_text seed size) n.0 n.1 in
-      let deck = decks_there n.0 options.bounds.w options.bounds.h options.phases is fits.some_width fits.some_height in
-      let own = own_verdict_there seed n.0 is options.bounds.w options.bounds.h options.phases deck.0 deck.1 fits.some_phase fits.few_phases in
+      let deck = decks_there n.0 (deck_options options) is fits.some_width fits.some_height in
+      let own = own_verdict_there seed n.0 is (deck_options options) deck.0 deck.1 fits.some_phase fits.few_phases in
       let summary = figures deck.1 in
       let status = if is_same_verdict own.0 then 0 else 6 in
       let text = bench_text n.0.name summary own.0 in (
@@ -83,12 +84,12 @@ module _ (seed size : ℕ) (options : SynthOptions) where
   bench_parts_one m m' s s' v v' x y =
       let networks = network_same (generated_text seed size) y.network x.network y.has x.has in
       let is = text_network_kept (generated_text seed size) x.network x.has in
-      let summary = subst (λ (n : NetworkData). IsSummaryOf n options.bounds.w options.bounds.h options.phases s') networks y.is_summary in
-      let chosen = subst (λ (n : NetworkData). IsChosenDeck n options.bounds.w options.bounds.h options.phases y.circuit) networks y.is_chosen in
-      let circuits = decks_one x.network options.bounds.w options.bounds.h options.phases y.circuit x.circuit is chosen x.is_chosen in
+      let summary = subst (λ (n : NetworkData). IsSummaryOf n options s') networks y.is_summary in
+      let chosen = subst (λ (n : NetworkData). IsChosenDeck n (deck_options options) y.circuit) networks y.is_chosen in
+      let circuits = decks_one x.network (deck_options options) y.circuit x.circuit is chosen x.is_chosen in
       let verdict = subst (λ c. IsOwnVerdict seed x.network c v') circuits (subst (λ (n : NetworkData). IsOwnVerdict seed n y.circuit v') networks y.is_verdict) in (
         x.model_is ∙ ap (λ (n : NetworkData). n.name) (sym networks) ∙ sym y.model_is,
-        summaries_one x.network is options.bounds.w options.bounds.h options.phases s s' x.is_summary summary,
+        summaries_one x.network is options s s' x.is_summary summary,
         own_verdict_one seed x.network is x.circuit v v' x.is_verdict verdict,
       )
 
@@ -105,9 +106,9 @@ module _ (seed size : ℕ) (options : SynthOptions) where
       record { model = is.model; summary = is.summary; verdict = Same 4 is.events; is = is.is; text_is = is.text_is; status_is = is.done }
 
   module _ (fits : AreGoodOptions options) (network : NetworkData) (has : HasNetworkOf (generated_text seed size) network) where
-    right : (deck : List ℕ) → IsWholeText network options deck → IsRightDeck (generated_text seed size) options.bounds.w options.bounds.h options.phases deck
+    right : (deck : List ℕ) → IsWholeText network options deck → IsRightDeck (generated_text seed size) (deck_options options) deck
     right deck is =
-        chosen_texts_are_right (generated_text seed size) deck (bounds_of options) options.phases has.file network has.accepted has.network_is fits.some_phase fits.few_phases
+        synth_texts_are_right (generated_text seed size) deck (deck_options options) has.file network has.accepted has.network_is fits.some_phase fits.few_phases
         (record { circuit = is.circuit; is_chosen = is.is_chosen; written = is.written }) is.whole.numbered is.whole.names
 
     reads_back : (deck : List ℕ) → (is : IsWholeText network options deck) → IsDeckOf deck is.circuit
@@ -116,7 +117,7 @@ module _ (seed size : ℕ) (options : SynthOptions) where
         (record {
           is = is.whole.numbered;
           names = is.whole.names;
-          good = planned_good network options.bounds.w options.bounds.h options.phases is.circuit (planned is.is_chosen) fits.few_phases;
+          good = planned_good network (deck_options options) is.circuit (planned is.is_chosen) fits.few_phases;
         }) is.written
 
     -- the deck is refused for nothing beside the network
@@ -124,7 +125,7 @@ module _ (seed size : ℕ) (options : SynthOptions) where
         → why ≡ Memory
     bench_unrefused why (inl none) = none
     bench_unrefused why (inr own) =
-        right_deck_is_accepted (generated_text seed size) own.deck (stimulus_text seed network.inputs) options.bounds.w options.bounds.h options.phases network
+        right_deck_is_accepted (generated_text seed size) own.deck (stimulus_text seed network.inputs) (deck_options options) network
         (stimulus_cycles seed network.inputs) why (right own.deck own.is_text) has (stimulus_reads seed network.inputs) own.holds
 
     -- the figures, the events and the verdict that all is the same
@@ -136,7 +137,7 @@ module _ (seed size : ℕ) (options : SynthOptions) where
         let v = own.holds in
         let is = text_network_kept (generated_text seed size) network has in
         let same =
-        own_verdict_same seed network is (generated_text seed size) own.deck verdict v has options.bounds.w options.bounds.h options.phases (right own.deck own.is_text) in
+        own_verdict_same seed network is (generated_text seed size) own.deck verdict v has (deck_options options) (right own.deck own.is_text) in
         let circuits = IsDeckOf-unique own.deck v.circuit own.is_text.circuit v.is_deck (reads_back own.deck own.is_text) in
         let found = own_verdict_of seed network is (generated_text seed size) own.deck verdict v has own.is_text.circuit circuits in
         record {

@@ -3,15 +3,15 @@ use Rattle.std.proofs.Common.{◌≡◌, ◌∙◌, ◌≤◌, ℕ, Bool, true, 
 use Rattle.std.specs.Prelude.{None, Some, if◌then◌else◌}
 use Rattle.blif_ast.specs.Printed.{printed}
 use Rattle.dom_io.specs.Held.{file_limit}
-use Rattle.net_flatten.specs.NetworkData.{NetworkData}
+use Rattle.network.specs.NetworkData.{NetworkData}
 use Rattle.net_flatten.specs.OneModel.{file_of}
 use Rattle.domsyn.specs.declared.failure.Failure.{Failure}
 use Rattle.domsyn.specs.declared.failure.Failure.TheVariants as failure
 use Rattle.domsyn.specs.declared.refusal.Refusal.{Refusal}
 use Rattle.domsyn.specs.declared.refusal.Refusal.TheVariants.{TooLong, Blif, Flat, TooMany, Deck, Ports, NoNet, Stim}
 use Rattle.command_words.specs.Commands.{Command, Synth, Flat as flat, Run as run, Sim, Cosim, Report, Bench}
-use Rattle.synth_flow.specs.declared.options.SynthOptions.{SynthOptions}
-use Rattle.domsyn.specs.Decks.{AreFiguresFor, IsDeckFor, bounds_of}
+use Rattle.deck_form.specs.declared.options.SynthOptions.{SynthOptions}
+use Rattle.domsyn.specs.Decks.{AreFiguresFor, IsDeckFor}
 use Rattle.domsyn.specs.Outcomes.{Files, IsComparison, IsDeck, IsFile, IsFlat, IsPrintedRun, IsFigureReport, is_same_verdict}
 use Rattle.domsyn.specs.Networks.{HasNetwork, IsNotRunFor, IsRunOf}
 use Rattle.domsyn.specs.Refusals.{HasNoNetworkFor, about, refusal_of}
@@ -53,7 +53,7 @@ synth_unfetched files file options Rises (failure.Unread name) is = (inl is.0, i
 synth_unfetched files file options Rises failure.Memory is = tt
 
 -- its bytes have this deck
-pub synth_printed : (files : Files) (file bytes text : List ℕ) (options : SynthOptions) (settled : Bool) → IsFile files file bytes → IsDeckFor bytes (bounds_of options) options.phases text → settled ≡ true
+pub synth_printed : (files : Files) (file bytes text : List ℕ) (options : SynthOptions) (settled : Bool) → IsFile files file bytes → IsDeckFor bytes options text → settled ≡ true
     → IsDeck files file options (if settled then 0 else 6) text
 synth_printed files file bytes text options settled is deck at_rest =
     record { bytes = bytes; is_file = is; deck = deck; done = ap (λ (b : Bool). if b then 0 else 6) at_rest }

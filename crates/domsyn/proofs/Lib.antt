@@ -7,6 +7,8 @@ pub mod NetworkRuns
 pub mod OneOutcome
 pub mod OneSummary
 pub mod OutcomeThere
+pub mod OwnAnswers
+pub mod OwnDecks
 pub mod OwnVerdicts
 pub mod ReportedFailures
 pub mod ReportedFetches

@@ -3,8 +3,8 @@ use Rattle.std.proofs.Common.{◌≡◌, ◌∙◌, ◌⊎◌, inl, inr, ℕ, Li
 use Rattle.dom_base.proofs.Faults.{answer_or_refusal, answer_same, refusal_same}
 use Rattle.blif_read.proofs.AcceptedIsGoodModels.{accepted_file}
 use Rattle.net_flatten.specs.Flattening.{IsNetworkOf}
-use Rattle.net_flatten.specs.NetworkData.{NetworkData}
-use Rattle.net_flatten.specs.Networks.{IsNetwork}
+use Rattle.network.specs.NetworkData.{NetworkData}
+use Rattle.network.specs.Networks.{IsNetwork}
 use Rattle.model_calls.specs.Refusal.{Refusal as Hierarchy}
 use Rattle.model_calls.specs.Refusal as hierarchy
 use Rattle.model_calls.specs.Refusals.{IsRefusal}

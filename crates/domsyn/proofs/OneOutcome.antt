@@ -9,11 +9,12 @@ use Rattle.domsyn.specs.declared.refusal.Refusal.{Refusal}
 use Rattle.domsyn.specs.declared.refusal.Refusal.TheVariants.{TooLong}
 use Rattle.command_words.specs.Commands.{Command, Synth, Flat as flat, Run as run, Sim, Cosim, Report, Bench}
 use Rattle.plan_law.proofs.OneDeck.{synth_texts_one}
-use Rattle.synth_flow.specs.DeckTexts.{IsSynthText}
+use Rattle.deck_form.specs.AskedOptions.{deck_options}
+use Rattle.deck_form.specs.DeckTexts.{IsSynthText}
 use Rattle.synth_flow.specs.Summaries.{IsSummaryOf}
 use Rattle.synth_flow.specs.SummaryLines.{summary_lines}
-use Rattle.synth_flow.specs.declared.options.SynthOptions.{SynthOptions}
-use Rattle.domsyn.specs.Decks.{AreFiguresFor, IsDeckFor, bounds_of}
+use Rattle.deck_form.specs.declared.options.SynthOptions.{SynthOptions}
+use Rattle.domsyn.specs.Decks.{AreFiguresFor, IsDeckFor}
 use Rattle.domsyn.specs.Outcomes.{IsComparison, IsDeck, IsFile, IsFirstTooLong, IsFlat, HasNone, IsNoComparison, IsNoRun, IsNoTrace, IsOutcome, IsPrintedRun, IsFigureReport, IsTooLong, IsTrace, Outcome, Printed, Refused, is_same_verdict}
 use Rattle.domsyn.specs.Networks.{HasNetwork, IsNotRunFor, IsRunOf}
 use Rattle.domsyn.specs.Refusals.{HasNoNetworkFor, IsFaulty, about, refusal_of}
@@ -185,11 +186,11 @@ flat_printed known file s s' t t' x y =
 synth_printed : (known : Pairs) (file : List ℕ) (options : SynthOptions) (s s' : ℕ) (t t' : List ℕ) → IsDeck (Some known) file options s t → IsDeck (Some known) file options s' t' → Printed s t ≡ Printed s' t'
 synth_printed known file options s s' t t' x y =
     let same = bytes_alike known file y.bytes x.bytes y.is_file.holds x.is_file.holds in
-    let deck = subst (λ b. IsDeckFor b (bounds_of options) options.phases t') same y.deck in
+    let deck = subst (λ b. IsDeckFor b options t') same y.deck in
     let networks = networks_alike x.bytes deck.network x.deck.network deck.has x.deck.has in
-    let text = subst (λ n. IsSynthText t' n (bounds_of options) options.phases) networks deck.is_text in
+    let text = subst (λ n. IsSynthText t' n (deck_options options)) networks deck.is_text in
     printed_alike s s' t t' (x.done ∙ sym y.done)
-    (synth_texts_one x.deck.network (bounds_of options) options.phases t t' (network_kept x.bytes x.deck.network x.deck.has) x.deck.is_text text)
+    (synth_texts_one x.deck.network (deck_options options) t t' (network_kept x.bytes x.deck.network x.deck.has) x.deck.is_text text)
 
 synth_apart : (known : Pairs) (file f : List ℕ) (options : SynthOptions) (s : ℕ) (t : List ℕ) (w : Refusal) → IsDeck (Some known) file options s t → HasNone (Some known) file f w → ⊥
 synth_apart known file f options s t w x y =
@@ -202,8 +203,8 @@ report_printed known file options s s' t t' x y =
     let same = bytes_alike known file y.bytes x.bytes y.is_file.holds x.is_file.holds in
     let there = subst (λ b. AreFiguresFor b options t') same y.figures in
     let networks = networks_alike x.bytes there.network x.figures.network there.has x.figures.has in
-    let summary = subst (λ n. IsSummaryOf n options.bounds.w options.bounds.h options.phases there.lines.summary) networks there.lines.is_summary in
-    let figures = summaries_one x.figures.network (network_kept x.bytes x.figures.network x.figures.has) options.bounds.w options.bounds.h options.phases x.figures.lines.summary there.lines.summary
+    let summary = subst (λ n. IsSummaryOf n options there.lines.summary) networks there.lines.is_summary in
+    let figures = summaries_one x.figures.network (network_kept x.bytes x.figures.network x.figures.has) options x.figures.lines.summary there.lines.summary
     x.figures.lines.is_summary summary in
     let back = sym networks in
     printed_alike s s' t t' (x.done ∙ sym y.done) (x.figures.lines.text_is ∙ (λ i. summary_lines (back i).name (figures i)) ∙ sym there.lines.text_is)

@@ -32,7 +32,7 @@ use Rattle.trace_tool.proofs.VerdictThere.{verdict_is_there}
 use Rattle.command_words.specs.Commands.{Command, Synth, Flat as flat, Run as run, Sim, Cosim, Report, Bench, HasGoodOptions, files_of}
 use Rattle.command_words.specs.SynthOptionWords.{AreGoodOptions}
 use Rattle.blif_ast.specs.Printed.{printed}
-use Rattle.net_flatten.specs.NetworkData.{NetworkData}
+use Rattle.network.specs.NetworkData.{NetworkData}
 use Rattle.model_calls.specs.declared.fault.FlatFault.TheVariants as flat_fault
 use Rattle.net_flatten.specs.OneModel.{file_of}
 use Rattle.model_calls.specs.Refusal.{Refusal as Hierarchy}
@@ -45,12 +45,12 @@ use Rattle.network_law.proofs.ListDecisions.{dec_contains, dec_list}
 use Rattle.domsyn.specs.declared.refusal.Refusal.{Refusal}
 use Rattle.domsyn.specs.declared.refusal.Refusal.TheVariants.{TooLong, Blif, Flat, TooMany, Deck, Ports, NoNet, Stim}
 use Rattle.domsyn.specs.Laws.{IsKnownFile}
-use Rattle.synth_flow.specs.declared.options.SynthOptions.{SynthOptions}
+use Rattle.deck_form.specs.declared.options.SynthOptions.{SynthOptions}
 use Rattle.synth_flow.specs.Summaries.{figures}
 use Rattle.synth_flow.specs.SummaryLines.{summary_lines}
 use Rattle.plan_law.proofs.DecksThere.{decks_there, texts_there}
 use Rattle.domsyn.proofs.Benches.{bench_there}
-use Rattle.domsyn.specs.Decks.{bounds_of}
+use Rattle.deck_form.specs.AskedOptions.{deck_options}
 use Rattle.domsyn.specs.Networks.{HasNetwork, IsNotRunFor, run_lines}
 use Rattle.domsyn.specs.Refusals.{HasNoNetworkFor, about, refusal_of}
 use Rattle.domsyn.proofs.NetworkCauses.{network_kept}
@@ -207,7 +207,7 @@ synth_there known file options good is = by (fits_or_not is.bytes file_limit)
   where
     made : length is.bytes ≤ file_limit → HasNetworkOrCause is.bytes → HasOne known (Synth file options)
     made fits (inl n) =
-        let text = texts_there n.0 (bounds_of options) options.phases (network_kept is.bytes n.0 n.1) good.some_width good.some_height in
+        let text = texts_there n.0 (deck_options options) (network_kept is.bytes n.0 n.1) good.some_width good.some_height in
         (Printed 0 text.0, record { bytes = is.bytes; is_file = record { holds = is.holds; within = fits }; deck = record { network = n.0; has = n.1; is_text = text.1 }; done = refl })
     made fits (inr r) = (Refused file r.0, record { bytes = is.bytes; holds = is.holds; refused = r.1; name_is = refl })
 
@@ -221,7 +221,7 @@ report_there known file options good is = by (fits_or_not is.bytes file_limit)
   where
     made : length is.bytes ≤ file_limit → HasNetworkOrCause is.bytes → HasOne known (Report file options)
     made fits (inl n) =
-        let deck = decks_there n.0 options.bounds.w options.bounds.h options.phases (network_kept is.bytes n.0 n.1) good.some_width good.some_height in
+        let deck = decks_there n.0 (deck_options options) (network_kept is.bytes n.0 n.1) good.some_width good.some_height in
         let summary = figures deck.1 in (
           Printed 0 (summary_lines n.0.name summary),
           record {

@@ -1,4 +1,5 @@
 -- The deck of a network that is generated has one verdict beside it, which is that all is the same.
+use Rattle.domino_cell.specs.Style.{Style}
 use Rattle.std.proofs.Common.{◌≡◌, ◌≤◌, ◌∙◌, ◌++◌, ℕ, List, Bool, length, take, refl, sym, ap₂, subst}
 use Rattle.std.proofs.Math.Seq.{take-append_seam}
 use Rattle.dom_base.proofs.Faults.{answer_same}
@@ -12,17 +13,18 @@ use Rattle.deck_law.specs.Laws.{roles_of_deck}
 use Rattle.deck_law.proofs.Numbers.{grew}
 use Rattle.event_sim.specs.Orders.{By}
 use Rattle.gate_decompose.proofs.NetworkOrder.{networks_are_ordered}
-use Rattle.net_flatten.specs.NetworkData.{NetworkData}
-use Rattle.net_flatten.specs.Networks.{IsNetwork}
+use Rattle.network.specs.NetworkData.{NetworkData}
+use Rattle.network.specs.Networks.{IsNetwork}
 use Rattle.net_gen.specs.Stimulus.{stimulus_cycles, stimulus_text}
 use Rattle.net_gen.proofs.StimulusTexts.{stimulus_reads}
 use Rattle.net_run.specs.Runs.{Cycle, IsNetworkRun}
 use Rattle.net_run.proofs.OneRun.{one_run}
 use Rattle.stim_text.specs.Stimuli.{IsStimFaultAt, IsStimulusOf}
 use Rattle.stim_text.proofs.OneAnswer.{one_answer as stim_answer}
-use Rattle.synth_flow.specs.ChosenDecks.{IsChosenDeck, planned}
-use Rattle.synth_flow.specs.NamedDecks.{IsNamedDeck}
-use Rattle.synth_flow.proofs.DeckForms.{domino_decks_are_loose, planned_decks_are_domino}
+use Rattle.deck_form.specs.ChosenDecks.{IsChosenDeck, planned}
+use Rattle.deck_form.specs.DeckOptions.{DeckOptions}
+use Rattle.deck_form.specs.NamedDecks.{IsNamedDeck}
+use Rattle.deck_form.proofs.DeckForms.{domino_decks_are_loose, planned_decks_are_domino}
 use Rattle.trace_tool.specs.CosimRefusals.{HasNetworkOf}
 use Rattle.trace_tool.specs.Traces.{picked_place}
 use Rattle.trace_tool.specs.Verdicts.{IsVerdict, IsVerdictOf}
@@ -45,10 +47,10 @@ stimulus_same seed width stream is =
     answer_same (IsStimulusOf width text) (IsStimFaultAt width text) (IsStimFaultAt width text) (stim_answer width text) stream (stimulus_cycles seed width) is (stimulus_reads seed width)
 
 -- the ports of a deck stand in the order of roles
-roles_are : (circuit : CircuitData) (d : IsNamedDeck circuit) → AreRoles (ports_of circuit) (roles_of_deck circuit d)
-roles_are circuit d =
+pub roles_are : (style : Style) (circuit : CircuitData) (d : IsNamedDeck style circuit) → AreRoles (ports_of circuit) (roles_of_deck style circuit d)
+roles_are style circuit d =
     let all = leading_ports d.clocks ++ d.pins ++ d.outs in
-    let stand : ports_of circuit ≡ all = ap₂ (λ n l. take n l) (grew circuit d).ports (grew circuit d).nets ∙ take-append_seam all (grew circuit d).more_nets in
+    let stand : ports_of circuit ≡ all = ap₂ (λ n l. take n l) (grew style circuit d).ports (grew style circuit d).nets ∙ take-append_seam all (grew style circuit d).more_nets in
     record { pins = d.pins; outs = d.outs; in_order = subst (λ l. HasRoles l d.clocks d.pins d.outs) (sym stand) d.roles; pin_count = refl; out_count = refl }
 
 module _ (seed : ℕ) (network : NetworkData) (is : IsNetwork network) where
@@ -56,16 +58,16 @@ module _ (seed : ℕ) (network : NetworkData) (is : IsNetwork network) where
   cycles_of = stimulus_cycles seed network.inputs
 
   -- the circuit that synthesis gives has a verdict
-  pub own_verdict_there : (w h phases : ℕ) (circuit : CircuitData) → IsChosenDeck network w h phases circuit → 1 ≤ phases → phases ≤ 4
+  pub own_verdict_there : (options : DeckOptions) (circuit : CircuitData) → IsChosenDeck network options circuit → 1 ≤ options.phases → options.phases ≤ 4
       → (verdict : Verdict) × IsOwnVerdict seed network circuit verdict
-  own_verdict_there w h phases circuit chosen some few =
-      let domino = planned_decks_are_domino network w h phases circuit (planned chosen) (networks_are_ordered network is) some few in
-      let d = domino_decks_are_loose network w h phases circuit domino in
-      let are = roles_are circuit d in
+  own_verdict_there options circuit chosen some few =
+      let domino = planned_decks_are_domino network options circuit (planned chosen) (networks_are_ordered network is) some few in
+      let d = domino_decks_are_loose network options circuit domino in
+      let are = roles_are options.style circuit d in
       let run = one_run network cycles_of is (stimulus_reads seed network.inputs).widths_are in
-      let found = verdict_there (picked_place First 0) (order-below First 0) network circuit (roles_of_deck circuit d) cycles_of run.0 are
-      (λ same. (counts_agree circuit (roles_of_deck circuit d) network are is same).1) run.1.is_run in
-      (found.0, record { roles = roles_of_deck circuit d; are_roles = are; cycles = run.0; is_run = run.1.is_run; is_verdict = found.1 })
+      let found = verdict_there (picked_place First 0) (order-below First 0) network circuit (roles_of_deck options.style circuit d) cycles_of run.0 are
+      (λ same. (counts_agree circuit (roles_of_deck options.style circuit d) network are is same).1) run.1.is_run in
+      (found.0, record { roles = roles_of_deck options.style circuit d; are_roles = are; cycles = run.0; is_run = run.1.is_run; is_verdict = found.1 })
 
   -- and a circuit has at most one
   pub own_verdict_one : (circuit : CircuitData) (a b : Verdict) → IsOwnVerdict seed network circuit a → IsOwnVerdict seed network circuit b → a ≡ b
@@ -99,9 +101,9 @@ module _ (seed : ℕ) (network : NetworkData) (is : IsNetwork network) where
     }
 
     -- which is that all is the same in the four cycles, where the deck is right
-    pub own_verdict_same : (w h phases : ℕ) → IsRightDeck blif w h phases deck → (events : ℕ) × (verdict ≡ Same 4 events)
-    own_verdict_same w h phases right =
-        let over = right_deck_is_same blif deck (stimulus_text seed network.inputs) w h phases First 0 verdict right v in
+    pub own_verdict_same : (options : DeckOptions) → IsRightDeck blif options deck → (events : ℕ) × (verdict ≡ Same 4 events)
+    own_verdict_same options right =
+        let over = right_deck_is_same blif deck (stimulus_text seed network.inputs) options First 0 verdict right v in
         let theirs = network_same blif over.network network over.has has in
         let stream = stimulus_same seed network.inputs over.stream
         (subst (λ (n : NetworkData). IsStimulusOf n.inputs (stimulus_text seed network.inputs) over.stream) theirs over.is_stimulus) in

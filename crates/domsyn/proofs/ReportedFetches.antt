@@ -7,7 +7,7 @@ use Rattle.domsyn.specs.declared.refusal.Refusal.{Refusal}
 use Rattle.dom_io.specs.Asked.{Asking}
 use Rattle.command_words.specs.Commands.{Asks, Bench, Command, files_of}
 use Rattle.command_words.proofs.AskedOnce.{asks_one}
-use Rattle.synth_flow.specs.declared.options.SynthOptions.{SynthOptions}
+use Rattle.deck_form.specs.declared.options.SynthOptions.{SynthOptions}
 use Rattle.domsyn.specs.Failures.{IsFailureOf, IsReportedAt}
 use Rattle.domsyn.specs.Fetches.{AsksAll, AsksAt, AsksAtRefusal, AsksFirst, AsksUpTo, all_given}
 use Rattle.domsyn.specs.Outcomes.{Files, Refused}

@@ -8,16 +8,17 @@ use Rattle.deck.specs.Roles.{AreRoles, ports_of}
 use Rattle.deck.specs.Whole.{IsWhole}
 use Rattle.deck.specs.declared.role.Roles.{Roles}
 use Rattle.event_sim.specs.Orders.{By}
-use Rattle.net_flatten.specs.NetworkData.{NetworkData}
+use Rattle.network.specs.NetworkData.{NetworkData}
 use Rattle.net_gen.specs.Generated.{generated}
 use Rattle.net_gen.specs.Stimulus.{stimulus_cycles}
 use Rattle.net_run.specs.Runs.{Cycle, IsNetworkRun}
 use Rattle.spice_text.specs.Text.{IsWritten}
-use Rattle.synth_flow.specs.ChosenDecks.{IsChosenDeck}
+use Rattle.deck_form.specs.ChosenDecks.{IsChosenDeck}
+use Rattle.deck_form.specs.AskedOptions.{deck_options}
 use Rattle.synth_flow.specs.Summaries.{IsSummaryOf}
 use Rattle.synth_flow.specs.SummaryData.{SummaryData}
 use Rattle.synth_flow.specs.SummaryLines.{summary_lines}
-use Rattle.synth_flow.specs.declared.options.SynthOptions.{SynthOptions}
+use Rattle.deck_form.specs.declared.options.SynthOptions.{SynthOptions}
 use Rattle.trace_tool.specs.CosimRefusals.{HasNetworkOf}
 use Rattle.trace_tool.specs.Traces.{picked_place}
 use Rattle.trace_tool.specs.VerdictLines.{same_line, verdict_line}
@@ -58,9 +59,9 @@ pub record IsBenchOf (seed size : ℕ) (options : SynthOptions) (model : List �
   pub network : NetworkData
   pub has : HasNetworkOf (generated_text seed size) network
   pub model_is : model ≡ network.name
-  pub is_summary : IsSummaryOf network options.bounds.w options.bounds.h options.phases summary
+  pub is_summary : IsSummaryOf network options summary
   pub circuit : CircuitData
-  pub is_chosen : IsChosenDeck network options.bounds.w options.bounds.h options.phases circuit
+  pub is_chosen : IsChosenDeck network (deck_options options) circuit
   pub is_verdict : IsOwnVerdict seed network circuit verdict
 
 -- the text of figures, of events and of the verdict that all is the same in four cycles, with the status that all is well
@@ -81,7 +82,7 @@ GivesSameBench words Puts =
 -- the text of the circuit that synthesis gives of a network, which is whole
 pub record IsWholeText (network : NetworkData) (options : SynthOptions) (text : List ℕ) : Type 0 where
   pub circuit : CircuitData
-  pub is_chosen : IsChosenDeck network options.bounds.w options.bounds.h options.phases circuit
+  pub is_chosen : IsChosenDeck network (deck_options options) circuit
   pub whole : IsWhole circuit
   pub written : IsWritten circuit text
 

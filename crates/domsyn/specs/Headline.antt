@@ -5,20 +5,21 @@
 use Rattle.std.specs.Prelude.{ℕ, List}
 use Rattle.command_words.specs.Commands.{Asks, Command, Synth, Flat, Run, Sim, Cosim, Report, Bench}
 use Rattle.deck_law.specs.Headline.{IsRightDeck}
-use Rattle.synth_flow.specs.declared.options.SynthOptions.{SynthOptions}
+use Rattle.deck_form.specs.AskedOptions.{deck_options}
+use Rattle.deck_form.specs.declared.options.SynthOptions.{SynthOptions}
 use Rattle.domsyn.specs.Benches.{IsSameBench}
 use Rattle.domsyn.specs.Outcomes.{Files, IsFile}
 
--- the text is a right deck of the file's bytes, with trees within a width and a height, on so many clocks
-pub record IsRightDeckOfFile (files : Files) (name : List ℕ) (w h phases : ℕ) (text : List ℕ) : Type 0 where
+-- the text is a right deck of the file's bytes, with options
+pub record IsRightDeckOfFile (files : Files) (name : List ℕ) (options : SynthOptions) (text : List ℕ) : Type 0 where
   pub bytes : List ℕ
   pub is_file : IsFile files name bytes
-  pub is_right : IsRightDeck bytes w h phases text
+  pub is_right : IsRightDeck bytes (deck_options options) text
 
--- a text that is put out for a command with a status: for `synth` it is a right deck of the file, within the bounds and on the clocks of
--- its options, and for `bench` it says that all is the same
+-- a text that is put out for a command with a status: for `synth` it is a right deck of the file, with its options,
+-- and for `bench` it says that all is the same
 abbrev pub IsRightFor : Files → Command → ℕ → List ℕ → Type 0
-IsRightFor files (Synth file options) status text = IsRightDeckOfFile files file options.bounds.w options.bounds.h options.phases text
+IsRightFor files (Synth file options) status text = IsRightDeckOfFile files file options text
 IsRightFor files (Flat file) status text = Unit {0}
 IsRightFor files (Run file stim) status text = Unit {0}
 IsRightFor files (Sim deck stim options) status text = Unit {0}
@@ -30,4 +31,4 @@ IsRightFor files (Bench seed size options) status text = IsSameBench seed size o
 abbrev pub GivesRightDeck : Files → List (List ℕ) → (List ℕ → Type 0) → Type 0
 GivesRightDeck files words Puts =
     (file : List ℕ) (options : SynthOptions) → Asks words (Synth file options)
-    → (text : List ℕ) × IsRightDeckOfFile files file options.bounds.w options.bounds.h options.phases text × Puts text
+    → (text : List ℕ) × IsRightDeckOfFile files file options text × Puts text

@@ -8,5 +8,6 @@ pub mod Laws
 pub mod NetworkRuns
 pub mod Networks
 pub mod Outcomes
+pub mod OwnDecks
 pub mod Refusals
 pub mod Top

@@ -1,6 +1,6 @@
 -- One cycle of a run that is printed.
 use Rattle.std.specs.Prelude.{ℕ, ◌≡◌, ◌++◌, Bool, List}
-use Rattle.net_flatten.specs.NetworkData.{NetworkData}
+use Rattle.network.specs.NetworkData.{NetworkData}
 use Rattle.net_run.specs.RunnerData.{RunnerData, RunsNetwork}
 use Rattle.net_run.specs.Runs.{IsNetworkCycle}
 use Rattle.stim_text.specs.CycleLines.{cycle_line}

@@ -5,7 +5,7 @@ use Rattle.dom_io.specs.Held.{file_limit}
 use Rattle.blif_ast.specs.BlifFileData.{BlifFileData}
 use Rattle.blif_ast.specs.Reading.{IsFileOf}
 use Rattle.net_flatten.specs.Flattening.{IsNetworkOf}
-use Rattle.net_flatten.specs.NetworkData.{NetworkData}
+use Rattle.network.specs.NetworkData.{NetworkData}
 use Rattle.net_run.specs.Runs.{Cycle, IsNetworkRun}
 use Rattle.stim_text.specs.CycleLines.{cycle_line}
 use Rattle.stim_text.specs.CycleRowData.{CycleRowData}

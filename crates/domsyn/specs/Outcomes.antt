@@ -2,15 +2,15 @@
 use Rattle.std.specs.Prelude.{ℕ, ◌<◌, ◌≤◌, ◌≡◌, ◌⊎◌, Bool, true, false, if◌then◌else◌, List, [], ◌∷◌, Option, Some, IfSome, length}
 use Rattle.dom_io.specs.Held.{file_limit, held}
 use Rattle.blif_ast.specs.Printed.{printed}
-use Rattle.net_flatten.specs.NetworkData.{NetworkData}
+use Rattle.network.specs.NetworkData.{NetworkData}
 use Rattle.net_flatten.specs.OneModel.{file_of}
 use Rattle.domsyn.specs.declared.refusal.Refusal.{Refusal}
 use Rattle.domsyn.specs.declared.refusal.Refusal.TheVariants.{TooLong}
 use Rattle.command_words.specs.Commands.{Command, Synth, Flat, Run, Sim, Cosim, Report, Bench, files_of}
-use Rattle.synth_flow.specs.declared.options.SynthOptions.{SynthOptions}
+use Rattle.deck_form.specs.declared.options.SynthOptions.{SynthOptions}
 use Rattle.synth_flow.specs.SummaryData.{SummaryData}
 use Rattle.domsyn.specs.Benches.{IsBenchOf, bench_text}
-use Rattle.domsyn.specs.Decks.{AreFiguresFor, IsDeckFor, bounds_of}
+use Rattle.domsyn.specs.Decks.{AreFiguresFor, IsDeckFor}
 use Rattle.domsyn.specs.Networks.{HasNetwork, IsNotRunFor, IsRunOf}
 use Rattle.domsyn.specs.Refusals.{HasNoNetworkFor, IsFaulty, about}
 use Rattle.trace_tool.specs.CosimRefusals.{IsCosimRefused}
@@ -67,7 +67,7 @@ status_of (Refused file why) = 1
 pub record IsDeck (files : Files) (file : List ℕ) (options : SynthOptions) (status : ℕ) (text : List ℕ) : Type 0 where
   pub bytes : List ℕ
   pub is_file : IsFile files file bytes
-  pub deck : IsDeckFor bytes (bounds_of options) options.phases text
+  pub deck : IsDeckFor bytes options text
   pub done : status ≡ 0
 
 -- the network of a file as the text of one model

@@ -14,7 +14,7 @@ ghost use Rattle.domsyn.specs.Outcomes.{IsOutcome, Printed};
 use crate::answer::Answer;
 use crate::failure::Failure;
 use crate::fetch::fetch;
-use crate::network::network_of;
+use crate::file_network::network_of;
 use dom_base::OutOfMemory;
 use dom_io::Shelf;
 use net_flatten::Network;

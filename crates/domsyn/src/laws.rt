@@ -1,5 +1,6 @@
 //! What holds of each command and its outcomes.
 ghost use Rattle.domsyn.specs.Laws.{OutcomeIsOne, OutcomeIsThere};
+ghost use Rattle.domsyn.specs.OwnDecks.{OwnDeckIsSame};
 
 /// Over files that are known, a command has at most one outcome: a text with its status, or the file
 /// that is refused and the cause.
@@ -11,4 +12,10 @@ pub fn outcome_is_one()
 /// options are within the ranges of their values.
 pub fn outcome_is_there()
     ensures { OutcomeIsThere }
+{}
+
+/// Over files that are known `cosim` of a text, of a right deck of it and of a stimulus for the inputs of its network has the
+/// outcome that all is the same in each cycle, in each order of events.
+pub fn own_deck_is_same()
+    ensures { OwnDeckIsSame }
 {}

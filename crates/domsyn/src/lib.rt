@@ -8,9 +8,9 @@ mod dispatch;
 mod failure;
 mod fetch;
 mod figures;
+mod file_network;
 mod flat;
 mod laws;
-mod network;
 mod program;
 mod refusal;
 mod report;
@@ -21,5 +21,5 @@ mod synth;
 mod trace_failure;
 
 pub use command_words::{asked_is_in_range, asked_is_one};
-pub use laws::{outcome_is_one, outcome_is_there};
+pub use laws::{outcome_is_one, outcome_is_there, own_deck_is_same};
 pub use program::top;

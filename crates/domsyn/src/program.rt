@@ -7,11 +7,12 @@ ghost use Rattle.dom_io.specs.Faults.{Rose};
 ghost use Rattle.dom_io.specs.Pieces.{AppendsPrefix};
 ghost use Rattle.domsyn.specs.declared.refusal.Refusal.{Refusal};
 ghost use Rattle.command_words.specs.Commands.{Asks, Bench, Command, files_of};
-ghost use Rattle.synth_flow.specs.declared.options.SynthOptions.{SynthOptions};
+ghost use Rattle.deck_form.specs.declared.options.SynthOptions.{SynthOptions};
 ghost use Rattle.domsyn.specs.Benches.{GivesSameBench};
 ghost use Rattle.domsyn.specs.Fetches.{AsksAll, AsksAtRefusal, AsksFirst, AsksUpTo};
 ghost use Rattle.domsyn.specs.Headline.{GivesRightDeck};
 ghost use Rattle.domsyn.specs.Outcomes.{Outcome, Refused, Printed, status_of};
+ghost use Rattle.domsyn.specs.OwnDecks.{SaysSame};
 ghost use Rattle.domsyn.specs.Refusals.{refusal_line};
 ghost use Rattle.domsyn.specs.Top.{HasOutcome, HasRoomFor, IsRefusalLine, IsText, MeetsUnread, Reports, line_of, unread_line};
 
@@ -92,6 +93,9 @@ pub fn top<S: Shelf, K: Sink, E: Sink>(
     ensures bench_unfetched { (seed size : ℕ) (options : SynthOptions) → Asks (map string_bytes words.now) (Bench seed size options)
         → shelf.new ≡ shelf.old }
     ensures same { result ≡ 0 → GivesSameBench (map string_bytes words.now) (Appends (K.taken out.old) (K.taken out.new)) }
+
+    // `cosim` of a right deck of a text says that all is the same.
+    ensures own { SaysSame (S.files shelf.old) (map string_bytes words.now) result (Appends (K.taken out.old) (K.taken out.new)) }
 
     // Nothing is put out at another status, and `err` gets the line of the status, of the cause, or of the file.
     ensures nothing { result ≢ 0 → result ≢ 4 → result ≢ 6 → out.new ≡ out.old }

@@ -16,7 +16,7 @@ ghost use Rattle.domsyn.specs.Outcomes.{IsOutcome, Printed};
 use crate::answer::Answer;
 use crate::failure::Failure;
 use crate::fetch::fetch;
-use crate::network::network_of;
+use crate::file_network::network_of;
 use crate::refusal::Refusal;
 use dom_base::{OutOfMemory, Tri};
 use dom_io::Shelf;

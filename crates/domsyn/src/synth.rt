@@ -7,7 +7,8 @@ ghost use Rattle.command_words.specs.Commands.{Synth};
 ghost use Rattle.command_words.specs.SynthOptionWords.{AreGoodOptions};
 ghost use Rattle.domsyn.specs.declared.failure.Failure.{Failure as Failed};
 ghost use Rattle.deck_law.specs.Headline.{IsRightDeck};
-ghost use Rattle.domsyn.specs.Decks.{IsDeckFor, bounds_of};
+ghost use Rattle.deck_form.specs.AskedOptions.{deck_options};
+ghost use Rattle.domsyn.specs.Decks.{IsDeckFor};
 ghost use Rattle.domsyn.specs.Failures.{HasNoNetwork, IsFailureOf};
 ghost use Rattle.domsyn.specs.Headline.{IsRightDeckOfFile};
 ghost use Rattle.domsyn.specs.Fetches.{AsksAt, all_given};
@@ -16,7 +17,7 @@ ghost use Rattle.domsyn.specs.Outcomes.{IsOutcome, Printed};
 use crate::answer::Answer;
 use crate::failure::Failure;
 use crate::fetch::fetch;
-use crate::network::network_of;
+use crate::file_network::network_of;
 use dom_io::Shelf;
 use spice_text::write;
 use std::alloc::Global;
@@ -34,7 +35,7 @@ pub fn synth<'a, S: Shelf>(
     ensures text { IfOk result (λ answer.
         IsOutcome (S.files shelf.old) (Synth file.now options) (Printed (if answer.settled then 0 else 6) answer.text.items)) }
     ensures right { IfOk result (λ answer.
-        IsRightDeckOfFile (S.files shelf.old) file.now options.bounds.w options.bounds.h options.phases answer.text.items) }
+        IsRightDeckOfFile (S.files shelf.old) file.now options answer.text.items) }
     ensures failed { (failure : Failed) → IsErrOf result failure
         → IsFailureOf (S.files shelf.old) (Synth file.now options) (Rose (S.faults shelf.old) (S.faults shelf.new)) failure }
     ensures asked { OnOk result (HasAsked (S.asked shelf.old) (S.asked shelf.new) (all_given (file.now ∷ []))) }
@@ -58,9 +59,9 @@ fn deck_of<'a>(
     requires within { length bytes.items ≤ file_limit }
     requires good_options { AreGoodOptions options }
     ensures deck { IfOk result (λ answer.
-        IsDeckFor bytes.items (bounds_of options) options.phases answer.text.items × (answer.settled ≡ true)) }
+        IsDeckFor bytes.items options answer.text.items × (answer.settled ≡ true)) }
     ensures right { IfOk result (λ answer.
-        IsRightDeck bytes.items options.bounds.w options.bounds.h options.phases answer.text.items) }
+        IsRightDeck bytes.items (deck_options options) answer.text.items) }
     ensures failed { (failure : Failed) → IsErrOf result failure → HasNoNetwork file.now bytes.items failure }
 {
     let network = network_of(alloc, file, bytes)?;

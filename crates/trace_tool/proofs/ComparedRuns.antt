@@ -1,8 +1,8 @@
 -- Runs over cycles beside a network's: the invariant of the loop over them, and the verdict at its end.
 use Rattle.std.proofs.Common.{◌≡◌, ℕ, ◌+◌, Bool, List, [], ◌∷◌, length, drop, map, refl, sym, ap, ◌∙◌, subst, arith, length-drop, length-take, Some, None}
-use Rattle.net_flatten.specs.declared.network.NetLatch.{NetLatch}
-use Rattle.net_flatten.specs.NetworkData.{NetworkData}
-use Rattle.net_flatten.specs.Networks.{IsNetwork}
+use Rattle.network.specs.declared.network.NetLatch.{NetLatch}
+use Rattle.network.specs.NetworkData.{NetworkData}
+use Rattle.network.specs.Networks.{IsNetwork}
 use Rattle.net_run.specs.RunnerData.{RunnerData, RunsNetwork}
 use Rattle.net_run.specs.Runs.{Cycle, IsNetworkCycle, IsNetworkRunFrom, IsValuation, value_at}
 use Rattle.net_run.proofs.Valuations.{one_valuation}

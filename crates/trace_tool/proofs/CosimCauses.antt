@@ -6,7 +6,7 @@ use Rattle.deck.specs.DeckText.{IsDeckOf}
 use Rattle.deck.specs.Roles.{AreRoles, ports_of}
 use Rattle.deck.specs.declared.fault.DeckKind.{DeckKind}
 use Rattle.deck.specs.declared.role.Roles.{Roles}
-use Rattle.net_flatten.specs.NetworkData.{NetworkData}
+use Rattle.network.specs.NetworkData.{NetworkData}
 use Rattle.spice_read.specs.declared.faults.DeckFault.{DeckFault}
 use Rattle.spice_read.specs.declared.faults.DeckFault.TheVariants as deck_faults
 use Rattle.stim_text.specs.declared.fault.StimFault.{StimFault}

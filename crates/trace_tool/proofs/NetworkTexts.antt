@@ -9,8 +9,8 @@ use Rattle.blif_read.proofs.OneAnswer.{one_answer}
 use Rattle.model_calls.specs.declared.fault.FlatFault.{FlatFault}
 use Rattle.model_calls.specs.declared.fault.FlatFault.TheVariants as flat_faults
 use Rattle.net_flatten.specs.Flattening.{IsNetworkOf}
-use Rattle.net_flatten.specs.NetworkData.{NetworkData}
-use Rattle.net_flatten.specs.Networks.{IsNetwork}
+use Rattle.network.specs.NetworkData.{NetworkData}
+use Rattle.network.specs.Networks.{IsNetwork}
 use Rattle.model_calls.specs.Refusal as refusals
 use Rattle.model_calls.specs.Refusal.{Refusal}
 use Rattle.net_flatten.proofs.Kept.{network_kept as kept}

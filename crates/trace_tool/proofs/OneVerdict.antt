@@ -4,7 +4,7 @@ use Rattle.deck.specs.CircuitData.{CircuitData}
 use Rattle.deck.specs.PortLayout.{first_output, first_pin}
 use Rattle.deck.specs.Roles.{ports_of}
 use Rattle.deck.specs.declared.role.Roles.{Roles}
-use Rattle.net_flatten.specs.NetworkData.{NetworkData}
+use Rattle.network.specs.NetworkData.{NetworkData}
 use Rattle.net_run.specs.Runs.{Cycle}
 use Rattle.event_sim.specs.Orders.{By}
 use Rattle.trace_tool.specs.Courses.{Course, IsCourse, Settled, State, Unsettled}

@@ -3,7 +3,7 @@ use Rattle.std.proofs.Common.{◌≡◌, ◌≢◌, ◌∙◌, ℕ, Bool, List, 
 use Rattle.deck.specs.CircuitData.{CircuitData}
 use Rattle.deck.specs.declared.role.Roles.{Roles}
 use Rattle.deck.proofs.DeckUnique.{IsDeckOf-unique}
-use Rattle.net_flatten.specs.NetworkData.{NetworkData}
+use Rattle.network.specs.NetworkData.{NetworkData}
 use Rattle.net_run.specs.Runs.{Cycle, IsNetworkRun}
 use Rattle.net_run.proofs.OneRun.{one_run}
 use Rattle.event_sim.specs.Orders.{By}

@@ -11,8 +11,8 @@ use Rattle.deck.specs.Roles.{AreRoles, ports_of}
 use Rattle.deck.specs.declared.role.Roles.{Roles}
 use Rattle.deck.proofs.NetNames.{pins_are_pins}
 use Rattle.deck.proofs.PortLayout.{groups-same, joined, length-leading}
-use Rattle.net_flatten.specs.NetworkData.{NetworkData}
-use Rattle.net_flatten.specs.Networks.{IsNetwork}
+use Rattle.network.specs.NetworkData.{NetworkData}
+use Rattle.network.specs.Networks.{IsNetwork}
 use Rattle.event_sim.proofs.PowerState.{joined_length}
 use Rattle.trace_tool.specs.Traces.{outputs}
 use Rattle.trace_tool.specs.Verdicts.{network_ports, pins_and_outputs}

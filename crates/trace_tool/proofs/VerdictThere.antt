@@ -5,7 +5,7 @@ use Rattle.deck.specs.CircuitData.{CircuitData}
 use Rattle.deck.specs.PortLayout.{first_output, first_pin}
 use Rattle.deck.specs.Roles.{AreRoles, ports_of}
 use Rattle.deck.specs.declared.role.Roles.{Roles}
-use Rattle.net_flatten.specs.NetworkData.{NetworkData}
+use Rattle.network.specs.NetworkData.{NetworkData}
 use Rattle.net_run.specs.Runs.{Cycle, IsNetworkRunFrom, start, value_at}
 use Rattle.net_run.proofs.OneRun.{one_run}
 use Rattle.event_sim.specs.Laws.{IsBelow}

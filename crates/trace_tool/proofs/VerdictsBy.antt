@@ -1,7 +1,7 @@
 -- The verdict of a run in an order that follows a function is the verdict in the order of the function.
 use Rattle.std.proofs.Common.{◌≡◌, ℕ, ◌+◌, ◌≤◌, ◌^◌, Bool, List, [], ◌∷◌, length, sym, ap, ◌∙◌, subst, arith, Ok, Err}
 use Rattle.event_sim.specs.Orders.{By, Follows}
-use Rattle.net_flatten.specs.NetworkData.{NetworkData}
+use Rattle.network.specs.NetworkData.{NetworkData}
 use Rattle.net_run.specs.RunnerData.{RunnerData, RunsNetwork}
 use Rattle.net_run.specs.Runs.{Cycle, IsNetworkRun, IsNetworkRunFrom, start}
 use Rattle.port_runs.specs.Moves.{PortValue}

@@ -2,7 +2,7 @@
 use Rattle.std.proofs.Common.{◌≡◌, ◌≢◌, ℕ, zero, suc, ◌+◌, ◌≤◌, ◌⊎◌, inl, inr, Bool, List, [], ◌∷◌, ◌++◌, length, map, take, Some, slice_get, refl, sym, ap, ◌∙◌, arith}
 use Rattle.std.proofs.lemmas.List.{length-map, take_all}
 use Rattle.dom_base.specs.declared.tri.Tri.{Tri}
-use Rattle.model_calls.proofs.IndexedLists.{take_next}
+use Rattle.network.proofs.IndexedLists.{take_next}
 use Rattle.dom_base.proofs.Decided.{dec_tri}
 use Rattle.port_runs.specs.Environment.{bit}
 use Rattle.trace_tool.specs.Verdicts.{IsFirstWrong}

@@ -2,7 +2,7 @@
 use Rattle.std.specs.Prelude.{ℕ, ◌≡◌, ◌≢◌, Bool, List, Option, Some, None, Result, Ok, Err, length, map, slice_get, take}
 use Rattle.dom_base.specs.declared.tri.Tri.{Tri}
 use Rattle.deck.specs.declared.role.Roles.{Roles}
-use Rattle.net_flatten.specs.NetworkData.{NetworkData}
+use Rattle.network.specs.NetworkData.{NetworkData}
 use Rattle.net_run.specs.RunnerData.{RunnerData, RunsNetwork}
 use Rattle.net_run.specs.Runs.{Cycle, IsNetworkCycle, IsNetworkRunFrom}
 use Rattle.port_runs.specs.Environment.{bit}

@@ -7,7 +7,7 @@ use Rattle.blif_read.specs.declared.fault.BlifFault.TheVariants as blif_faults
 use Rattle.model_calls.specs.declared.fault.FlatFault.{FlatFault}
 use Rattle.model_calls.specs.declared.fault.FlatFault.TheVariants as flat_faults
 use Rattle.net_flatten.specs.Flattening.{IsNetworkOf}
-use Rattle.net_flatten.specs.NetworkData.{NetworkData}
+use Rattle.network.specs.NetworkData.{NetworkData}
 use Rattle.model_calls.specs.Refusal as refusals
 use Rattle.model_calls.specs.Refusals.{IsRefusal}
 use Rattle.deck.specs.CircuitData.{CircuitData}

@@ -3,7 +3,7 @@ use Rattle.std.specs.Prelude.{ℕ, ◌≡◌, ◌+◌, Option, Some, None}
 use Rattle.deck.specs.CircuitData.{CircuitData}
 use Rattle.deck.specs.PortLayout.{first_pin}
 use Rattle.deck.specs.declared.role.Roles.{Roles}
-use Rattle.net_flatten.specs.NetworkData.{NetworkData}
+use Rattle.network.specs.NetworkData.{NetworkData}
 use Rattle.trace_tool.specs.Verdicts.{DifferFirstAt, network_ports, pins_and_outputs}
 
 -- the first place, over all ports, at which those from the first pin on aren't the network's; or there is none

@@ -4,7 +4,7 @@ use Rattle.deck.specs.CircuitData.{CircuitData}
 use Rattle.deck.specs.DeckText.{IsDeckOf}
 use Rattle.deck.specs.Roles.{AreRoles, ports_of}
 use Rattle.deck.specs.declared.role.Roles.{Roles}
-use Rattle.net_flatten.specs.NetworkData.{NetworkData}
+use Rattle.network.specs.NetworkData.{NetworkData}
 use Rattle.stim_text.specs.Stimuli.{IsStimulusOf}
 use Rattle.trace_tool.specs.CosimRefusals.{HasNetworkOf, IsCosimRefused}
 use Rattle.trace_tool.specs.Verdicts.{IsVerdictOf}

@@ -9,7 +9,7 @@ use Rattle.deck.specs.PortLayout.{first_output, first_pin}
 use Rattle.deck.specs.PortNames.{output_name, pin_name}
 use Rattle.deck.specs.Roles.{AreRoles, ports_of}
 use Rattle.deck.specs.declared.role.Roles.{Roles}
-use Rattle.net_flatten.specs.NetworkData.{NetworkData}
+use Rattle.network.specs.NetworkData.{NetworkData}
 use Rattle.net_run.specs.Runs.{Cycle, IsNetworkRun}
 use Rattle.event_sim.specs.Orders.{By}
 use Rattle.port_runs.specs.Environment.{bit}

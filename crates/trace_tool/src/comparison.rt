@@ -3,7 +3,7 @@ ghost use Rattle.std.specs.Prelude.{ℕ, ◌≡◌, ◌<◌, All, Bool, IfOk, Li
 ghost use Rattle.deck.specs.Roles.{AreRoles, ports_of};
 ghost use Rattle.event_sim.specs.Choices.{Chooses};
 ghost use Rattle.event_sim.specs.Orders.{By, Follows};
-ghost use Rattle.net_flatten.specs.NetworkData.{NetworkData};
+ghost use Rattle.network.specs.NetworkData.{NetworkData};
 ghost use Rattle.net_run.specs.RunnerData.{RunsNetwork};
 ghost use Rattle.net_run.specs.Runs.{Cycle, IsNetworkRun, IsNetworkRunFrom};
 ghost use Rattle.trace_tool.specs.Comparisons.{ComparesAll, ComparesBits, ComparesCycle, ComparesReading, IsBeside, StopsAt};

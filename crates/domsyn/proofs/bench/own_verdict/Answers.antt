@@ -1,6 +1,6 @@
 use Rattle.std.proofs.Common.{◌∙◌, ℕ, List, ap, inr, subst}
 use Rattle.std.proofs.lemmas.Result.{IfOk-weaker}
-use Rattle.net_flatten.specs.NetworkData.{NetworkData}
+use Rattle.network.specs.NetworkData.{NetworkData}
 use Rattle.net_gen.specs.Stimulus.{stimulus_text}
 use Rattle.trace_tool.specs.CosimRefusals.{IsCosimRefused}
 use Rattle.trace_tool.specs.Verdicts.{IsVerdictOf}

@@ -1,11 +1,13 @@
 use Rattle.std.proofs.Common.{map, inl, refl}
 use Rattle.std.specs.String.{string_bytes}
+use Rattle.std.specs.Io.KnownBytes.{Appends}
 use Rattle.command_words.specs.Asked.{asked_command}
 use Rattle.dom_io.specs.Asked.{HasAsked}
 use Rattle.dom_io.specs.Faults.{Rose}
 use Rattle.dom_io.proofs.AskedLemmas.{HasAsked-nothing}
 use Rattle.command_words.proofs.AskedOnce.{asks_in_range}
 use Rattle.domsyn.specs.Top.{IsText}
+use Rattle.domsyn.proofs.OwnAnswers.{finished_own, reported_own}
 use Rattle.domsyn.proofs.BenchClauses.{finished_bench, finished_same, reported_bench}
 use Rattle.domsyn.proofs.TopClauses.{asks_found, asks_some, finished_complete}
 use Rattle.domsyn.proofs.Rooms.{room_for_failure, room_of}
@@ -145,3 +147,18 @@ returns-in-Ok-None-clause-asked_all g c =
 pub returns-in-Ok-clause-asked_first : goal.returns-in-Ok-clause-asked_first
 returns-in-Ok-clause-asked_first g c =
     λ five. absurd (finished_known c.in-Ok.answer.settled _ c.finish.ensures.known five)
+
+pub returns-in-Ok-clause-own : goal.returns-in-Ok-clause-own
+returns-in-Ok-clause-own g c =
+    let words = map string_bytes c.args.words.now in
+    let asks = asks_found words c.in-Ok-Some.field-0 c.in-Ok-Some.command c.in-Ok-Some.field-0-is c.in-Ok-Some.ensures.command in
+    let Puts = Appends (g.K.Sink.taken c.args.out.now) (g.K.Sink.taken c.finish.new.out) in
+    finished_own (g.S.Shelf.files c.args.shelf.now) words _ c.in-Ok.answer.text.items
+    (record { command = asked_command c.in-Ok-Some.command; asks = asks; outcome_is = c.in-Ok.ensures.text }) _ Puts c.finish.ensures.known c.finish.ensures.done
+
+pub returns-clause-own : goal.returns-clause-own
+returns-clause-own g c =
+    let words = map string_bytes c.args.words.now in
+    let asks = asks_found words c.in-Ok-Some.field-0 c.in-Ok-Some.command c.in-Ok-Some.field-0-is c.in-Ok-Some.ensures.command in
+    let Puts = Appends (g.K.Sink.taken c.args.out.now) (g.K.Sink.taken c.args.out.now) in
+    reported_own {words = words} Puts (failure_reported (asked_command c.in-Ok-Some.command) c.in-Err-outcome_of.failure asks (c.in-Err-outcome_of.ensures.failed c.in-Err-outcome_of.failure refl) c.report_failure.ensures.reported)

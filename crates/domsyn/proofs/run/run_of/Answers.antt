@@ -2,7 +2,7 @@ use Rattle.std.proofs.Common.{◌≡◌, ℕ, List, refl, ap, subst}
 use Rattle.std.proofs.lemmas.Result.{err_from_is_err_and}
 use Rattle.domsyn.specs.declared.failure.Failure.TheVariants.{Refused}
 use Rattle.domsyn.specs.declared.refusal.Refusal.TheVariants.{Stim}
-use Rattle.net_flatten.specs.NetworkData.{NetworkData}
+use Rattle.network.specs.NetworkData.{NetworkData}
 use Rattle.stim_text.specs.Stimuli.{IsStimFaultAt, IsStimulusOf}
 use Rattle.domsyn.specs.Failures.{IsUnrun}
 use Rattle.domsyn.specs.Networks.{IsRunText}

@@ -1,6 +1,6 @@
 use Rattle.std.proofs.Common.{◌≡◌, ℕ, All, Bool, List, length, ap, sym, subst}
 use Rattle.std.proofs.lemmas.Result.{err_from_is_err_and}
-use Rattle.net_flatten.specs.NetworkData.{NetworkData}
+use Rattle.network.specs.NetworkData.{NetworkData}
 use Rattle.net_run.specs.Runs.{Cycle, IsNetworkRun}
 use Rattle.event_sim.specs.Orders.{By}
 use Rattle.stim_text.specs.Stimuli.{IsStimFaultAt, IsStimulusOf}

@@ -2,7 +2,7 @@ use Rattle.std.proofs.Common.{◌≡◌, refl, subst}
 use Rattle.domsyn.specs.declared.failure.Failure.TheVariants.{Refused}
 use Rattle.domsyn.specs.declared.refusal.Refusal.TheVariants.{Flat, TooMany}
 use Rattle.domsyn.specs.Failures.{HasNoNetwork}
-use Rattle.domsyn.proofs.network.network_of_models.Goals as goal
+use Rattle.domsyn.proofs.file_network.network_of_models.Goals as goal
 
 pub returns-in-Err-At-clause-failed : goal.returns-in-Err-At-clause-failed
 returns-in-Err-At-clause-failed c failure is = λ bytes within accepted.

@@ -3,7 +3,7 @@ use Rattle.std.proofs.lemmas.Result.{err_from_is_err_and, IfOk-weaker}
 use Rattle.blif_ast.specs.Reading.{IsFileOf}
 use Rattle.blif_read.proofs.AcceptedIsGoodModels.{accepted_file}
 use Rattle.domsyn.specs.Failures.{HasNoNetwork}
-use Rattle.domsyn.proofs.network.network_of.Goals as goal
+use Rattle.domsyn.proofs.file_network.network_of.Goals as goal
 
 pub returns-in_err-models-clause-failed : goal.returns-in_err-models-clause-failed
 returns-in_err-models-clause-failed c failure is =
