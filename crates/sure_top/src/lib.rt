@@ -2,5 +2,7 @@
 #![tactic(auto)]
 
 mod sure;
+#[cfg(test)]
+mod tests;
 
 pub use sure::top_over_sure;
