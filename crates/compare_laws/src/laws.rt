@@ -1,8 +1,8 @@
 //! The comparison of runs of decks with the laws of every order of events.
-use crate::cases::drawn_case;
+use crate::cases::{Case, DeckKind, drawn_case};
 use crate::wrong::Wrong;
 use comparison::Trouble;
-use plain_texts::Draws;
+use plain_texts::{Draws, PlainDeck};
 use std::alloc::Global;
 
 /// How many runs each deck has, in different orders.
@@ -27,20 +27,18 @@ fn run_draws(case: u64, order: u64) -> Draws {
     )
 }
 
-/// Runs the decks of so many cases. Each run keeps the laws, and all runs of a deck are alike at rest.
-pub fn laws_kept(alloc: Global, cases: u64) -> Result<Kept, Trouble> {
+/// Runs the decks of so many cases of a kind. Each run keeps the laws, and all runs of a deck are alike at rest.
+pub fn laws_kept(alloc: Global, kind: DeckKind, cases: u64) -> Result<Kept, Trouble> {
     let mut events = 0u64;
     for number in 0..cases {
-        let case = drawn_case(alloc, number)?;
-        let deck = case.deck(alloc, &case.cards)?;
+        let case = drawn_case(alloc, kind, number)?;
+        let deck = case.deck(alloc)?;
         let first = case.shown(alloc, &deck, run_draws(number, 0))?;
         let mut kept = first.breach.is_none();
         events = events.saturating_add(first.events);
         for order in 1..ORDERS {
             let other = case.shown(alloc, &deck, run_draws(number, order))?;
-            kept = kept
-                && other.breach.is_none()
-                && other.rests.as_slice() == first.rests.as_slice();
+            kept = kept && other.breach.is_none() && other.rests.are_alike(&first.rests);
             events = events.saturating_add(other.events);
         }
         if !kept {
@@ -57,6 +55,22 @@ pub struct Tally {
     pub broken: u64,
 }
 
+/// Whether one of several runs of a deck breaks a law.
+pub fn breaks_law(
+    alloc: Global,
+    case: &Case,
+    deck: &PlainDeck,
+    number: u64,
+) -> Result<bool, Trouble> {
+    for order in 0..TRIES {
+        let shown = case.shown(alloc, deck, run_draws(number, order))?;
+        if shown.breach.is_some() {
+            return Ok(true);
+        }
+    }
+    Ok(false)
+}
+
 /// Changes the decks of so many cases, and runs them in several orders.
 pub fn found(alloc: Global, cases: u64, wrong: Wrong) -> Result<Tally, Trouble> {
     let mut all = Tally {
@@ -64,16 +78,12 @@ pub fn found(alloc: Global, cases: u64, wrong: Wrong) -> Result<Tally, Trouble> 
         broken: 0,
     };
     for number in 0..cases {
-        let case = drawn_case(alloc, number)?;
-        let Some(deck) = case.changed(alloc, wrong)? else {
-            continue;
-        };
-        all.decks = all.decks.saturating_add(1);
-        for order in 0..TRIES {
-            let shown = case.shown(alloc, &deck, run_draws(number, order))?;
-            if shown.breach.is_some() {
+        let mut case = drawn_case(alloc, wrong.kind(), number)?;
+        if case.change(alloc, wrong)? {
+            let deck = case.deck(alloc)?;
+            all.decks = all.decks.saturating_add(1);
+            if breaks_law(alloc, &case, &deck, number)? {
                 all.broken = all.broken.saturating_add(1);
-                break;
             }
         }
     }

@@ -3,9 +3,9 @@
 #![tactic(auto)]
 
 mod ending;
-mod network;
+mod file_network;
 mod trouble;
 
 pub use ending::{ended, printed};
-pub use network::network_of;
+pub use file_network::network_of;
 pub use trouble::Trouble;

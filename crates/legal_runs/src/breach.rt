@@ -11,7 +11,7 @@ pub enum Breach {
     WrongEdge,
     /// A possible strong path between sources of different values.
     Short,
-    /// A keeper that contends and isn't overpowered, or that contends at rest.
+    /// A keeper that contends and isn't overpowered, or that contends at rest or in a style without keepers.
     Contest,
     /// An unknown net that has to be known.
     Unknown,

@@ -1,6 +1,8 @@
 //! Honest states: what the nets of cells, complements and latches are at each place of the environment.
+use crate::clocks::Clocks;
 use crate::joins::{Valued, value_of};
-use crate::nets::{CellNets, LatchNets, NetKinds, VSS};
+use crate::nets::{NetKinds, VSS, is_marked};
+use crate::parts::{CellNets, LatchNets};
 use dom_base::Tri;
 use std::alloc::{AllocError, Global};
 
@@ -18,13 +20,14 @@ pub enum Place {
 }
 
 /// Where a run is: its place, whether masters have captured before, the state before the cycle and the next
-/// one, and what the masters held before the capture.
+/// one, the values of the cells in the cycle, and what the masters held before the capture.
 #[derive(Drop)]
 pub struct Moment {
     pub place: Place,
     pub is_first: bool,
     pub old: Vec<bool>,
     pub new: Vec<bool>,
+    pub cells: Vec<bool>,
     pub kept: Vec<Tri>,
 }
 
@@ -36,24 +39,67 @@ fn bit_at(bits: &[bool], index: usize) -> Tri {
     }
 }
 
-/// Whether a cell's dynamic net and output are as its clock says. A dynamic net that is down while the clock
-/// is up is held down.
-fn is_honest_cell(moment: &Moment, values: &[Tri], held: &[bool], cell: &CellNets) -> bool {
-    let nets = (
-        value_of(values, cell.dynamic),
-        value_of(values, cell.output),
-    );
-    let charged = nets == (Tri::One, Tri::Zero);
-    let down = nets == (Tri::Zero, Tri::One);
-    if value_of(values, cell.clock) == Tri::One {
-        let falling = nets == (Tri::Zero, Tri::Zero);
-        let is_held = held.get(cell.dynamic).copied().unwrap_or(false);
-        charged || ((down || falling) && is_held)
-    } else if moment.place == Place::Precharge {
-        charged || down || nets == (Tri::One, Tri::One)
-    } else {
-        charged
+/// Whether a net is charged, or down and held down.
+fn is_charged_or_held(values: &[Tri], held: &[bool], net: usize) -> bool {
+    match value_of(values, net) {
+        Tri::One => true,
+        Tri::Zero => is_marked(held, net),
+        Tri::Unknown => false,
     }
+}
+
+/// Whether the nets of a cell are as its clock says. A precharged net that is down while the clock is up is
+/// held down, up to the fall of the clock before. The output is 1 only where a dynamic net is 0 while the
+/// clock is up, and it is 1 wherever one is 0 while cells are precharged.
+fn is_honest_cell(
+    moment: &Moment,
+    clocks: &Clocks,
+    values: &[Tri],
+    held: &[bool],
+    cell: &CellNets,
+) -> bool {
+    let value = |net: &usize| value_of(values, *net);
+    let output = value_of(values, cell.output);
+    let is_down = cell.dynamic.iter().any(|net| value(net) == Tri::Zero);
+    let are_known = cell.precharged.iter().all(|net| value(net) != Tri::Unknown);
+    if value_of(values, cell.clock) == Tri::One {
+        let are_held = is_kept(clocks, cell)
+            || cell
+                .precharged
+                .iter()
+                .all(|net| is_charged_or_held(values, held, *net));
+        are_known && are_held && (output == Tri::Zero || (output == Tri::One && is_down))
+    } else if moment.place == Place::Precharge || clocks.has_fallen(cell.clock) {
+        are_known && (output == Tri::One || (output == Tri::Zero && !is_down))
+    } else {
+        output == Tri::Zero && cell.precharged.iter().all(|net| value(net) == Tri::One)
+    }
+}
+
+/// Whether the clock before that of a cell has fallen while its own is up.
+pub fn is_kept(clocks: &Clocks, cell: &CellNets) -> bool {
+    clocks.has_fallen(cell.clock.saturating_sub(1)) && clocks.is_up(cell.clock)
+}
+
+/// Whether a cell whose inputs have fallen keeps its value: its dynamic nets are the opposite of it, and one
+/// that is down is held down, or joined to nothing that is up.
+fn is_kept_well(
+    alloc: Global,
+    wanted: Tri,
+    valued: Valued<'_>,
+    held: &[bool],
+    cell: &CellNets,
+) -> Result<bool, AllocError> {
+    for net in cell.dynamic.iter() {
+        let value = value_of(valued.values, *net);
+        if value != wanted.not() {
+            return Ok(false);
+        }
+        if value == Tri::Zero && !is_marked(held, *net) && valued.joins_charge(alloc, *net)? {
+            return Ok(false);
+        }
+    }
+    Ok(value_of(valued.values, cell.output) == wanted)
 }
 
 /// Whether a latch's output and master are as the place says.
@@ -101,13 +147,18 @@ fn are_honest_complements(moment: &Moment, values: &[Tri], complements: &[(usize
 pub fn is_honest(
     alloc: Global,
     moment: &Moment,
+    clocks: &Clocks,
     kinds: &NetKinds,
     valued: Valued<'_>,
 ) -> Result<bool, AllocError> {
     let values = valued.values;
     let held = valued.held(alloc, VSS)?;
-    for cell in kinds.cells.iter() {
-        if !is_honest_cell(moment, values, &held, cell) {
+    for (number, cell) in kinds.cells.iter().enumerate() {
+        if !is_honest_cell(moment, clocks, values, &held, cell) {
+            return Ok(false);
+        }
+        let wanted = bit_at(&moment.cells, number);
+        if is_kept(clocks, cell) && !is_kept_well(alloc, wanted, valued, &held, cell)? {
             return Ok(false);
         }
     }

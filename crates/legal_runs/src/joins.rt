@@ -79,6 +79,17 @@ impl<'a> Valued<'a> {
         self.reached(alloc, Through::DefiniteStrong, start)
     }
 
+    /// Whether a possible path joins a net to one that isn't 0.
+    pub fn joins_charge(self, alloc: Global, start: usize) -> Result<bool, AllocError> {
+        let marks = self.reached(alloc, Through::Possible, start)?;
+        Ok(
+            marks
+                .iter()
+                .zip(self.values.iter())
+                .any(|(is_joined, value)| *is_joined && *value != Tri::Zero),
+        )
+    }
+
     /// Whether a path goes on from a net that is reached.
     fn leads(self, marks: &[bool], start: usize, net: usize) -> bool {
         is_marked(marks, net) && (net == start || net >= self.sources)

@@ -1,4 +1,5 @@
 //! What the nets of a deck are, from its devices and names alone.
+use crate::parts::{CellNets, LatchNets, cell_nets, complement_nets, latch_nets};
 use dom_base::Kind;
 use plain_texts::{PlainDeck, PlainDevice};
 use std::alloc::{AllocError, Global};
@@ -9,31 +10,23 @@ pub const VDD: usize = 0;
 /// The number of `vss`.
 pub const VSS: usize = 1;
 
-/// The dynamic net, the output and the clock of a cell.
-#[derive(Clone, Copy)]
-pub struct CellNets {
-    pub dynamic: usize,
-    pub output: usize,
-    pub clock: usize,
+/// The style of cells: a keeper at the dynamic net, or inner nets that are precharged as well.
+#[derive(Clone, Copy, PartialEq, Eq)]
+pub enum Style {
+    Keeper,
+    Precharge,
 }
 
-/// The output, the master and the data of a latch.
-#[derive(Clone, Copy)]
-pub struct LatchNets {
-    pub slave: usize,
-    pub master: usize,
-    pub data: usize,
-}
-
-/// Which nets are dynamic nets and domino outputs, by net; and the numbers of those that gate a device or
-/// are outputs, of those that are always known, of the outputs and of the nets of cells and latches; and the
-/// complements, each behind its leaf.
+/// The style of the cells; the clocks of dynamic nets and of domino outputs, by net; the numbers of those that
+/// gate a device or are outputs, of those that are always known, of the outputs and of the nets of cells and
+/// latches; and the complements, each behind its leaf.
 #[derive(Drop)]
 pub struct NetKinds {
+    pub style: Style,
     pub clocks: usize,
     pub sources: usize,
-    pub dynamic: Vec<bool>,
-    pub domino: Vec<bool>,
+    pub dynamic: Vec<Option<usize>>,
+    pub domino: Vec<Option<usize>>,
     pub watched: Vec<usize>,
     pub known: Vec<usize>,
     pub outputs: Vec<usize>,
@@ -59,29 +52,39 @@ pub fn is_marked(marks: &[bool], net: usize) -> bool {
     marks.get(net).copied().unwrap_or(false)
 }
 
+/// What stands in a list for a net, if anything does.
+pub fn clock_at(clocks: &[Option<usize>], net: usize) -> Option<usize> {
+    clocks.get(net).copied().unwrap_or(None)
+}
+
 /// Whether a device of the kind `pch` joins a net to `vdd`.
 fn pulls_up(device: &PlainDevice, net: usize) -> bool {
     let ends = (device.drain, device.source);
     device.kind == Kind::P && (ends == (net, VDD) || ends == (VDD, net))
 }
 
-/// Whether some `pch` whose gate is marked joins a net to `vdd`.
-fn has_pull_up(deck: &PlainDeck, gates: &[bool], net: usize) -> bool {
+/// The clock of the first gate with a clock of a `pch` that joins a net to `vdd`.
+pub fn clock_of(deck: &PlainDeck, clocks: &[Option<usize>], net: usize) -> Option<usize> {
     for device in deck.devices.iter() {
-        if pulls_up(device, net) && is_marked(gates, device.gate) {
-            return true;
+        let clock = clock_at(clocks, device.gate);
+        if pulls_up(device, net) && clock.is_some() {
+            return clock;
         }
     }
-    false
+    None
 }
 
-/// The nets that a `pch` with a marked gate joins to `vdd`, as marks.
-fn pulled_up(alloc: Global, deck: &PlainDeck, gates: &[bool]) -> Result<Vec<bool>, AllocError> {
-    let mut marks = Vec::new(alloc);
+/// The clocks of the nets that a `pch` joins to `vdd` whose gate has a clock.
+fn pulled_up(
+    alloc: Global,
+    deck: &PlainDeck,
+    clocks: &[Option<usize>],
+) -> Result<Vec<Option<usize>>, AllocError> {
+    let mut found = Vec::new(alloc);
     for net in 0..deck.nets.len() {
-        marks.push(has_pull_up(deck, gates, net))?;
+        found.push(clock_of(deck, clocks, net))?;
     }
-    Ok(marks)
+    Ok(found)
 }
 
 /// Whether a name is one of these letters with a number.
@@ -111,113 +114,27 @@ fn numbered_nets(
     Ok(nets)
 }
 
-/// The net that is called a letter and a number.
-fn net_called(
-    alloc: Global,
-    deck: &PlainDeck,
-    letter: &str,
-    number: usize,
-) -> Result<Option<usize>, AllocError> {
-    let name = format!(in alloc; "{letter}{number}")?;
-    Ok(
-        deck.nets
-            .iter()
-            .position(|other| other.as_slice() == name.as_bytes()),
-    )
-}
-
-/// The clock that gates the precharge device of a net.
-fn clock_of(deck: &PlainDeck, clocks: &[bool], net: usize) -> Option<usize> {
-    for device in deck.devices.iter() {
-        if pulls_up(device, net) && is_marked(clocks, device.gate) {
-            return Some(device.gate);
-        }
-    }
-    None
-}
-
-/// The nets of all cells, in order.
-fn cell_nets(
-    alloc: Global,
-    deck: &PlainDeck,
-    clocks: &[bool],
-) -> Result<Vec<CellNets>, AllocError> {
-    let mut cells = Vec::new(alloc);
-    for number in 0..deck.nets.len() {
-        let dynamic = net_called(alloc, deck, "d", number)?;
-        let output = net_called(alloc, deck, "z", number)?;
-        let (Some(dynamic), Some(output)) = (dynamic, output) else {
-            break;
-        };
-        if let Some(clock) = clock_of(deck, clocks, dynamic) {
-            cells.push(CellNets {
-                dynamic,
-                output,
-                clock,
-            })?;
-        }
-    }
-    Ok(cells)
-}
-
-/// The nets of so many latches.
-fn latch_nets(
-    alloc: Global,
-    deck: &PlainDeck,
-    latches: usize,
-) -> Result<Vec<LatchNets>, AllocError> {
-    let none = deck.nets.len();
-    let mut nets = Vec::new(alloc);
-    for number in 0..latches {
-        nets.push(LatchNets {
-            slave: net_called(alloc, deck, "q", number)?.unwrap_or(none),
-            master: net_called(alloc, deck, "m", number)?.unwrap_or(none),
-            data: net_called(alloc, deck, "x", number)?.unwrap_or(none),
-        })?;
-    }
-    Ok(nets)
-}
-
-/// The complements that there are, each behind its leaf.
-fn complement_nets(
-    alloc: Global,
-    deck: &PlainDeck,
-    first_pin: usize,
-    pins: usize,
-    latches: &[LatchNets],
-) -> Result<Vec<(usize, usize)>, AllocError> {
-    let mut nets = Vec::new(alloc);
-    for leaf in 0..pins.saturating_add(latches.len()) {
-        let own = match latches.get(leaf.saturating_sub(pins)) {
-            Some(latch) if leaf >= pins => latch.slave,
-            _ => first_pin.saturating_add(leaf),
-        };
-        if let Some(complement) = net_called(alloc, deck, "c", leaf)? {
-            nets.push((own, complement))?;
-        }
-    }
-    Ok(nets)
-}
-
 /// Whether a net gates a device.
 fn is_gate(deck: &PlainDeck, net: usize) -> bool {
     deck.devices.iter().any(|device| device.gate == net)
 }
 
-/// The kinds of the nets of a deck with so many clocks, pins and latches.
+/// The kinds of the nets of a deck with so many clocks, pins and latches, whose cells are of this style.
 pub fn net_kinds(
     alloc: Global,
     deck: &PlainDeck,
     clocks: usize,
     pins: usize,
     latches: usize,
+    style: Style,
 ) -> Result<NetKinds, AllocError> {
     let sources = clocks.saturating_add(8).saturating_add(pins);
-    let mut clock_marks = Vec::new(alloc);
+    let mut own: Vec<Option<usize>> = Vec::new(alloc);
     for net in 0..deck.nets.len() {
-        clock_marks.push(net >= 2 && net < clocks.saturating_add(2))?;
+        let is_clock = net >= 2 && net < clocks.saturating_add(2);
+        own.push(if is_clock { Some(net) } else { None })?;
     }
-    let dynamic = pulled_up(alloc, deck, &clock_marks)?;
+    let dynamic = pulled_up(alloc, deck, &own)?;
     let domino = pulled_up(alloc, deck, &dynamic)?;
     let mut outputs = Vec::new(alloc);
     for net in sources..deck.ports {
@@ -229,14 +146,15 @@ pub fn net_kinds(
             watched.push(net)?;
         }
     }
-    let mut known = numbered_nets(alloc, deck, b"dzcqx")?;
+    let mut known = numbered_nets(alloc, deck, b"dezcqx")?;
     known.extend_from_slice(&outputs)?;
     let latches = latch_nets(alloc, deck, latches)?;
     let first_pin = clocks.saturating_add(8);
     Ok(NetKinds {
-        cells: cell_nets(alloc, deck, &clock_marks)?,
+        cells: cell_nets(alloc, deck, &own, style)?,
         complements: complement_nets(alloc, deck, first_pin, pins, &latches)?,
         latches,
+        style,
         clocks,
         sources,
         dynamic,

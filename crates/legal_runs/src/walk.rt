@@ -1,40 +1,42 @@
-//! Legal runs of a deck: random events, later clocks that rise at any moment, and what is checked at each
-//! state.
+//! Legal runs of a deck: random events, clocks that move between them, and what is checked at each state.
 use crate::breach::Breach;
-use crate::honest::{Moment, Place, is_honest};
+use crate::clocks::{Clocking, Clocks};
+use crate::honest::{Moment, Place, is_honest, is_kept};
 use crate::joins::Valued;
-use crate::nets::{NetKinds, is_marked};
+use crate::nets::{NetKinds, Style, clock_at, is_marked};
+use crate::parts::CellNets;
+use crate::rests::Rests;
 use crate::state::State;
-use comparison::Trouble;
 use dom_base::Tri;
-use plain_networks::PlainCycle;
 use plain_texts::{Draws, PlainDeck};
 use std::alloc::{AllocError, Global};
 
-/// A run of a deck.
+/// The most moves of an evaluation: with at most four clocks there are at most three that rise and three that
+/// fall, and one more that ends it.
+const MOST_MOVES: usize = 8;
+
+/// A run of a deck: the values of its nets, which nets have moved in the evaluation, and of which clocks the
+/// period is open.
 #[derive(Drop)]
 pub struct Walk<'a> {
-    alloc: Global,
+    pub alloc: Global,
     deck: &'a PlainDeck,
-    kinds: &'a NetKinds,
-    state: State,
+    pub kinds: &'a NetKinds,
+    pub state: State,
     draws: Draws,
-    moved: Vec<bool>,
-    in_period: bool,
-    is_reset: bool,
-    moment: Moment,
-    breach: Option<Breach>,
+    pub clocks: Clocks,
+    pub moved: Vec<bool>,
+    pub periods: Vec<bool>,
+    pub is_reset: bool,
+    pub moment: Moment,
+    pub cycle: usize,
+    pub breach: Option<Breach>,
     pub events: u64,
-    pub rests: Vec<Tri>,
-}
-
-/// A source takes a value, and the next one the opposite.
-fn pair(net: usize, value: Tri) -> [(usize, Tri); 2] {
-    [(net, value), (net.saturating_add(1), value.not())]
+    pub rests: Rests,
 }
 
 /// The value of a bit.
-fn bit(high: bool) -> Tri {
+pub fn bit(high: bool) -> Tri {
     if high { Tri::One } else { Tri::Zero }
 }
 
@@ -45,6 +47,7 @@ impl<'a> Walk<'a> {
         deck: &'a PlainDeck,
         kinds: &'a NetKinds,
         state: State,
+        clocks: Clocks,
         draws: Draws,
     ) -> Walk<'a> {
         let mut walk = Walk {
@@ -53,19 +56,22 @@ impl<'a> Walk<'a> {
             kinds,
             state,
             draws,
+            clocks,
             moved: Vec::new(alloc),
-            in_period: false,
+            periods: Vec::new(alloc),
             is_reset: false,
             moment: Moment {
                 place: Place::Released,
                 is_first: true,
                 old: Vec::new(alloc),
                 new: Vec::new(alloc),
+                cells: Vec::new(alloc),
                 kept: Vec::new(alloc),
             },
+            cycle: 0,
             breach: None,
             events: 0,
-            rests: Vec::new(alloc),
+            rests: Rests::new(alloc),
         };
         for net in 0..kinds.sources {
             walk.state.set(net, Tri::Zero);
@@ -78,7 +84,8 @@ impl<'a> Walk<'a> {
         walk
     }
 
-    fn value(&self, net: usize) -> Tri {
+    /// The value of a net.
+    pub fn value(&self, net: usize) -> Tri {
         self.state
             .values()
             .get(net)
@@ -87,14 +94,14 @@ impl<'a> Walk<'a> {
     }
 
     /// Keeps the first breach.
-    fn broken(&mut self, breach: Breach) {
+    pub fn broken(&mut self, breach: Breach) {
         if self.breach.is_none() {
             self.breach = Some(breach);
         }
     }
 
     /// What holds at each state from the rest behind power on.
-    fn check(&mut self) -> Result<(), AllocError> {
+    pub fn check(&mut self) -> Result<(), AllocError> {
         if !self.is_reset {
             return Ok(());
         }
@@ -104,15 +111,16 @@ impl<'a> Walk<'a> {
             values: self.state.values(),
         };
         let short = valued.has_short(self.alloc)?;
-        let (_, overpowered) = valued.contests(self.alloc)?;
-        let honest = is_honest(self.alloc, &self.moment, self.kinds, valued)?;
+        let (count, overpowered) = valued.contests(self.alloc)?;
+        let may_contend = count == 0 || self.kinds.style == Style::Keeper;
+        let honest = is_honest(self.alloc, &self.moment, &self.clocks, self.kinds, valued)?;
         if !honest {
             self.broken(Breach::Dishonest);
         }
         if short {
             self.broken(Breach::Short);
         }
-        if !overpowered {
+        if !overpowered || !may_contend {
             self.broken(Breach::Contest);
         }
         let kinds = self.kinds;
@@ -121,8 +129,27 @@ impl<'a> Walk<'a> {
                 self.broken(Breach::Unknown);
             }
         }
+        self.check_kept();
         self.check_captured();
         Ok(())
+    }
+
+    /// A cell whose inputs have fallen while its clock is up is at its targets.
+    fn check_kept(&mut self) {
+        let kinds = self.kinds;
+        for cell in kinds.cells.iter() {
+            if is_kept(&self.clocks, cell) {
+                self.check_cell(cell);
+            }
+        }
+    }
+
+    /// The dynamic nets and the output of a cell are at their targets.
+    fn check_cell(&mut self, cell: &CellNets) {
+        for net in cell.dynamic.iter() {
+            self.check_target(*net);
+        }
+        self.check_target(cell.output);
     }
 
     /// While masters are open, or have just been shut, the cells and sinks are at their targets.
@@ -132,9 +159,7 @@ impl<'a> Walk<'a> {
         }
         let kinds = self.kinds;
         for cell in kinds.cells.iter() {
-            for net in [cell.dynamic, cell.output] {
-                self.check_target(net);
-            }
+            self.check_cell(cell);
         }
         for latch in kinds.latches.iter() {
             self.check_target(latch.data);
@@ -150,8 +175,8 @@ impl<'a> Walk<'a> {
         }
     }
 
-    /// What holds at each rest; the values of what is watched are kept.
-    fn check_rest(&mut self) -> Result<(), AllocError> {
+    /// No keeper contends at a rest.
+    fn check_contests(&mut self) -> Result<(), AllocError> {
         let valued = Valued {
             deck: self.deck,
             sources: self.kinds.sources,
@@ -161,12 +186,39 @@ impl<'a> Walk<'a> {
         if count > 0 {
             self.broken(Breach::Contest);
         }
+        Ok(())
+    }
+
+    /// What holds at the rest that ends a place; the values of what is watched are kept.
+    fn check_rest(&mut self) -> Result<(), AllocError> {
+        self.check_contests()?;
+        let is_open = match self.moment.place {
+            Place::Evaluation | Place::Capture | Place::Captured => {
+                self.clocks.clocking != Clocking::Together
+            }
+            _ => false,
+        };
+        if is_open {
+            let up = self.clocks.up_mask();
+            return self.keep_open_rest(up);
+        }
         let kinds = self.kinds;
         for net in kinds.watched.iter() {
             let value = self.value(*net);
-            self.rests.push(value)?;
+            self.rests.common.push(value)?;
         }
         Ok(())
+    }
+
+    /// Keeps the values at a rest with some clocks up.
+    fn keep_open_rest(&mut self, up: usize) -> Result<(), AllocError> {
+        let mut values = Vec::new(self.alloc);
+        let kinds = self.kinds;
+        for net in kinds.watched.iter() {
+            values.push(self.value(*net))?;
+        }
+        let (cycle, place) = (self.cycle, self.moment.place);
+        self.rests.add_open(cycle, place, up, values)
     }
 
     /// A pending net with its target, searched from a drawn net on, upwards or downwards.
@@ -193,25 +245,39 @@ impl<'a> Walk<'a> {
         None
     }
 
+    /// Whether a net has a clock whose period is open.
+    fn is_in_period(&self, clocks: &[Option<usize>], net: usize) -> bool {
+        match clock_at(clocks, net) {
+            Some(clock) => is_marked(&self.periods, clock),
+            None => false,
+        }
+    }
+
+    /// An event of a net within its period is its first there, and has the edge that it has to have.
+    fn check_edge(&mut self, net: usize, is_right: bool) {
+        if !is_right {
+            self.broken(Breach::WrongEdge);
+        }
+        if is_marked(&self.moved, net) {
+            self.broken(Breach::Twice);
+        }
+        if let Some(slot) = self.moved.get_mut(net) {
+            *slot = true;
+        }
+    }
+
     /// A net takes its target.
     fn take(&mut self, net: usize, after: Tri) -> Result<(), AllocError> {
         let before = self.value(net);
         self.state.set(net, after);
         self.events = self.events.saturating_add(1);
-        let dynamic = is_marked(&self.kinds.dynamic, net);
-        let domino = is_marked(&self.kinds.domino, net);
-        if self.in_period && (dynamic || domino) {
+        let kinds = self.kinds;
+        let dynamic = self.is_in_period(&kinds.dynamic, net);
+        let domino = self.is_in_period(&kinds.domino, net);
+        if dynamic || domino {
             let falls = (before, after) == (Tri::One, Tri::Zero);
             let rises = (before, after) == (Tri::Zero, Tri::One);
-            if (dynamic && !falls) || (domino && !rises) {
-                self.broken(Breach::WrongEdge);
-            }
-            if is_marked(&self.moved, net) {
-                self.broken(Breach::Twice);
-            }
-            if let Some(slot) = self.moved.get_mut(net) {
-                *slot = true;
-            }
+            self.check_edge(net, (!dynamic || falls) && (!domino || rises));
         }
         self.check()
     }
@@ -226,30 +292,34 @@ impl<'a> Walk<'a> {
         more.saturating_mul(more)
     }
 
-    /// Events until rest, while so many clocks have risen; the other clocks rise in order at drawn moments.
-    fn settle(&mut self, risen: usize) -> Result<(), AllocError> {
-        let mut up = risen;
+    /// Events until rest. Within an evaluation clocks move between them.
+    pub fn settle(&mut self) -> Result<(), AllocError> {
         let mut count = 0usize;
         let most = self.most_events();
-        let rounds = most.saturating_mul(5).saturating_add(5);
+        let rounds = most.saturating_mul(MOST_MOVES).saturating_add(MOST_MOVES);
         for _ in 0..rounds {
-            let early = up < self.kinds.clocks && self.draws.below(8) == 0;
-            let found = if early { None } else { self.find_pending() };
-            match found {
-                Some((net, target)) => {
-                    if count == most {
-                        break;
-                    }
-                    count = count.saturating_add(1);
-                    self.take(net, target)?;
+            let moved = self.clocks.early_move(&mut self.draws);
+            let found = if moved.is_some() {
+                None
+            } else {
+                self.find_pending()
+            };
+            if let Some((net, target)) = found {
+                if count == most {
+                    break;
                 }
-                None if up < self.kinds.clocks => {
-                    self.state.set(up.saturating_add(2), Tri::One);
-                    up = up.saturating_add(1);
-                    count = 0;
-                    self.check()?;
+                count = count.saturating_add(1);
+                self.take(net, target)?;
+            } else if moved.is_some() {
+                count = 0;
+                self.move_clock(moved)?;
+            } else {
+                let moved = self.move_at_rest()?;
+                if moved.is_none() {
+                    return self.check_rest();
                 }
-                None => return self.check_rest(),
+                count = 0;
+                self.move_clock(moved)?;
             }
             if self.breach.is_some() {
                 return Ok(());
@@ -259,125 +329,42 @@ impl<'a> Walk<'a> {
         Ok(())
     }
 
-    /// Gives sources values, and settles with all clocks as they are.
-    fn change(&mut self, changes: &[(usize, Tri)]) -> Result<(), AllocError> {
-        for (net, value) in changes {
-            self.state.set(*net, *value);
+    /// What holds at a rest within an evaluation, and a move of a clock there.
+    fn move_at_rest(&mut self) -> Result<Option<(usize, Tri)>, AllocError> {
+        let before = self.clocks.up_mask();
+        let moved = self.clocks.move_at_rest(&mut self.draws);
+        if moved.is_some() && self.clocks.clocking != Clocking::Together {
+            self.check_contests()?;
+            self.keep_open_rest(before)?;
         }
-        self.check()?;
-        self.settle(self.kinds.clocks)
+        Ok(moved)
     }
 
-    /// The same at a place of the environment, behind the move that opens it.
-    fn open(&mut self, place: Place, changes: &[(usize, Tri)]) -> Result<(), AllocError> {
-        if self.breach.is_some() {
-            return Ok(());
-        }
-        self.moment.place = place;
-        self.change(changes)
-    }
-
-    /// Whether these nets have these bits.
-    fn have(&self, nets: &[usize], bits: &[bool]) -> bool {
-        for (net, high) in nets.iter().zip(bits.iter()) {
-            if self.value(*net) != bit(*high) {
-                return false;
+    /// A clock takes a value. The period of its cells begins or ends.
+    fn move_clock(&mut self, moved: Option<(usize, Tri)>) -> Result<(), AllocError> {
+        if let Some((net, value)) = moved {
+            self.state.set(net, value);
+            if self.clocks.clocking != Clocking::Together {
+                self.set_period(net, value == Tri::One);
             }
         }
-        nets.len() == bits.len()
+        self.check()
     }
 
-    /// Power up to the rest behind the release of the resets.
-    fn power(&mut self, start: &[bool]) -> Result<(), AllocError> {
-        let reset = self.kinds.first_latch_port().saturating_add(4);
-        self.change(&[])?;
-        self.is_reset = true;
-        self.moment.old.extend_from_slice(start)?;
-        self.moment.new.extend_from_slice(start)?;
-        self.check()?;
-        self.open(Place::Released, &pair(reset, Tri::Zero))
-    }
-
-    /// The pins of a cycle, from the state before it.
-    fn take_pins(&mut self, pins: &[bool], wanted: &PlainCycle) -> Result<(), AllocError> {
-        let mut changes = Vec::new(self.alloc);
-        for (index, high) in pins.iter().enumerate() {
-            let net = self.kinds.first_pin().saturating_add(index);
-            changes.push((net, bit(*high)))?;
-        }
-        self.moment.old.clear();
-        self.moment.old.extend_from_slice(&self.moment.new)?;
-        self.moment.new.clear();
-        self.moment.new.extend_from_slice(&wanted.next)?;
-        self.open(Place::Pins, &changes)
-    }
-
-    /// An evaluation up to where the outputs are read.
-    fn evaluate(&mut self, wanted: &PlainCycle) -> Result<(), AllocError> {
-        if self.breach.is_some() {
-            return Ok(());
-        }
-        self.moved.clear();
-        self.moved.resize(self.state.nets(), false)?;
-        self.in_period = true;
-        self.moment.place = Place::Evaluation;
-        self.state.set(2, Tri::One);
-        self.check()?;
-        self.settle(1)?;
-        let kinds = self.kinds;
-        if !self.have(&kinds.outputs, &wanted.outputs) {
-            self.broken(Breach::Output);
-        }
-        for (latch, high) in kinds.latches.iter().zip(wanted.next.iter()) {
-            if self.value(latch.data) != bit(*high) {
-                self.broken(Breach::NextState);
-            }
+    /// The periods of the first clock begin, where clocks fall together those of all.
+    pub fn open_periods(&mut self) -> Result<(), AllocError> {
+        self.periods.clear();
+        for net in 0..self.kinds.clocks.saturating_add(2) {
+            self.periods
+                .push(net == 2 || self.clocks.clocking == Clocking::Together)?;
         }
         Ok(())
     }
 
-    /// From the reading to the end of a cycle.
-    fn latch(&mut self) -> Result<(), AllocError> {
-        let masters = self.kinds.first_latch_port();
-        let slaves = masters.saturating_add(2);
-        self.moment.kept.clear();
-        let kinds = self.kinds;
-        for latch in kinds.latches.iter() {
-            let held = self.value(latch.master);
-            self.moment.kept.push(held)?;
+    /// The evaluation period of the cells of a clock begins or ends.
+    fn set_period(&mut self, clock: usize, is_open: bool) {
+        if let Some(slot) = self.periods.get_mut(clock) {
+            *slot = is_open;
         }
-        self.open(Place::Capture, &pair(masters, Tri::One))?;
-        self.moment.is_first = false;
-        self.open(Place::Captured, &pair(masters, Tri::Zero))?;
-        self.in_period = false;
-        let mut falls = Vec::new(self.alloc);
-        for clock in 0..self.kinds.clocks {
-            falls.push((clock.saturating_add(2), Tri::Zero))?;
-        }
-        self.open(Place::Precharge, &falls)?;
-        self.open(Place::Launch, &pair(slaves, Tri::One))?;
-        self.open(Place::Launched, &pair(slaves, Tri::Zero))
-    }
-
-    /// The whole run over these cycles, up to its first breach.
-    pub fn run(
-        &mut self,
-        start: &[bool],
-        stream: &[Vec<bool>],
-        wanted: &[PlainCycle],
-    ) -> Result<Option<Breach>, Trouble> {
-        self.power(start)?;
-        for (pins, cycle) in stream.iter().zip(wanted.iter()) {
-            self.take_pins(pins, cycle)?;
-            self.evaluate(cycle)?;
-            self.latch()?;
-        }
-        Ok(self.breach)
-    }
-
-    /// The values of what is watched, rest by rest.
-    pub fn into_rests(self) -> Vec<Tri> {
-        let Walk { rests, .. } = self;
-        rests
     }
 }

@@ -1,5 +1,5 @@
 //! Cards: the devices of a deck, with nets by their names.
-use crate::cells::{PlainCell, PlainGate, TreeItem};
+use crate::cells::{PlainCell, PlainGate, PlainStyle, TreeItem};
 use crate::forest::PlainEnd;
 use crate::synthesis::Synthesis;
 use dom_base::Kind;
@@ -104,11 +104,11 @@ impl Cards {
         }
     }
 
-    /// Spells a tree between two nets of a cell, and gives what stands behind it of the items and the number
-    /// of the next inner net.
+    /// Spells a tree between two nets, and gives what stands behind it of the items and the number of the next
+    /// inner net. The names of inner nets begin with these letters.
     fn spell<'a>(
         &mut self,
-        cell: usize,
+        letters: &str,
         tree: &'a [TreeItem],
         top: &str,
         bottom: &str,
@@ -128,30 +128,76 @@ impl Cards {
                 Ok((rest, inner))
             }
             TreeItem::Series => {
-                let middle = format!(in self.alloc; "t{cell}_{inner}")?;
+                let middle = format!(in self.alloc; "{letters}_{inner}")?;
                 let next = inner.saturating_add(1);
-                let (rest, next) = self.spell(cell, rest, top, middle.as_str(), next, fuel - 1)?;
-                self.spell(cell, rest, middle.as_str(), bottom, next, fuel - 1)
+                let (rest, next) = self.spell(letters, rest, top, middle.as_str(), next, fuel - 1)?;
+                self.spell(letters, rest, middle.as_str(), bottom, next, fuel - 1)
             }
             TreeItem::Parallel => {
-                let (rest, next) = self.spell(cell, rest, top, bottom, inner, fuel - 1)?;
-                self.spell(cell, rest, top, bottom, next, fuel - 1)
+                let (rest, next) = self.spell(letters, rest, top, bottom, inner, fuel - 1)?;
+                self.spell(letters, rest, top, bottom, next, fuel - 1)
             }
         }
     }
 
-    fn add_cell(&mut self, number: usize, cell: &PlainCell) -> Result<(), AllocError> {
+    /// A side of a cell: what precharges its dynamic net, the keeper or what precharges its inner nets, its tree
+    /// and its foot. The names of its nets begin with these letters.
+    fn add_side(
+        &mut self,
+        number: usize,
+        cell: &PlainCell,
+        tree: &[TreeItem],
+        names: (&str, &str, &str),
+    ) -> Result<(), AllocError> {
         let alloc = self.alloc;
         let clock = format!(in alloc; "ck{}", cell.clock)?;
-        let dynamic = format!(in alloc; "d{number}")?;
-        let output = format!(in alloc; "z{number}")?;
-        let foot = format!(in alloc; "f{number}")?;
+        let dynamic = format!(in alloc; "{}{number}", names.0)?;
+        let foot = format!(in alloc; "{}{number}", names.1)?;
+        let inner = format!(in alloc; "{}{number}", names.2)?;
         self.add(Kind::P, dynamic.as_str(), clock.as_str(), "vdd")?;
-        self.add(Kind::Keep, dynamic.as_str(), output.as_str(), "vdd")?;
+        match cell.style {
+            PlainStyle::Keeper => {
+                let output = format!(in alloc; "z{number}")?;
+                self.add(Kind::Keep, dynamic.as_str(), output.as_str(), "vdd")?;
+            }
+            PlainStyle::Precharge => {
+                for (index, _) in tree
+                    .iter()
+                    .filter(|item| **item == TreeItem::Series)
+                    .enumerate()
+                {
+                    let net = format!(in alloc; "{}_{index}", inner.as_str())?;
+                    self.add(Kind::P, net.as_str(), clock.as_str(), "vdd")?;
+                }
+            }
+        }
         let (top, bottom) = (dynamic.as_str(), foot.as_str());
-        self.spell(number, &cell.tree, top, bottom, 0, cell.tree.len())?;
-        self.add(Kind::N, foot.as_str(), clock.as_str(), "vss")?;
-        self.add_inverter(dynamic.as_str(), output.as_str())
+        self.spell(inner.as_str(), tree, top, bottom, 0, tree.len())?;
+        self.add(Kind::N, foot.as_str(), clock.as_str(), "vss")
+    }
+
+    /// The static pair of the dynamic nets of a cell: an inverter, or of a compound cell the pair of their series.
+    fn add_pair(&mut self, number: usize, cell: &PlainCell, out: &str) -> Result<(), AllocError> {
+        let alloc = self.alloc;
+        let left = format!(in alloc; "d{number}")?;
+        if cell.right.is_none() {
+            return self.add_inverter(left.as_str(), out);
+        }
+        let right = format!(in alloc; "e{number}")?;
+        let middle = format!(in alloc; "{out}_n0")?;
+        self.add(Kind::P, out, left.as_str(), "vdd")?;
+        self.add(Kind::P, out, right.as_str(), "vdd")?;
+        self.add(Kind::N, out, left.as_str(), middle.as_str())?;
+        self.add(Kind::N, middle.as_str(), right.as_str(), "vss")
+    }
+
+    fn add_cell(&mut self, number: usize, cell: &PlainCell) -> Result<(), AllocError> {
+        let output = format!(in self.alloc; "z{number}")?;
+        self.add_side(number, cell, &cell.tree, ("d", "f", "t"))?;
+        if let Some(right) = &cell.right {
+            self.add_side(number, cell, right, ("e", "g", "u"))?;
+        }
+        self.add_pair(number, cell, output.as_str())
     }
 
     /// A half of a latch: `out` takes the opposite of `data` while the net `open` is 1 and `shut` is 0.
@@ -184,38 +230,49 @@ impl Cards {
         }
     }
 
-    fn end_gate(&self, cells: &[PlainCell], end: PlainEnd) -> Result<String, AllocError> {
+    /// What drives the net of a sink.
+    fn add_sink(
+        &mut self,
+        cells: &[PlainCell],
+        end: PlainEnd,
+        out: &str,
+    ) -> Result<(), AllocError> {
         let alloc = self.alloc;
-        match end {
-            PlainEnd::Const(value) => { String::from_str(alloc, if value { "vss" } else { "vdd" }) }
-            PlainEnd::Literal(leaf, plus) => self.rail(leaf, !plus),
+        let gate = match end {
+            PlainEnd::Const(value) => String::from_str(alloc, if value { "vss" } else { "vdd" })?,
+            PlainEnd::Literal(leaf, plus) => self.rail(leaf, !plus)?,
             PlainEnd::FromDynamic(root) => {
-                let cell = cell_of(cells, root);
-                format!(in alloc; "d{cell}")
+                let number = cell_of(cells, root);
+                return match cells.get(number) {
+                    Some(cell) => self.add_pair(number, cell, out),
+                    None => Ok(()),
+                };
             }
             PlainEnd::FromOutput(root) => {
                 let cell = cell_of(cells, root);
-                format!(in alloc; "z{cell}")
+                format!(in alloc; "z{cell}")?
             }
-        }
+        };
+        self.add_inverter(gate.as_str(), out)
     }
 }
 
-/// The number of the cell of this root.
+/// The number of the last cell of this root: behind a cell with its root stand the buffers of its chain.
 fn cell_of(cells: &[PlainCell], root: usize) -> usize {
+    let mut found = cells.len();
     for (number, cell) in cells.iter().enumerate() {
         if cell.root == root {
-            return number;
+            found = number;
         }
     }
-    cells.len()
+    found
 }
 
 /// Whether a tree or the gate of a sink is the complement of a leaf.
 fn names_complement(synthesis: &Synthesis, leaf: usize) -> bool {
-    let rail = TreeItem::Device(PlainGate::Rail(leaf, false));
+    let rail = PlainGate::Rail(leaf, false);
     for cell in synthesis.cells.iter() {
-        if cell.tree.contains(&rail) {
+        if cell.reads(rail) {
             return true;
         }
     }
@@ -225,12 +282,20 @@ fn names_complement(synthesis: &Synthesis, leaf: usize) -> bool {
         .contains(&PlainEnd::Literal(leaf, true))
 }
 
-/// All cards of a deck in order: the cells, the complements, the latches and the inverters of the sinks.
-pub fn cards_of(
+/// The cards of a deck, and how many there are up to the end of each group.
+#[derive(Drop)]
+pub struct GroupedCards {
+    pub cards: Vec<Card>,
+    pub ends: Vec<usize>,
+}
+
+/// All cards of a deck in order, of which each cell, complement, latch and inverter of a sink is a group.
+pub fn grouped_cards(
     alloc: Global,
     network: &PlainNetwork,
     synthesis: &Synthesis,
-) -> Result<Vec<Card>, AllocError> {
+) -> Result<GroupedCards, AllocError> {
+    let mut ends = Vec::new(alloc);
     let mut cards = Cards {
         alloc,
         pins: pin_names(alloc, network)?,
@@ -238,22 +303,35 @@ pub fn cards_of(
     };
     for (number, cell) in synthesis.cells.iter().enumerate() {
         cards.add_cell(number, cell)?;
+        ends.push(cards.all.len())?;
     }
     for leaf in 0..network.leaves() {
         if names_complement(synthesis, leaf) {
             let own = cards.rail(leaf, true)?;
             let complement = cards.rail(leaf, false)?;
             cards.add_inverter(own.as_str(), complement.as_str())?;
+            ends.push(cards.all.len())?;
         }
     }
     for (number, latch) in network.latches.iter().enumerate() {
         cards.add_latch(number, latch.init)?;
+        ends.push(cards.all.len())?;
     }
     let nets = sink_nets(alloc, network)?;
     for (net, end) in nets.iter().zip(synthesis.forest.ends.iter()) {
-        let gate = cards.end_gate(&synthesis.cells, *end)?;
-        cards.add_inverter(gate.as_str(), net.as_str())?;
+        cards.add_sink(&synthesis.cells, *end, net.as_str())?;
+        ends.push(cards.all.len())?;
     }
     let Cards { all, .. } = cards;
-    Ok(all)
+    Ok(GroupedCards { cards: all, ends })
+}
+
+/// All cards of a deck in order: the cells, the complements, the latches and the inverters of the sinks.
+pub fn cards_of(
+    alloc: Global,
+    network: &PlainNetwork,
+    synthesis: &Synthesis,
+) -> Result<Vec<Card>, AllocError> {
+    let GroupedCards { cards, .. } = grouped_cards(alloc, network, synthesis)?;
+    Ok(cards)
 }

@@ -18,13 +18,35 @@ pub enum TreeItem {
     Device(PlainGate),
 }
 
-/// A cell: its root pair, its tree, its level and the number of its clock, both from 1.
+/// The style of a cell: a keeper at its dynamic net, or inner nets that are precharged as well.
+#[derive(Clone, Copy, PartialEq, Eq)]
+pub enum PlainStyle {
+    Keeper,
+    Precharge,
+}
+
+/// A cell: its root pair, its tree, in a compound cell its left one, and the right one there, its style, its
+/// level and the number of its clock, both from 1.
 #[derive(Drop)]
 pub struct PlainCell {
     pub root: usize,
     pub tree: Vec<TreeItem>,
+    pub right: Option<Vec<TreeItem>>,
+    pub style: PlainStyle,
     pub level: usize,
     pub clock: usize,
+}
+
+impl PlainCell {
+    /// Whether one of its trees has this device.
+    pub fn reads(&self, gate: PlainGate) -> bool {
+        let item = TreeItem::Device(gate);
+        let right = match &self.right {
+            Some(right) => right.as_slice(),
+            None => &[],
+        };
+        self.tree.contains(&item) || right.contains(&item)
+    }
 }
 
 /// The number of the cell of a root: how many roots stand before it.
@@ -96,7 +118,7 @@ pub fn level_count(cells: &[PlainCell]) -> usize {
     cells.iter().map(|cell| cell.level).max().unwrap_or(0)
 }
 
-/// The cells of a plan in order, with so many clocks.
+/// The cells of a plan in order, with so many clocks, all simple and with keepers.
 pub fn cells_of(
     alloc: Global,
     forest: &PlainForest,
@@ -112,6 +134,8 @@ pub fn cells_of(
             cells.push(PlainCell {
                 root,
                 tree,
+                right: None,
+                style: PlainStyle::Keeper,
                 level,
                 clock: 1,
             })?;

@@ -2,8 +2,10 @@
 //! cells and decks.
 #![tactic(auto)]
 
+mod buffers;
 mod cards;
 mod cells;
+mod compounds;
 mod cover;
 mod forest;
 mod gates;
@@ -12,8 +14,10 @@ mod plans;
 mod signs;
 mod synthesis;
 
-pub use cards::{Card, cards_of};
-pub use cells::{PlainCell, PlainGate, TreeItem, cells_of, level_count};
+pub use buffers::buffered;
+pub use cards::{Card, GroupedCards, cards_of, grouped_cards};
+pub use cells::{PlainCell, PlainGate, PlainStyle, TreeItem, cells_of, level_count};
+pub use compounds::divide;
 pub use cover::{chosen_plan, cover_tables};
 pub use forest::{PlainArm, PlainEnd, PlainForest, PlainPair, end_value, forest_of, pair_values};
 pub use gates::{PlainGates, PlainNode, PlainRef, gates_of, node_values, ref_value};
