@@ -3,7 +3,7 @@ use crate::files::drawn_text;
 use crate::product::{OPTIONS, deck_text, options_at};
 use crate::tally::DeckTally;
 use comparison::{Trouble, network_of};
-use net_flatten::Network;
+use network::Network;
 use plain_hierarchies::refusal;
 use plain_networks::{PlainNetwork, Sizes};
 use plain_synthesis::{

@@ -4,7 +4,7 @@ use crate::product::{OPTIONS, deck_text, options_at};
 use crate::tally::OrderTally;
 use comparison::{Trouble, network_of};
 use legal_runs::{drawn_run, run_deck};
-use net_flatten::Network;
+use network::Network;
 use plain_hierarchies::refusal;
 use plain_networks::Sizes;
 use plain_texts::{DeckReading, Draws, read_deck};

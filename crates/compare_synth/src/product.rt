@@ -2,7 +2,7 @@
 ghost use Rattle.std.specs.Prelude.{◌≤◌};
 
 use comparison::Trouble;
-use net_flatten::Network;
+use network::Network;
 use spice_text::write;
 use std::alloc::Global;
 use synth_flow::{SynthOptions, synth};
