@@ -418,7 +418,7 @@ def is_network_of(f, all, n, level, width):
             and [([get(sig, k) for k in t.inputs], t.on, t.rows) for t in n.tables]
             == [(inputs_of(t), t[1].on, t[1].rows) for t in ordered])
 
-# ---------------------------------------------------------------- net_flatten/specs/Networks (what a network keeps)
+# ---------------------------------------------------------------- network/specs/Networks (what a network keeps)
 def is_network(n, limits):
     first = n.inputs + len(n.latches)
     def net_table(below, t):
