@@ -17,7 +17,7 @@ pub record IsTwin (d e : Device) : Type 0 where
   pub gate : e.gate ≡ d.gate
   pub ends : (a b : ℕ) → Ends d a b → Ends e a b
 
-twin_in : (ds es : List Device) → HasDevicesOf ds es → (d : Device) → Contains ds d → (e : Device) × Contains es e × IsTwin d e
+pub twin_in : (ds es : List Device) → HasDevicesOf ds es → (d : Device) → Contains ds d → (e : Device) × Contains es e × IsTwin d e
 twin_in ds es w d c =
     elim (w d c) [
       | inl m ↦ (d, m, record { kind = refl; gate = refl; ends = λ a b e. e })

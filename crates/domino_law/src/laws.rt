@@ -105,9 +105,9 @@ pub fn at_most_once()
     ensures output { OutputRisesOnce }
 {}
 
-/// In a loose domino deck the top of each cell, and in the style with precharge each inner net of its
-/// tree, is a dynamic net, and its output and each inverter that its top gates is a domino output, by
-/// the devices alone. So the laws of dynamic nets and of domino outputs speak of all of them.
+/// In a loose domino deck the top of each side of a cell, and in the style with precharge each inner net
+/// of its tree, is a dynamic net, and the cell's output and each static gate that its tops gate is a
+/// domino output, by the devices alone. So the laws of dynamic nets and of domino outputs speak of all of them.
 pub fn cells_are_dynamic()
     ensures dynamic { CellsAreDynamic }
     ensures inverters { InvertersAreDomino }

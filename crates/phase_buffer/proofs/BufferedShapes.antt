@@ -1,7 +1,8 @@
 -- A buffered shape is a shape whose clocks may overlap.
-use Rattle.std.specs.Prelude.{Some, if◌then◌else◌, slice_get, ◌||◌, ◌⊎◌}
+use Rattle.std.specs.Prelude.{Some, if◌then◌else◌, option_map, slice_get, ◌||◌, ◌⊎◌}
 use Rattle.std.proofs.Common.{Bool, List, [], ap, arith, false, inl, inr, map, refl, subst, suc, sym, true, zero, ℕ, ◌++◌, ◌+◌, ◌-◌, ◌<◌, ◌∙◌, ◌∷◌, ◌≡◌, ◌≤◌}
 use Rattle.std.proofs.lemmas.Bool.{eq-eqb}
+use Rattle.std.proofs.lemmas.Option.{slice_get-map}
 use Rattle.dom_base.proofs.Bools.{or_true}
 use Rattle.sp_network.specs.Tree.{EachLeaf, map_tree}
 use Rattle.clock_phase.specs.Levels.{greatest}
@@ -20,11 +21,6 @@ pub map_back : {X Y : Type 0} (f : X → Y) (xs : List X) (k : ℕ) (y : Y) → 
 map_back f [] k y e = absurd (cc)
 map_back f (x ∷ xs) zero y e = let z : f x ≡ y = cc in (x, refl, sym z)
 map_back f (x ∷ xs) (suc k) y e = map_back f xs k y e
-
-pub map_there : {X Y : Type 0} (f : X → Y) (xs : List X) (k : ℕ) (x : X) → slice_get xs k ≡ Some x → slice_get (map f xs) k ≡ Some (f x)
-map_there f [] k x e = absurd (cc)
-map_there f (y ∷ xs) zero x e = let z : y ≡ x = cc in ap (λ v. Some (f v)) z
-map_there f (y ∷ xs) (suc k) x e = map_there f xs k x e
 
 -- a gate of the sinks that is taken from cell k
 takes_at : (k : ℕ) (gates : List Gate) (i : ℕ) (g : Gate) → slice_get gates i ≡ Some g → is_of k g ≡ true → takes k gates ≡ true
@@ -91,7 +87,7 @@ module _ (s : Shape) (may : MayBeBuffered s) where
   -- the latch of the same number
   signal_there : (l : DeckSignal) → IsSignal s l → IsSignal (buffered s) l
   signal_there (FromPin p) a = a
-  signal_there (FromLatch j) a = (ended_latch s a.0, map_there (ended_latch s) s.latches j a.0 a.1)
+  signal_there (FromLatch j) a = (ended_latch s a.0, slice_get-map (ended_latch s) s.latches j ∙ ap (option_map (ended_latch s)) a.1)
 
   -- a reader of this clock takes a cell of its own clock or of the one before
   taken_is : (m : ℕ) (c : DominoCell) → IsCellAt s m c → (j : ℕ) → j < m → (d : DominoCell) → IsCellAt s j d → reads j c.tree ≡ true → d.clock ≤ c.clock
@@ -157,7 +153,7 @@ module _ (s : Shape) (may : MayBeBuffered s) where
   ended_next : (j : ℕ) (b : Latch) → IsLatchAt s j b → IsGate (buffered s) (ended s b.next) × IsOfLastClock (buffered s) (ended s b.next)
   ended_next j b e =
       ended_is b.next (may.shape.nexts j b e)
-      (λ k o. takes_right k s.outputs (map (λ (b : Latch). b.next) s.latches) (takes_at k (map (λ (b : Latch). b.next) s.latches) j b.next (map_there (λ (b : Latch). b.next) s.latches j b e) o))
+      (λ k o. takes_right k s.outputs (map (λ (b : Latch). b.next) s.latches) (takes_at k (map (λ (b : Latch). b.next) s.latches) j b.next (slice_get-map (λ (b : Latch). b.next) s.latches j ∙ ap (option_map (λ (b : Latch). b.next)) e) o))
 
   -- the cells of the buffered shape
   new_leaves : (m : ℕ) (d : DominoCell) → IsCellAt (buffered s) m d → EachLeaf (λ g. IsLeafOf (buffered s) m g × IsOfClocks (buffered s) d.clock g) d.tree

@@ -1,11 +1,11 @@
 -- The circuit of a plan with chains of buffers is a deck by names.
 use Rattle.domino_cell.specs.Style.{WithKeeper}
-use Rattle.std.specs.Prelude.{Some, filter, nat_lt, slice_get, ◌*◌, ◌==◌, ◌||◌}
+use Rattle.std.specs.Prelude.{Some, filter, nat_lt, slice_get, ◌*◌, ◌==◌, ◌||◌, option_map}
 use Rattle.std.specs.List.{AllByRecursion, list_any, range_with_len}
-use Rattle.std.proofs.Common.{Bool, List, [], ap₂, arith, false, length, map, refl, subst, suc, sym, true, zero, ℕ, ◌+◌, ◌-◌, ◌<◌, ◌∙◌, ◌∷◌, ◌≡◌, ◌≤◌}
+use Rattle.std.proofs.Common.{Bool, List, [], ap₂, arith, false, length, map, refl, subst, suc, sym, true, zero, ℕ, ◌+◌, ◌-◌, ◌<◌, ◌∙◌, ◌∷◌, ◌≡◌, ◌≤◌, ap}
 use Rattle.std.proofs.lemmas.Bool.{ltb-false, ltb-true, ne_eqb}
 use Rattle.std.proofs.lemmas.List.Folds.{list_any-append}
-use Rattle.std.proofs.lemmas.Option.{slice_get_within}
+use Rattle.std.proofs.lemmas.Option.{slice_get-map, slice_get_within}
 use Rattle.deck.specs.CircuitData.{CircuitData}
 use Rattle.deck.specs.NamedDevices.{with_devices}
 use Rattle.deck.specs.Pushes.{new_circuit}
@@ -27,7 +27,7 @@ use Rattle.deck_law.proofs.SpelledDecks.{cell_exists}
 use Rattle.phase_buffer.specs.Buffers.{buffered, chain_length, place}
 use Rattle.phase_buffer.specs.Laws.{MayBeBuffered}
 use Rattle.phase_buffer.proofs.BufferedCells.{chain_at}
-use Rattle.phase_buffer.proofs.BufferedShapes.{buffered_may_overlap, map_there}
+use Rattle.phase_buffer.proofs.BufferedShapes.{buffered_may_overlap}
 use Rattle.phase_buffer.specs.BufferedPlans.{DeckPlan, buffers, buffers_after, new_cells, new_gate, new_number, plan_clock}
 use Rattle.skew_law.specs.BufferedPlans.{cells_taken, new_end}
 use Rattle.skew_law.proofs.BufferedPlans.{length_is, new_shape, place_is, shape_of, shape_same}
@@ -124,7 +124,7 @@ module _ (plain : CircuitData) (d : IsNamedDeck WithKeeper plain) (may : MayBeBu
   L = length d.pins + length d.starts
 
   there : (k : ℕ) (c : CellPlan) → slice_get (new_cells the_plan 0 d.cells) k ≡ Some c → IsCellAt t k (cell_shape P L c)
-  there k c e = map_there (cell_shape P L) (new_cells the_plan 0 d.cells) k c e
+  there k c e = slice_get-map (cell_shape P L) (new_cells the_plan 0 d.cells) k ∙ ap (option_map (cell_shape P L)) e
 
   pub below : ReadsBelow L (new_cells the_plan 0 d.cells)
   below k c e =
