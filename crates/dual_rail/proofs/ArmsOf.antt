@@ -15,7 +15,7 @@ use Rattle.dual_rail.specs.WantedNodes.{AreOrderedNodes, HasPlainParts, IsPlainP
 use Rattle.dual_rail.specs.declared.arms.Operation.{Operation}
 use Rattle.dual_rail.specs.declared.forest.Arm.{Arm}
 use Rattle.dual_rail.specs.declared.forest.Pair.TheVariants.{And, Or}
-use Rattle.dual_rail.specs.declared.pairs_needed.Places.{Places}
+use Rattle.dual_rail.specs.declared.signed.Signed.{Signed}
 
 -- the node at a number where a gate stands
 pub gate_at : (nodes : List Node) (n : ℕ) (d : Node) (operation : Operation) → HasGates nodes n → IsOperation (get_or nodes n d) operation
@@ -42,7 +42,7 @@ plain_place nodes order n le h (gate is) = omega (arith, h, le)
 plain_place nodes order n le h (under {n = m} {a = a} at more) = plain_place nodes order m (omega (arith, h, le)) (order m (not_node a) at) more
 
 -- the arm for what a part asks for
-pub arm_is : (nodes : List Node) (origin : List (ℕ × Bool)) (places : List Places) (r : Ref) (s : Bool) (x : Asked) (arm : Arm) → AsksFor nodes r s x → IsArmFor places x arm
+pub arm_is : (nodes : List Node) (origin : List (ℕ × Bool)) (places : List (Signed ℕ)) (r : Ref) (s : Bool) (x : Asked) (arm : Arm) → AsksFor nodes r s x → IsArmFor places x arm
     → ((m : ℕ) (t : Bool) → AsksFor nodes r s (asked_pair m t) → slice_get origin (place_at places m t) ≡ Some (m, t)) → IsArm nodes origin s r arm
 arm_is nodes origin places r s (Value b) arm asks is stand = absurd is
 arm_is nodes origin places r s (Literal k t) arm asks is stand = subst (IsArm nodes origin s r) (sym is) asks

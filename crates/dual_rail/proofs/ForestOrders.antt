@@ -1,5 +1,5 @@
 -- Pairs read only pairs that stand before them, and each literal and each end is there.
-use Rattle.std.proofs.Common.{◌≡◌, ◌⊎◌, inl, inr, sym, ap, subst, ◌∙◌, ℕ, ◌<◌, Bool, true, false, List, length, Some, slice_get, arith}
+use Rattle.std.proofs.Common.{◌≡◌, ◌⊎◌, inl, inr, sym, ap, subst, ◌∙◌, ℕ, ◌<◌, ◌≤◌, Bool, true, false, List, length, Some, slice_get, arith}
 use Rattle.std.specs.Prelude.{All, slice_index_or}
 use Rattle.std.proofs.lemmas.Bool.{cases_lt}
 use Rattle.std.proofs.lemmas.Option.{get_or_from_slice_get, slice_get_within}
@@ -20,6 +20,11 @@ use Rattle.dual_rail.specs.ForestData.{ForestData}
 use Rattle.dual_rail.specs.ForestOrder.{AreInOrder, ForestsAreInPlace, HasLeaves, IsEndOfForest, ReadsBefore as ArmBefore, ReadsLeaves}
 use Rattle.dual_rail.specs.Forests.{IsArm, IsEndOf, IsForestOf, IsPairOf, left_arm, right_arm}
 use Rattle.dual_rail.proofs.Zips.{all_from, all_zip_back, get_some}
+
+-- an arm that reads before a place reads before each later one
+pub reads_later : (q p : ℕ) (arm : Arm) → ArmBefore q arm → q ≤ p → ArmBefore p arm
+reads_later q p (literal_arm rail) before le = tt
+reads_later q p (pair_arm place) before le = omega arith
 
 -- a reference to a leaf names one of so many
 abbrev IsLow : ℕ → Ref → Type 0

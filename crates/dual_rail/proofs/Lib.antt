@@ -5,6 +5,7 @@ pub mod Marks
 pub mod PairLists
 pub mod PairValues
 pub mod RailsOf
+pub mod SignedValues
 pub mod TargetsOf
 pub mod UsesOf
 pub mod Zips

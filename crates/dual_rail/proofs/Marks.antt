@@ -7,11 +7,12 @@ use Rattle.gate_decompose.specs.declared.gates.Node.TheVariants.{And, Or, Not}
 use Rattle.gate_decompose.specs.declared.gates.Ref.{Ref}
 use Rattle.gate_decompose.specs.declared.gates.Ref.TheVariants.{Const, Leaf, Node as node_ref}
 use Rattle.gate_decompose.specs.GatesData.{GatesData}
-use Rattle.gate_decompose.specs.GatesOrder.{HasParts, IsTermPart, IsThere}
+use Rattle.gate_decompose.specs.GatesOrder.{HasParts, IsTermPart, IsThere, NodeReadsEarlier, ReadsEarlier}
 use Rattle.gate_decompose.specs.Needed.{signed}
 use Rattle.gate_decompose.specs.NeededPass.{is_asked_by, is_asked_by_sinks, names_node, pass, wanted_by_pass}
-use Rattle.dual_rail.specs.WantedNodes.{ArePartsThere, IsNodeThere, has_sign, holds}
-use Rattle.dual_rail.specs.declared.wanted.Wanted.{Wanted}
+use Rattle.dual_rail.specs.WantedNodes.{holds}
+use Rattle.dual_rail.specs.SignedValues.{of_sign}
+use Rattle.dual_rail.specs.declared.signed.Signed.{Signed}
 
 pub two_marks : (a b w v x : Bool) → a ≡ (b || (w && x)) → ((a || (v && x)) ≡ (b || (x && (w || v))))
 two_marks a b w v x e = rw e (by b w v x)
@@ -28,7 +29,7 @@ two_marks a b w v x e = rw e (by b w v x)
     by false false false false = refl
 
 -- what a sink with its sign adds
-pub sign_held : (signs : Wanted) (sign s : Bool) → signs ≡ record { plus = sign; minus = not sign } → has_sign signs s ≡ signed sign s
+pub sign_held : (signs : Signed Bool) (sign s : Bool) → signs ≡ record { plus = sign; minus = not sign } → of_sign signs s ≡ signed sign s
 sign_held signs true true e = rw e refl
 sign_held signs true false e = rw e refl
 sign_held signs false true e = rw e refl
@@ -50,10 +51,10 @@ sinks_next sinks signs i n s lt count = rw (add-one) (step sinks signs i lt coun
         ∙ sym (or_assoc (names_node n r && signed b s) (is_asked_by_sinks (take i sinks) (take i signs) n s) (names_node n (get_or sinks i (Const false)) && signed (get_or signs i false) s))
 
 -- one sink more
-pub sink_marked : (old mid new : List Wanted) (signs : Wanted) (sinks : List Ref) (bits : List Bool) (i n : ℕ) (s : Bool) → i < length sinks → length bits ≡ length sinks
+pub sink_marked : (old mid new : List (Signed Bool)) (signs : Signed Bool) (sinks : List Ref) (bits : List Bool) (i n : ℕ) (s : Bool) → i < length sinks → length bits ≡ length sinks
     → signs ≡ record { plus = get_or bits i false; minus = not (get_or bits i false) }
     → holds mid n s ≡ (holds old n s || is_asked_by_sinks (take i sinks) (take i bits) n s)
-    → holds new n s ≡ (holds mid n s || (names_node n (get_or sinks i (Const false)) && has_sign signs s))
+    → holds new n s ≡ (holds mid n s || (names_node n (get_or sinks i (Const false)) && of_sign signs s))
     → holds new n s ≡ (holds old n s || is_asked_by_sinks (take (i + 1) sinks) (take (i + 1) bits) n s)
 sink_marked old mid new signs sinks bits i n s lt count is before added =
     added ∙ ap₂ (λ x y. x || (names_node n (get_or sinks i (Const false)) && y)) before (sign_held signs (get_or bits i false) s is)
@@ -65,39 +66,39 @@ pub pass_same : (nodes : List Node) (k : ℕ) (a b : ℕ → Bool → Bool) → 
 pass_same nodes k a b h n s = ap (λ f. pass nodes f k n s) (λ i m t. h m t i)
 
 -- parts are there
-pub parts_there : (leaves n m : ℕ) (x : Node) → HasParts leaves n x → n ≤ m → ArePartsThere m x
+pub parts_there : (leaves n m : ℕ) (x : Node) → HasParts leaves n x → n ≤ m → NodeReadsEarlier m x
 parts_there leaves n m x h le = by x h
   where
-    part : (r : Ref) → IsTermPart leaves n r → IsNodeThere m r
+    part : (r : Ref) → IsTermPart leaves n r → ReadsEarlier m r
     part (Const b) h = tt
     part (Leaf k) h = tt
     part (node_ref k) h = omega arith
 
-    by : (x : Node) → HasParts leaves n x → ArePartsThere m x
+    by : (x : Node) → HasParts leaves n x → NodeReadsEarlier m x
     by (Not a) h = part a h
     by (And a b) h = (part a h.0, part b h.1)
     by (Or a b) h = (part a h.0, part b h.1)
 
-pub sink_there : (leaves nodes : ℕ) (r : Ref) → IsThere leaves nodes r → IsNodeThere nodes r
+pub sink_there : (leaves nodes : ℕ) (r : Ref) → IsThere leaves nodes r → ReadsEarlier nodes r
 sink_there leaves nodes (Const b) h = tt
 sink_there leaves nodes (Leaf k) h = tt
 sink_there leaves nodes (node_ref n) h = h
 
 -- both parts of an operator
-pub parts_marked : (old mid new : List Wanted) (signs : Wanted) (node : Node) (left right : Ref) → (node ≡ And left right) ⊎ (node ≡ Or left right)
-    → ((n : ℕ) (s : Bool) → holds mid n s ≡ (holds old n s || (names_node n left && has_sign signs s)))
-    → ((n : ℕ) (s : Bool) → holds new n s ≡ (holds mid n s || (names_node n right && has_sign signs s)))
-    → (n : ℕ) (s : Bool) → holds new n s ≡ (holds old n s || is_asked_by (has_sign signs) (Some node) n s)
+pub parts_marked : (old mid new : List (Signed Bool)) (signs : Signed Bool) (node : Node) (left right : Ref) → (node ≡ And left right) ⊎ (node ≡ Or left right)
+    → ((n : ℕ) (s : Bool) → holds mid n s ≡ (holds old n s || (names_node n left && of_sign signs s)))
+    → ((n : ℕ) (s : Bool) → holds new n s ≡ (holds mid n s || (names_node n right && of_sign signs s)))
+    → (n : ℕ) (s : Bool) → holds new n s ≡ (holds old n s || is_asked_by (of_sign signs) (Some node) n s)
 parts_marked old mid new signs node left right is first second n s =
-    second n s ∙ two_marks (holds mid n s) (holds old n s) (names_node n left) (names_node n right) (has_sign signs s) (first n s) ∙ by is
+    second n s ∙ two_marks (holds mid n s) (holds old n s) (names_node n left) (names_node n right) (of_sign signs s) (first n s) ∙ by is
   where
     by : (node ≡ And left right) ⊎ (node ≡ Or left right)
-        → (holds old n s || (has_sign signs s && (names_node n left || names_node n right))) ≡ (holds old n s || is_asked_by (has_sign signs) (Some node) n s)
-    by (inl e) = ap (λ x. holds old n s || is_asked_by (has_sign signs) (Some x) n s) (sym e)
-    by (inr e) = ap (λ x. holds old n s || is_asked_by (has_sign signs) (Some x) n s) (sym e)
+        → (holds old n s || (of_sign signs s && (names_node n left || names_node n right))) ≡ (holds old n s || is_asked_by (of_sign signs) (Some node) n s)
+    by (inl e) = ap (λ x. holds old n s || is_asked_by (of_sign signs) (Some x) n s) (sym e)
+    by (inr e) = ap (λ x. holds old n s || is_asked_by (of_sign signs) (Some x) n s) (sym e)
 
 -- a node less
-pub node_marked : (nodes : List Node) (i j : ℕ) (mid new : List Wanted) (node : Node) (goal : ℕ → Bool → Bool) → i ≡ suc j → slice_get nodes j ≡ Some node
+pub node_marked : (nodes : List Node) (i j : ℕ) (mid new : List (Signed Bool)) (node : Node) (goal : ℕ → Bool → Bool) → i ≡ suc j → slice_get nodes j ≡ Some node
     → ((n : ℕ) (s : Bool) → holds new n s ≡ (holds mid n s || is_asked_by (holds mid j) (Some node) n s))
     → ((n : ℕ) (s : Bool) → pass nodes (holds mid) i n s ≡ goal n s) → (n : ℕ) (s : Bool) → pass nodes (holds new) j n s ≡ goal n s
 node_marked nodes i j mid new node goal e at added before n s =
@@ -110,13 +111,13 @@ pub written_over : {X : Type 0} (n : ℕ) (new old : List X) → n ≡ length ne
 written_over n new old e = ap (λ k. take k (new ++ drop (length new) old)) e ∙ take-append_seam new (drop (length new) old)
 
 -- no marks
-abbrev unwanted : Wanted
+abbrev unwanted : Signed Bool
 unwanted = record { plus = false; minus = false }
 
 unmarked : (n k : ℕ) (s : Bool) → holds (replicate n unwanted) k s ≡ false
-unmarked n k s = ap (λ (w : Wanted). has_sign w s) (none n k) ∙ by s
+unmarked n k s = ap (λ (w : Signed Bool). of_sign w s) (none n k) ∙ by s
   where
-    by : (s : Bool) → has_sign unwanted s ≡ false
+    by : (s : Bool) → of_sign unwanted s ≡ false
     by true = refl
     by false = refl
 
@@ -126,7 +127,7 @@ unmarked n k s = ap (λ (w : Wanted). has_sign w s) (none n k) ∙ by s
     none (suc n) (suc k) = none n k
 
 -- all sinks and all nodes
-pub all_marked : (gates : GatesData) (signs : List Bool) (n : ℕ) (old mid end : List Wanted) → old ≡ replicate n unwanted
+pub all_marked : (gates : GatesData) (signs : List Bool) (n : ℕ) (old mid end : List (Signed Bool)) → old ≡ replicate n unwanted
     → ((n : ℕ) (s : Bool) → holds mid n s ≡ (holds old n s || is_asked_by_sinks gates.sinks signs n s))
     → ((n : ℕ) (s : Bool) → holds end n s ≡ pass gates.nodes (holds mid) (length gates.nodes) n s) → (n : ℕ) (s : Bool) → holds end n s ≡ wanted_by_pass gates signs n s
 all_marked gates signs count old mid end none sinks nodes n s =

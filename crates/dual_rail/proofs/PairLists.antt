@@ -9,10 +9,9 @@ use Rattle.dom_base.proofs.Lists.{slice_get-append}
 use Rattle.gate_decompose.specs.declared.gates.Node.{Node}
 use Rattle.gate_decompose.specs.GatesOrder.{is_operator}
 use Rattle.gate_decompose.specs.NeededPass.{is_gate, is_marked_gate, pairs_from, signs_at}
-use Rattle.dual_rail.specs.Places.{place_at, place_of}
-use Rattle.dual_rail.specs.WantedNodes.{has_sign}
-use Rattle.dual_rail.specs.declared.pairs_needed.Places.{Places}
-use Rattle.dual_rail.specs.declared.wanted.Wanted.{Wanted}
+use Rattle.dual_rail.specs.Places.{place_at}
+use Rattle.dual_rail.specs.SignedValues.{of_sign}
+use Rattle.dual_rail.specs.declared.signed.Signed.{Signed}
 
 flat_map-more : {X : Type 0} (f : ℕ → List X) (a n : ℕ) → flat_map f (range_with_len a (n + 1)) ≡ flat_map f (range_with_len a n) ++ f (a + n)
 flat_map-more {X} f a n = rw (add-one) (step a n)
@@ -26,49 +25,49 @@ flat_map-more {X} f a n = rw (add-one) (step a n)
         shift : (a n : ℕ) → a + 1 + n ≡ a + suc n
         shift a n = omega arith
 
-abbrev none : Places
+abbrev none : Signed ℕ
 none = record { plus = 0; minus = 0 }
 
-module _ (nodes : List Node) (marks : ℕ → Bool → Bool) (i : ℕ) (x : Node) (signs : Wanted) (at : slice_get nodes i ≡ Some x) (are : (s : Bool) → has_sign signs s ≡ (is_operator x && marks i s)) where
-  sign_is : (s : Bool) → has_sign signs s ≡ is_marked_gate nodes marks i s
+module _ (nodes : List Node) (marks : ℕ → Bool → Bool) (i : ℕ) (x : Node) (signs : Signed Bool) (at : slice_get nodes i ≡ Some x) (are : (s : Bool) → of_sign signs s ≡ (is_operator x && marks i s)) where
+  sign_is : (s : Bool) → of_sign signs s ≡ is_marked_gate nodes marks i s
   sign_is s = are s ∙ ap (λ o. is_gate o && marks i s) (sym at)
 
-  own_pairs : signs_at (λ n s. has_sign signs s) i ≡ signs_at (is_marked_gate nodes marks) i
+  own_pairs : signs_at (λ n s. of_sign signs s) i ≡ signs_at (is_marked_gate nodes marks) i
   own_pairs = ap₂ (λ a b. cond a ((i, true) ∷ []) [] ++ cond b ((i, false) ∷ []) []) (sign_is true) (sign_is false)
 
   -- the pairs of a node more
-  pub pairs_next : (pairs new : List (ℕ × Bool)) → pairs ≡ pairs_from (is_marked_gate nodes marks) 0 i → new ≡ pairs ++ signs_at (λ n s. has_sign signs s) i
+  pub pairs_next : (pairs new : List (ℕ × Bool)) → pairs ≡ pairs_from (is_marked_gate nodes marks) 0 i → new ≡ pairs ++ signs_at (λ n s. of_sign signs s) i
       → new ≡ pairs_from (is_marked_gate nodes marks) 0 (i + 1)
   pairs_next pairs new so_far next =
       next ∙ ap₂ (λ xs ys. xs ++ ys) so_far own_pairs ∙ sym (flat_map-more (signs_at (is_marked_gate nodes marks)) 0 i ∙ ap (λ k. pairs_from (is_marked_gate nodes marks) 0 i ++ signs_at (is_marked_gate nodes marks) k) (zero-add i))
 
   -- their places
-  pub places_next : (pairs new : List (ℕ × Bool)) (places new_places : List Places) (own : Places) → new ≡ pairs ++ signs_at (λ n s. has_sign signs s) i → length places ≡ i → new_places ≡ places ++ (own ∷ [])
+  pub places_next : (pairs new : List (ℕ × Bool)) (places new_places : List (Signed ℕ)) (own : Signed ℕ) → new ≡ pairs ++ signs_at (λ n s. of_sign signs s) i → length places ≡ i → new_places ≡ places ++ (own ∷ [])
       → ((n : ℕ) (s : Bool) → n < i → is_marked_gate nodes marks n s ≡ true → slice_get pairs (place_at places n s) ≡ Some (n, s))
-      → ((s : Bool) → has_sign signs s ≡ true → slice_get new (place_of own s) ≡ Some (i, s))
+      → ((s : Bool) → of_sign signs s ≡ true → slice_get new (of_sign own s) ≡ Some (i, s))
       → (n : ℕ) (s : Bool) → n < i + 1 → is_marked_gate nodes marks n s ≡ true → slice_get new (place_at new_places n s) ≡ Some (n, s)
   places_next pairs new places new_places own next count next_places before here n s lt marked =
       elim (cases_lt n i) [
         | inl low ↦
-            ap (λ p. slice_get new (place_of p s)) (ap (λ ps. get_or ps n none) next_places ∙ get_or_append_left places (own ∷ []) none n (omega (arith, low, count)))
+            ap (λ p. slice_get new (of_sign p s)) (ap (λ ps. get_or ps n none) next_places ∙ get_or_append_left places (own ∷ []) none n (omega (arith, low, count)))
             ∙ ap (λ xs. slice_get xs (place_at places n s)) next
-            ∙ slice_get-append pairs (signs_at (λ m t. has_sign signs t) i) (place_at places n s) (n, s) (before n s low marked)
+            ∙ slice_get-append pairs (signs_at (λ m t. of_sign signs t) i) (place_at places n s) (n, s) (before n s low marked)
         | inr high ↦ last (omega (arith, lt, high))
       ]
     where
       last : n ≡ i → slice_get new (place_at new_places n s) ≡ Some (n, s)
       last same =
-          ap (λ p. slice_get new (place_of p s)) (ap₂ (λ ps k. get_or ps k none) next_places (same ∙ sym count) ∙ get_or-append_seam places own [] none)
+          ap (λ p. slice_get new (of_sign p s)) (ap₂ (λ ps k. get_or ps k none) next_places (same ∙ sym count) ∙ get_or-append_seam places own [] none)
           ∙ here s (sign_is s ∙ ap (λ k. is_marked_gate nodes marks k s) (sym same) ∙ marked) ∙ ap (λ (k : ℕ). Some (k, s)) (sym same)
 
   -- and how many there are
-  pub few_next : (pairs new : List (ℕ × Bool)) (d : Node) → get_or nodes i d ≡ x → i < length nodes → new ≡ pairs ++ signs_at (λ n s. has_sign signs s) i → length pairs ≤ 2 * count_by is_operator (take i nodes)
+  pub few_next : (pairs new : List (ℕ × Bool)) (d : Node) → get_or nodes i d ≡ x → i < length nodes → new ≡ pairs ++ signs_at (λ n s. of_sign signs s) i → length pairs ≤ 2 * count_by is_operator (take i nodes)
       → length new ≤ 2 * count_by is_operator (take (i + 1) nodes)
   few_next pairs new d is lt next before =
       let more = sum_by_more (λ (y : Node). cond (is_operator y) 1 0) nodes i d lt in
       let same : one (is_operator (get_or nodes i d)) ≡ one (is_operator x) = ap (λ (y : Node). one (is_operator y)) is in
-      let count = ap length next ∙ length-append pairs (signs_at (λ n s. has_sign signs s) i) in
-      let own = few (is_operator x) (has_sign signs true) (has_sign signs false) (are true) (are false) in
+      let count = ap length next ∙ length-append pairs (signs_at (λ n s. of_sign signs s) i) in
+      let own = few (is_operator x) (of_sign signs true) (of_sign signs false) (are true) (are false) in
       omega (arith, more, same, count, own, before)
     where
       both : Bool → Bool → List (ℕ × Bool)

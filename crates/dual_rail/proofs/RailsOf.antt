@@ -18,7 +18,8 @@ use Rattle.dual_rail.specs.ArmPlaces.{HasGates, HasPlacesOf}
 use Rattle.dual_rail.specs.EndPlaces.{AreEndsSoFar, SinksHavePlaces}
 use Rattle.dual_rail.specs.Forests.{IsArm, IsEndOf, IsPairOf}
 use Rattle.dual_rail.specs.Places.{ArePlaces, place_at}
-use Rattle.dual_rail.specs.Uses.{HasArmsThere, IsArmThere, IsEndThere}
+use Rattle.dual_rail.specs.ForestOrder.{ReadsBefore}
+use Rattle.dual_rail.specs.Uses.{HasArmsThere, IsEndThere}
 use Rattle.dual_rail.specs.WantedNodes.{AreOrderedNodes, HasPlainParts, IsPlainPart}
 use Rattle.dual_rail.proofs.Zips.{all_from, all_zip_back, get_some}
 use Rattle.dual_rail.specs.declared.forest.Arm.{Arm}
@@ -27,7 +28,7 @@ use Rattle.dual_rail.specs.declared.forest.End.{End}
 use Rattle.dual_rail.specs.declared.forest.End.TheVariants.{Const as const_end, FromDynamic, FromOutput, Literal as literal_end}
 use Rattle.dual_rail.specs.declared.forest.Pair.{Pair}
 use Rattle.dual_rail.specs.declared.forest.Pair.TheVariants.{And, Or}
-use Rattle.dual_rail.specs.declared.pairs_needed.Places.{Places}
+use Rattle.dual_rail.specs.declared.signed.Signed.{Signed}
 
 -- nodes in place are in order
 pub nodes_ordered : (gates : GatesData) → AreInPlace gates → AreOrderedNodes gates.nodes
@@ -58,7 +59,7 @@ module _ (gates : GatesData) (signs : List Bool) (origin : List (ℕ × Bool)) (
       by : (p : ℕ × Bool) → is_gate (slice_get gates.nodes p.0) ≡ true → HasGates gates.nodes p.0
       by p g = let parts = gate_parts gates.nodes p.0 g in from p.0 parts.0 parts.1 parts.2
 
-  module _ (order : AreOrderedGates gates) (marks : ℕ → Bool → Bool) (same : (n : ℕ) (s : Bool) → marks n s ≡ wanted_by_pass gates signs n s) (places : List Places)
+  module _ (order : AreOrderedGates gates) (marks : ℕ → Bool → Bool) (same : (n : ℕ) (s : Bool) → marks n s ≡ wanted_by_pass gates signs n s) (places : List (Signed ℕ))
       (stand : ArePlaces gates.nodes marks origin places) where
     needed_stands : (m : ℕ) (t : Bool) → IsNeeded gates signs m t → slice_get origin (place_at places m t) ≡ Some (m, t)
     needed_stands m t needed =
@@ -86,7 +87,7 @@ arms_there nodes origin pairs are = all_from (HasArmsThere (length pairs)) pairs
     count : length pairs ≡ length origin
     count = AllZip-long (IsPairOf nodes origin) origin pairs are
 
-    arm : (s : Bool) (r : Ref) (a : Arm) → IsArm nodes origin s r a → IsArmThere (length pairs) a
+    arm : (s : Bool) (r : Ref) (a : Arm) → IsArm nodes origin s r a → ReadsBefore (length pairs) a
     arm s r (literal_arm rail) h = tt
     arm s r (pair_arm place) (p, at, asks) = subst (λ n. place < n) (sym count) (slice_get_within origin place p at)
 

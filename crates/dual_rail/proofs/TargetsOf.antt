@@ -1,15 +1,44 @@
 -- What is asked for with the other sign, and the target of one node more.
-use Rattle.std.proofs.Common.{◌≡◌, ◌⊎◌, inl, inr, sym, ap, subst, ◌∙◌, ℕ, ◌<◌, Bool, true, false, not, List, [], ◌∷◌, ◌++◌, length, Some, slice_get, get_or, arith}
-use Rattle.std.proofs.lemmas.Option.{slice_get-get_or}
+use Rattle.std.proofs.Common.{◌≡◌, ◌⊎◌, inl, inr, sym, ap, ap₂, subst, ◌∙◌, ℕ, ◌<◌, Bool, true, false, not, List, [], ◌∷◌, ◌++◌, length, Some, slice_get, get_or, arith}
+use Rattle.std.proofs.lemmas.Option.{same_Some, slice_get-get_or}
 use Rattle.dom_base.proofs.Lists.{slice_get-push_cases}
 use Rattle.gate_decompose.specs.declared.gates.Node.{Node}
 use Rattle.gate_decompose.specs.declared.gates.Node.TheVariants.{And, Or, Not}
 use Rattle.gate_decompose.specs.declared.gates.Ref.{Ref}
 use Rattle.gate_decompose.specs.declared.gates.Ref.TheVariants.{Const, Leaf, Node as node_ref}
-use Rattle.gate_decompose.specs.Needed.{Asked, AsksFor, Literal, Pair, Value, constant, gate, leaf, under}
+use Rattle.gate_decompose.specs.Needed.{Asked, AsksFor, IsGateNode, Literal, Pair, Value, constant, gate, leaf, signed, under}
 use Rattle.dual_rail.specs.Targets.{AreTargets, asked_target, other_sign_of}
-use Rattle.dual_rail.specs.WantedNodes.{AreOrderedNodes, ArePartsThere, HasPlainParts, IsNodeThere, IsPlainPart}
+use Rattle.gate_decompose.specs.GatesOrder.{NodeReadsEarlier, ReadsEarlier}
+use Rattle.dual_rail.specs.WantedNodes.{AreOrderedNodes, HasPlainParts, IsPlainPart}
 use Rattle.dual_rail.specs.declared.targets.Target.{Target}
+
+-- an operator isn't a Not
+not_gate : (nodes : List Node) (n m : ℕ) (a b c : Ref) → IsGateNode nodes n a b → n ≡ m → slice_get nodes m ≡ Some (Not c) → ⊥
+not_gate nodes n m a b c (inl e) same f = let x : And a b ≡ Not c = same_Some _ _ (sym e ∙ ap (slice_get nodes) same ∙ f) in absurd (cc)
+not_gate nodes n m a b c (inr e) same f = let x : Or a b ≡ Not c = same_Some _ _ (sym e ∙ ap (slice_get nodes) same ∙ f) in absurd (cc)
+
+-- a reference with a sign asks for one thing
+pub asks_one : (nodes : List Node) {r q : Ref} {s t : Bool} {x y : Asked} → AsksFor nodes r s x → AsksFor nodes q t y → r ≡ q → s ≡ t → x ≡ y
+asks_one nodes (constant {b = b} {sign = s}) (constant {b = c} {sign = t}) same sign = let bit : b ≡ c = cc in ap₂ (λ u v. Value (signed u v)) sign bit
+asks_one nodes constant leaf same sign = absurd (cc)
+asks_one nodes constant (gate is) same sign = absurd (cc)
+asks_one nodes constant (under at more) same sign = absurd (cc)
+asks_one nodes leaf constant same sign = absurd (cc)
+asks_one nodes (leaf {k = k}) (leaf {k = m}) same sign = let number : k ≡ m = cc in ap₂ Literal number sign
+asks_one nodes leaf (gate is) same sign = absurd (cc)
+asks_one nodes leaf (under at more) same sign = absurd (cc)
+asks_one nodes (gate is) constant same sign = absurd (cc)
+asks_one nodes (gate is) leaf same sign = absurd (cc)
+asks_one nodes (gate {n = n} is) (gate {n = m} are) same sign = let number : n ≡ m = cc in ap₂ Pair number sign
+asks_one nodes (gate {n = n} {a = a} {b = b} is) (under {n = m} {a = c} at more) same sign = let number : n ≡ m = cc in absurd (not_gate nodes n m a b c is number at)
+asks_one nodes (under at more) constant same sign = absurd (cc)
+asks_one nodes (under at more) leaf same sign = absurd (cc)
+asks_one nodes (under {n = n} {a = c} at more) (gate {n = m} {a = a} {b = b} is) same sign = let number : m ≡ n = cc in absurd (not_gate nodes m n a b c is number at)
+asks_one nodes (under {n = n} {a = a} at more) (under {n = m} {a = b} at' more') same sign =
+    let number : n ≡ m = cc in
+    let node : Not a ≡ Not b = same_Some _ _ (sym at ∙ ap (slice_get nodes) number ∙ at') in
+    let part : a ≡ b = cc in
+    asks_one nodes more more' part (ap not sign)
 
 -- with the other sign the opposite is asked for
 pub asks_opposite : (nodes : List Node) {r : Ref} {s : Bool} {x : Asked} → AsksFor nodes r s x → AsksFor nodes r (not s) (other_sign_of x)
@@ -49,23 +78,23 @@ node_asks nodes targets part n d e lt are = subst (λ r. AsksFor nodes r true (a
 pub signed_asks : (nodes : List Node) (part : Ref) (t u : Target) (plus : Bool) → plus ≡ false → asked_target u ≡ other_sign_of (asked_target t) → AsksFor nodes part true (asked_target t) → AsksFor nodes part plus (asked_target u)
 signed_asks nodes part t u plus e same asks = subst (λ s. AsksFor nodes part s (asked_target u)) (sym e) (subst (AsksFor nodes part false) (sym same) (asks_opposite nodes asks))
 
-pub node_there : (nodes : ℕ) (part : Ref) (n : ℕ) → part ≡ node_ref n → IsNodeThere nodes part → n < nodes
-node_there nodes part n e h = subst (IsNodeThere nodes) e h
+pub node_there : (nodes : ℕ) (part : Ref) (n : ℕ) → part ≡ node_ref n → ReadsEarlier nodes part → n < nodes
+node_there nodes part n e h = subst (ReadsEarlier nodes) e h
 
 -- parts that are leaves or nodes before are there
-pub part_there : (n : ℕ) (r : Ref) → IsPlainPart n r → IsNodeThere n r
+pub part_there : (n : ℕ) (r : Ref) → IsPlainPart n r → ReadsEarlier n r
 part_there n (Const b) h = tt
 part_there n (Leaf k) h = tt
 part_there n (node_ref m) h = h
 
-pub plain_there : (n : ℕ) (x : Node) → HasPlainParts n x → ArePartsThere n x
+pub plain_there : (n : ℕ) (x : Node) → HasPlainParts n x → NodeReadsEarlier n x
 plain_there n (Not a) h = part_there n a h
 plain_there n (And a b) h = (part_there n a h.0, part_there n b h.1)
 plain_there n (Or a b) h = (part_there n a h.0, part_there n b h.1)
 
-pub parts_at : (nodes : List Node) (n i : ℕ) (d : Node) → AreOrderedNodes nodes → n ≡ i → i < length nodes → ArePartsThere n (get_or nodes i d)
+pub parts_at : (nodes : List Node) (n i : ℕ) (d : Node) → AreOrderedNodes nodes → n ≡ i → i < length nodes → NodeReadsEarlier n (get_or nodes i d)
 parts_at nodes n i d order e lt =
-    subst (λ k. ArePartsThere k (get_or nodes i d)) (sym e) (plain_there i (get_or nodes i d) (order i (get_or nodes i d) (slice_get-get_or nodes i d lt)))
+    subst (λ k. NodeReadsEarlier k (get_or nodes i d)) (sym e) (plain_there i (get_or nodes i d) (order i (get_or nodes i d) (slice_get-get_or nodes i d lt)))
 
 -- a node's target after those of the nodes before it
 pub next_targets : (nodes : List Node) (targets seen new : List Target) (t : Target) (i : ℕ) (d : Node) → AreTargets nodes targets → seen ≡ targets → length targets ≡ i → i < length nodes
@@ -75,7 +104,7 @@ next_targets nodes targets seen new t i d are same count lt next own =
     (target_next nodes targets t are (subst (λ xs. AsksFor nodes (node_ref (length xs)) true (asked_target t)) same
     (own (subst (AreTargets nodes) (sym same) are) (ap (λ xs. slice_get nodes (length xs)) same ∙ ap (slice_get nodes) count ∙ slice_get-get_or nodes i d lt))))
 
-pub there_more : (m n : ℕ) (r : Ref) → m < n → IsNodeThere m r → IsNodeThere n r
+pub there_more : (m n : ℕ) (r : Ref) → m < n → ReadsEarlier m r → ReadsEarlier n r
 there_more m n (Const b) lt h = tt
 there_more m n (Leaf k) lt h = tt
 there_more m n (node_ref k) lt h = omega (arith, lt, h)

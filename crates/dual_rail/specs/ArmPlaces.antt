@@ -9,7 +9,7 @@ use Rattle.dual_rail.specs.Places.{place_at}
 use Rattle.dual_rail.specs.declared.arms.Operation.{Operation}
 use Rattle.dual_rail.specs.declared.forest.Arm.{Arm}
 use Rattle.dual_rail.specs.declared.forest.Arm.TheVariants.{Literal as literal_arm, Pair as pair_arm}
-use Rattle.dual_rail.specs.declared.pairs_needed.Places.{Places}
+use Rattle.dual_rail.specs.declared.signed.Signed.{Signed}
 
 -- a literal, or the pair of one of so many nodes
 abbrev pub HasPlace : ℕ → Asked → Type 0
@@ -18,7 +18,7 @@ HasPlace nodes (Literal leaf plus) = Unit {0}
 HasPlace nodes (Pair n s) = n < nodes
 
 -- the arm is this literal, or the pair at the place of this one
-abbrev pub IsArmFor : List Places → Asked → Arm → Type 0
+abbrev pub IsArmFor : List (Signed ℕ) → Asked → Arm → Type 0
 IsArmFor places (Value b) arm = ⊥
 IsArmFor places (Literal leaf plus) arm = arm ≡ literal_arm (record { leaf = leaf; plus = plus })
 IsArmFor places (Pair n s) arm = arm ≡ pair_arm (place_at places n s)
@@ -32,7 +32,7 @@ abbrev pub HasGates : List Node → ℕ → Type 0
 HasGates nodes n = (x : Node) × (slice_get nodes n ≡ Some x) × (is_operator x ≡ true)
 
 -- each pair that a part of the node asks for with this sign stands at its place
-abbrev pub HasPlacesOf : List Node → List (ℕ × Bool) → List Places → ℕ → Bool → Type 0
+abbrev pub HasPlacesOf : List Node → List (ℕ × Bool) → List (Signed ℕ) → ℕ → Bool → Type 0
 HasPlacesOf nodes origin places n s =
     (a b : Ref) (m : ℕ) (t : Bool) → IsGateNode nodes n a b → (AsksFor nodes a s (Pair m t) ⊎ AsksFor nodes b s (Pair m t))
     → slice_get origin (place_at places m t) ≡ Some (m, t)

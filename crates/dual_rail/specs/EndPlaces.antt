@@ -7,7 +7,7 @@ use Rattle.dual_rail.specs.Forests.{IsEndOf}
 use Rattle.dual_rail.specs.Places.{place_at}
 use Rattle.dual_rail.specs.declared.forest.End.{End}
 use Rattle.dual_rail.specs.declared.forest.End.TheVariants.{Const, Literal as literal_end, FromDynamic, FromOutput}
-use Rattle.dual_rail.specs.declared.pairs_needed.Places.{Places}
+use Rattle.dual_rail.specs.declared.signed.Signed.{Signed}
 
 -- a pair is one of so many nodes
 abbrev pub IsNodeWithin : ℕ → Asked → Type 0
@@ -17,14 +17,14 @@ IsNodeWithin nodes (Pair n s) = n < nodes
 
 -- the end is this constant or literal, the dynamic net at the place of this pair, or the output at the place of the
 -- pair with the other sign
-abbrev pub IsEndFor : List Places → Asked → Bool → End → Type 0
+abbrev pub IsEndFor : List (Signed ℕ) → Asked → Bool → End → Type 0
 IsEndFor places (Value b) sign end = end ≡ Const b
 IsEndFor places (Literal leaf plus) sign end = end ≡ literal_end (record { leaf = leaf; plus = plus })
 IsEndFor places (Pair n s) true end = end ≡ FromDynamic (place_at places n s)
 IsEndFor places (Pair n s) false end = end ≡ FromOutput (place_at places n (not s))
 
 -- the pair that each sink asks for with its sign stands at its place
-abbrev pub SinksHavePlaces : GatesData → List Bool → List (ℕ × Bool) → List Places → Type 0
+abbrev pub SinksHavePlaces : GatesData → List Bool → List (ℕ × Bool) → List (Signed ℕ) → Type 0
 SinksHavePlaces gates signs origin places =
     (k : ℕ) (r : Ref) (sign : Bool) (m : ℕ) (t : Bool) → slice_get gates.sinks k ≡ Some r → slice_get signs k ≡ Some sign
     → AsksFor gates.nodes r sign (Pair m t) → slice_get origin (place_at places m t) ≡ Some (m, t)

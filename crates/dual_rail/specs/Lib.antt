@@ -5,6 +5,7 @@ pub mod ForestOrder
 pub mod ForestValues
 pub mod Forests
 pub mod Places
+pub mod SignedValues
 pub mod Targets
 pub mod Uses
 pub mod WantedNodes

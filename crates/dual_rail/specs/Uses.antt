@@ -1,19 +1,14 @@
 -- Arms and ends that name pairs.
 use Rattle.std.specs.Prelude.{ℕ, ◌<◌, ◌+◌, cond}
+use Rattle.dual_rail.specs.ForestOrder.{ReadsBefore}
 use Rattle.dual_rail.specs.Forests.{is_pair_arm, left_arm, right_arm}
-use Rattle.dual_rail.specs.declared.forest.Arm.{Arm}
-use Rattle.dual_rail.specs.declared.forest.Arm.TheVariants.{Literal as literal_arm, Pair as pair_arm}
 use Rattle.dual_rail.specs.declared.forest.End.{End}
 use Rattle.dual_rail.specs.declared.forest.End.TheVariants.{Const, Literal as literal_end, FromDynamic, FromOutput}
 use Rattle.dual_rail.specs.declared.forest.Pair.{Pair}
 
--- an arm and an end that name no pair, or one of so many
-abbrev pub IsArmThere : ℕ → Arm → Type 0
-IsArmThere pairs (literal_arm rail) = Unit {0}
-IsArmThere pairs (pair_arm place) = place < pairs
-
+-- both arms of a pair name no pair, or one of so many; and an end likewise
 abbrev pub HasArmsThere : ℕ → Pair → Type 0
-HasArmsThere pairs pair = IsArmThere pairs (left_arm pair) × IsArmThere pairs (right_arm pair)
+HasArmsThere pairs pair = ReadsBefore pairs (left_arm pair) × ReadsBefore pairs (right_arm pair)
 
 abbrev pub IsEndThere : ℕ → End → Type 0
 IsEndThere pairs (Const b) = Unit {0}

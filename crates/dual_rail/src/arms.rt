@@ -8,7 +8,7 @@ ghost use Rattle.dual_rail.specs.Targets.{AreTargets, asked_target};
 ghost use Rattle.dual_rail.specs.WantedNodes.{AreOrderedNodes};
 
 use crate::forest::{Arm, Pair};
-use crate::pairs_needed::Places;
+use crate::signed::Signed;
 use crate::targets::{Target, target_of};
 use dom_base::OutOfMemory;
 use gate_decompose::{Node, Ref};
@@ -23,17 +23,14 @@ struct Operation {
 }
 
 /// The arm for a literal or a pair that is asked for.
-fn arm_for(target: Target, places: &[Places]) -> Arm
+fn arm_for(target: Target, places: &[Signed<u32>]) -> Arm
     requires { HasPlace (length places.now) (asked_target target) }
     ensures { IsArmFor places.now (asked_target target) result }
 {
     match target {
         Target::Const(_) => unreachable!(),
         Target::Literal(rail) => Arm::Literal(rail),
-        Target::Pair { node, plus } => {
-            let own = places[node as usize];
-            Arm::Pair(if plus { own.plus } else { own.minus })
-        }
+        Target::Pair(pair) => Arm::Pair(places[pair.node as usize].of(pair.plus)),
     }
 }
 
@@ -59,7 +56,13 @@ fn operation_of(node: Node) -> Operation
 
 /// The pair of a node and a sign: the node's operator over the arms of its parts for plus, the other
 /// operator for minus.
-fn pair_of(nodes: &[Node], targets: &[Target], places: &[Places], node: u32, plus: bool) -> Pair
+fn pair_of(
+    nodes: &[Node],
+    targets: &[Target],
+    places: &[Signed<u32>],
+    node: u32,
+    plus: bool,
+) -> Pair
     requires targets { length targets.now ≡ length nodes.now }
     requires places { length places.now ≡ length nodes.now }
     requires order { AreOrderedNodes nodes.now }
@@ -83,7 +86,7 @@ pub fn pairs_of(
     alloc: Global,
     nodes: &[Node],
     targets: &[Target],
-    places: &[Places],
+    places: &[Signed<u32>],
     origin: &[(u32, bool)],
 ) -> Result<Vec<Pair>, OutOfMemory>
     requires targets { length targets.now ≡ length nodes.now }

@@ -5,23 +5,22 @@ ghost use Rattle.dual_rail.specs.Targets.{AreTargets, asked_target};
 ghost use Rattle.dual_rail.specs.WantedNodes.{AreOrderedNodes};
 
 use crate::forest::End;
-use crate::pairs_needed::Places;
+use crate::signed::Signed;
 use crate::targets::{Target, target_of};
 use dom_base::OutOfMemory;
 use gate_decompose::Gates;
 use std::alloc::Global;
 
 /// The end of a sink with a sign, where this is what it asks for with the sign plus.
-fn end_for(target: Target, places: &[Places], sign: bool) -> End
+fn end_for(target: Target, places: &[Signed<u32>], sign: bool) -> End
     requires { IsNodeWithin (length places.now) (asked_target target) }
     ensures { IsEndFor places.now (asked_target target) sign result }
 {
     match target {
         Target::Const(bit) => End::Const(bit),
         Target::Literal(rail) => End::Literal(rail),
-        Target::Pair { node, plus } => {
-            let own = places[node as usize];
-            let place = if plus == sign { own.plus } else { own.minus };
+        Target::Pair(pair) => {
+            let place = places[pair.node as usize].of(pair.signed(sign).plus);
             if sign {
                 End::FromDynamic(place)
             } else {
@@ -37,7 +36,7 @@ pub fn ends_of(
     gates: &Gates,
     signs: &[bool],
     targets: &[Target],
-    places: &[Places],
+    places: &[Signed<u32>],
 ) -> Result<Vec<End>, OutOfMemory>
     requires signs { length signs.now ≡ length gates.now.sinks }
     requires targets { length targets.now ≡ length gates.now.nodes }

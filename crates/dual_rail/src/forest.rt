@@ -1,4 +1,7 @@
 //! Forests: pairs of a gate node and a sign, in order.
+ghost use Rattle.std.specs.Prelude.{◌≡◌};
+ghost use Rattle.dual_rail.specs.Forests.{left_arm, right_arm};
+
 use std::marker::Model;
 
 /// A leaf as it is, or its opposite.
@@ -20,6 +23,17 @@ pub enum Arm {
 pub enum Pair {
     And(Arm, Arm),
     Or(Arm, Arm),
+}
+
+impl Pair {
+    /// The arms, the left one first.
+    pub fn arms(self) -> (Arm, Arm)
+        ensures left { result.0 ≡ left_arm self }
+        ensures right { result.1 ≡ right_arm self }
+    {
+        let (Pair::And(left, right) | Pair::Or(left, right)) = self;
+        (left, right)
+    }
 }
 
 /// What a sink is taken from: a constant, a literal, or the dynamic net or the output of a cell.

@@ -2,31 +2,26 @@
 ghost use Rattle.std.specs.Prelude.{IfOk, Bool, ℕ, true, ◌≡◌, ◌≤◌, ◌+◌, ◌*◌, ◌++◌, ◌^◌, ◌&&◌, Some, slice_get, length, count_by};
 ghost use Rattle.gate_decompose.specs.GatesOrder.{is_operator};
 ghost use Rattle.gate_decompose.specs.NeededPass.{marked_pairs, signs_at};
-ghost use Rattle.dual_rail.specs.Places.{ArePlaces, place_of};
-ghost use Rattle.dual_rail.specs.WantedNodes.{has_sign, holds};
+ghost use Rattle.dual_rail.specs.Places.{ArePlaces};
+ghost use Rattle.dual_rail.specs.SignedValues.{of_sign};
+ghost use Rattle.dual_rail.specs.WantedNodes.{holds};
 
-use crate::wanted::{UNWANTED, Wanted};
+use crate::signed::Signed;
+use crate::wanted::UNWANTED;
 use dom_base::OutOfMemory;
 use gate_decompose::Node;
 use std::alloc::Global;
 
-/// The places of a node's pairs, where they are needed.
-#[derive(Clone, Copy)]
-pub struct Places {
-    pub plus: u32,
-    pub minus: u32,
-}
-
-/// Pairs in order, each a node's number and a sign, and the places of each node's pairs.
+/// Pairs in order, each a node's number and a sign, and the places of each node's pairs, where they are needed.
 #[derive(Drop)]
 pub struct NeededPairs {
     pub pairs: Vec<(u32, bool)>,
-    pub places: Vec<Places>,
+    pub places: Vec<Signed<u32>>,
 }
 
 /// The signs with which the pairs of a node are needed.
-fn pair_signs(node: Node, wanted: Wanted) -> Wanted
-    ensures { (s : Bool) → has_sign result s ≡ (is_operator node && has_sign wanted s) }
+fn pair_signs(node: Node, wanted: Signed<bool>) -> Signed<bool>
+    ensures { (s : Bool) → of_sign result s ≡ (is_operator node && of_sign wanted s) }
 {
     match node {
         Node::Not(_) => UNWANTED,
@@ -35,10 +30,14 @@ fn pair_signs(node: Node, wanted: Wanted) -> Wanted
 }
 
 /// Appends the pairs of a node, plus before minus, and answers their places.
-fn push_pairs(pairs: &mut Vec<(u32, bool)>, node: u32, signs: Wanted) -> Result<Places, OutOfMemory>
+fn push_pairs(
+    pairs: &mut Vec<(u32, bool)>,
+    node: u32,
+    signs: Signed<bool>,
+) -> Result<Signed<u32>, OutOfMemory>
     requires { length pairs.old.items + 2 ≤ 2 ^ 32 }
-    ensures pushed { IfOk result (λ p. pairs.new.items ≡ pairs.old.items ++ signs_at (λ n s. has_sign signs s) node) }
-    ensures places { IfOk result (λ p. (s : Bool) → has_sign signs s ≡ true → slice_get pairs.new.items (place_of p s) ≡ Some (node, s)) }
+    ensures pushed { IfOk result (λ p. pairs.new.items ≡ pairs.old.items ++ signs_at (λ n s. of_sign signs s) node) }
+    ensures places { IfOk result (λ p. (s : Bool) → of_sign signs s ≡ true → slice_get pairs.new.items (of_sign p s) ≡ Some (node, s)) }
 {
     let plus = pairs.len() as u32;
     if signs.plus {
@@ -48,14 +47,14 @@ fn push_pairs(pairs: &mut Vec<(u32, bool)>, node: u32, signs: Wanted) -> Result<
     if signs.minus {
         pairs.push((node, false))?;
     }
-    Ok(Places { plus, minus })
+    Ok(Signed { plus, minus })
 }
 
 /// The pairs of the wanted And and Or nodes.
 pub fn needed_pairs(
     alloc: Global,
     nodes: &[Node],
-    wanted: &[Wanted],
+    wanted: &[Signed<bool>],
 ) -> Result<NeededPairs, OutOfMemory>
     requires count { length wanted.now ≡ length nodes.now }
     requires fits { length nodes.now ≤ 2 ^ 30 }

@@ -2,7 +2,8 @@
 ghost use Rattle.std.specs.Prelude.{IfOk, All, ℕ, ◌≡◌, ◌<◌, ◌≤◌, ◌+◌, ◌*◌, ◌^◌, cond, length, map, sum_by, count_by, slice_index_or};
 ghost use Rattle.std.specs.List.{range_with_len};
 ghost use Rattle.dual_rail.specs.Forests.{arms_of, is_end_from, is_pair_arm};
-ghost use Rattle.dual_rail.specs.Uses.{HasArmsThere, IsArmThere, IsEndThere, named_by};
+ghost use Rattle.dual_rail.specs.ForestOrder.{ReadsBefore};
+ghost use Rattle.dual_rail.specs.Uses.{HasArmsThere, IsEndThere, named_by};
 
 use crate::forest::{Arm, End, Pair};
 use dom_base::OutOfMemory;
@@ -10,7 +11,7 @@ use std::alloc::Global;
 
 /// Adds the use of an arm.
 fn use_arm(uses: &mut [u32], arm: Arm)
-    requires there { IsArmThere (length uses.old) arm }
+    requires there { ReadsBefore (length uses.old) arm }
     requires room { (p : ℕ) → slice_index_or uses.old p 0 + 1 < 2 ^ 32 }
     ensures { (p : ℕ) → p < length uses.old → slice_index_or uses.new p 0 ≡ slice_index_or uses.old p 0 + cond (is_pair_arm p arm) 1 0 }
 {
@@ -25,7 +26,7 @@ fn use_arms(uses: &mut [u32], pair: Pair)
     requires room { (p : ℕ) → slice_index_or uses.old p 0 + 2 < 2 ^ 32 }
     ensures { (p : ℕ) → p < length uses.old → slice_index_or uses.new p 0 ≡ slice_index_or uses.old p 0 + named_by p pair }
 {
-    let (Pair::And(left, right) | Pair::Or(left, right)) = pair;
+    let (left, right) = pair.arms();
     use_arm(uses, left);
     use_arm(uses, right);
 }

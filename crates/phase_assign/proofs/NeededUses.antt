@@ -14,7 +14,7 @@ use Rattle.gate_decompose.proofs.NeededSets.{pass_is_needed}
 use Rattle.phase_assign.specs.Uses.{AreUses, asked, asked_by_pair, asked_by_sinks, is_live, living, one_if, times, total, uses_by_pairs}
 use Rattle.phase_assign.specs.Wiring.{AreWired, IsAskedBy, IsWiring}
 use Rattle.phase_assign.specs.declared.pairs.Arms.{Arms}
-use Rattle.phase_assign.specs.declared.pairs.Pair.{Pair}
+use Rattle.dual_rail.specs.declared.signed.SignedNode.{SignedNode}
 use Rattle.phase_assign.proofs.Totals.{some_true, times-append, times_below, total_at, total_le, total_some, true_some}
 
 -- the pairs of marked nodes, counted
@@ -38,18 +38,18 @@ one_le false true h = omega arith
 one_le false false h = omega arith
 
 -- what sinks ask for
-sinks_some : (ends : List (Option Pair)) (signs : List Bool) (n : ℕ) (s : Bool) → 0 < times n s (asked_by_sinks ends signs)
-    → (k : ℕ) × (e : Option Pair) × (b : Bool) × (slice_get ends k ≡ Some e) × (slice_get signs k ≡ Some b) × (0 < times n s (asked e b))
+sinks_some : (ends : List (Option SignedNode)) (signs : List Bool) (n : ℕ) (s : Bool) → 0 < times n s (asked_by_sinks ends signs)
+    → (k : ℕ) × (e : Option SignedNode) × (b : Bool) × (slice_get ends k ≡ Some e) × (slice_get signs k ≡ Some b) × (0 < times n s (asked e b))
 sinks_some [] signs n s lt = absurd (omega arith)
 sinks_some (e ∷ ends) [] n s lt = absurd (omega arith)
 sinks_some (e ∷ ends) (b ∷ signs) n s lt = by (times n s (asked e b)) refl (λ some. sinks_some ends signs n s some)
   where
-    by : (x : ℕ) → times n s (asked e b) ≡ x → (0 < times n s (asked_by_sinks ends signs) → (k : ℕ) × (d : Option Pair) × (c : Bool) × (slice_get ends k ≡ Some d) × (slice_get signs k ≡ Some c) × (0 < times n s (asked d c)))
-        → (k : ℕ) × (d : Option Pair) × (c : Bool) × (slice_get (e ∷ ends) k ≡ Some d) × (slice_get (b ∷ signs) k ≡ Some c) × (0 < times n s (asked d c))
+    by : (x : ℕ) → times n s (asked e b) ≡ x → (0 < times n s (asked_by_sinks ends signs) → (k : ℕ) × (d : Option SignedNode) × (c : Bool) × (slice_get ends k ≡ Some d) × (slice_get signs k ≡ Some c) × (0 < times n s (asked d c)))
+        → (k : ℕ) × (d : Option SignedNode) × (c : Bool) × (slice_get (e ∷ ends) k ≡ Some d) × (slice_get (b ∷ signs) k ≡ Some c) × (0 < times n s (asked d c))
     by (suc x) is more = (0, e, b, refl, refl, omega arith)
     by zero is more = let split = times-append n s (asked e b) (asked_by_sinks ends signs) in let r = more (omega arith) in (suc r.0, r.1, r.2, r.3, r.4, r.5)
 
-sink_within : (ends : List (Option Pair)) (signs : List Bool) (k : ℕ) (e : Option Pair) (b : Bool) (n : ℕ) (s : Bool) → slice_get ends k ≡ Some e → slice_get signs k ≡ Some b
+sink_within : (ends : List (Option SignedNode)) (signs : List Bool) (k : ℕ) (e : Option SignedNode) (b : Bool) (n : ℕ) (s : Bool) → slice_get ends k ≡ Some e → slice_get signs k ≡ Some b
     → times n s (asked e b) ≤ times n s (asked_by_sinks ends signs)
 sink_within [] signs k e b n s at at' = absurd (cc)
 sink_within (d ∷ ends) [] k e b n s at at' = absurd (cc)
@@ -62,7 +62,7 @@ sink_within (d ∷ ends) (c ∷ signs) (suc k) e b n s at at' =
     let split = times-append n s (asked d c) (asked_by_sinks ends signs) in
     omega arith
 
-module _ (gates : GatesData) (order : AreOrderedGates gates) (arms : List Arms) (ends : List (Option Pair)) (wiring : IsWiring arms ends) (wired : AreWired gates arms ends) where
+module _ (gates : GatesData) (order : AreOrderedGates gates) (arms : List Arms) (ends : List (Option SignedNode)) (wiring : IsWiring arms ends) (wired : AreWired gates arms ends) where
   abbrev own_arms : ℕ → Arms
   own_arms n = get_or arms n (record { left = None; right = None })
 
@@ -106,7 +106,7 @@ module _ (gates : GatesData) (order : AreOrderedGates gates) (arms : List Arms) 
     cond_some false x lt = absurd (omega arith)
 
     -- a pair that is used is needed
-    sound : (uncounted : List Pair) → AreUses arms count (asked_by_sinks ends signs) uncounted [] → (room n : ℕ) (s : Bool) → length arms ≤ n + room → 0 < count n s → IsNeeded gates signs n s
+    sound : (uncounted : List SignedNode) → AreUses arms count (asked_by_sinks ends signs) uncounted [] → (room n : ℕ) (s : Bool) → length arms ≤ n + room → 0 < count n s → IsNeeded gates signs n s
     sound uncounted u zero n s le some = by (times n s (asked_by_sinks ends signs)) refl (u.each n s)
       where
         by : (x : ℕ) → times n s (asked_by_sinks ends signs) ≡ x → count n s + times n s uncounted ≡ uses_by_pairs arms count n s + times n s (asked_by_sinks ends signs) + times n s [] → IsNeeded gates signs n s
@@ -127,7 +127,7 @@ module _ (gates : GatesData) (order : AreOrderedGates gates) (arms : List Arms) 
             let low = times_below m n s (asked_by_pair arms m t) (wiring.arms_below m t (omega (arith, lt))) used.1 in
             by_arms m t n s (more m t (omega (arith, low, le)) (true_some (count m t) used.0)) used.1
 
-    live_needed : (uncounted : List Pair) → AreUses arms count (asked_by_sinks ends signs) uncounted [] → (n : ℕ) (s : Bool) → is_live count n s ≡ true → IsNeeded gates signs n s
+    live_needed : (uncounted : List SignedNode) → AreUses arms count (asked_by_sinks ends signs) uncounted [] → (n : ℕ) (s : Bool) → is_live count n s ≡ true → IsNeeded gates signs n s
     live_needed uncounted u n s e = sound uncounted u (length arms) n s (omega arith) (true_some (count n s) e)
 
     -- a needed pair is used
@@ -142,7 +142,7 @@ module _ (gates : GatesData) (order : AreOrderedGates gates) (arms : List Arms) 
             → count n s + times n s [] ≡ uses_by_pairs arms count n s + times n s (asked_by_sinks ends signs) + times n s [] → is_live count n s ≡ true
         of_sink k r b n s at at' asks each =
             let low = slice_get_within gates.sinks k r at in
-            let e : Option Pair = get_or ends k None in
+            let e : Option SignedNode = get_or ends k None in
             let end = slice_get-get_or ends k None (omega (arith, low, wired.ends_count)) in
             let some = (wired.ends_are k r e at end).all b n s asks in
             let within = sink_within ends signs k e b n s end at' in
@@ -177,7 +177,7 @@ module _ (gates : GatesData) (order : AreOrderedGates gates) (arms : List Arms) 
     marked : ℕ → Bool → Bool
     marked = is_marked_gate gates.nodes (wanted_by_pass gates signs)
 
-    live_marked : (uncounted : List Pair) → AreUses arms count (asked_by_sinks ends signs) uncounted [] → (n : ℕ) (s : Bool) → is_live count n s ≡ true → marked n s ≡ true
+    live_marked : (uncounted : List SignedNode) → AreUses arms count (asked_by_sinks ends signs) uncounted [] → (n : ℕ) (s : Bool) → is_live count n s ≡ true → marked n s ≡ true
     unfolding marked
     live_marked uncounted u n s e =
         let needed = live_needed uncounted u n s e in
@@ -210,7 +210,7 @@ module _ (gates : GatesData) (order : AreOrderedGates gates) (arms : List Arms) 
         subst (HasSize gates signs) (sym same) all_size
 
     -- where some are, they are no more
-    pub uses_within : (uncounted : List Pair) → AreUses arms count (asked_by_sinks ends signs) uncounted [] → (size : ℕ) → HasSize gates signs size → living count (length arms) ≤ size
+    pub uses_within : (uncounted : List SignedNode) → AreUses arms count (asked_by_sinks ends signs) uncounted [] → (size : ℕ) → HasSize gates signs size → living count (length arms) ≤ size
     uses_within uncounted u size has =
         let one = size_one gates signs size (total (λ m t. one_if (marked m t)) 0 (length gates.nodes)) has all_size in
         let low = total_le (λ m t. one_if (is_live count m t)) (λ m t. one_if (marked m t)) (λ m t. one_le (is_live count m t) (marked m t) (live_marked uncounted u m t)) 0 (length gates.nodes) in

@@ -3,7 +3,7 @@ use Rattle.std.proofs.Common.{◌≡◌, ◌⊎◌, inl, inr, refl, sym, ap, ap�
 use Rattle.phase_assign.specs.Refusals.{IsSignChangeRefused}
 use Rattle.phase_assign.specs.Uses.{AreTried, AreUses, HasRoots, asked, asked_by_pair, is_live, is_some_use, living, one_if, times, total, uses_by_pairs}
 use Rattle.phase_assign.specs.declared.pairs.Arms.{Arms}
-use Rattle.phase_assign.specs.declared.pairs.Pair.{Pair}
+use Rattle.dual_rail.specs.declared.signed.SignedNode.{SignedNode}
 
 -- sums that balance term by term
 total_balanced : (f g h k : ℕ → Bool → ℕ) → ((m : ℕ) (t : Bool) → f m t + g m t ≡ h m t + k m t) → (a n : ℕ) → total f a n + total g a n ≡ total h a n + total k a n
@@ -14,7 +14,7 @@ total_balanced f g h k same a (suc n) =
     let r = total_balanced f g h k same (a + 1) n in
     omega arith
 
-module _ (arms : List Arms) (old new : ℕ → Bool → ℕ) (looked : List Pair) (stay : (n : ℕ) (s : Bool) → 0 < times n s looked → new n s ≡ old n s) where
+module _ (arms : List Arms) (old new : ℕ → Bool → ℕ) (looked : List SignedNode) (stay : (n : ℕ) (s : Bool) → 0 < times n s looked → new n s ≡ old n s) where
   -- counts of the trial, moved to the counts that are now
   moved : (ℕ → Bool → ℕ) → ℕ → Bool → ℕ
   moved count n s = cond (is_some_use (times n s looked)) (count n s) (new n s)
@@ -48,7 +48,7 @@ module _ (arms : List Arms) (old new : ℕ → Bool → ℕ) (looked : List Pair
           ap (λ x. cond (is_some_use x) (w m t) 0 + cond (is_some_use (old m t)) (w m t) 0) a ∙ swap
           ∙ ap (λ x. cond (is_some_use x) (w m t) 0 + cond (is_some_use (new m t)) (w m t) 0) (sym b)
 
-  pub refused_still : (target : Option Pair) (sign : Bool) → IsSignChangeRefused arms old target sign looked → IsSignChangeRefused arms new target sign looked
+  pub refused_still : (target : Option SignedNode) (sign : Bool) → IsSignChangeRefused arms old target sign looked → IsSignChangeRefused arms new target sign looked
   unfolding moved
   refused_still target sign r = record {
     without = moved r.without;
@@ -103,7 +103,7 @@ module _ (arms : List Arms) (old new : ℕ → Bool → ℕ) (looked : List Pair
               omega arith
 
 -- what it shows
-pub refused_tried : (arms : List Arms) (count : ℕ → Bool → ℕ) (target : Option Pair) (sign : Bool) (looked others roots : List Pair) → IsSignChangeRefused arms count target sign looked
+pub refused_tried : (arms : List Arms) (count : ℕ → Bool → ℕ) (target : Option SignedNode) (sign : Bool) (looked others roots : List SignedNode) → IsSignChangeRefused arms count target sign looked
     → AreUses arms count others [] (asked target sign) → HasRoots others (asked target (not sign)) roots → (size : ℕ) → size ≡ living count (length arms) → AreTried arms roots size
 refused_tried arms count target sign looked others roots r u h size is = record {
   count = r.tried;

@@ -1,136 +1,80 @@
--- What references ask for with each sign, and what nodes and sinks ask for, one after another.
-use Rattle.std.proofs.Common.{◌≡◌, ◌⊎◌, inl, inr, refl, sym, ap, subst, ◌∙◌, ℕ, ◌<◌, Bool, true, false, not, List, [], ◌∷◌, ◌++◌, length, Option, Some, None, slice_get, get_or, arith}
+-- The pairs that references ask for with each sign.
+use Rattle.std.proofs.Common.{◌≡◌, ◌⊎◌, inl, inr, refl, sym, ap, ap₂, subst, ◌∙◌, ℕ, ◌<◌, Bool, true, false, List, [], ◌∷◌, ◌++◌, length, Option, Some, None, slice_get, get_or, arith}
 use Rattle.std.proofs.lemmas.Option.{same_Some, slice_get_within, slice_get-get_or}
-use Rattle.std.proofs.Math.Bool.{not-not}
 use Rattle.dom_base.proofs.Lists.{slice_get-push_cases}
 use Rattle.gate_decompose.specs.declared.gates.Node.{Node}
 use Rattle.gate_decompose.specs.declared.gates.Node.TheVariants.{And, Or, Not}
 use Rattle.gate_decompose.specs.declared.gates.Ref.{Ref}
-use Rattle.gate_decompose.specs.declared.gates.Ref.TheVariants.{Const, Leaf, Node as node_ref}
+use Rattle.gate_decompose.specs.declared.gates.Ref.TheVariants.{Const}
 use Rattle.gate_decompose.specs.GatesData.{GatesData}
 use Rattle.gate_decompose.specs.GatesOrder.{AreGates, AreOrderedGates, NodeReadsEarlier, ReadsEarlier}
-use Rattle.gate_decompose.specs.Needed.{Asked, AsksFor, IsGateNode, Pair as asked_pair, constant, gate, leaf, under}
-use Rattle.phase_assign.specs.Uses.{AreBelow, asked, asked_by_arms, asked_by_pair, is_pair, one_if, times, with_sign}
-use Rattle.phase_assign.specs.Wiring.{AreArmsOf, AreAskedByNodes, AreWired, IsAskedBy, IsWiring}
+use Rattle.gate_decompose.specs.Needed.{Asked, AsksFor, Literal, Pair as asked_pair, Value, constant, gate, leaf, under}
+use Rattle.dual_rail.specs.declared.targets.Target.{Target}
+use Rattle.dual_rail.specs.declared.targets.Target.TheVariants.{Const as const_target, Literal as literal_target, Pair as pair_target}
+use Rattle.dual_rail.proofs.TargetsOf.{asks_one, asks_opposite}
+use Rattle.dual_rail.specs.SignedValues.{with_sign}
+use Rattle.phase_assign.specs.Uses.{AreBelow, asked, asked_by_arms, asked_by_pair, is_pair, one_if, times}
+use Rattle.dual_rail.specs.Targets.{asked_target, other_sign_of, pair_of}
+use Rattle.phase_assign.specs.Wiring.{AreArmsOf, AreWired, IsAskedBy, IsWiring}
 use Rattle.phase_assign.specs.declared.pairs.Arms.{Arms}
-use Rattle.phase_assign.specs.declared.pairs.Pair.{Pair}
+use Rattle.dual_rail.specs.declared.signed.SignedNode.{SignedNode}
 use Rattle.phase_assign.proofs.Totals.{below_append, pair_is, pair_self}
 
--- what is asked for where a reference is a constant, a leaf, a gate node or a Not
-const_asks : (nodes : List Node) {r : Ref} {s : Bool} {x : Asked} → AsksFor nodes r s x → (b : Bool) → r ≡ Const b → (n : ℕ) (t : Bool) → x ≡ asked_pair n t → ⊥
-const_asks nodes constant b e n t f = cc
-const_asks nodes leaf b e n t f = cc
-const_asks nodes (gate is) b e n t f = cc
-const_asks nodes (under at more) b e n t f = cc
-
-leaf_asks : (nodes : List Node) {r : Ref} {s : Bool} {x : Asked} → AsksFor nodes r s x → (k : ℕ) → r ≡ Leaf k → (n : ℕ) (t : Bool) → x ≡ asked_pair n t → ⊥
-leaf_asks nodes constant b e n t f = cc
-leaf_asks nodes leaf b e n t f = cc
-leaf_asks nodes (gate is) b e n t f = cc
-leaf_asks nodes (under at more) b e n t f = cc
-
-not_gate : (nodes : List Node) (m : ℕ) (a b c : Ref) → IsGateNode nodes m a b → slice_get nodes m ≡ Some (Not c) → ⊥
-not_gate nodes m a b c (inl e) f = let g : Some (And a b) ≡ Some (Not c) = sym e ∙ f in cc
-not_gate nodes m a b c (inr e) f = let g : Some (Or a b) ≡ Some (Not c) = sym e ∙ f in cc
-
-gate_asks : (nodes : List Node) {r : Ref} {s : Bool} {x : Asked} → AsksFor nodes r s x → (m : ℕ) (a b : Ref) → r ≡ node_ref m → IsGateNode nodes m a b → (n : ℕ) (t : Bool) → x ≡ asked_pair n t
-    → (m ≡ n) × (s ≡ t)
-gate_asks nodes constant m a b e is n t f = absurd (cc)
-gate_asks nodes leaf m a b e is n t f = absurd (cc)
-gate_asks nodes (gate {n = k} {sign = u} own) m a b e is n t f = let same : k ≡ m = cc in let here : k ≡ n = cc in (sym same ∙ here, cc)
-gate_asks nodes (under {n = k} {a = d} at more) m a b e is n t f = let same : k ≡ m = cc in absurd (not_gate nodes m a b d is (ap (slice_get nodes) (sym same) ∙ at))
-
-under_asks : (nodes : List Node) {r : Ref} {s : Bool} {x : Asked} → AsksFor nodes r s x → (m : ℕ) (c : Ref) → r ≡ node_ref m → slice_get nodes m ≡ Some (Not c) → AsksFor nodes c (not s) x
-under_asks nodes constant m c e f = absurd (cc)
-under_asks nodes leaf m c e f = absurd (cc)
-under_asks nodes (gate {n = k} {a = a} {b = b} own) m c e f = let same : k ≡ m = cc in absurd (not_gate nodes k a b c own (ap (slice_get nodes) same ∙ f))
-under_asks nodes (under {n = k} {sign = u} {a = d} {x = x} at more) m c e f =
-    let same : k ≡ m = cc in
-    let part : d ≡ c = let g : Some (Not d) ≡ Some (Not c) = sym at ∙ ap (slice_get nodes) same ∙ f in cc in
-    subst (λ q. AsksFor nodes q (not u) x) part more
-
--- the targets of references
-pub const_target : (nodes : List Node) (b : Bool) → IsAskedBy nodes (Const b) None
-const_target nodes b = record {
-  all = λ s n t asks. absurd (const_asks nodes asks b refl n t refl);
-  only = λ s n t lt. absurd (omega arith);
-}
-
-pub leaf_target : (nodes : List Node) (k : ℕ) → IsAskedBy nodes (Leaf k) None
-leaf_target nodes k = record {
-  all = λ s n t asks. absurd (leaf_asks nodes asks k refl n t refl);
-  only = λ s n t lt. absurd (omega arith);
-}
-
 -- a pair stands in a list of one pair
-one_pair : (n : ℕ) (t : Bool) (p : Pair) → p.node ≡ n → p.plus ≡ t → 0 < times n t (p ∷ [])
+one_pair : (n : ℕ) (t : Bool) (p : SignedNode) → p.node ≡ n → p.plus ≡ t → 0 < times n t (p ∷ [])
 one_pair n t p e f =
     let own : one_if (is_pair p.node p.plus p) ≡ 1 = ap one_if (pair_self p) in
     subst (λ k. 0 < times k t (p ∷ [])) e (subst (λ u. 0 < times p.node u (p ∷ [])) f (omega arith))
 
-pair_one : (n : ℕ) (t : Bool) (p : Pair) → 0 < times n t (p ∷ []) → (p.node ≡ n) × (p.plus ≡ t)
+pair_one : (n : ℕ) (t : Bool) (p : SignedNode) → 0 < times n t (p ∷ []) → (p.node ≡ n) × (p.plus ≡ t)
 pair_one n t p lt = by (is_pair n t p) refl
   where
     by : (b : Bool) → is_pair n t p ≡ b → (p.node ≡ n) × (p.plus ≡ t)
     by true e = pair_is n t p e
     by false e = absurd (let none : one_if (is_pair n t p) ≡ 0 = ap one_if e in omega arith)
 
-with_sign-node : (p : Pair) (s : Bool) → (with_sign p s).node ≡ p.node
-with_sign-node p true = refl
-with_sign-node p false = refl
+-- what is asked for with a sign, where this is asked for with the sign plus
+abbrev asked_with : Asked → Bool → Asked
+asked_with x true = x
+asked_with x false = other_sign_of x
 
-plus_sign : (p : Pair) (s : Bool) → p.plus ≡ true → (with_sign p s).plus ≡ s
-plus_sign p true e = e
-plus_sign p false e = ap not e
+asks_with : (nodes : List Node) {r : Ref} {x : Asked} (s : Bool) → AsksFor nodes r true x → AsksFor nodes r s (asked_with x s)
+asks_with nodes true asks = asks
+asks_with nodes false asks = asks_opposite nodes asks
 
-pub gate_target : (nodes : List Node) (m : ℕ) (a b : Ref) (p : Pair) → IsGateNode nodes m a b → p.node ≡ m → p.plus ≡ true → IsAskedBy nodes (node_ref m) (Some p)
-gate_target nodes m a b p is e f = record {
-  all = λ s n t asks.
-      let same = gate_asks nodes asks m a b refl is n t refl in
-      one_pair n t (with_sign p s) (with_sign-node p s ∙ e ∙ same.0) (plus_sign p s f ∙ same.1);
-  only = λ s n t lt.
-      let same = pair_one n t (with_sign p s) lt in
-      subst (λ k. AsksFor nodes (node_ref m) s (asked_pair k t)) (sym e ∙ sym (with_sign-node p s) ∙ same.0)
-      (subst (λ u. AsksFor nodes (node_ref m) s (asked_pair m u)) (sym (plus_sign p s f) ∙ same.1) (gate is));
+no_pair : (nodes : List Node) (r : Ref) (x : Asked) → AsksFor nodes r true x → ((s : Bool) (n : ℕ) (t : Bool) → asked_with x s ≡ asked_pair n t → ⊥) → IsAskedBy nodes r None
+no_pair nodes r x asks other = record {
+  all = λ s n t f. absurd (other s n t (asks_one nodes (asks_with nodes s asks) f refl refl));
+  only = λ s n t lt. absurd (omega arith);
 }
 
--- the target under a Not
-abbrev turned : Option Pair → Option Pair
-turned None = None
-turned (Some p) = Some (with_sign p false)
+no_value : (b : Bool) (s : Bool) (n : ℕ) (t : Bool) → asked_with (Value b) s ≡ asked_pair n t → ⊥
+no_value b true n t e = cc
+no_value b false n t e = cc
 
-turned_asked : (o : Option Pair) (s : Bool) → asked (turned o) s ≡ asked o (not s)
-turned_asked None s = refl
-turned_asked (Some p) true = refl
-turned_asked (Some p) false = ap (λ b. record { node = p.node; plus = b } ∷ []) (not-not p.plus)
+no_literal : (k : ℕ) (p : Bool) (s : Bool) (n : ℕ) (t : Bool) → asked_with (Literal k p) s ≡ asked_pair n t → ⊥
+no_literal k p true n t e = cc
+no_literal k p false n t e = cc
 
-pub not_target : (nodes : List Node) (m : ℕ) (c : Ref) (o u : Option Pair) → slice_get nodes m ≡ Some (Not c) → u ≡ turned o → IsAskedBy nodes c o → IsAskedBy nodes (node_ref m) u
-not_target nodes m c o u at e is = subst (IsAskedBy nodes (node_ref m)) (sym e) (record {
-  all = λ s n t asks. subst (λ ps. 0 < times n t ps) (sym (turned_asked o s)) (is.all (not s) n t (under_asks nodes asks m c refl at));
-  only = λ s n t lt. under at (is.only (not s) n t (subst (λ ps. 0 < times n t ps) (turned_asked o s) lt));
-})
+pair_with : (p : SignedNode) (s : Bool) → asked_with (asked_pair p.node p.plus) s ≡ asked_pair (with_sign p s).node (with_sign p s).plus
+pair_with p true = refl
+pair_with p false = refl
 
-pub not_none : (nodes : List Node) (m : ℕ) (c : Ref) (o : Option Pair) → slice_get nodes m ≡ Some (Not c) → o ≡ None → IsAskedBy nodes c o → IsAskedBy nodes (node_ref m) None
-not_none nodes m c o at e is = not_target nodes m c o None at (sym (ap turned e)) is
+pair_parts : (n m : ℕ) (s t : Bool) → asked_pair n s ≡ asked_pair m t → (n ≡ m) × (s ≡ t)
+pair_parts n m s t e = (cc, cc)
 
-pub not_some : (nodes : List Node) (m : ℕ) (c : Ref) (o : Option Pair) (p q : Pair) → slice_get nodes m ≡ Some (Not c) → o ≡ Some p → q ≡ with_sign p false → IsAskedBy nodes c o → IsAskedBy nodes (node_ref m) (Some q)
-not_some nodes m c o p q at e f is = not_target nodes m c o (Some q) at (ap Some f ∙ sym (ap turned e)) is
-
--- a node's target after those of the nodes before it
-pub next_targets : (nodes : List Node) (targets seen new : List (Option Pair)) (t : Option Pair) (i : ℕ) (d : Node) → AreAskedByNodes nodes targets → seen ≡ targets → length targets ≡ i → i < length nodes
-    → new ≡ targets ++ (t ∷ []) → (AreAskedByNodes nodes seen → slice_get nodes (length seen) ≡ Some (get_or nodes i d) → IsAskedBy nodes (node_ref (length seen)) t) → AreAskedByNodes nodes new
-next_targets nodes targets seen new t i d are same count lt next own = subst (AreAskedByNodes nodes) (sym next) all
-  where
-    last : IsAskedBy nodes (node_ref (length targets)) t
-    last = subst (λ xs. IsAskedBy nodes (node_ref (length xs)) t) same
-        (own (subst (AreAskedByNodes nodes) (sym same) are) (ap (λ xs. slice_get nodes (length xs)) same ∙ ap (slice_get nodes) count ∙ slice_get-get_or nodes i d lt))
-
-    all : AreAskedByNodes nodes (targets ++ (t ∷ []))
-    all n u e = by (slice_get-push_cases targets t n u e)
-      where
-        by : (slice_get targets n ≡ Some u) ⊎ ((n ≡ length targets) × (t ≡ u)) → IsAskedBy nodes (node_ref n) u
-        by (inl f) = are n u f
-        by (inr f) = subst (λ k. IsAskedBy nodes (node_ref k) u) (sym f.0) (subst (IsAskedBy nodes (node_ref (length targets))) f.1 last)
+-- a reference asks for the pair of its target, if that is one
+pub target_asked : (nodes : List Node) (r : Ref) (t : Target) → AsksFor nodes r true (asked_target t) → IsAskedBy nodes r (pair_of t)
+target_asked nodes r (const_target b) asks = no_pair nodes r (Value b) asks (no_value b)
+target_asked nodes r (literal_target rail) asks = no_pair nodes r (Literal rail.leaf rail.plus) asks (no_literal rail.leaf rail.plus)
+target_asked nodes r (pair_target p) asks = record {
+  all = λ s n t f.
+      let same = pair_parts (with_sign p s).node n (with_sign p s).plus t (sym (pair_with p s) ∙ asks_one nodes (asks_with nodes s asks) f refl refl) in
+      one_pair n t (with_sign p s) same.0 same.1;
+  only = λ s n t lt.
+      let own = pair_one n t (with_sign p s) lt in
+      subst (AsksFor nodes r s) (pair_with p s ∙ ap₂ asked_pair own.0 own.1) (asks_with nodes s asks);
+}
 
 -- what follows of each item of two lists, for one item more
 pub zip_next : {X Y : Type 0} (P : X → Y → Type 0) (xs : List X) (ys new : List Y) (i : ℕ) (d : X) (y : Y) → length ys ≡ i → i < length xs → new ≡ ys ++ (y ∷ [])
@@ -153,14 +97,14 @@ asks_lower nodes order leaf m n t e reads = absurd (cc)
 asks_lower nodes order (gate {n = k} {sign = u} own) m n t e reads = let same : k ≡ n = cc in omega arith
 asks_lower nodes order (under {n = k} {a = a} at more) m n t e reads = let low = asks_lower nodes order more k n t e (order k (Not a) at) in omega arith
 
-target_below : (nodes : List Node) → ((n : ℕ) (x : Node) → slice_get nodes n ≡ Some x → NodeReadsEarlier n x) → (m : ℕ) (r : Ref) → ReadsEarlier m r → (o : Option Pair) → IsAskedBy nodes r o → (s : Bool)
+target_below : (nodes : List Node) → ((n : ℕ) (x : Node) → slice_get nodes n ≡ Some x → NodeReadsEarlier n x) → (m : ℕ) (r : Ref) → ReadsEarlier m r → (o : Option SignedNode) → IsAskedBy nodes r o → (s : Bool)
     → AreBelow m (asked o s)
 target_below nodes order m r reads None is s = tt
 target_below nodes order m r reads (Some p) is s =
     (asks_lower nodes order (is.only s (with_sign p s).node (with_sign p s).plus (one_pair (with_sign p s).node (with_sign p s).plus (with_sign p s) refl refl)) m (with_sign p s).node (with_sign p s).plus refl reads, tt)
 
 -- the pairs that gates ask for are there
-pub wiring_there : (gates : GatesData) (arms : List Arms) (ends : List (Option Pair)) → AreGates gates → AreOrderedGates gates → AreWired gates arms ends → IsWiring arms ends
+pub wiring_there : (gates : GatesData) (arms : List Arms) (ends : List (Option SignedNode)) → AreGates gates → AreOrderedGates gates → AreWired gates arms ends → IsWiring arms ends
 wiring_there gates arms ends is order wired = record {
   arms_below = λ n s lt. arms_low n s lt;
   ends_below = λ k e s at. ends_low k e s at;
@@ -184,7 +128,7 @@ wiring_there gates arms ends is order wired = record {
         of_node n s (get_or gates.nodes n d) (get_or arms n (record { left = None; right = None })) (order.nodes n (get_or gates.nodes n d) at)
         (wired.arms_are n (get_or gates.nodes n d) (get_or arms n (record { left = None; right = None })) at (slice_get-get_or arms n (record { left = None; right = None }) lt))
 
-    ends_low : (k : ℕ) (e : Option Pair) (s : Bool) → slice_get ends k ≡ Some e → AreBelow (length arms) (asked e s)
+    ends_low : (k : ℕ) (e : Option SignedNode) (s : Bool) → slice_get ends k ≡ Some e → AreBelow (length arms) (asked e s)
     ends_low k e s at =
         let low = slice_get_within ends k e at in
         let sink = slice_get-get_or gates.sinks k (Const true) (omega (arith, low, wired.ends_count)) in

@@ -4,8 +4,9 @@ use Rattle.std.proofs.Math.Seq.{drop-cons}
 use Rattle.std.proofs.lemmas.Bool.{cases_eq}
 use Rattle.std.proofs.lemmas.List.{drop-append-le, get_or_default, take-append-le}
 use Rattle.dom_base.proofs.Bools.{and_both}
-use Rattle.phase_assign.specs.Uses.{AreBelow, is_pair, is_some_use, one_if, same_sign, times, total}
-use Rattle.phase_assign.specs.declared.pairs.Pair.{Pair}
+use Rattle.dual_rail.specs.SignedValues.{same_sign}
+use Rattle.phase_assign.specs.Uses.{AreBelow, is_pair, is_some_use, one_if, times, total}
+use Rattle.dual_rail.specs.declared.signed.SignedNode.{SignedNode}
 
 -- a sum in which all terms are alike from some node on
 pub total_beyond : (f g : ℕ → Bool → ℕ) (k : ℕ) → ((m : ℕ) (t : Bool) → k < m → f m t ≡ g m t) → (a n : ℕ) → k < a → total f a n ≡ total g a n
@@ -102,18 +103,18 @@ same_sign-is true false e = absurd (cc)
 same_sign-is false true e = absurd (cc)
 same_sign-is false false e = refl
 
-pub pair_self : (p : Pair) → is_pair p.node p.plus p ≡ true
+pub pair_self : (p : SignedNode) → is_pair p.node p.plus p ≡ true
 pair_self p = rw (eq-eqb p.node p.node refl, same_sign-self p.plus) refl
 
-pub pair_is : (n : ℕ) (s : Bool) (p : Pair) → is_pair n s p ≡ true → (p.node ≡ n) × (p.plus ≡ s)
+pub pair_is : (n : ℕ) (s : Bool) (p : SignedNode) → is_pair n s p ≡ true → (p.node ≡ n) × (p.plus ≡ s)
 pair_is n s p e = let q = and_both (p.node == n) (same_sign p.plus s) e in (eqb-true p.node n q.0, same_sign-is p.plus s q.1)
 
 -- how often a pair stands in lists
-pub times-append : (n : ℕ) (s : Bool) (xs ys : List Pair) → times n s (xs ++ ys) ≡ times n s xs + times n s ys
+pub times-append : (n : ℕ) (s : Bool) (xs ys : List SignedNode) → times n s (xs ++ ys) ≡ times n s xs + times n s ys
 times-append n s [] ys = omega arith
 times-append n s (x ∷ xs) ys = let r = times-append n s xs ys in omega arith
 
-pub times-le : (n : ℕ) (s : Bool) (xs : List Pair) → times n s xs ≤ length xs
+pub times-le : (n : ℕ) (s : Bool) (xs : List SignedNode) → times n s xs ≤ length xs
 times-le n s [] = omega arith
 times-le n s (x ∷ xs) = let r = times-le n s xs in let o = one (is_pair n s x) in omega arith
   where
@@ -121,7 +122,7 @@ times-le n s (x ∷ xs) = let r = times-le n s xs in let o = one (is_pair n s x)
     one true = omega arith
     one false = omega arith
 
-pub times_below : (n m : ℕ) (s : Bool) (xs : List Pair) → AreBelow n xs → 0 < times m s xs → m < n
+pub times_below : (n m : ℕ) (s : Bool) (xs : List SignedNode) → AreBelow n xs → 0 < times m s xs → m < n
 times_below n m s [] all lt = absurd (omega arith)
 times_below n m s (x ∷ xs) all lt = by (is_pair m s x) refl (λ some. times_below n m s xs all.1 some)
   where
@@ -129,81 +130,81 @@ times_below n m s (x ∷ xs) all lt = by (is_pair m s x) refl (λ some. times_be
     by true e more = let is = (pair_is m s x e).0 in let here = all.0 in omega arith
     by false e more = more (let none : one_if (is_pair m s x) ≡ 0 = ap one_if e in omega arith)
 
-pub below_at : (n : ℕ) (xs : List Pair) (i : ℕ) (d : Pair) → AreBelow n xs → i < length xs → (get_or xs i d).node < n
+pub below_at : (n : ℕ) (xs : List SignedNode) (i : ℕ) (d : SignedNode) → AreBelow n xs → i < length xs → (get_or xs i d).node < n
 below_at n [] i d all lt = absurd (omega arith)
 below_at n (x ∷ xs) zero d all lt = all.0
 below_at n (x ∷ xs) (suc i) d all lt = below_at n xs i d all.1 (omega arith)
 
-pub below_item : (n : ℕ) (xs : List Pair) (i : ℕ) (x : Pair) → AreBelow n xs → i < length xs → x ≡ get_or xs i x → x.node < n
-below_item n xs i x all lt e = subst (λ (y : Pair). y.node < n) (sym e) (below_at n xs i x all lt)
+pub below_item : (n : ℕ) (xs : List SignedNode) (i : ℕ) (x : SignedNode) → AreBelow n xs → i < length xs → x ≡ get_or xs i x → x.node < n
+below_item n xs i x all lt e = subst (λ (y : SignedNode). y.node < n) (sym e) (below_at n xs i x all lt)
 
-pub below_more : (m n : ℕ) (xs : List Pair) → m ≤ n → AreBelow m xs → AreBelow n xs
+pub below_more : (m n : ℕ) (xs : List SignedNode) → m ≤ n → AreBelow m xs → AreBelow n xs
 below_more m n [] le all = tt
 below_more m n (x ∷ xs) le all = (let here = all.0 in omega arith, below_more m n xs le all.1)
 
 -- the next item of a queue
-pub queue_next : (xs : List Pair) (i : ℕ) (x : Pair) → i < length xs → x ≡ get_or xs i x → drop i xs ≡ x ∷ drop (i + 1) xs
+pub queue_next : (xs : List SignedNode) (i : ℕ) (x : SignedNode) → i < length xs → x ≡ get_or xs i x → drop i xs ≡ x ∷ drop (i + 1) xs
 queue_next xs i x lt e = rw (add-one, drop-cons xs i x) (ap (λ y. y ∷ drop (suc i) xs) (sym e))
 
-pub queue_pushed : (xs new more : List Pair) (i : ℕ) → i < length xs → new ≡ xs ++ more → drop (i + 1) new ≡ drop (i + 1) xs ++ more
+pub queue_pushed : (xs new more : List SignedNode) (i : ℕ) → i < length xs → new ≡ xs ++ more → drop (i + 1) new ≡ drop (i + 1) xs ++ more
 queue_pushed xs new more i lt e = ap (drop (i + 1)) e ∙ drop-append-le (i + 1) xs more (omega arith)
 
-pub times_next : (n : ℕ) (s : Bool) (xs : List Pair) (i : ℕ) (x : Pair) → i < length xs → x ≡ get_or xs i x → times n s (take (i + 1) xs) ≡ times n s (take i xs) + one_if (is_pair n s x)
+pub times_next : (n : ℕ) (s : Bool) (xs : List SignedNode) (i : ℕ) (x : SignedNode) → i < length xs → x ≡ get_or xs i x → times n s (take (i + 1) xs) ≡ times n s (take i xs) + one_if (is_pair n s x)
 times_next n s xs i x lt e = rw (add-one) (step xs i lt ∙ ap (λ y. times n s (take i xs) + one_if (is_pair n s y)) (sym e))
   where
-    step : (xs : List Pair) (i : ℕ) → i < length xs → times n s (take (suc i) xs) ≡ times n s (take i xs) + one_if (is_pair n s (get_or xs i x))
+    step : (xs : List SignedNode) (i : ℕ) → i < length xs → times n s (take (suc i) xs) ≡ times n s (take i xs) + one_if (is_pair n s (get_or xs i x))
     step [] i lt = absurd (omega arith)
     step (y ∷ xs) zero lt = omega arith
     step (y ∷ xs) (suc i) lt = let r = step xs i (omega arith) in omega arith
 
-pub times_pushed : (n : ℕ) (s : Bool) (xs new more : List Pair) (i : ℕ) (x : Pair) → i < length xs → x ≡ get_or xs i x → new ≡ xs ++ more
+pub times_pushed : (n : ℕ) (s : Bool) (xs new more : List SignedNode) (i : ℕ) (x : SignedNode) → i < length xs → x ≡ get_or xs i x → new ≡ xs ++ more
     → times n s (take (i + 1) new) ≡ times n s (take i xs) + one_if (is_pair n s x)
 times_pushed n s xs new more i x lt e f = ap (λ ys. times n s (take (i + 1) ys)) f ∙ ap (times n s) (take-append-le (i + 1) xs more (omega arith)) ∙ times_next n s xs i x lt e
 
-pub times_within : (n : ℕ) (s : Bool) (xs : List Pair) (i : ℕ) → times n s (take i xs) ≤ times n s xs
+pub times_within : (n : ℕ) (s : Bool) (xs : List SignedNode) (i : ℕ) → times n s (take i xs) ≤ times n s xs
 times_within n s [] zero = omega arith
 times_within n s [] (suc i) = omega arith
 times_within n s (x ∷ xs) zero = omega arith
 times_within n s (x ∷ xs) (suc i) = let r = times_within n s xs i in omega arith
 
-pub below_append : (n : ℕ) (xs ys : List Pair) → AreBelow n xs → AreBelow n ys → AreBelow n (xs ++ ys)
+pub below_append : (n : ℕ) (xs ys : List SignedNode) → AreBelow n xs → AreBelow n ys → AreBelow n (xs ++ ys)
 below_append n [] ys a b = b
 below_append n (x ∷ xs) ys a b = (a.0, below_append n xs ys a.1 b)
 
 -- uses that are taken away or added one after another
-pub item_next : (xs : List Pair) (i : ℕ) (d : Pair) → i < length xs → (n : ℕ) (s : Bool) → times n s (take (i + 1) xs) ≡ times n s (take i xs) + one_if (is_pair n s (get_or xs i d))
+pub item_next : (xs : List SignedNode) (i : ℕ) (d : SignedNode) → i < length xs → (n : ℕ) (s : Bool) → times n s (take (i + 1) xs) ≡ times n s (take i xs) + one_if (is_pair n s (get_or xs i d))
 item_next xs i d lt n s = times_next n s xs i (get_or xs i d) lt (get_or_default xs i d (get_or xs i d) lt)
 
-own_next : (xs : List Pair) (i : ℕ) (d : Pair) → i < length xs → times (get_or xs i d).node (get_or xs i d).plus (take i xs) + 1 ≤ times (get_or xs i d).node (get_or xs i d).plus xs
+own_next : (xs : List SignedNode) (i : ℕ) (d : SignedNode) → i < length xs → times (get_or xs i d).node (get_or xs i d).plus (take i xs) + 1 ≤ times (get_or xs i d).node (get_or xs i d).plus xs
 own_next xs i d lt =
-    let p : Pair = get_or xs i d in
+    let p : SignedNode = get_or xs i d in
     let next : times p.node p.plus (take (i + 1) xs) ≡ times p.node p.plus (take i xs) + one_if (is_pair p.node p.plus p) = item_next xs i d lt p.node p.plus in
     let one : one_if (is_pair p.node p.plus p) ≡ 1 = ap one_if (pair_self p) in
     let low : times p.node p.plus (take (i + 1) xs) ≤ times p.node p.plus xs = times_within p.node p.plus xs (i + 1) in
     omega arith
 
-pub at_first : (xs : List Pair) (i : ℕ) (d : Pair) → i < length xs → (now old : ℕ → Bool → ℕ) → ((n : ℕ) (s : Bool) → now n s + times n s (take i xs) ≡ old n s) → ((n : ℕ) (s : Bool) → times n s xs ≤ old n s)
+pub at_first : (xs : List SignedNode) (i : ℕ) (d : SignedNode) → i < length xs → (now old : ℕ → Bool → ℕ) → ((n : ℕ) (s : Bool) → now n s + times n s (take i xs) ≡ old n s) → ((n : ℕ) (s : Bool) → times n s xs ≤ old n s)
     → 0 < now (get_or xs i d).node (get_or xs i d).plus
 at_first xs i d lt now old so_far some =
-    let p : Pair = get_or xs i d in
+    let p : SignedNode = get_or xs i d in
     let own : times p.node p.plus (take i xs) + 1 ≤ times p.node p.plus xs = own_next xs i d lt in
     let a : now p.node p.plus + times p.node p.plus (take i xs) ≡ old p.node p.plus = so_far p.node p.plus in
     let b : times p.node p.plus xs ≤ old p.node p.plus = some p.node p.plus in
     omega arith
 
-pub item_taken : (xs : List Pair) (i : ℕ) (d : Pair) → i < length xs → (n : ℕ) (s : Bool) (now old new : ℕ) → now + times n s (take i xs) ≡ old → new + one_if (is_pair n s (get_or xs i d)) ≡ now
+pub item_taken : (xs : List SignedNode) (i : ℕ) (d : SignedNode) → i < length xs → (n : ℕ) (s : Bool) (now old new : ℕ) → now + times n s (take i xs) ≡ old → new + one_if (is_pair n s (get_or xs i d)) ≡ now
     → new + times n s (take (i + 1) xs) ≡ old
 item_taken xs i d lt n s now old new so_far step = let next = item_next xs i d lt n s in omega arith
 
-pub room_left : (xs : List Pair) (i : ℕ) (d : Pair) → i < length xs → (now old : ℕ → Bool → ℕ) → ((n : ℕ) (s : Bool) → now n s ≡ old n s + times n s (take i xs)) → ((n : ℕ) (s : Bool) → old n s + times n s xs < 2 ^ 32)
+pub room_left : (xs : List SignedNode) (i : ℕ) (d : SignedNode) → i < length xs → (now old : ℕ → Bool → ℕ) → ((n : ℕ) (s : Bool) → now n s ≡ old n s + times n s (take i xs)) → ((n : ℕ) (s : Bool) → old n s + times n s xs < 2 ^ 32)
     → now (get_or xs i d).node (get_or xs i d).plus + 1 < 2 ^ 32
 room_left xs i d lt now old so_far room =
-    let p : Pair = get_or xs i d in
+    let p : SignedNode = get_or xs i d in
     let own : times p.node p.plus (take i xs) + 1 ≤ times p.node p.plus xs = own_next xs i d lt in
     let a : now p.node p.plus ≡ old p.node p.plus + times p.node p.plus (take i xs) = so_far p.node p.plus in
     let b : old p.node p.plus + times p.node p.plus xs < 2 ^ 32 = room p.node p.plus in
     omega arith
 
-pub item_added : (xs : List Pair) (i : ℕ) (d : Pair) → i < length xs → (n : ℕ) (s : Bool) (now old new : ℕ) → now ≡ old + times n s (take i xs) → new ≡ now + one_if (is_pair n s (get_or xs i d))
+pub item_added : (xs : List SignedNode) (i : ℕ) (d : SignedNode) → i < length xs → (n : ℕ) (s : Bool) (now old new : ℕ) → now ≡ old + times n s (take i xs) → new ≡ now + one_if (is_pair n s (get_or xs i d))
     → new ≡ old + times n s (take (i + 1) xs)
 item_added xs i d lt n s now old new so_far step = let next = item_next xs i d lt n s in omega arith

@@ -3,10 +3,10 @@ use Rattle.std.proofs.Common.{◌≡◌, ◌⊎◌, inl, inr, refl, sym, ap, sub
 use Rattle.std.proofs.lemmas.Bool.{cases_eq}
 use Rattle.std.proofs.lemmas.List.{take_all}
 use Rattle.phase_assign.specs.Uses.{AreBelow, is_pair, one_if, times}
-use Rattle.phase_assign.specs.declared.pairs.Pair.{Pair}
+use Rattle.dual_rail.specs.declared.signed.SignedNode.{SignedNode}
 use Rattle.phase_assign.proofs.Totals.{below_at, item_next, pair_is}
 
-not_pair : (n : ℕ) (s : Bool) (p : Pair) → (p.node ≡ n → ⊥) → one_if (is_pair n s p) ≡ 0
+not_pair : (n : ℕ) (s : Bool) (p : SignedNode) → (p.node ≡ n → ⊥) → one_if (is_pair n s p) ≡ 0
 not_pair n s p other = by (is_pair n s p) refl
   where
     by : (b : Bool) → is_pair n s p ≡ b → one_if (is_pair n s p) ≡ 0
@@ -14,7 +14,7 @@ not_pair n s p other = by (is_pair n s p) refl
     by false e = ap one_if e
 
 -- a change noted for one pair more
-pub noted_next : (looked : List Pair) (i : ℕ) (d : Pair) (first changed : List ℕ) (size : ℕ) → i < length looked → AreBelow (length changed) looked
+pub noted_next : (looked : List SignedNode) (i : ℕ) (d : SignedNode) (first changed : List ℕ) (size : ℕ) → i < length looked → AreBelow (length changed) looked
     → ((n : ℕ) → (get_or changed n 0 ≡ size) ⊎ ((get_or changed n 0 ≡ get_or first n 0) × ((s : Bool) → times n s (take i looked) ≡ 0)))
     → (n : ℕ) → (get_or (set changed (get_or looked i d).node size) n 0 ≡ size)
     ⊎ ((get_or (set changed (get_or looked i d).node size) n 0 ≡ get_or first n 0) × ((s : Bool) → times n s (take (i + 1) looked) ≡ 0))
@@ -35,13 +35,13 @@ noted_next looked i d first changed size lt below so_far n = by (cases_eq n (get
               omega arith,
         )
 
-pub noted_all : (looked : List Pair) (i : ℕ) (first changed : List ℕ) (size : ℕ) → length looked ≤ i
+pub noted_all : (looked : List SignedNode) (i : ℕ) (first changed : List ℕ) (size : ℕ) → length looked ≤ i
     → ((n : ℕ) → (get_or changed n 0 ≡ size) ⊎ ((get_or changed n 0 ≡ get_or first n 0) × ((s : Bool) → times n s (take i looked) ≡ 0)))
     → (n : ℕ) → (get_or changed n 0 ≡ size) ⊎ ((get_or changed n 0 ≡ get_or first n 0) × ((s : Bool) → times n s looked ≡ 0))
 noted_all looked i first changed size le h = subst (λ xs. (n : ℕ) → (get_or changed n 0 ≡ size) ⊎ ((get_or changed n 0 ≡ get_or first n 0) × ((s : Bool) → times n s xs ≡ 0))) (take_all i looked le) h
 
 -- one pair more at which nothing has changed
-pub current_next : (looked : List Pair) (i : ℕ) (d : Pair) (changed : List ℕ) (size : ℕ) → i < length looked → ((n : ℕ) (s : Bool) → 0 < times n s (take i looked) → size ≤ get_or changed n 0)
+pub current_next : (looked : List SignedNode) (i : ℕ) (d : SignedNode) (changed : List ℕ) (size : ℕ) → i < length looked → ((n : ℕ) (s : Bool) → 0 < times n s (take i looked) → size ≤ get_or changed n 0)
     → size ≤ get_or changed (get_or looked i d).node 0 → (n : ℕ) (s : Bool) → 0 < times n s (take (i + 1) looked) → size ≤ get_or changed n 0
 current_next looked i d changed size lt so_far own n s some = by (cases_eq (get_or looked i d).node n) (so_far n s)
   where
@@ -49,6 +49,6 @@ current_next looked i d changed size lt so_far own n s some = by (cases_eq (get_
     by (inl e) old = subst (λ k. size ≤ get_or changed k 0) e own
     by (inr other) old = old (let next = item_next looked i d lt n s in let b = not_pair n s (get_or looked i d) other in omega arith)
 
-pub current_all : (looked : List Pair) (i : ℕ) (changed : List ℕ) (size : ℕ) → length looked ≤ i → ((n : ℕ) (s : Bool) → 0 < times n s (take i looked) → size ≤ get_or changed n 0)
+pub current_all : (looked : List SignedNode) (i : ℕ) (changed : List ℕ) (size : ℕ) → length looked ≤ i → ((n : ℕ) (s : Bool) → 0 < times n s (take i looked) → size ≤ get_or changed n 0)
     → (n : ℕ) (s : Bool) → 0 < times n s looked → size ≤ get_or changed n 0
 current_all looked i changed size le h = subst (λ xs. (n : ℕ) (s : Bool) → 0 < times n s xs → size ≤ get_or changed n 0) (take_all i looked le) h

@@ -11,9 +11,9 @@ use Rattle.phase_assign.specs.Signs.{Lowers, with_sign_changed}
 use Rattle.phase_assign.specs.Trials.{AreTrials, HasNoTrials, IsTrial}
 use Rattle.phase_assign.specs.Uses.{AreBelow, asked_by_sinks, times, used}
 use Rattle.phase_assign.specs.Wiring.{AreWired, IsWiring}
-use Rattle.phase_assign.specs.declared.needed.Uses.{Uses}
+use Rattle.dual_rail.specs.declared.signed.Signed.{Signed}
 use Rattle.phase_assign.specs.declared.pairs.Arms.{Arms}
-use Rattle.phase_assign.specs.declared.pairs.Pair.{Pair}
+use Rattle.dual_rail.specs.declared.signed.SignedNode.{SignedNode}
 use Rattle.phase_assign.specs.declared.trials.Trial.{Trial}
 use Rattle.phase_assign.proofs.Exchanges.{sinks_with, uses_without}
 use Rattle.phase_assign.proofs.Refusals.{refused_still, refused_tried}
@@ -34,8 +34,8 @@ no_trials_next trials new i has e =
     by k trial (inr (here, is)) = cc
 
 -- a sink whose use with the other sign was refused
-pub refused_none : (gates : GatesData) → AreOrderedGates gates → (arms : List Arms) (ends : List (Option Pair)) → IsWiring arms ends → AreWired gates arms ends → (signs : List Bool) (uses : List Uses) (size k : ℕ)
-    → IsSearch arms ends signs uses size → k < length signs → (e : Option Pair) (b : Bool) → slice_get ends k ≡ Some e → b ≡ get_or signs k true → (looked : List Pair) → IsSignChangeRefused arms (used uses) e b looked → Lowers gates signs k → ⊥
+pub refused_none : (gates : GatesData) → AreOrderedGates gates → (arms : List Arms) (ends : List (Option SignedNode)) → IsWiring arms ends → AreWired gates arms ends → (signs : List Bool) (uses : List (Signed ℕ)) (size k : ℕ)
+    → IsSearch arms ends signs uses size → k < length signs → (e : Option SignedNode) (b : Bool) → slice_get ends k ≡ Some e → b ≡ get_or signs k true → (looked : List SignedNode) → IsSignChangeRefused arms (used uses) e b looked → Lowers gates signs k → ⊥
 refused_none gates order arms ends wiring wired signs uses size k is lt e b at own looked refused =
     tried_none gates order arms ends wiring wired signs uses size k is
     (refused_tried arms (used uses) e b looked (asked_by_sinks (set ends k None) signs) (asked_by_sinks ends (with_sign_changed signs k)) refused
@@ -43,11 +43,11 @@ refused_none gates order arms ends wiring wired signs uses size k is lt e b at o
     (λ n s. sinks_with ends signs k e (not b) at lt n s ∙ ap (λ c. times n s (asked_by_sinks ends (set signs k (not c)))) own) size is.size_is)
 
 -- a sink whose trial still holds
-pub settled_none : (gates : GatesData) → AreOrderedGates gates → (arms : List Arms) (ends : List (Option Pair)) → IsWiring arms ends → AreWired gates arms ends → (signs : List Bool) (uses : List Uses) (size k : ℕ)
+pub settled_none : (gates : GatesData) → AreOrderedGates gates → (arms : List Arms) (ends : List (Option SignedNode)) → IsWiring arms ends → AreWired gates arms ends → (signs : List Bool) (uses : List (Signed ℕ)) (size k : ℕ)
     → (changed : List ℕ) (trials : List (Option Trial)) → IsSearch arms ends signs uses size → AreTrials arms ends signs uses size changed trials → k < length ends → (trial : Trial) → slice_get trials k ≡ Some (Some trial)
     → ((n : ℕ) (s : Bool) → 0 < times n s trial.looked.items → trial.size ≤ get_or changed n 0) → Lowers gates signs k → ⊥
 settled_none gates order arms ends wiring wired signs uses size k changed trials is are lt trial at current =
-    let e : Option Pair = get_or ends k None in
+    let e : Option SignedNode = get_or ends k None in
     let b : Bool = get_or signs k true in
     let low : k < length signs = omega (arith, is.one_each) in
     let at_e = slice_get-get_or ends k None lt in
@@ -55,14 +55,14 @@ settled_none gates order arms ends wiring wired signs uses size k changed trials
     refused_none gates order arms ends wiring wired signs uses size k is low e b at_e refl trial.looked.items
     (refused_still arms t.count (used uses) trial.looked.items (λ n s some. t.same n s (current n s some)) e b t.refused)
 
-pub trial_below : (arms : List Arms) (ends : List (Option Pair)) (signs : List Bool) (uses : List Uses) (size k : ℕ) (changed : List ℕ) (trials : List (Option Trial)) → IsSearch arms ends signs uses size
+pub trial_below : (arms : List Arms) (ends : List (Option SignedNode)) (signs : List Bool) (uses : List (Signed ℕ)) (size k : ℕ) (changed : List ℕ) (trials : List (Option Trial)) → IsSearch arms ends signs uses size
     → AreTrials arms ends signs uses size changed trials → k < length ends → (trial : Trial) → slice_get trials k ≡ Some (Some trial) → AreBelow (length changed) trial.looked.items
 trial_below arms ends signs uses size k changed trials is are lt trial at =
     let t = are.each k trial (get_or ends k None) (get_or signs k true) at (slice_get-get_or ends k None lt) (slice_get-get_or signs k true (omega (arith, is.one_each))) in
     subst (λ n. AreBelow n trial.looked.items) (sym are.changed_count) t.below
 
 -- after a change of a sign
-pub trials_changed : (arms : List Arms) (ends : List (Option Pair)) (signs : List Bool) (uses new : List Uses) (size after k : ℕ) (changed noted : List ℕ) (trials : List (Option Trial)) (looked : List Pair) (c : Bool)
+pub trials_changed : (arms : List Arms) (ends : List (Option SignedNode)) (signs : List Bool) (uses new : List (Signed ℕ)) (size after k : ℕ) (changed noted : List ℕ) (trials : List (Option Trial)) (looked : List SignedNode) (c : Bool)
     → AreTrials arms ends signs uses size changed trials → after < size → ((n : ℕ) (s : Bool) → times n s looked ≡ 0 → used new n s ≡ used uses n s)
     → ((n : ℕ) → (get_or noted n 0 ≡ after) ⊎ ((get_or noted n 0 ≡ get_or changed n 0) × ((s : Bool) → times n s looked ≡ 0))) → length noted ≡ length changed
     → AreTrials arms ends (set signs k c) new after noted (set trials k None)
@@ -72,7 +72,7 @@ trials_changed arms ends signs uses new size after k changed noted trials looked
   each = λ j trial e b at at_e at_b. by j trial e b at at_e at_b (cases_eq j k);
 }
   where
-    by : (j : ℕ) (trial : Trial) (e : Option Pair) (b : Bool) → slice_get (set trials k None) j ≡ Some (Some trial) → slice_get ends j ≡ Some e → slice_get (set signs k c) j ≡ Some b → (j ≡ k) ⊎ (j ≡ k → ⊥)
+    by : (j : ℕ) (trial : Trial) (e : Option SignedNode) (b : Bool) → slice_get (set trials k None) j ≡ Some (Some trial) → slice_get ends j ≡ Some e → slice_get (set signs k c) j ≡ Some b → (j ≡ k) ⊎ (j ≡ k → ⊥)
         → IsTrial arms e b new noted after trial
     by j trial e b at at_e at_b (inl here) =
         let is : None ≡ Some trial = get_set_same trials k (Some trial) None (subst (λ i. slice_get (set trials k None) i ≡ Some (Some trial)) here at) in
@@ -87,7 +87,7 @@ trials_changed arms ends signs uses new size after k changed noted trials looked
         same n s le t (inr (is, none)) = elsewhere n s (none s) ∙ t.same n s (omega arith)
 
 -- after a trial that lowered nothing
-pub trials_kept : (arms : List Arms) (ends : List (Option Pair)) (signs : List Bool) (uses new : List Uses) (size after k : ℕ) (changed : List ℕ) (trials : List (Option Trial)) (own : Trial) (d : Option Pair) (c : Bool)
+pub trials_kept : (arms : List Arms) (ends : List (Option SignedNode)) (signs : List Bool) (uses new : List (Signed ℕ)) (size after k : ℕ) (changed : List ℕ) (trials : List (Option Trial)) (own : Trial) (d : Option SignedNode) (c : Bool)
     → AreTrials arms ends signs uses size changed trials → after ≤ size → own.size ≡ size → ((n : ℕ) (s : Bool) → used new n s ≡ used uses n s) → IsSignChangeRefused arms (used uses) d c own.looked.items
     → AreBelow (length arms) own.looked.items → slice_get ends k ≡ Some d → slice_get signs k ≡ Some c → AreTrials arms ends signs new after changed (set trials k (Some own))
 trials_kept arms ends signs uses new size after k changed trials own d c are low at_size kept refused below at_d at_c = record {
@@ -99,7 +99,7 @@ trials_kept arms ends signs uses new size after k changed trials own d c are low
     mine : IsTrial arms d c new changed after own
     mine = record { count = used uses; refused = refused; same = λ n s le. kept n s; later = omega arith; below = below }
 
-    by : (j : ℕ) (trial : Trial) (e : Option Pair) (b : Bool) → slice_get (set trials k (Some own)) j ≡ Some (Some trial) → slice_get ends j ≡ Some e → slice_get signs j ≡ Some b → (j ≡ k) ⊎ (j ≡ k → ⊥)
+    by : (j : ℕ) (trial : Trial) (e : Option SignedNode) (b : Bool) → slice_get (set trials k (Some own)) j ≡ Some (Some trial) → slice_get ends j ≡ Some e → slice_get signs j ≡ Some b → (j ≡ k) ⊎ (j ≡ k → ⊥)
         → IsTrial arms e b new changed after trial
     by j trial e b at at_e at_b (inl here) =
         let is : Some own ≡ Some trial = get_set_same trials k (Some trial) (Some own) (subst (λ i. slice_get (set trials k (Some own)) i ≡ Some (Some trial)) here at) in

@@ -1,12 +1,12 @@
 -- One use of a pair more, and one less.
 use Rattle.std.proofs.Common.{◌≡◌, refl, sym, ap, subst, ◌∙◌, ℕ, ◌+◌, ◌*◌, ◌≤◌, ◌<◌, ◌^◌, Bool, true, false, cond, List, [], ◌∷◌, ◌++◌, length, length-append, get_or, Option, Some, None, arith}
 use Rattle.phase_assign.specs.Uses.{AreUses, HasFewRoots, asked, asked_by_pair, is_live, is_pair, is_some_use, living, one_if, times, total, used, uses_by_pairs}
-use Rattle.phase_assign.specs.declared.pairs.Pair.{Pair}
+use Rattle.dual_rail.specs.declared.signed.SignedNode.{SignedNode}
 use Rattle.phase_assign.specs.declared.pairs.Arms.{Arms}
-use Rattle.phase_assign.specs.declared.needed.Uses.{Uses}
+use Rattle.dual_rail.specs.declared.signed.Signed.{Signed}
 use Rattle.phase_assign.proofs.Totals.{none_false, pair_is, pair_self, some_true, times-append, times-le, total_changed, total_few}
 
-module _ (p : Pair) (fewer more : ℕ → Bool → ℕ) (step : (m : ℕ) (t : Bool) → fewer m t + one_if (is_pair m t p) ≡ more m t) where
+module _ (p : SignedNode) (fewer more : ℕ → Bool → ℕ) (step : (m : ℕ) (t : Bool) → fewer m t + one_if (is_pair m t p) ≡ more m t) where
   live_sum : (ℕ → Bool → ℕ) → (ℕ → Bool → ℕ) → ℕ → ℕ
   live_sum count w nodes = total (λ m t. cond (is_live count m t) (w m t) 0) 0 nodes
 
@@ -54,7 +54,7 @@ module _ (p : Pair) (fewer more : ℕ → Bool → ℕ) (step : (m : ℕ) (t : B
   unfolding live_sum
   living_more none nodes lt = sum_more none (λ m t. 1) nodes lt
 
-  module _ (arms : List Arms) (roots rest : List Pair) where
+  module _ (arms : List Arms) (roots rest : List SignedNode) where
     edges_same : 0 < fewer p.node p.plus → (n : ℕ) (s : Bool) → uses_by_pairs arms fewer n s ≡ uses_by_pairs arms more n s
     unfolding live_sum
     edges_same some n s = sum_same some (λ m t. times n s (asked_by_pair arms m t)) (length arms)
@@ -86,7 +86,7 @@ module _ (p : Pair) (fewer more : ℕ → Bool → ℕ) (step : (m : ℕ) (t : B
     }
 
 -- one more use of a pair fits
-few_asked : (o : Option Pair) (s : Bool) → length (asked o s) ≤ 1
+few_asked : (o : Option SignedNode) (s : Bool) → length (asked o s) ≤ 1
 few_asked None s = omega arith
 few_asked (Some p) s = omega arith
 
@@ -103,7 +103,7 @@ few_edges arms count n s = total_few (λ m t. cond (is_live count m t) (times n 
         let c = length-append (asked own.left t) (asked own.right t) in
         omega arith
 
-pub room_for : (arms : List Arms) (count : ℕ → Bool → ℕ) (roots ws rest : List Pair) (p : Pair) → AreUses arms count roots ws [] → ws ≡ p ∷ rest → HasFewRoots arms roots → count p.node p.plus + 1 < 2 ^ 32
+pub room_for : (arms : List Arms) (count : ℕ → Bool → ℕ) (roots ws rest : List SignedNode) (p : SignedNode) → AreUses arms count roots ws [] → ws ≡ p ∷ rest → HasFewRoots arms roots → count p.node p.plus + 1 < 2 ^ 32
 room_for arms count roots ws rest p u e few =
     let is : count p.node p.plus + (one_if (is_pair p.node p.plus p) + times p.node p.plus rest) ≡ uses_by_pairs arms count p.node p.plus + times p.node p.plus roots + 0 =
     (subst (λ xs. AreUses arms count roots xs []) e u).each p.node p.plus in
@@ -113,7 +113,7 @@ room_for arms count roots ws rest p u e few =
     omega arith
 
 -- the number of live pairs where a list of counts is written
-pub size_more : (p : Pair) (before seen new after : List Uses) (nodes size : ℕ) → seen ≡ before → after ≡ new → ((n : ℕ) (s : Bool) → used new n s ≡ used seen n s + one_if (is_pair n s p)) → used seen p.node p.plus ≡ 0
+pub size_more : (p : SignedNode) (before seen new after : List (Signed ℕ)) (nodes size : ℕ) → seen ≡ before → after ≡ new → ((n : ℕ) (s : Bool) → used new n s ≡ used seen n s + one_if (is_pair n s p)) → used seen p.node p.plus ≡ 0
     → p.node < nodes → size ≡ living (used before) nodes → size + 1 ≡ living (used after) nodes
 size_more p before seen new after nodes size e f step none lt is =
     let more = living_more p (used seen) (used new) (λ n s. sym (step n s)) none nodes lt in
@@ -121,7 +121,7 @@ size_more p before seen new after nodes size e f step none lt is =
     let y : living (used after) nodes ≡ living (used new) nodes = ap (λ us. living (used us) nodes) f in
     omega arith
 
-pub size_later : (p : Pair) (before seen new after : List Uses) (nodes size : ℕ) → seen ≡ before → after ≡ new → ((n : ℕ) (s : Bool) → used new n s ≡ used seen n s + one_if (is_pair n s p)) → 0 < used seen p.node p.plus
+pub size_later : (p : SignedNode) (before seen new after : List (Signed ℕ)) (nodes size : ℕ) → seen ≡ before → after ≡ new → ((n : ℕ) (s : Bool) → used new n s ≡ used seen n s + one_if (is_pair n s p)) → 0 < used seen p.node p.plus
     → size ≡ living (used before) nodes → size ≡ living (used after) nodes
 size_later p before seen new after nodes size e f step some is =
     let same = living_same p (used seen) (used new) (λ n s. sym (step n s)) some nodes in
@@ -129,7 +129,7 @@ size_later p before seen new after nodes size e f step some is =
     let y : living (used after) nodes ≡ living (used new) nodes = ap (λ us. living (used us) nodes) f in
     omega arith
 
-pub size_less : (p : Pair) (before seen new after : List Uses) (nodes size : ℕ) → seen ≡ before → after ≡ new → ((n : ℕ) (s : Bool) → used new n s + one_if (is_pair n s p) ≡ used seen n s) → used new p.node p.plus ≡ 0
+pub size_less : (p : SignedNode) (before seen new after : List (Signed ℕ)) (nodes size : ℕ) → seen ≡ before → after ≡ new → ((n : ℕ) (s : Bool) → used new n s + one_if (is_pair n s p) ≡ used seen n s) → used new p.node p.plus ≡ 0
     → p.node < nodes → size ≡ living (used before) nodes → living (used after) nodes + 1 ≡ size
 size_less p before seen new after nodes size e f step none lt is =
     let more = living_more p (used new) (used seen) step none nodes lt in
@@ -137,7 +137,7 @@ size_less p before seen new after nodes size e f step none lt is =
     let y : living (used after) nodes ≡ living (used new) nodes = ap (λ us. living (used us) nodes) f in
     omega arith
 
-pub size_kept : (p : Pair) (before seen new after : List Uses) (nodes size : ℕ) → seen ≡ before → after ≡ new → ((n : ℕ) (s : Bool) → used new n s + one_if (is_pair n s p) ≡ used seen n s) → 0 < used new p.node p.plus
+pub size_kept : (p : SignedNode) (before seen new after : List (Signed ℕ)) (nodes size : ℕ) → seen ≡ before → after ≡ new → ((n : ℕ) (s : Bool) → used new n s + one_if (is_pair n s p) ≡ used seen n s) → 0 < used new p.node p.plus
     → size ≡ living (used before) nodes → size ≡ living (used after) nodes
 size_kept p before seen new after nodes size e f step some is =
     let same = living_same p (used new) (used seen) step some nodes in

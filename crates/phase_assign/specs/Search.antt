@@ -4,11 +4,12 @@ use Rattle.std.specs.Prelude.{ℕ, ◌+◌, ◌≡◌, ◌≢◌, Bool, true, Li
 use Rattle.gate_decompose.specs.GatesData.{GatesData}
 use Rattle.phase_assign.specs.Signs.{IsPassOf, IsTurnOf}
 use Rattle.phase_assign.specs.Uses.{AreUses, asked_by_sinks, living, used}
-use Rattle.phase_assign.specs.declared.needed.Uses.{Uses}
+use Rattle.dual_rail.specs.declared.signed.Signed.{Signed}
 use Rattle.phase_assign.specs.declared.pairs.Arms.{Arms}
-use Rattle.phase_assign.specs.declared.pairs.Pair.{Pair}
+use Rattle.dual_rail.specs.declared.signed.SignedNode.{SignedNode}
 
-pub record IsSearch (arms : List Arms) (ends : List (Option Pair)) (signs : List Bool) (uses : List Uses) (size : ℕ) : Type 0 where
+pub record IsSearch (arms : List Arms) (ends : List (Option SignedNode)) (signs : List Bool) (uses : List (Signed ℕ))
+    (size : ℕ) : Type 0 where
   pub one_each : length signs ≡ length ends
   pub count : length uses ≡ length arms
   pub uses_are : AreUses arms (used uses) (asked_by_sinks ends signs) [] []

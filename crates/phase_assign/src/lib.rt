@@ -9,4 +9,7 @@ mod trials;
 mod wiring;
 
 pub use laws::chosen_signs_are_settled;
+pub use needed::{NO_USES, Needed, take_uses};
+pub use pairs::{Arms, asked_for};
 pub use search::assign;
+pub use wiring::{Wiring, wiring_of};

@@ -1,51 +1,20 @@
 //! Needed pairs by counts of their uses: a pair is needed where it is used.
 ghost use Rattle.std.specs.Prelude.{IfOk, List, ℕ, Bool, true, false, not, cond, ◌++◌, ◌≡◌, ◌<◌, ◌≤◌, ◌+◌, ◌*◌, ◌^◌, [], length};
-ghost use Rattle.phase_assign.specs.declared.pairs.Pair.{Pair as PairData};
+ghost use Rattle.dual_rail.specs.declared.signed.SignedNode.{SignedNode as NodeData};
 ghost use Rattle.phase_assign.specs.Refusals.{IsSignChangeRefused};
-ghost use Rattle.phase_assign.specs.Uses.{AreArms, AreBelow, AreUses, HasFewRoots, HasRoots, IsSupplied, asked, is_pair, living, one_if, same_sign, sign_uses, times, used};
+ghost use Rattle.dual_rail.specs.SignedValues.{of_sign, same_sign};
+ghost use Rattle.phase_assign.specs.Uses.{AreArms, AreBelow, AreUses, HasFewRoots, HasRoots, IsSupplied, asked, is_pair, living, one_if, times, used};
 
-use crate::pairs::{Arms, Pair, asked_for};
+use crate::pairs::{Arms, asked_for};
 use dom_base::OutOfMemory;
+use dual_rail::{Signed, SignedNode};
 use std::alloc::Global;
 
-/// How often the pairs of a node are used: by arms of needed pairs, and by sinks.
-#[derive(Clone, Copy)]
-pub struct Uses {
-    pub plus: u32,
-    pub minus: u32,
-}
-
 /// No uses.
-pub const NO_USES: Uses = Uses { plus: 0, minus: 0 };
-
-impl Uses {
-    /// The number with a sign.
-    fn of(self, plus: bool) -> u32
-        ensures { result ≡ sign_uses self plus }
-    {
-        if plus { self.plus } else { self.minus }
-    }
-
-    /// The numbers with that of one sign replaced.
-    fn replaced(self, plus: bool, count: u32) -> Uses
-        ensures { (s : Bool) → sign_uses result s ≡ cond (same_sign plus s) count (sign_uses self s) }
-    {
-        if plus {
-            Uses {
-                plus: count,
-                minus: self.minus,
-            }
-        } else {
-            Uses {
-                plus: self.plus,
-                minus: count,
-            }
-        }
-    }
-}
+pub const NO_USES: Signed<u32> = Signed { plus: 0, minus: 0 };
 
 /// The number of uses of a pair.
-fn uses_of(uses: &[Uses], pair: Pair) -> u32
+fn uses_of(uses: &[Signed<u32>], pair: SignedNode) -> u32
     requires { pair.node < length uses.now }
     ensures { result ≡ used uses.now pair.node pair.plus }
 {
@@ -53,7 +22,7 @@ fn uses_of(uses: &[Uses], pair: Pair) -> u32
 }
 
 /// Replaces the number of uses of a pair.
-fn set_uses(uses: &mut [Uses], pair: Pair, count: u32)
+fn set_uses(uses: &mut [Signed<u32>], pair: SignedNode, count: u32)
     requires { pair.node < length uses.old }
     ensures { (n : ℕ) (s : Bool) → used uses.new n s ≡ cond (is_pair n s pair) count (used uses.old n s) }
 {
@@ -62,7 +31,7 @@ fn set_uses(uses: &mut [Uses], pair: Pair, count: u32)
 }
 
 /// Adds a use of a pair, and answers whether it is the first.
-fn add_use(uses: &mut [Uses], pair: Pair) -> bool
+fn add_use(uses: &mut [Signed<u32>], pair: SignedNode) -> bool
     requires there { pair.node < length uses.old }
     requires room { used uses.old pair.node pair.plus + 1 < 2 ^ 32 }
     ensures uses { (n : ℕ) (s : Bool) → used uses.new n s ≡ used uses.old n s + one_if (is_pair n s pair) }
@@ -75,7 +44,7 @@ fn add_use(uses: &mut [Uses], pair: Pair) -> bool
 }
 
 /// Takes a use of a pair away, and answers whether it was the last.
-fn take_use(uses: &mut [Uses], pair: Pair) -> bool
+fn take_use(uses: &mut [Signed<u32>], pair: SignedNode) -> bool
     requires there { pair.node < length uses.old }
     requires some { 0 < used uses.old pair.node pair.plus }
     ensures uses { (n : ℕ) (s : Bool) → used uses.new n s + one_if (is_pair n s pair) ≡ used uses.old n s }
@@ -88,7 +57,7 @@ fn take_use(uses: &mut [Uses], pair: Pair) -> bool
 }
 
 /// Takes a use of each of these pairs away.
-fn take_uses(uses: &mut [Uses], pairs: &[Pair])
+pub fn take_uses(uses: &mut [Signed<u32>], pairs: &[SignedNode])
     requires below { AreBelow (length uses.old) pairs.now }
     requires some { (n : ℕ) (s : Bool) → times n s pairs.now ≤ used uses.old n s }
     ensures { (n : ℕ) (s : Bool) → used uses.new n s + times n s pairs.now ≡ used uses.old n s }
@@ -99,7 +68,7 @@ fn take_uses(uses: &mut [Uses], pairs: &[Pair])
 }
 
 /// Adds a use of each of these pairs.
-fn add_uses(uses: &mut [Uses], pairs: &[Pair])
+fn add_uses(uses: &mut [Signed<u32>], pairs: &[SignedNode])
     requires below { AreBelow (length uses.old) pairs.now }
     requires room { (n : ℕ) (s : Bool) → used uses.old n s + times n s pairs.now < 2 ^ 32 }
     ensures { (n : ℕ) (s : Bool) → used uses.new n s ≡ used uses.old n s + times n s pairs.now }
@@ -114,19 +83,19 @@ fn add_uses(uses: &mut [Uses], pairs: &[Pair])
 #[derive(Drop)]
 pub struct Exchange {
     pub fewer: bool,
-    pub looked: Vec<Pair>,
+    pub looked: Vec<SignedNode>,
 }
 
-/// The uses of the pairs of each node, and the number of pairs that are used.
+/// How often the pairs of each node are used, by arms of needed pairs and by sinks, and the number of pairs that are used.
 #[derive(Drop)]
 pub struct Needed {
-    pub uses: Vec<Uses>,
+    pub uses: Vec<Signed<u32>>,
     pub size: u64,
 }
 
 impl Needed {
     /// Adds a use of a pair, and answers whether it is the first.
-    fn add(&mut self, pair: Pair) -> bool
+    fn add(&mut self, pair: SignedNode) -> bool
         requires there { pair.node < length self.old.uses.items }
         requires room { used self.old.uses.items pair.node pair.plus + 1 < 2 ^ 32 }
         requires size { self.old.size ≡ living (used self.old.uses.items) (length self.old.uses.items) }
@@ -145,7 +114,7 @@ impl Needed {
     }
 
     /// Takes a use of a pair away, and answers whether it was the last.
-    fn take(&mut self, pair: Pair) -> bool
+    fn take(&mut self, pair: SignedNode) -> bool
         requires there { pair.node < length self.old.uses.items }
         requires some { 0 < used self.old.uses.items pair.node pair.plus }
         requires size { self.old.size ≡ living (used self.old.uses.items) (length self.old.uses.items) }
@@ -164,16 +133,16 @@ impl Needed {
 
     /// Takes uses away, each of which stands in the list, and those by the arms of each pair that is
     /// not used then, which are appended.
-    pub fn withdraw(&mut self, arms: &[Arms], work: &mut Vec<Pair>) -> Result<(), OutOfMemory>
+    pub fn withdraw(&mut self, arms: &[Arms], work: &mut Vec<SignedNode>) -> Result<(), OutOfMemory>
         requires arms { AreArms arms.now }
         requires count { length self.old.uses.items ≡ length arms.now }
         requires size { self.old.size ≡ living (used self.old.uses.items) (length arms.now) }
         requires below { AreBelow (length arms.now) work.old.items }
-        requires uses { (roots : List PairData) × AreUses arms.now (used self.old.uses.items) roots [] work.old.items }
+        requires uses { (roots : List NodeData) × AreUses arms.now (used self.old.uses.items) roots [] work.old.items }
         ensures count { IfOk result (λ u. length self.new.uses.items ≡ length arms.now) }
         ensures size { IfOk result (λ u. self.new.size ≡ living (used self.new.uses.items) (length arms.now)) }
         ensures below { IfOk result (λ u. AreBelow (length arms.now) work.new.items) }
-        ensures uses { IfOk result (λ u. (roots : List PairData) → AreUses arms.now (used self.old.uses.items) roots [] work.old.items
+        ensures uses { IfOk result (λ u. (roots : List NodeData) → AreUses arms.now (used self.old.uses.items) roots [] work.old.items
             → AreUses arms.now (used self.new.uses.items) roots [] []) }
         ensures gone { IfOk result (λ u. (n : ℕ) (s : Bool)
             → used self.new.uses.items n s + times n s work.new.items ≡ used self.old.uses.items n s) }
@@ -195,19 +164,19 @@ impl Needed {
     pub fn supply(
         &mut self,
         arms: &[Arms],
-        work: &mut Vec<Pair>,
+        work: &mut Vec<SignedNode>,
         limit: u64,
     ) -> Result<(), OutOfMemory>
         requires arms { AreArms arms.now }
         requires count { length self.old.uses.items ≡ length arms.now }
         requires size { self.old.size ≡ living (used self.old.uses.items) (length arms.now) }
         requires below { AreBelow (length arms.now) work.old.items }
-        requires uses { (roots : List PairData) × HasFewRoots arms.now roots
+        requires uses { (roots : List NodeData) × HasFewRoots arms.now roots
             × AreUses arms.now (used self.old.uses.items) roots work.old.items [] }
         ensures count { IfOk result (λ u. length self.new.uses.items ≡ length arms.now) }
         ensures size { IfOk result (λ u. self.new.size ≡ living (used self.new.uses.items) (length arms.now)) }
         ensures below { IfOk result (λ u. AreBelow (length arms.now) work.new.items) }
-        ensures uses { IfOk result (λ u. (roots : List PairData) → AreUses arms.now (used self.old.uses.items) roots work.old.items []
+        ensures uses { IfOk result (λ u. (roots : List NodeData) → AreUses arms.now (used self.old.uses.items) roots work.old.items []
             → IsSupplied arms.now (used self.new.uses.items) roots self.new.size limit) }
         ensures come { IfOk result (λ u. (n : ℕ) (s : Bool)
             → used self.new.uses.items n s ≡ used self.old.uses.items n s + times n s work.new.items) }
@@ -226,7 +195,7 @@ impl Needed {
 
     /// Takes uses away that were added, and adds those that were taken away, when so many pairs were
     /// used.
-    fn restore(&mut self, gone: &[Pair], come: &[Pair], size: u64)
+    fn restore(&mut self, gone: &[SignedNode], come: &[SignedNode], size: u64)
         requires gone { AreBelow (length self.old.uses.items) gone.now }
         requires come { AreBelow (length self.old.uses.items) come.now }
         requires some { (n : ℕ) (s : Bool) → times n s come.now ≤ used self.old.uses.items n s }
@@ -247,14 +216,14 @@ impl Needed {
         &mut self,
         alloc: Global,
         arms: &[Arms],
-        target: Option<Pair>,
+        target: Option<SignedNode>,
         sign: bool,
     ) -> Result<Exchange, OutOfMemory>
         requires arms { AreArms arms.now }
         requires count { length self.old.uses.items ≡ length arms.now }
         requires size { self.old.size ≡ living (used self.old.uses.items) (length arms.now) }
         requires below { (s : Bool) → AreBelow (length arms.now) (asked target s) }
-        requires uses { (others : List PairData) × HasFewRoots arms.now (others ++ asked target sign)
+        requires uses { (others : List NodeData) × HasFewRoots arms.now (others ++ asked target sign)
             × AreUses arms.now (used self.old.uses.items) others [] (asked target sign) }
         ensures count { IfOk result (λ x. length self.new.uses.items ≡ length arms.now) }
         ensures size { IfOk result (λ x. self.new.size ≡ living (used self.new.uses.items) (length arms.now)) }
@@ -262,7 +231,7 @@ impl Needed {
         ensures elsewhere { IfOk result (λ x. (n : ℕ) (s : Bool) → times n s x.looked.items ≡ 0
             → used self.new.uses.items n s ≡ used self.old.uses.items n s) }
         ensures lower { IfOk result (λ x. x.fewer ≡ true → self.new.size < self.old.size) }
-        ensures changed { IfOk result (λ x. x.fewer ≡ true → (others roots : List PairData)
+        ensures changed { IfOk result (λ x. x.fewer ≡ true → (others roots : List NodeData)
             → AreUses arms.now (used self.old.uses.items) others [] (asked target sign)
             → HasRoots others (asked target (not sign)) roots → AreUses arms.now (used self.new.uses.items) roots [] []) }
         ensures kept { IfOk result (λ x. x.fewer ≡ false → (n : ℕ) (s : Bool)

@@ -10,10 +10,11 @@ ghost use Rattle.phase_assign.specs.Uses.{AreBelow, asked_by_sinks, times};
 ghost use Rattle.phase_assign.specs.Wiring.{AreWired, IsWiring};
 
 use crate::needed::{NO_USES, Needed};
-use crate::pairs::{Pair, push_asked};
+use crate::pairs::push_asked;
 use crate::trials::{Trial, note_change};
 use crate::wiring::{Wiring, wiring_of};
 use dom_base::OutOfMemory;
+use dual_rail::SignedNode;
 use gate_decompose::Gates;
 use std::alloc::Global;
 
@@ -29,7 +30,10 @@ struct Search {
 }
 
 /// The pairs that sinks ask for where all signs are plus.
-fn asked_at_first(alloc: Global, ends: &[Option<Pair>]) -> Result<Vec<Pair>, OutOfMemory>
+fn asked_at_first(
+    alloc: Global,
+    ends: &[Option<SignedNode>],
+) -> Result<Vec<SignedNode>, OutOfMemory>
     ensures { IfOk result (λ v. v.items ≡ asked_by_sinks ends.now (replicate (length ends.now) true)) }
 {
     let mut work = Vec::with_capacity(alloc, ends.len())?;

@@ -3,13 +3,13 @@
 ghost use Rattle.std.specs.Prelude.{ℕ, Bool, true, ◌≡◌, ◌<◌, ◌≤◌, ◌⊎◌, length, get_or};
 ghost use Rattle.phase_assign.specs.Uses.{AreBelow, times};
 
-use crate::pairs::Pair;
+use dual_rail::SignedNode;
 
 /// A trial: the number of needed pairs then, and the pairs whose uses it looked at.
 #[derive(Drop)]
 pub struct Trial {
     pub size: u64,
-    pub looked: Vec<Pair>,
+    pub looked: Vec<SignedNode>,
 }
 
 impl Trial {
@@ -29,7 +29,7 @@ impl Trial {
 }
 
 /// Notes a change of the uses of pairs, when so many pairs are needed.
-pub fn note_change(changed: &mut [u64], looked: &[Pair], size: u64)
+pub fn note_change(changed: &mut [u64], looked: &[SignedNode], size: u64)
     requires { AreBelow (length changed.old) looked.now }
     ensures { (n : ℕ) → (get_or changed.new n 0 ≡ size)
         ⊎ ((get_or changed.new n 0 ≡ get_or changed.old n 0) × ((s : Bool) → times n s looked.now ≡ 0)) }

@@ -1,65 +1,29 @@
-//! What gate nodes and sinks ask for: each Not on the way changes the sign.
+//! The pairs that gate nodes and sinks ask for.
 ghost use Rattle.std.specs.Prelude.{IfOk, All, List, ◌≡◌, ◌≤◌, ◌<◌, ◌^◌, Some, slice_get, length};
 ghost use Rattle.gate_decompose.specs.declared.gates.Node.{Node as NodeData};
 ghost use Rattle.gate_decompose.specs.declared.gates.Ref.{Ref as RefData};
-ghost use Rattle.gate_decompose.specs.GatesOrder.{AreOrderedGates};
-ghost use Rattle.dual_rail.specs.WantedNodes.{AreOrderedNodes, ArePartsThere, IsNodeThere};
-ghost use Rattle.phase_assign.specs.Wiring.{AreArmsOf, AreEnds, AreNodeArms, AreAskedByNodes, AreWired, IsAskedBy, IsWiring};
+ghost use Rattle.gate_decompose.specs.GatesOrder.{AreOrderedGates, NodeReadsEarlier, ReadsEarlier};
+ghost use Rattle.dual_rail.specs.Targets.{AreTargets};
+ghost use Rattle.phase_assign.specs.Wiring.{AreArmsOf, AreEnds, AreNodeArms, AreWired, IsAskedBy, IsWiring};
 
-use crate::pairs::{Arms, Pair};
+use crate::pairs::Arms;
 use dom_base::OutOfMemory;
+use dual_rail::{SignedNode, Target, node_targets, target_of};
 use gate_decompose::{Gates, Node, Ref};
 use std::alloc::Global;
 
-/// What a part asks for with the sign plus, where `targets` has what each node asks for.
-fn target_of(targets: &[Option<Pair>], part: Ref) -> Option<Pair>
-    requires { IsNodeThere (length targets.now) part }
-    ensures { (nodes : List NodeData) → AreAskedByNodes nodes targets.now → IsAskedBy nodes part result }
+/// The pair that a part asks for with the sign plus, if any, where `targets` has what each node asks for.
+fn asked_pair(targets: &[Target], part: Ref) -> Option<SignedNode>
+    requires { ReadsEarlier (length targets.now) part }
+    ensures { (nodes : List NodeData) → AreTargets nodes targets.now → IsAskedBy nodes part result }
 {
-    match part {
-        Ref::Const(_) | Ref::Leaf(_) => None,
-        Ref::Node(node) => targets[node as usize],
-    }
-}
-
-/// What the node with the next number asks for with the sign plus.
-fn next_target(targets: &[Option<Pair>], node: Node) -> Option<Pair>
-    requires fits { length targets.now < 2 ^ 32 }
-    requires there { ArePartsThere (length targets.now) node }
-    ensures { (nodes : List NodeData) → AreAskedByNodes nodes targets.now → slice_get nodes (length targets.now) ≡ Some node
-        → IsAskedBy nodes (Ref.Node (length targets.now)) result }
-{
-    match node {
-        Node::Not(part) => {
-            let pair = target_of(targets, part)?;
-            Some(pair.signed(false))
-        }
-        Node::And(_, _) | Node::Or(_, _) => Some(Pair {
-            node: targets.len() as u32,
-            plus: true,
-        }),
-    }
-}
-
-/// What each node asks for with the sign plus.
-fn node_targets(alloc: Global, nodes: &[Node]) -> Result<Vec<Option<Pair>>, OutOfMemory>
-    requires fits { length nodes.now ≤ 2 ^ 32 }
-    requires order { AreOrderedNodes nodes.now }
-    ensures count { IfOk result (λ v. length v.items ≡ length nodes.now) }
-    ensures targets { IfOk result (λ v. AreAskedByNodes nodes.now v.items) }
-{
-    let mut targets = Vec::with_capacity(alloc, nodes.len())?;
-    for node in nodes {
-        let target = next_target(targets.as_slice(), *node);
-        targets.push(target)?;
-    }
-    Ok(targets)
+    target_of(targets, part, true).pair()
 }
 
 /// What the parts of a node ask for.
-fn arms_of(targets: &[Option<Pair>], node: Node) -> Arms
-    requires { ArePartsThere (length targets.now) node }
-    ensures { (nodes : List NodeData) → AreAskedByNodes nodes targets.now → AreArmsOf nodes node result }
+fn arms_of(targets: &[Target], node: Node) -> Arms
+    requires { NodeReadsEarlier (length targets.now) node }
+    ensures { (nodes : List NodeData) → AreTargets nodes targets.now → AreArmsOf nodes node result }
 {
     match node {
         Node::Not(_) => Arms {
@@ -67,21 +31,17 @@ fn arms_of(targets: &[Option<Pair>], node: Node) -> Arms
             right: None,
         },
         Node::And(left, right) | Node::Or(left, right) => Arms {
-            left: target_of(targets, left),
-            right: target_of(targets, right),
+            left: asked_pair(targets, left),
+            right: asked_pair(targets, right),
         },
     }
 }
 
 /// What the parts of each node ask for.
-fn node_arms(
-    alloc: Global,
-    nodes: &[Node],
-    targets: &[Option<Pair>],
-) -> Result<Vec<Arms>, OutOfMemory>
+fn node_arms(alloc: Global, nodes: &[Node], targets: &[Target]) -> Result<Vec<Arms>, OutOfMemory>
     requires count { length targets.now ≡ length nodes.now }
-    requires there { All (ArePartsThere (length nodes.now)) nodes.now }
-    requires targets { AreAskedByNodes nodes.now targets.now }
+    requires there { All (NodeReadsEarlier (length nodes.now)) nodes.now }
+    requires targets { AreTargets nodes.now targets.now }
     ensures count { IfOk result (λ v. length v.items ≡ length nodes.now) }
     ensures arms { IfOk result (λ v. AreNodeArms nodes.now v.items) }
 {
@@ -96,15 +56,15 @@ fn node_arms(
 fn sink_targets(
     alloc: Global,
     sinks: &[Ref],
-    targets: &[Option<Pair>],
-) -> Result<Vec<Option<Pair>>, OutOfMemory>
-    requires { All (IsNodeThere (length targets.now)) sinks.now }
+    targets: &[Target],
+) -> Result<Vec<Option<SignedNode>>, OutOfMemory>
+    requires { All (ReadsEarlier (length targets.now)) sinks.now }
     ensures count { IfOk result (λ v. length v.items ≡ length sinks.now) }
-    ensures ends { IfOk result (λ v. (nodes : List NodeData) → AreAskedByNodes nodes targets.now → AreEnds nodes sinks.now v.items) }
+    ensures ends { IfOk result (λ v. (nodes : List NodeData) → AreTargets nodes targets.now → AreEnds nodes sinks.now v.items) }
 {
     let mut ends = Vec::with_capacity(alloc, sinks.len())?;
     for sink in sinks {
-        ends.push(target_of(targets, *sink))?;
+        ends.push(asked_pair(targets, *sink))?;
     }
     Ok(ends)
 }
@@ -113,7 +73,7 @@ fn sink_targets(
 #[derive(Drop)]
 pub struct Wiring {
     pub arms: Vec<Arms>,
-    pub ends: Vec<Option<Pair>>,
+    pub ends: Vec<Option<SignedNode>>,
 }
 
 /// What gates ask for.

@@ -1,7 +1,7 @@
 -- The uses that are taken away and added; where as many pairs are used, all is as before.
 use Rattle.std.proofs.Common.{◌≡◌, ◌++◌, ◌∙◌, ℕ, Bool, not, List, [], Option, length, ap, sym, subst, arith}
 use Rattle.phase_assign.specs.declared.pairs.Arms.{Arms}
-use Rattle.phase_assign.specs.declared.pairs.Pair.{Pair}
+use Rattle.dual_rail.specs.declared.signed.SignedNode.{SignedNode}
 use Rattle.phase_assign.specs.Uses.{AreUses, HasRoots, IsSupplied, asked, times, used}
 use Rattle.phase_assign.proofs.Exchanges.{few_turned, living_alike, roots_appended, uses_added, uses_fit}
 use Rattle.phase_assign.proofs.Totals.{times-append}
@@ -13,7 +13,7 @@ withdraw-requires-clause-uses c =
 
 pub supply-requires-clause-uses : goal.supply-requires-clause-uses
 supply-requires-clause-uses c =
-    let others : List Pair = c.requires.uses.0 in
+    let others : List SignedNode = c.requires.uses.0 in
     let gone : AreUses c.args.arms.now (used c.withdraw.new.self.uses.items) others [] [] =
     c.in_ok-withdraw.ensures.uses others (subst (λ ws. AreUses c.args.arms.now (used c.args.self.now.uses.items) others [] ws) (sym c.in_ok-gone.ensures) c.requires.uses.2) in (
       others ++ asked c.args.target (not c.args.sign),
@@ -32,10 +32,10 @@ restore-requires-clause-room c = λ n s.
     let y : times n s c.as_slice-3.result.now ≡ times n s c.supply.new.work.items = ap (times n s) c.as_slice-3.ensures.value in
     omega arith
 
-supplied : (arms : List Arms) (before middle after : ℕ → Bool → ℕ) (gone come : List Pair) (target : Option Pair) (sign : Bool) (size limit : ℕ) → gone ≡ asked target sign → come ≡ asked target (not sign)
-    → ((roots : List Pair) → AreUses arms before roots [] gone → AreUses arms middle roots [] [])
-    → ((roots : List Pair) → AreUses arms middle roots come [] → IsSupplied arms after roots size limit)
-    → (others roots : List Pair) → AreUses arms before others [] (asked target sign) → HasRoots others (asked target (not sign)) roots → IsSupplied arms after roots size limit
+supplied : (arms : List Arms) (before middle after : ℕ → Bool → ℕ) (gone come : List SignedNode) (target : Option SignedNode) (sign : Bool) (size limit : ℕ) → gone ≡ asked target sign → come ≡ asked target (not sign)
+    → ((roots : List SignedNode) → AreUses arms before roots [] gone → AreUses arms middle roots [] [])
+    → ((roots : List SignedNode) → AreUses arms middle roots come [] → IsSupplied arms after roots size limit)
+    → (others roots : List SignedNode) → AreUses arms before others [] (asked target sign) → HasRoots others (asked target (not sign)) roots → IsSupplied arms after roots size limit
 supplied arms before middle after gone come target sign size limit is is' withdrawn supply others roots u h =
     supply roots (subst (λ ws. AreUses arms middle roots ws []) (sym is')
     (uses_added arms middle others (asked target (not sign)) roots (withdrawn others (subst (λ ws. AreUses arms before others [] ws) (sym is) u)) h))
@@ -70,7 +70,7 @@ returns-clause-size c =
 
 pub returns-clause-refused : goal.returns-clause-refused
 returns-clause-refused c = λ e.
-    let others : List Pair = c.requires.uses.0 in
+    let others : List SignedNode = c.requires.uses.0 in
     let u = c.requires.uses.2 in
     let gone : AreUses c.args.arms.now (used c.withdraw.new.self.uses.items) others [] [] =
     c.in_ok-withdraw.ensures.uses others (subst (λ ws. AreUses c.args.arms.now (used c.args.self.now.uses.items) others [] ws) (sym c.in_ok-gone.ensures) u) in

@@ -1,5 +1,5 @@
 use Rattle.std.proofs.Common.{◌≡◌, ◌≤◌, ◌+◌, ◌*◌, ◌-◌, ℕ, Bool, List, [], take, drop, length}
-use Rattle.phase_assign.specs.declared.pairs.Pair.{Pair}
+use Rattle.dual_rail.specs.declared.signed.SignedNode.{SignedNode}
 use Rattle.phase_assign.specs.Uses.{AreBelow, AreUses, living, times, used}
 use Rattle.phase_assign.proofs.needed.Needed.withdraw.Given as goal
 
@@ -9,7 +9,7 @@ invariant-uses l = record {
   count : length l.self.uses.items ≡ length l.arms;
   size : l.self.size ≡ living (used l.self.uses.items) (length l.arms);
   below : AreBelow (length l.arms) l.work.items;
-  uses : (roots : List Pair) → AreUses l.arms (used l.fn.self.uses.items) roots [] l.fn.work.items
+  uses : (roots : List SignedNode) → AreUses l.arms (used l.fn.self.uses.items) roots [] l.fn.work.items
       → AreUses l.arms (used l.self.uses.items) roots [] (drop l.done l.work.items);
   gone : (n : ℕ) (s : Bool) → used l.self.uses.items n s + times n s (take l.done l.work.items) ≡ used l.fn.self.uses.items n s;
 }

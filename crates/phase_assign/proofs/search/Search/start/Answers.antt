@@ -3,13 +3,14 @@ use Rattle.std.proofs.Common.{◌≡◌, ◌∙◌, true, Option, List, [], leng
 use Rattle.std.proofs.lemmas.List.{length-replicate}
 use Rattle.phase_assign.specs.Uses.{AreBelow, AreUses, asked_by_sinks, living, used}
 use Rattle.phase_assign.specs.declared.pairs.Arms.{Arms}
-use Rattle.phase_assign.specs.declared.pairs.Pair.{Pair}
+use Rattle.dual_rail.specs.declared.signed.SignedNode.{SignedNode}
+use Rattle.dual_rail.proofs.SignedValues.{signed_same}
 use Rattle.phase_assign.proofs.Exchanges.{sinks_few}
 use Rattle.phase_assign.proofs.Searches.{few_living, none_counted, none_living, sinks_below}
 use Rattle.phase_assign.proofs.search.Search.start.Goals as goal
 
 pub supply-requires-clause-size : goal.supply-requires-clause-size
-supply-requires-clause-size c = sym (none_living c.in_ok-uses.uses.items _ (length c.as_slice-2.result.now) (c.in_ok-uses.ensures.items_if_clones_equal (λ y e. e)))
+supply-requires-clause-size c = sym (none_living c.in_ok-uses.uses.items _ (length c.as_slice-2.result.now) (c.in_ok-uses.ensures.items_if_clones_equal (λ y e. signed_same y _ e)))
 
 pub supply-requires-clause-below : goal.supply-requires-clause-below
 supply-requires-clause-below c =
@@ -17,7 +18,7 @@ supply-requires-clause-below c =
     let arms = c.as_slice-2.ensures.value in
     subst (AreBelow (length c.as_slice-2.result.now)) (sym c.in_ok-work.ensures)
     (subst (λ (xs : List Arms). AreBelow (length xs) (asked_by_sinks c.as_slice.result.now (replicate (length c.as_slice.result.now) true))) (sym arms)
-    (subst (λ (es : List (Option Pair)). AreBelow (length c.args.wiring.now.arms.items) (asked_by_sinks es (replicate (length es) true))) (sym ends)
+    (subst (λ (es : List (Option SignedNode)). AreBelow (length c.args.wiring.now.arms.items) (asked_by_sinks es (replicate (length es) true))) (sym ends)
     (sinks_below (length c.args.wiring.now.arms.items) c.args.wiring.now.ends.items (replicate (length c.args.wiring.now.ends.items) true) (λ k e s at. c.requires.ends_below k e s at))))
 
 pub supply-requires-clause-uses : goal.supply-requires-clause-uses
@@ -28,7 +29,7 @@ supply-requires-clause-uses c =
     let few = sinks_few c.as_slice.result.now (replicate (length c.as_slice.result.now) true) in (
       c.in_ok-work.work.items,
       omega (arith, c.requires.few),
-      none_counted c.as_slice-2.result.now c.in_ok-uses.uses.items _ c.in_ok-work.work.items (c.in_ok-uses.ensures.items_if_clones_equal (λ y e. e)),
+      none_counted c.as_slice-2.result.now c.in_ok-uses.uses.items _ c.in_ok-work.work.items (c.in_ok-uses.ensures.items_if_clones_equal (λ y e. signed_same y _ e)),
     )
 
 pub returns-clause-search : goal.returns-clause-search
@@ -37,10 +38,10 @@ returns-clause-search c =
     let signs : c.in_ok-signs.signs.items ≡ replicate (length c.args.wiring.now.ends.items) true =
     c.in_ok-signs.ensures.items_if_clones_equal (λ y e. e) ∙ ap (λ n. replicate n true) (c.len.ensures ∙ counted) in
     let work : c.in_ok-work.work.items ≡ asked_by_sinks c.args.wiring.now.ends.items c.in_ok-signs.signs.items =
-    c.in_ok-work.ensures ∙ ap (λ (es : List (Option Pair)). asked_by_sinks es (replicate (length es) true)) c.as_slice.ensures.value
+    c.in_ok-work.ensures ∙ ap (λ (es : List (Option SignedNode)). asked_by_sinks es (replicate (length es) true)) c.as_slice.ensures.value
     ∙ ap (asked_by_sinks c.args.wiring.now.ends.items) (sym signs) in
     let supplied = c.in_ok-supply.ensures.uses c.in_ok-work.work.items
-    (none_counted c.as_slice-2.result.now c.in_ok-uses.uses.items _ c.in_ok-work.work.items (c.in_ok-uses.ensures.items_if_clones_equal (λ y e. e))) in
+    (none_counted c.as_slice-2.result.now c.in_ok-uses.uses.items _ c.in_ok-work.work.items (c.in_ok-uses.ensures.items_if_clones_equal (λ y e. signed_same y _ e))) in
     let arms : length c.as_slice-2.result.now ≡ length c.args.wiring.now.arms.items = ap length c.as_slice-2.ensures.value in
     let small = few_living (used c.supply.new.self.uses.items) (length c.as_slice-2.result.now) in
     let whole = supplied.whole (omega (arith, c.requires.few, c.in_ok-supply.ensures.size)) in
@@ -48,8 +49,8 @@ returns-clause-search c =
       one_each = ap length signs ∙ length-replicate (length c.args.wiring.now.ends.items) true;
       count = c.in_ok-supply.ensures.count ∙ arms;
       uses_are = subst (λ (xs : List Arms). AreUses xs (used c.supply.new.self.uses.items) (asked_by_sinks c.args.wiring.now.ends.items c.in_ok-signs.signs.items) [] []) c.as_slice-2.ensures.value
-          (subst (λ (ps : List Pair). AreUses c.as_slice-2.result.now (used c.supply.new.self.uses.items) ps [] []) work
-          (subst (λ (ws : List Pair). AreUses c.as_slice-2.result.now (used c.supply.new.self.uses.items) c.in_ok-work.work.items ws []) whole supplied.uses));
+          (subst (λ (ps : List SignedNode). AreUses c.as_slice-2.result.now (used c.supply.new.self.uses.items) ps [] []) work
+          (subst (λ (ws : List SignedNode). AreUses c.as_slice-2.result.now (used c.supply.new.self.uses.items) c.in_ok-work.work.items ws []) whole supplied.uses));
       size_is = c.in_ok-supply.ensures.size ∙ ap (living (used c.supply.new.self.uses.items)) arms;
     }
 

@@ -7,7 +7,7 @@ use Rattle.phase_assign.specs.Refusals.{IsSignChangeRefused}
 use Rattle.phase_assign.specs.Trials.{AreTrials}
 use Rattle.phase_assign.specs.Uses.{AreBelow, AreUses, HasFewRoots, asked, asked_by_sinks, living, times, used}
 use Rattle.phase_assign.specs.declared.pairs.Arms.{Arms}
-use Rattle.phase_assign.specs.declared.pairs.Pair.{Pair}
+use Rattle.dual_rail.specs.declared.signed.SignedNode.{SignedNode}
 use Rattle.phase_assign.proofs.Exchanges.{living_alike, uses_alike}
 use Rattle.phase_assign.proofs.Searches.{search_size, turn_changed, turn_uses}
 use Rattle.phase_assign.proofs.TrialSteps.{refused_none, settled_none, trial_below, trials_changed, trials_kept}
@@ -32,7 +32,7 @@ exchange-requires-clause-uses c =
     let at : slice_get c.args.wiring.now.ends.items c.args.sink ≡ Some c.index.result.now =
     slice_get-get_or c.args.wiring.now.ends.items c.args.sink c.index.result.now c.requires.sink ∙ ap Some (sym c.index.ensures) in
     subst
-    (λ (arms : List Arms). (others : List Pair) × HasFewRoots arms (others ++ asked c.index.result.now c.index-sign.result.now)
+    (λ (arms : List Arms). (others : List SignedNode) × HasFewRoots arms (others ++ asked c.index.result.now c.index-sign.result.now)
     × AreUses arms (used c.args.self.now.needed.uses.items) others [] (asked c.index.result.now c.index-sign.result.now))
     (sym c.as_slice-arms.ensures.value)
     (turn_uses c.args.wiring.now.arms.items c.args.wiring.now.ends.items c.requires.wiring c.args.self.now.signs.items c.args.self.now.needed.uses.items c.args.self.now.needed.size c.args.sink
@@ -60,7 +60,7 @@ returns-then-exchange-clause-trials c =
     (subst (λ (cs : List ℕ). AreTrials c.args.wiring.now.arms.items c.args.wiring.now.ends.items c.args.self.now.signs.items c.args.self.now.needed.uses.items c.args.self.now.needed.size cs c.args.self.now.trials.items)
     (sym c.as_mut_slice.ensures.value) c.requires.trials)
     (c.in_ok-exchange.ensures.lower c.if-exchange.true)
-    (subst (λ (ls : List Pair). (n : ℕ) (s : Bool) → times n s ls ≡ 0 → used c.exchange.new.self.uses.items n s ≡ used c.args.self.now.needed.uses.items n s) (sym c.as_slice.ensures.value)
+    (subst (λ (ls : List SignedNode). (n : ℕ) (s : Bool) → times n s ls ≡ 0 → used c.exchange.new.self.uses.items n s ≡ used c.args.self.now.needed.uses.items n s) (sym c.as_slice.ensures.value)
     c.in_ok-exchange.ensures.elsewhere)
     c.note_change.ensures c.note_change.auto.changed)
 
