@@ -1,6 +1,6 @@
 -- What the cells of a compound deck cost.
 use Rattle.std.proofs.Common.{arith}
-use Rattle.tree_map.proofs.TreeSums.{tree_sum-is}
+use Rattle.compound_plan.proofs.TreeSums.{tree_sum-is}
 use Rattle.compound_plan.specs.Plans.{CompoundCosts}
 
 pub compound_costs_are : CompoundCosts

@@ -10,13 +10,13 @@ use Rattle.dual_rail.specs.ForestData.{ForestData}
 use Rattle.dual_rail.specs.ForestOrder.{AreInOrder}
 use Rattle.dual_rail.specs.Forests.{left_arm, right_arm}
 use Rattle.cover_plan.specs.Parts.{Choice, CoverPart, CutOff, Fits, InParallel, Join, Keep, Nothing, TreeShape, joined_shape, leaf_shape}
-use Rattle.tree_map.specs.LeastPlans.{IsPartOf, IsTaken, free, literal as end_literal, operator_of, shared}
-use Rattle.tree_map.specs.Plans.{is_free, is_kept}
-use Rattle.tree_map.proofs.LeastPlan.{part_one}
-use Rattle.tree_map.proofs.PlanCosts.{all_among, root_among}
-use Rattle.tree_map.proofs.PlanCovers.{is_free-not, is_free-of, is_free-true}
-use Rattle.tree_map.proofs.Tallies.{arm_value, tally, tally_total}
-use Rattle.tree_map.proofs.Totals.{total, total_le}
+use Rattle.compound_plan.specs.PlanParts.{IsPartOf, IsTaken, free, literal as end_literal, operator_of, shared}
+use Rattle.compound_plan.specs.PlanTrees.{is_free, is_kept}
+use Rattle.compound_plan.proofs.PlanParts.{part_one}
+use Rattle.compound_plan.proofs.Roots.{all_among, root_among}
+use Rattle.compound_plan.proofs.FreePairs.{is_free-not, is_free-of, is_free-true}
+use Rattle.compound_plan.proofs.Tallies.{arm_value, tally, tally_total}
+use Rattle.compound_plan.proofs.Totals.{total, total_le}
 use Rattle.cover_plan.specs.Covers.{AreFirst, Costs, IsChosenCover, IsCompoundRoot, IsCover, IsRoot, IsRootCost, IsRootShape, IsSimpleRoot, MaySplit, shape_of, sum_of}
 use Rattle.compound_plan.specs.Plans.{AreWithin, CellTrees, Compound, IsCellOf, IsChosenPlan, IsDecided, IsLeastPlan, IsPlan, Simple, cost}
 use Rattle.cover_plan.proofs.Sums.{joined-is, series_of, split_series}

@@ -1,42 +1,45 @@
--- A plan without compound cells is an ordinary plan.
+-- A plan without compound cells is an ordinary plan, and the chosen one is the chosen ordinary one: it costs least, is one, and is there.
 use Rattle.std.specs.Prelude.{map}
 use Rattle.std.specs.List.{AllZip}
-use Rattle.std.proofs.Common.{All, Bool, List, [], ap, arith, false, length, refl, suc, sym, true, zero, ℕ, ◌∙◌, ◌∷◌, ◌≡◌}
+use Rattle.std.proofs.Common.{All, Bool, List, [], ap, arith, false, length, refl, suc, sym, true, zero, ℕ, ◌∙◌, ◌∷◌, ◌≡◌, ◌≤◌}
 use Rattle.std.proofs.lemmas.List.Sums.{sum_by-cons}
 use Rattle.std.proofs.lemmas.List.Elements.{All-cons, All-head, All-nil, All-tail}
 use Rattle.dom_base.proofs.Bools.{not_true}
+use Rattle.dom_base.proofs.Lists.{map-injective}
 use Rattle.sp_network.specs.Tree.{Tree}
 use Rattle.dual_rail.specs.ForestData.{ForestData}
 use Rattle.dual_rail.specs.ForestOrder.{AreInOrder}
-use Rattle.tree_map.specs.Bounds.{IsWithin}
-use Rattle.tree_map.specs.Plans.{IsFree, IsTreeOf, is_kept, roots}
-use Rattle.tree_map.specs.Plans as ordinary
+use Rattle.compound_plan.specs.Bounds.{IsWithin}
+use Rattle.compound_plan.specs.PlanTrees.{IsTreeOf, cost_by, is_kept, roots, tree_cost_by}
+use Rattle.compound_plan.specs.OrdinaryPlans as ordinary
 use Rattle.cover_plan.specs.Covers.{Costs}
 use Rattle.cover_plan.proofs.SimpleRoots.{simple_root}
-use Rattle.tree_map.specs.LeastPlans.{IsChosenPlanBy, operator_of}
-use Rattle.compound_plan.specs.OrdinaryPlans.{OrdinaryPlansAreChosen, OrdinaryPlansAreLeast}
+use Rattle.compound_plan.specs.PlanParts.{operator_of}
+use Rattle.compound_plan.specs.OrdinaryPlans.{IsChosenPlanBy, OrdinaryPlansAreChosen, OrdinaryPlansAreLeast}
 use Rattle.compound_plan.specs.Plans.{AreWithin, CellTrees, Compound, IsCellOf, IsChosenPlan, IsPlan, Simple, cell_cost, cost}
 use Rattle.compound_plan.proofs.LeastPlan.{chosen_plan_least}
+use Rattle.compound_plan.proofs.PlanOne.{chosen_plan_one}
+use Rattle.compound_plan.proofs.PlanThere.{chosen_plan_there}
 
-same_cost : (c : Costs) (trees : List (Tree ℕ)) → cost c (map Simple trees) ≡ ordinary.cost_by c trees
+pub same_cost : (c : Costs) (trees : List (Tree ℕ)) → cost c (map Simple trees) ≡ cost_by c trees
 same_cost c [] = refl
 same_cost c (t ∷ ts) =
     let a = sum_by-cons (cell_cost c) (Simple t) (map Simple ts) in
-    let b = sum_by-cons (ordinary.tree_cost_by c) t ts in
+    let b = sum_by-cons (tree_cost_by c) t ts in
     let rest = same_cost c ts in
     omega (arith, a, b, rest)
 
 -- no pair is marked
-no_marks : List Bool → List Bool
+pub no_marks : List Bool → List Bool
 no_marks bits = map (λ b. false) bits
 
-unmarked : (bits : List Bool) (place : ℕ) → is_kept (no_marks bits) place ≡ false
+pub unmarked : (bits : List Bool) (place : ℕ) → is_kept (no_marks bits) place ≡ false
 unfolding no_marks
 unmarked [] place = refl
 unmarked (b ∷ bits) zero = refl
 unmarked (b ∷ bits) (suc place) = unmarked bits place
 
-marks_long : (bits : List Bool) → length (no_marks bits) ≡ length bits
+pub marks_long : (bits : List Bool) → length (no_marks bits) ≡ length bits
 unfolding no_marks
 marks_long [] = refl
 marks_long (b ∷ bits) = ap suc (marks_long bits)
@@ -54,7 +57,7 @@ module _ (c : Costs) (none : c.splits ≡ false) (forest : ForestData) (w h : �
   within_of [] z = All-nil (AreWithin w h)
   within_of (t ∷ ts) z = All-cons (AreWithin w h) (Simple t) (map Simple ts) (All-head (IsWithin w h) t ts z) (within_of ts (All-tail (IsWithin w h) t ts z))
 
-  to_plan : (kept : List Bool) (trees : List (Tree ℕ)) → ordinary.IsPlan forest w h kept trees → IsPlan c forest w h kept (no_marks kept) (map Simple trees)
+  pub to_plan : (kept : List Bool) (trees : List (Tree ℕ)) → ordinary.IsPlan forest w h kept trees → IsPlan c forest w h kept (no_marks kept) (map Simple trees)
   to_plan kept trees is = record {
     one_each = is.one_each;
     mark_each = marks_long kept ∙ is.one_each;
@@ -89,32 +92,21 @@ module _ (c : Costs) (none : c.splits ≡ false) (forest : ForestData) (w h : �
   unmarked_in : (kept split : List Bool) (cells : List CellTrees) → IsPlan c forest w h kept split cells → (place : ℕ) → is_kept split place ≡ true → ⊥
   unmarked_in kept split cells plan place e = let yes = (plan.marked place e).1 in cc
 
-  least_plan : (kept split : List Bool) (cells : List CellTrees) → AreInOrder forest.pairs → IsChosenPlan c forest w h kept split cells
-      → (trees : List (Tree ℕ)) × (cells ≡ map Simple trees) × ordinary.IsLeastPlanBy c forest w h kept trees
-  least_plan kept split cells order is =
-      let least = chosen_plan_least c forest w h kept split cells order is in
-      let s = simple_cells kept split (unmarked_in kept split cells is.plan) (roots kept) cells is.plan.cells_are is.plan.within in (
-        s.trees,
-        s.cells_are,
-        record {
-          plan = record { one_each = is.plan.one_each; free = is.plan.free; trees_are = s.trees_are; within = s.within };
-          least = λ other more plan.
-              let le = least.least other (no_marks other) (map Simple more) (to_plan other more plan) in
-              let own = ap (cost c) s.cells_are ∙ same_cost c s.trees in
-              let theirs = same_cost c more in
-              omega (arith, le, own, theirs);
-        },
-      )
+  pub ordinary_plan : (kept split : List Bool) (cells : List CellTrees) → IsPlan c forest w h kept split cells
+      → (trees : List (Tree ℕ)) × (cells ≡ map Simple trees) × ordinary.IsPlan forest w h kept trees
+  ordinary_plan kept split cells plan =
+      let s = simple_cells kept split (unmarked_in kept split cells plan) (roots kept) cells plan.cells_are plan.within in
+      (s.trees, s.cells_are, record { one_each = plan.one_each; free = plan.free; trees_are = s.trees_are; within = s.within })
 
   -- the ties choose alike
   chosen_plan : (kept split : List Bool) (cells : List CellTrees) → IsChosenPlan c forest w h kept split cells
       → (trees : List (Tree ℕ)) × (cells ≡ map Simple trees) × IsChosenPlanBy c forest w h kept trees
   chosen_plan kept split cells is =
-      let s = simple_cells kept split (unmarked_in kept split cells is.plan) (roots kept) cells is.plan.cells_are is.plan.within in (
-        s.trees,
-        s.cells_are,
+      let p = ordinary_plan kept split cells is.plan in (
+        p.0,
+        p.1,
         record {
-          plan = record { one_each = is.plan.one_each; free = is.plan.free; trees_are = s.trees_are; within = s.within };
+          plan = p.2;
           shapes = is.shapes;
           one_each = is.one_each;
           decided = λ place pair shape e f.
@@ -158,8 +150,36 @@ module _ (c : Costs) (none : c.splits ≡ false) (forest : ForestData) (w h : �
         };
   }
 
+  -- so the chosen ordinary plan costs least, is one, and is there
+  pub ordinary_least : (kept : List Bool) (trees : List (Tree ℕ)) → AreInOrder forest.pairs → IsChosenPlanBy c forest w h kept trees → ordinary.IsLeastPlanBy c forest w h kept trees
+  ordinary_least kept trees order is = record {
+    plan = is.plan;
+    least = λ other more plan.
+        let le = (chosen_plan_least c forest w h kept _ _ order (unmarked_plan kept trees is)).least other (no_marks other) (map Simple more) (to_plan other more plan) in
+        let own = same_cost c trees in
+        let theirs = same_cost c more in
+        omega (arith, le, own, theirs);
+  }
+
+  pub ordinary_one : (kept other : List Bool) (trees more : List (Tree ℕ)) → AreInOrder forest.pairs → IsChosenPlanBy c forest w h kept trees → IsChosenPlanBy c forest w h other more
+      → (kept ≡ other) × (trees ≡ more)
+  ordinary_one kept other trees more order a b =
+      let one = chosen_plan_one c forest w h kept _ other _ _ _ order (unmarked_plan kept trees a) (unmarked_plan other more b) in
+      (one.0, map-injective Simple (λ s t e. same_tree s t e) trees more one.2)
+    where
+      same_tree : (s t : Tree ℕ) → Simple s ≡ Simple t → s ≡ t
+      same_tree s t e = cc
+
+  pub ordinary_there : 2 ≤ w → 2 ≤ h → AreInOrder forest.pairs → (kept : List Bool) × (trees : List (Tree ℕ)) × IsChosenPlanBy c forest w h kept trees
+  ordinary_there wide tall order =
+      let p = chosen_plan_there c forest w h wide tall order in
+      let s = chosen_plan p.0 p.1 p.2 p.3 in
+      (p.0, s.0, s.2)
+
 pub ordinary_plans_are_least : OrdinaryPlansAreLeast
-ordinary_plans_are_least = λ c forest w h kept split cells none order is. least_plan c none forest w h kept split cells order is
+ordinary_plans_are_least = λ c forest w h kept split cells none order is.
+    let s = chosen_plan c none forest w h kept split cells is in
+    (s.0, s.1, ordinary_least c none forest w h kept s.0 order s.2)
 
 pub ordinary_plans_are_chosen : OrdinaryPlansAreChosen
 ordinary_plans_are_chosen = record {

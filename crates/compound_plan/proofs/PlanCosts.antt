@@ -10,14 +10,14 @@ use Rattle.dual_rail.specs.declared.forest.Pair.TheVariants.{And, Or}
 use Rattle.dual_rail.specs.ForestData.{ForestData}
 use Rattle.dual_rail.specs.ForestOrder.{AreInOrder}
 use Rattle.dual_rail.specs.Forests.{left_arm, right_arm}
-use Rattle.tree_map.specs.LeastPlans.{operator_of}
-use Rattle.tree_map.specs.Plans.{IsArmTree, literal, cut, series, parallel, cell_gate, cell_of, is_kept, rail_gate, tree_sum}
-use Rattle.tree_map.proofs.Tallies.{arm_value, arms_value, tally, tally-is, tally_total}
-use Rattle.tree_map.proofs.Totals.{total}
+use Rattle.compound_plan.specs.PlanParts.{operator_of}
+use Rattle.compound_plan.specs.PlanTrees.{IsArmTree, literal, cut, series, parallel, cell_gate, cell_of, is_kept, rail_gate, tree_sum}
+use Rattle.compound_plan.proofs.Tallies.{arm_value, arms_value, tally, tally-is, tally_total}
+use Rattle.compound_plan.proofs.Totals.{total}
 use Rattle.cover_plan.specs.Covers.{Costs}
 use Rattle.cover_plan.proofs.Sums.{series_of}
 use Rattle.compound_plan.specs.Plans.{CellTrees, Compound, IsCellOf, IsPlan, Simple, cell_cost, cost}
-use Rattle.tree_map.proofs.TreeSums.{tree_sum-is, tree_sum_parallel, tree_sum_series}
+use Rattle.compound_plan.proofs.TreeSums.{tree_sum-is, tree_sum_parallel, tree_sum_series}
 use Rattle.std.proofs.Math.Nat.{mul-zero}
 
 module _ (c : Costs) (forest : ForestData) (kept split : List Bool) (order : AreInOrder forest.pairs) where

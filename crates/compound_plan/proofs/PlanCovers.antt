@@ -7,8 +7,8 @@ use Rattle.dual_rail.specs.declared.forest.Pair.TheVariants.{And, Or}
 use Rattle.dual_rail.specs.ForestData.{ForestData}
 use Rattle.dual_rail.specs.Forests.{left_arm, right_arm}
 use Rattle.cover_plan.specs.Parts.{CoverPart, End, Join}
-use Rattle.tree_map.specs.LeastPlans.{IsPartOf, literal as end_literal, shared, free, operator_of}
-use Rattle.tree_map.specs.Plans.{IsArmTree, literal, cut, series, parallel, IsFree, is_kept}
+use Rattle.compound_plan.specs.PlanParts.{IsPartOf, literal as end_literal, shared, free, operator_of}
+use Rattle.compound_plan.specs.PlanTrees.{IsArmTree, literal, cut, series, parallel, IsFree, is_kept}
 use Rattle.cover_plan.specs.Covers.{Cover, Cut, Kept, Single, Split, shape_of}
 
 -- what a plan does with a pair: kept, a compound root, or a simple one

@@ -12,10 +12,11 @@ use Rattle.dual_rail.specs.ForestData.{ForestData}
 use Rattle.dual_rail.specs.ForestOrder.{AreInOrder, ReadsBefore}
 use Rattle.dual_rail.specs.Forests.{left_arm, right_arm}
 use Rattle.cover_plan.specs.Parts.{Choice, CoverPart, CutOff, Join, Keep, Nothing, TreeShape, leaf_shape}
-use Rattle.tree_map.specs.LeastPlans.{IsTaken, operator_of}
-use Rattle.tree_map.specs.Plans.{IsFree, is_free, is_kept, roots}
-use Rattle.tree_map.proofs.PlanCovers.{is_free-of, is_free-true}
-use Rattle.tree_map.proofs.PlanOne.{arm_tree_one, tree_one, user}
+use Rattle.compound_plan.specs.PlanParts.{IsTaken, operator_of}
+use Rattle.compound_plan.specs.PlanTrees.{IsFree, is_free, is_kept, roots}
+use Rattle.compound_plan.proofs.FreePairs.{is_free-of, is_free-true}
+use Rattle.compound_plan.proofs.OneUser.{user}
+use Rattle.compound_plan.proofs.PlanTrees.{arm_tree_one, tree_one}
 use Rattle.cover_plan.specs.Covers.{AreFirst, Costs, IsCompoundRoot, IsRootShape, IsSimpleRoot}
 use Rattle.compound_plan.specs.Plans.{CellTrees, Compound, IsCellOf, IsChosenPlan, Simple}
 use Rattle.cover_plan.proofs.Chosen.{alone_one, first_one, not_both, root_shape_one}

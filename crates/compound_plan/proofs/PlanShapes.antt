@@ -4,7 +4,7 @@ use Rattle.std.proofs.Common.{◌≡◌, inl, inr, refl, sym, ap, ap₂, subst, 
 use Rattle.dom_base.proofs.Bools.{never, not_true}
 use Rattle.std.specs.List.{AllZip, range_with_len}
 use Rattle.std.proofs.lemmas.Option.{slice_get-get_or, slice_get_cases, slice_get_within}
-use Rattle.sp_network.specs.Tree.{Tree, Leaf, Series, Parallel}
+use Rattle.sp_network.specs.Tree.{Tree, Leaf, Series, Parallel, height, width}
 use Rattle.dual_rail.specs.declared.forest.Arm.{Arm}
 use Rattle.dual_rail.specs.declared.forest.Arm.TheVariants.{Literal, Pair as pair_arm}
 use Rattle.dual_rail.specs.declared.forest.Pair.{Pair}
@@ -14,16 +14,19 @@ use Rattle.dual_rail.specs.ForestOrder.{AreInOrder, ReadsBefore}
 use Rattle.dual_rail.specs.Forests.{left_arm, right_arm}
 use Rattle.gate_decompose.specs.Items.{Among}
 use Rattle.cover_plan.specs.Parts.{Fits, InParallel, InSeries, Operator, TreeShape, joined_shape, leaf_shape}
-use Rattle.tree_map.specs.LeastPlans.{operator_of}
-use Rattle.tree_map.specs.PlanShapes.{arm_shape}
-use Rattle.tree_map.specs.Plans.{IsArmTree, literal, cut, IsFree, IsTreeOf, is_kept, rail_gate}
+use Rattle.compound_plan.specs.PlanParts.{operator_of}
+use Rattle.compound_plan.specs.PlanParts.{arm_shape}
+use Rattle.compound_plan.specs.PlanTrees.{IsArmTree, literal, cut, IsFree, IsTreeOf, is_kept, rail_gate}
 use Rattle.cover_plan.specs.Covers.{Costs, MaySplit, is_parallel}
 use Rattle.cover_plan.proofs.Sums.{split_parallel}
-use Rattle.tree_map.proofs.DecidedPlan.{taken_shape}
-use Rattle.tree_map.proofs.ArmTrees.{tree_below}
-use Rattle.tree_map.proofs.PlanShapes.{HasShape}
+use Rattle.compound_plan.proofs.PlanParts.{taken_shape}
+use Rattle.compound_plan.proofs.PlanTrees.{tree_below}
 use Rattle.compound_plan.specs.Plans.{AreWithin, CellTrees, Compound, IsCellOf, IsChosenPlan, IsDecided, IsPlan, Simple}
 use Rattle.cover_plan.proofs.Choices.{choice_reached}
+
+-- the tree has this shape
+abbrev pub HasShape : Tree ℕ → TreeShape → Type 0
+HasShape tree shape = (height tree ≡ shape.height) × (width tree ≡ shape.width)
 
 -- each pair that is not a compound root has the shape of its arms, within the bounds; a compound root is an Or each of whose arms fits
 abbrev pub Fitting : ForestData → ℕ → ℕ → List Bool → List Bool → (ℕ → TreeShape) → ℕ → Pair → Type 0

@@ -1,14 +1,22 @@
 -- Marks and shapes of the pairs of a forest, as far as they have taken their choices.
 use Rattle.std.proofs.Common.{Bool, Some, false, slice_get, true, ℕ, ◌≡◌, ◌≤◌}
+use Rattle.dual_rail.specs.declared.forest.Arm.{Arm}
+use Rattle.dual_rail.specs.declared.forest.Arm.TheVariants.{Literal, Pair as pair_arm}
 use Rattle.dual_rail.specs.declared.forest.Pair.{Pair}
 use Rattle.dual_rail.specs.ForestData.{ForestData}
 use Rattle.dual_rail.specs.Forests.{left_arm, right_arm}
 use Rattle.cover_plan.specs.Covers.{AreFirst, Costs, IsCompoundRoot, IsLeast, IsRootShape, IsSimpleRoot}
-use Rattle.cover_plan.specs.Parts.{Choice, CoverPart, Join, TreeShape}
-use Rattle.tree_map.specs.LeastPlans.{IsPartOf, operator_of}
-use Rattle.tree_map.specs.Plans.{IsFree}
-use Rattle.tree_map.proofs.OneUser.{Names}
-use Rattle.tree_map.proofs.PlanThere.{TakenBy}
+use Rattle.cover_plan.specs.Parts.{Choice, CoverPart, CutOff, Join, Keep, Nothing, TreeShape}
+use Rattle.compound_plan.specs.PlanParts.{IsPartOf, operator_of}
+use Rattle.compound_plan.specs.PlanTrees.{IsFree}
+use Rattle.compound_plan.proofs.OneUser.{Names}
+
+-- what is done with an arm, where each pair has a mark and a shape
+abbrev pub TakenBy : ForestData → (ℕ → Bool) → (ℕ → TreeShape) → Arm → Choice → Type 0
+TakenBy forest K S (Literal rail) choice = choice ≡ Nothing
+TakenBy forest K S (pair_arm q) (Keep s) = (K q ≡ true) × (S q ≡ s)
+TakenBy forest K S (pair_arm q) CutOff = (K q ≡ false) × IsFree forest q
+TakenBy forest K S (pair_arm q) Nothing = IsFree forest q → ⊥
 
 pub record DecidedBy (c : Costs) (forest : ForestData) (w h : ℕ) (K D : ℕ → Bool) (S : ℕ → TreeShape) (p : ℕ) (x : Pair) : Type 0 where
   pub l : CoverPart

@@ -13,17 +13,16 @@ use Rattle.compound_plan.specs.Plans.{CellTrees, IsChosenPlan, IsDecided}
 use Rattle.dual_rail.specs.ForestData.{ForestData}
 use Rattle.dual_rail.specs.ForestOrder.{AreInOrder, ReadsBefore}
 use Rattle.dual_rail.specs.Forests.{left_arm, right_arm}
-use Rattle.tree_map.specs.LeastPlans.{IsPartOf, IsTaken, free, literal, operator_of, shared}
-use Rattle.tree_map.specs.Plans.{IsFree, is_kept}
+use Rattle.compound_plan.specs.PlanParts.{IsPartOf, IsTaken, free, literal, operator_of, shared}
+use Rattle.compound_plan.specs.PlanTrees.{IsFree, is_kept}
 use Rattle.cover_plan.proofs.Firsts.{first_there}
 use Rattle.compound_plan.proofs.PlanShapes.{decided_plan}
-use Rattle.tree_map.proofs.Marks.{IsNew, mark, mark_adds, mark_cases, marked_at, put, put_at, put_other}
-use Rattle.tree_map.proofs.OneUser.{Names, one_arm, one_user}
-use Rattle.tree_map.proofs.RootShapes.{arm_part}
+use Rattle.compound_plan.proofs.Marks.{IsNew, mark, mark_adds, mark_cases, marked_at, put, put_at, put_other}
+use Rattle.compound_plan.proofs.OneUser.{Names, one_arm, one_user}
+use Rattle.compound_plan.proofs.PlanParts.{arm_part}
 use Rattle.compound_plan.proofs.RootDecisions.{RootDecision, root_decided}
-use Rattle.tree_map.proofs.KeptChoices.{keep_free, keep_least}
-use Rattle.tree_map.proofs.PlanThere.{TakenBy}
-use Rattle.compound_plan.proofs.PlanStates.{DecidedBy, State}
+use Rattle.compound_plan.proofs.KeptChoices.{keep_free, keep_least}
+use Rattle.compound_plan.proofs.PlanStates.{DecidedBy, State, TakenBy}
 
 module _ (c : Costs) (forest : ForestData) (w h : ℕ) (wide : 2 ≤ w) (tall : 2 ≤ h) (order : AreInOrder forest.pairs) where
   module _ (b : ℕ) (x : Pair) (at : slice_get forest.pairs b ≡ Some x) (K D : ℕ → Bool) (S : ℕ → TreeShape) (state : State c forest w h (suc b) K D S) (l r : CoverPart) (dl : IsPartOf forest (left_arm x) l) (dr : IsPartOf forest (right_arm x) r)
@@ -242,6 +241,11 @@ module _ (c : Costs) (forest : ForestData) (w h : ℕ) (wide : 2 ≤ w) (tall : 
         | inr other ↦ behind p y (omega arith) f
       ];
     }
+
+    -- the same with the marks and the shapes spelled out
+    pub turn : State c forest w h b (mark (right_arm x) right (mark (left_arm x) left K)) (λ q. cond (q == b) d0 (D q)) (put (right_arm x) right (put (left_arm x) left (λ q. cond (q == b) s0 (S q))))
+    unfolding K2 Marked S2 S1
+    turn = next
 
   -- one more pair takes its choices
   step : (b : ℕ) → b < length forest.pairs → (K D : ℕ → Bool) (S : ℕ → TreeShape) → State c forest w h (suc b) K D S

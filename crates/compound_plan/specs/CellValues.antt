@@ -4,7 +4,7 @@ use Rattle.sp_network.specs.Tree.{joins}
 use Rattle.dual_rail.specs.ForestData.{ForestData}
 use Rattle.dual_rail.specs.ForestOrder.{HasLeaves}
 use Rattle.dual_rail.specs.ForestValues.{ArePairValues}
-use Rattle.tree_map.specs.PlanValues.{AreGateValues}
+use Rattle.compound_plan.specs.PlanValues.{AreGateValues}
 use Rattle.compound_plan.specs.Plans.{CellTrees, Compound, IsCellOf, Simple}
 
 -- whether one of the trees of a cell joins its ends

@@ -9,10 +9,10 @@ use Rattle.dual_rail.specs.declared.forest.Pair.TheVariants.{Or}
 use Rattle.dual_rail.specs.ForestData.{ForestData}
 use Rattle.dual_rail.specs.ForestOrder.{AreInOrder}
 use Rattle.dual_rail.specs.Forests.{left_arm, right_arm}
-use Rattle.tree_map.specs.Bounds.{IsWithin}
+use Rattle.compound_plan.specs.Bounds.{IsWithin}
 use Rattle.cover_plan.specs.Parts.{Choice, CoverPart, Join, TreeShape}
-use Rattle.tree_map.specs.LeastPlans.{IsPartOf, IsTaken, operator_of}
-use Rattle.tree_map.specs.Plans.{IsArmTree, IsFree, IsTreeOf, is_kept, roots, tree_cost_by, tree_sum}
+use Rattle.compound_plan.specs.PlanParts.{IsPartOf, IsTaken, operator_of}
+use Rattle.compound_plan.specs.PlanTrees.{IsArmTree, IsFree, IsTreeOf, is_kept, roots, tree_cost_by, tree_sum}
 use Rattle.cover_plan.specs.Covers.{AreFirst, Costs, IsCompoundRoot, IsRootShape, IsSimpleRoot}
 
 -- the trees of a cell: of a simple one its tree, of a compound one the left and the right tree

@@ -1,5 +1,5 @@
-//! Plans of a forest in which an Or may be the root of a compound cell, by what trees cost: least cost,
-//! and the plan that the ties choose.
+//! Plans of a forest by what trees cost: kept edges and their trees, the parts below pairs, least cost, and
+//! the plan that the ties choose. An Or may be the root of a compound cell; ordinary plans have none.
 #![tactic(auto)]
 
 mod laws;

@@ -1,9 +1,10 @@
 -- The nets that parts in series share are touched, are none of the two ends, and differ.
 use Rattle.std.specs.Prelude.{Some, slice_get, ◌≢◌, ◌⊎◌}
 use Rattle.std.proofs.Common.{ap, inl, inr, length, refl, suc, sym, zero, ℕ, ◌++◌, ◌+◌, ◌∙◌, ◌≡◌}
+use Rattle.std.proofs.lemmas.Option.{same_Some}
 use Rattle.sp_network.specs.Tree.{Leaf, Parallel, Series, Tree}
 use Rattle.sp_reduction.specs.Networks.{Between, Has, Link, Touches, mids}
-use Rattle.sp_reduction.proofs.Lists.{in_append, some_same}
+use Rattle.sp_reduction.proofs.Lists.{in_append}
 use Rattle.sp_reduction.proofs.Facts.{bottom_touched, ends_differ, top_touched}
 
 touch_left : (l r : Tree Link) (x : ℕ) → Touches l x → (e : Link) × (Has l e ⊎ Has r e) × ((e.from ≡ x) ⊎ (e.to ≡ x))
@@ -15,7 +16,7 @@ touch_right l r x t = (t.0, inr t.1, t.2)
 pub mid_is : (t : Tree Link) (a b : ℕ) (h : Between t a b) (i x : ℕ) → slice_get (mids t a b h) i ≡ Some x → Touches t x × (x ≢ a) × (x ≢ b)
 mid_is (Leaf e) a b h i x z = absurd (cc)
 mid_is (Series l r) a b (m, p, q, s, k) zero x z =
-    let same : m ≡ x = some_same z in
+    let same : m ≡ x = same_Some _ _ z in
     (rw (← same) (touch_left l r m (bottom_touched l a m p)), (λ w. ends_differ l a m p (sym (same ∙ w))), (λ w. ends_differ r m b q (same ∙ w)))
 mid_is (Series l r) a b (m, p, q, s, k) (suc i) x z =
     elim (in_append (mids l a m p) (mids r m b q) i x z) [
@@ -44,8 +45,8 @@ not_mid l r a b m p q s j x w z =
 pub mids_differ : (t : Tree Link) (a b : ℕ) (h : Between t a b) (i j x : ℕ) → slice_get (mids t a b h) i ≡ Some x → slice_get (mids t a b h) j ≡ Some x → i ≡ j
 mids_differ (Leaf e) a b h i j x z w = absurd (cc)
 mids_differ (Series l r) a b (m, p, q, s, k) zero zero x z w = refl
-mids_differ (Series l r) a b (m, p, q, s, k) zero (suc j) x z w = absurd (not_mid l r a b m p q s j x w (sym (some_same z)))
-mids_differ (Series l r) a b (m, p, q, s, k) (suc i) zero x z w = absurd (not_mid l r a b m p q s i x z (sym (some_same w)))
+mids_differ (Series l r) a b (m, p, q, s, k) zero (suc j) x z w = absurd (not_mid l r a b m p q s j x w (sym (same_Some _ _ z)))
+mids_differ (Series l r) a b (m, p, q, s, k) (suc i) zero x z w = absurd (not_mid l r a b m p q s i x z (sym (same_Some _ _ w)))
 mids_differ (Series l r) a b (m, p, q, s, k) (suc i) (suc j) x z w =
     elim (in_append (mids l a m p) (mids r m b q) i x z) [
       | inl y ↦ elim (in_append (mids l a m p) (mids r m b q) j x w) [

@@ -18,7 +18,7 @@ use Rattle.tree_map.specs.CoverTables.{Entry, arm_entries, cut_entry, lowest, ta
 use Rattle.tree_map.specs.LeastPlans.{IsPartOf, literal, shared, free, operator_of}
 use Rattle.tree_map.specs.Plans.{IsFree, is_free}
 use Rattle.tree_map.proofs.ArmEntries.{arm_same}
-use Rattle.tree_map.proofs.PlanCovers.{is_free-of, is_free-true}
+use Rattle.compound_plan.proofs.FreePairs.{is_free-of, is_free-true}
 use Rattle.tree_map.proofs.HadShapes.{sum_in}
 use Rattle.cover_plan.proofs.Tables.{lowest_reached}
 

@@ -1,5 +1,5 @@
 -- Trees of pairs and arms, and the numbers of cells.
-use Rattle.std.proofs.Common.{◌≡◌, sym, ap, ◌∙◌, ℕ, ◌+◌, ◌*◌, ◌<◌, ◌≤◌, Bool, true, false, not, List, length, take, Some, slice_get, get_or, arith}
+use Rattle.std.proofs.Common.{◌≡◌, sym, ap, ◌∙◌, ℕ, ◌+◌, ◌*◌, ◌<◌, ◌≤◌, Bool, false, not, List, length, take, Some, slice_get, get_or, arith}
 use Rattle.std.proofs.lemmas.List.{length-take}
 use Rattle.std.proofs.lemmas.List.FromFn.{get_or-map-range_with_len, length-map-range_with_len}
 use Rattle.std.proofs.lemmas.List.Sums.{count_by-le-length}
@@ -12,9 +12,9 @@ use Rattle.dual_rail.specs.declared.forest.Pair.TheVariants.{And, Or}
 use Rattle.dual_rail.specs.ForestData.{ForestData}
 use Rattle.dual_rail.specs.ForestOrder.{IsForest, ReadsBefore}
 use Rattle.dual_rail.specs.Forests.{left_arm, right_arm}
-use Rattle.tree_map.specs.Plans.{IsArmTree, cut, series, parallel, IsTreeOf, cell_of, is_kept}
+use Rattle.tree_map.specs.Plans.{IsArmTree, cut, IsTreeOf, cell_of, is_kept}
 use Rattle.tree_map.specs.MappedCover.{IsArmInForest, root_cell_numbers}
-use Rattle.tree_map.proofs.SumBounds.{reads_later}
+use Rattle.dual_rail.proofs.ForestOrders.{reads_later}
 
 -- how far the pairs below an arm go back, twice
 abbrev pub arm_room : Arm → ℕ
@@ -28,22 +28,15 @@ room_less place (pair_arm other) low = let lt : other < place = low in omega ari
 -- the arms of a pair are there
 pub left_there : (forest : ForestData) (place : ℕ) (pair : Pair) → IsForest forest → slice_get forest.pairs place ≡ Some pair → IsArmInForest forest (left_arm pair)
 left_there forest place pair is at = (
-  reads_later place (length forest.pairs) (left_arm pair) (slice_get_within forest.pairs place pair at) (is.in_place.in_order place pair at).0,
+  reads_later place (length forest.pairs) (left_arm pair) (is.in_place.in_order place pair at).0 (omega (arith, slice_get_within forest.pairs place pair at)),
   (is.in_place.has_leaves place pair at).0,
 )
 
 pub right_there : (forest : ForestData) (place : ℕ) (pair : Pair) → IsForest forest → slice_get forest.pairs place ≡ Some pair → IsArmInForest forest (right_arm pair)
 right_there forest place pair is at = (
-  reads_later place (length forest.pairs) (right_arm pair) (slice_get_within forest.pairs place pair at) (is.in_place.in_order place pair at).1,
+  reads_later place (length forest.pairs) (right_arm pair) (is.in_place.in_order place pair at).1 (omega (arith, slice_get_within forest.pairs place pair at)),
   (is.in_place.has_leaves place pair at).1,
 )
-
--- the tree of a kept pair is the tree below the arm that names it
-pub tree_below : (forest : ForestData) (kept : List Bool) (place : ℕ) (tree : Tree ℕ) → is_kept kept place ≡ true → IsTreeOf forest kept place tree
-    → IsArmTree forest kept (pair_arm place) tree
-tree_below forest kept place (Leaf gate) k is = absurd is
-tree_below forest kept place (Series l r) k (a, b, at, x, y) = series k at x y
-tree_below forest kept place (Parallel l r) k (a, b, at, x, y) = parallel k at x y
 
 -- the number of the cell of a pair stands at its place, and it is at most the place
 pub cell_at : (kept : List Bool) (cells : List ℕ) (place : ℕ) → cells ≡ root_cell_numbers kept → place < length kept → get_or cells place 0 ≡ cell_of kept place

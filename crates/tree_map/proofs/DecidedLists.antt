@@ -15,11 +15,12 @@ use Rattle.tree_map.specs.declared.offers.Choice.TheVariants.{Keep as offered_ke
 use Rattle.tree_map.specs.Covers.{AreFirst, Choice, CutOff, IsRootShape, Join, Keep, Nothing, TreeShape, leaf_shape}
 use Rattle.tree_map.specs.CoverSums.{AreSumsOf, SumsData, sum_at}
 use Rattle.tree_map.specs.LeastPlans.{IsDecided, IsTaken, operator_of}
-use Rattle.tree_map.specs.Offers.{IsArmWithin, choice_of}
+use Rattle.tree_map.specs.Offers.{choice_of}
 use Rattle.tree_map.specs.Plans.{is_kept}
 use Rattle.tree_map.specs.Ties.{IsDecision, kept_with, shapes_with}
-use Rattle.tree_map.proofs.FirstOffers.{arm_within, parts_of}
-use Rattle.tree_map.proofs.Marks.{mark, put}
+use Rattle.dual_rail.proofs.ForestOrders.{reads_later}
+use Rattle.tree_map.proofs.FirstOffers.{parts_of}
+use Rattle.compound_plan.proofs.Marks.{mark, put}
 use Rattle.tree_map.proofs.PlanThere.{State, TakenBy, start, turn}
 
 -- the shape of a pair
@@ -45,14 +46,14 @@ shapes_length (pair_arm a) (offered_keep s) shapes = length-set shapes a s
 shapes_length (pair_arm a) offered_cut shapes = refl
 shapes_length (pair_arm a) offered_nothing shapes = refl
 
-kept_marks : (arm : Arm) (x : offered_choice) (kept : List Bool) (q : ℕ) → IsArmWithin (length kept) arm → is_kept (kept_with arm x kept) q ≡ mark arm (choice_of x) (is_kept kept) q
+kept_marks : (arm : Arm) (x : offered_choice) (kept : List Bool) (q : ℕ) → ReadsBefore (length kept) arm → is_kept (kept_with arm x kept) q ≡ mark arm (choice_of x) (is_kept kept) q
 unfolding mark
 kept_marks (Literal rail) x kept q within = refl
 kept_marks (pair_arm a) (offered_keep s) kept q within = set_at kept a true false q within
 kept_marks (pair_arm a) offered_cut kept q within = refl
 kept_marks (pair_arm a) offered_nothing kept q within = refl
 
-shapes_put : (arm : Arm) (x : offered_choice) (shapes : List TreeShape) (q : ℕ) → IsArmWithin (length shapes) arm → shape_in (shapes_with arm x shapes) q ≡ put arm (choice_of x) (shape_in shapes) q
+shapes_put : (arm : Arm) (x : offered_choice) (shapes : List TreeShape) (q : ℕ) → ReadsBefore (length shapes) arm → shape_in (shapes_with arm x shapes) q ≡ put arm (choice_of x) (shape_in shapes) q
 unfolding put
 shapes_put (Literal rail) x shapes q within = refl
 shapes_put (pair_arm a) (offered_keep s) shapes q within = set_at shapes a s leaf_shape q within
@@ -88,21 +89,21 @@ module _ (forest : ForestData) (t : SumsData) (wide : 2 ≤ t.w) (tall : 2 ≤ t
         lt : b < length forest.pairs
         lt = slice_get_within forest.pairs b pair at
 
-        left_kept : IsArmWithin (length kept) (left_arm pair)
-        left_kept = arm_within b (length kept) (left_arm pair) (order b pair at).0 (omega (arith, lt, kept_count))
+        left_kept : ReadsBefore (length kept) (left_arm pair)
+        left_kept = reads_later b (length kept) (left_arm pair) (order b pair at).0 (omega (arith, lt, kept_count))
 
-        right_kept : IsArmWithin (length (kept_with (left_arm pair) left kept)) (right_arm pair)
-        right_kept = arm_within b (length (kept_with (left_arm pair) left kept)) (right_arm pair) (order b pair at).1 (omega (arith, lt, kept_count, kept_length (left_arm pair) left kept))
+        right_kept : ReadsBefore (length (kept_with (left_arm pair) left kept)) (right_arm pair)
+        right_kept = reads_later b (length (kept_with (left_arm pair) left kept)) (right_arm pair) (order b pair at).1 (omega (arith, lt, kept_count, kept_length (left_arm pair) left kept))
 
         set_count : length (set shapes b shape) ≡ length forest.pairs
         set_count = length-set shapes b shape ∙ shapes_count
 
-        left_shapes : IsArmWithin (length (set shapes b shape)) (left_arm pair)
-        left_shapes = arm_within b (length (set shapes b shape)) (left_arm pair) (order b pair at).0 (omega (arith, lt, set_count))
+        left_shapes : ReadsBefore (length (set shapes b shape)) (left_arm pair)
+        left_shapes = reads_later b (length (set shapes b shape)) (left_arm pair) (order b pair at).0 (omega (arith, lt, set_count))
 
-        right_shapes : IsArmWithin (length (shapes_with (left_arm pair) left (set shapes b shape))) (right_arm pair)
+        right_shapes : ReadsBefore (length (shapes_with (left_arm pair) left (set shapes b shape))) (right_arm pair)
         right_shapes =
-            arm_within b (length (shapes_with (left_arm pair) left (set shapes b shape))) (right_arm pair) (order b pair at).1
+            reads_later b (length (shapes_with (left_arm pair) left (set shapes b shape))) (right_arm pair) (order b pair at).1
             (omega (arith, lt, set_count, shapes_length (left_arm pair) left (set shapes b shape)))
 
         marks_are : (q : ℕ) → mark (right_arm pair) (choice_of right) (mark (left_arm pair) (choice_of left) (is_kept kept)) q ≡ is_kept (kept_with (right_arm pair) right (kept_with (left_arm pair) left kept)) q
@@ -154,12 +155,12 @@ module _ (forest : ForestData) (t : SumsData) (wide : 2 ≤ t.w) (tall : 2 ≤ t
           r = d.r;
           left_part = d.left_part;
           right_part = d.right_part;
-          root = λ k. subst (IsRootShape t.w t.h (Join (operator_of x) d.l d.r)) same (d.root k);
+          root = λ k. subst (IsRootShape t.w t.h (Join (operator_of x) d.l d.r)) same (d.root k refl).0;
           left = d.left;
           right = d.right;
           takes_left = taken p (left_arm x) d.left (omega arith) o.0 d.takes_left;
           takes_right = taken p (right_arm x) d.right (omega arith) o.1 d.takes_right;
-          first = subst (λ s. AreFirst t.w t.h (operator_of x) d.l d.r s d.left d.right) same d.first;
+          first = subst (λ s. AreFirst t.w t.h (operator_of x) d.l d.r s d.left d.right) same (d.first refl);
         }
 
 get_all : {X : Type 0} (n : ℕ) (d : X) (q : ℕ) → get_or (replicate n d) q d ≡ d

@@ -1,38 +1,17 @@
 -- Shapes that the ties decide, pair by pair, make the chosen plan.
-use Rattle.std.proofs.Common.{◌≡◌, refl, sym, ap₂, ◌∙◌, ℕ, Bool, true, false, cond, List, length, Some, slice_get, get_or, arith}
-use Rattle.std.proofs.lemmas.Option.{get_or_from_slice_get, slice_get-get_or, slice_get_within}
-use Rattle.dual_rail.specs.declared.forest.Arm.{Arm}
-use Rattle.dual_rail.specs.declared.forest.Arm.TheVariants.{Literal, Pair as pair_arm}
+use Rattle.std.proofs.Common.{◌≡◌, sym, ap₂, ◌∙◌, ℕ, Bool, true, List, length, Some, slice_get, get_or, arith}
+use Rattle.std.proofs.lemmas.Option.{slice_get-get_or, slice_get_within}
 use Rattle.dual_rail.specs.declared.forest.Pair.{Pair}
-use Rattle.cover_plan.specs.Parts.{Choice, CutOff, End, Join, Keep, Nothing, CoverPart, TreeShape, joined_shape, leaf_shape}
-use Rattle.cover_plan.specs.Covers.{Costs, IsChoice, ordinary_costs}
+use Rattle.cover_plan.specs.Parts.{TreeShape, joined_shape, leaf_shape}
+use Rattle.cover_plan.specs.Covers.{ordinary_costs}
 use Rattle.dual_rail.specs.ForestData.{ForestData}
 use Rattle.dual_rail.specs.ForestOrder.{AreInOrder}
 use Rattle.dual_rail.specs.Forests.{left_arm, right_arm}
-use Rattle.tree_map.specs.LeastPlans.{IsDecided, IsTaken, operator_of}
-use Rattle.tree_map.specs.PlanShapes.{AreShapes, DecidedMakesPlan, arm_shape}
+use Rattle.tree_map.specs.LeastPlans.{IsDecided, operator_of}
+use Rattle.tree_map.specs.PlanShapes.{AreShapes, DecidedMakesPlan}
 use Rattle.tree_map.specs.Plans.{IsFree, is_kept}
+use Rattle.compound_plan.proofs.PlanParts.{taken_shape}
 use Rattle.tree_map.proofs.PlanShapes.{plan_there}
-
--- a choice that is taken gives its arm the shape that it says
-pub taken_shape : (c : Costs) (forest : ForestData) (w h : ℕ) (kept : List Bool) (shapes : List TreeShape) (free : (place : ℕ) → is_kept kept place ≡ true → IsFree forest place)
-    (arm : Arm) (part : CoverPart) (x : Choice) (s : TreeShape) (m : ℕ) → IsTaken forest kept shapes arm x → IsChoice c w h part x s m → s ≡ arm_shape kept (λ p. get_or shapes p leaf_shape) arm
-taken_shape c forest w h kept shapes free (Literal rail) End Nothing s m t i = i.0
-taken_shape c forest w h kept shapes free (Literal rail) End (Keep k) s m t i = absurd i
-taken_shape c forest w h kept shapes free (Literal rail) End CutOff s m t i = absurd i
-taken_shape c forest w h kept shapes free (Literal rail) (Join op l r) Nothing s m t i = absurd i
-taken_shape c forest w h kept shapes free (Literal rail) (Join op l r) (Keep k) s m t i = absurd (cc)
-taken_shape c forest w h kept shapes free (Literal rail) (Join op l r) CutOff s m t i = absurd (cc)
-taken_shape c forest w h kept shapes free (pair_arm p) End (Keep k) s m t i = absurd i
-taken_shape c forest w h kept shapes free (pair_arm p) End CutOff s m t i = absurd i
-taken_shape c forest w h kept shapes free (pair_arm p) End Nothing s m never i = by (is_kept kept p) refl
-  where
-    by : (b : Bool) → is_kept kept p ≡ b → s ≡ cond b (get_or shapes p leaf_shape) leaf_shape
-    by true e = absurd (never (free p e))
-    by false e = i.0
-taken_shape c forest w h kept shapes free (pair_arm p) (Join op l r) Nothing s m t i = absurd i
-taken_shape c forest w h kept shapes free (pair_arm p) (Join op l r) (Keep k) s m t i = rw t.0 (i.0 ∙ sym (get_or_from_slice_get shapes p k leaf_shape t.1))
-taken_shape c forest w h kept shapes free (pair_arm p) (Join op l r) CutOff s m t i = rw t.0 i.0
 
 pub decided_plan : DecidedMakesPlan
 decided_plan = λ forest w h kept shapes order one_each same_length free decided.

@@ -6,9 +6,9 @@ use Rattle.std.proofs.lemmas.Bool.{cases_lt}
 use Rattle.std.proofs.lemmas.List.FromFn.{length-map-range_with_len}
 use Rattle.std.proofs.lemmas.Option.{same_Some, slice_get_read, slice_get_within}
 use Rattle.dual_rail.specs.declared.forest.Arm.{Arm}
-use Rattle.dual_rail.specs.declared.forest.Arm.TheVariants.{Literal, Pair as pair_arm}
 use Rattle.dual_rail.specs.declared.forest.Pair.{Pair}
 use Rattle.dual_rail.specs.ForestData.{ForestData}
+use Rattle.dual_rail.proofs.ForestOrders.{reads_later}
 use Rattle.dual_rail.specs.ForestOrder.{AreInOrder, ReadsBefore}
 use Rattle.dual_rail.specs.Forests.{left_arm, right_arm}
 use Rattle.tree_map.specs.declared.offers.Offer.{Offer}
@@ -16,13 +16,14 @@ use Rattle.tree_map.specs.declared.ties.Wanted.{Wanted}
 use Rattle.tree_map.specs.Covers.{AreFirst, Choice, Comes, CoverPart, CutOff, Earlier, End, Fits, GivesLeast, IsChoice, IsLeast, IsRootShape, Join, Keep, Nothing, TreeShape, joined_shape, ordinary_costs}
 use Rattle.tree_map.specs.CoverSums.{AreSumsOf, SumsData, sum_at}
 use Rattle.tree_map.specs.LeastPlans.{IsPartOf, operator_of}
-use Rattle.tree_map.specs.Offers.{AreOffers, HasSums, IsArmWithin, IsFirstShape, IsOffered, choice_of}
+use Rattle.tree_map.specs.Offers.{AreOffers, HasSums, IsFirstShape, IsOffered, choice_of}
 use Rattle.tree_map.specs.Ties.{AreFirstOffers, AreSmall, Give, IsDecision, SomeGive}
 use Rattle.tree_map.specs.Plans.{is_free}
 use Rattle.cover_plan.proofs.Choices.{choices_there}
 use Rattle.cover_plan.proofs.Chosen.{least_one}
 use Rattle.tree_map.proofs.OfferedChoices.{root_is}
-use Rattle.tree_map.proofs.RootShapes.{arm_part, root_there}
+use Rattle.compound_plan.proofs.PlanParts.{arm_part}
+use Rattle.tree_map.proofs.RootShapes.{root_there}
 
 -- a choice gives a shape within the bounds
 choice_fits : (w h : ℕ) → 1 ≤ w → 1 ≤ h → (t : CoverPart) (x : Choice) (s : TreeShape) (n : ℕ) → IsChoice w h t x s n → Fits w h s
@@ -112,11 +113,6 @@ parts_of forest order place pair at =
     let r = arm_part forest order place (right_arm pair) o.1 (omega arith) in
     record { l = l.0; r = r.0; left_part = l.1; right_part = r.1 }
 
--- an arm names a pair that is there
-pub arm_within : (place count : ℕ) (arm : Arm) → ReadsBefore place arm → place ≤ count → IsArmWithin count arm
-arm_within place count (Literal rail) before le = tt
-arm_within place count (pair_arm q) before le = omega arith
-
 -- each pair can have a shape
 pub has_sums : (forest : ForestData) (t : SumsData) → 2 ≤ t.w → 2 ≤ t.h → AreInOrder forest.pairs → AreSumsOf forest t → (place : ℕ) (pair : Pair) → slice_get forest.pairs place ≡ Some pair
     → HasSums (sum_at t place)
@@ -154,13 +150,13 @@ module _ (forest : ForestData) (t : SumsData) (frees : List Bool) (wide : (2 ≤
   is_least : (shape : TreeShape) (sum : ℕ) → sum_at t place shape ≡ Some sum → IsLeast t.w t.h (Join (operator_of pair) parts.l parts.r) shape sum
   is_least shape sum = (sums place pair parts.l parts.r at parts.left_part parts.right_part shape sum).0
 
-  pub left_within : (arm : Arm) → arm ≡ left_arm pair → IsArmWithin (length frees) arm
-  left_within arm e = subst (IsArmWithin (length frees)) (sym e)
-      (arm_within place (length frees) (left_arm pair) (order place pair at).0 (omega (arith, slice_get_within forest.pairs place pair at, ap length are, length-map-range_with_len (is_free forest) 0 (length forest.pairs))))
+  pub left_within : (arm : Arm) → arm ≡ left_arm pair → ReadsBefore (length frees) arm
+  left_within arm e = subst (ReadsBefore (length frees)) (sym e)
+      (reads_later place (length frees) (left_arm pair) (order place pair at).0 (omega (arith, slice_get_within forest.pairs place pair at, ap length are, length-map-range_with_len (is_free forest) 0 (length forest.pairs))))
 
-  pub right_within : (arm : Arm) → arm ≡ right_arm pair → IsArmWithin (length frees) arm
-  right_within arm e = subst (IsArmWithin (length frees)) (sym e)
-      (arm_within place (length frees) (right_arm pair) (order place pair at).1 (omega (arith, slice_get_within forest.pairs place pair at, ap length are, length-map-range_with_len (is_free forest) 0 (length forest.pairs))))
+  pub right_within : (arm : Arm) → arm ≡ right_arm pair → ReadsBefore (length frees) arm
+  right_within arm e = subst (ReadsBefore (length frees)) (sym e)
+      (reads_later place (length frees) (right_arm pair) (order place pair at).1 (omega (arith, slice_get_within forest.pairs place pair at, ap length are, length-map-range_with_len (is_free forest) 0 (length forest.pairs))))
 
   pub small_left : (arm : Arm) (xs : List Offer) → arm ≡ left_arm pair → MakeOffers t frees arm xs → AreSmall xs
   small_left arm xs e make = offers_small t.w t.h (omega (arith, wide.0), wide.1) (omega (arith, tall.0), tall.1) parts.l xs (left_offers arm xs e make)

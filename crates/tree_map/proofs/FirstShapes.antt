@@ -52,33 +52,38 @@ module _ (t : SumsData) (place : ℕ) where
       ];
     }
 
-  module _ (index first least : ℕ) (is : IsFirstBelow t place index first least) (all : length (row_of t place) ≤ index) (has : HasSums (sum_at t place)) where
-    some_least : 0 < least
-    some_least =
+  module _ (index first least : ℕ) (is : IsFirstBelow t place index first least) (all : length (row_of t place) ≤ index) where
+    pub none_had : least ≡ 0 → HasSums (sum_at t place) → ⊥
+    none_had none has =
         let h = row_had t place has.0 has.1 has.2 in
         let lt = within_row t place has.0 has.1 has.2 in
-        (is.low (row_index t.w has.0) has.1 (omega (arith, lt, all)) h.0 h.1).0
+        let some = (is.low (row_index t.w has.0) has.1 (omega (arith, lt, all)) h.0 h.1).0 in
+        omega arith
 
-    pub first_within : first < t.w * t.h
-    first_within =
-        let lt = slice_get_within (row_of t place) first least (is.found some_least) in
-        let count = length-take (t.w * t.h) (drop (place * (t.w * t.h)) t.sums) in
-        omega (arith, lt, count)
+    module _ (some_least : 0 < least) where
+      pub first_within : first < t.w * t.h
+      first_within =
+          let lt = slice_get_within (row_of t place) first least (is.found some_least) in
+          let count = length-take (t.w * t.h) (drop (place * (t.w * t.h)) t.sums) in
+          omega (arith, lt, count)
 
-    pub first_is : (s : TreeShape) → IsShapeIn t.w t.h s → row_index t.w s ≡ first → IsFirstShape (sum_at t place) s
-    first_is s in_ here = record {
-      sum = least;
-      sum_is = row_gives t place s least in_ (ap (slice_get (row_of t place)) here ∙ is.found some_least) some_least;
-      least = λ other more e. (let h = row_had t place other more e in
-          let lt = within_row t place other more e in (is.low (row_index t.w other) more (omega (arith, lt, all)) h.0 h.1).1);
-      first = λ other e. (let h = row_had t place other least e in
-          let lt = within_row t place other least e in
-          by other (sum_in t place other least e) (is.early (row_index t.w other) (omega (arith, lt, all)) h.0));
-    }
-      where
-        by : (other : TreeShape) → IsShapeIn t.w t.h other → first ≤ row_index t.w other → Lower s other
-        by other in_other le =
-            elim (cases_lt (row_index t.w s) (row_index t.w other)) [
-              | inl lt ↦ before_lower s other (index_order t.w t.h s other in_ in_other lt)
-              | inr ge ↦ (let same : s ≡ other = index_shape t.w t.h s other in_ in_other (omega (arith, here)) in subst (Lower s) same (inr (refl, omega arith)))
-            ]
+      pub first_sum : (s : TreeShape) → IsShapeIn t.w t.h s → row_index t.w s ≡ first → sum_at t place s ≡ Some least
+      first_sum s in_ here = row_gives t place s least in_ (ap (slice_get (row_of t place)) here ∙ is.found some_least) some_least
+
+      pub first_is : (s : TreeShape) → IsShapeIn t.w t.h s → row_index t.w s ≡ first → IsFirstShape (sum_at t place) s
+      first_is s in_ here = record {
+        sum = least;
+        sum_is = first_sum s in_ here;
+        least = λ other more e. (let h = row_had t place other more e in
+            let lt = within_row t place other more e in (is.low (row_index t.w other) more (omega (arith, lt, all)) h.0 h.1).1);
+        first = λ other e. (let h = row_had t place other least e in
+            let lt = within_row t place other least e in
+            by other (sum_in t place other least e) (is.early (row_index t.w other) (omega (arith, lt, all)) h.0));
+      }
+        where
+          by : (other : TreeShape) → IsShapeIn t.w t.h other → first ≤ row_index t.w other → Lower s other
+          by other in_other le =
+              elim (cases_lt (row_index t.w s) (row_index t.w other)) [
+                | inl lt ↦ before_lower s other (index_order t.w t.h s other in_ in_other lt)
+                | inr ge ↦ (let same : s ≡ other = index_shape t.w t.h s other in_ in_other (omega (arith, here)) in subst (Lower s) same (inr (refl, omega arith)))
+              ]

@@ -11,7 +11,7 @@ use Rattle.dual_rail.specs.ForestData.{ForestData}
 use Rattle.dual_rail.specs.ForestOrder.{IsEndOfForest, IsForest}
 use Rattle.dual_rail.specs.Forests.{arm_uses, end_uses, is_end_from}
 use Rattle.dual_rail.specs.Uses.{IsEndThere}
-use Rattle.tree_map.specs.Plans.{is_free}
+use Rattle.compound_plan.specs.PlanTrees.{is_free}
 
 pub end_there : (forest : ForestData) (end : End) → IsEndOfForest forest end → IsEndThere (length forest.pairs) end
 end_there forest (Const b) is = tt

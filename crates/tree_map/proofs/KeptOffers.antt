@@ -1,5 +1,5 @@
 -- The offers to keep a pair, shape by shape.
-use Rattle.std.proofs.Common.{◌≡◌, ◌⊎◌, inl, inr, sym, ap, subst, ◌∙◌, ℕ, ◌+◌, ◌≤◌, ◌<◌, ◌^◌, List, [], ◌∷◌, ◌++◌, length, Some, slice_get, arith}
+use Rattle.std.proofs.Common.{◌≡◌, ◌⊎◌, inl, inr, sym, ap, subst, ◌∙◌, ℕ, ◌+◌, ◌≤◌, ◌<◌, List, [], ◌∷◌, ◌++◌, length, Some, slice_get, arith}
 use Rattle.std.proofs.lemmas.Bool.{cases_lt}
 use Rattle.std.proofs.lemmas.Option.{same_Some, slice_get_within}
 use Rattle.dom_base.proofs.Lists.{slice_get-append, slice_get-push, slice_get-push_cases}
@@ -7,7 +7,7 @@ use Rattle.tree_map.specs.declared.offers.Offer.{Offer}
 use Rattle.tree_map.specs.Covers.{Earlier, Keep, TreeShape}
 use Rattle.tree_map.specs.CoverRows.{IsShapeIn, row_index}
 use Rattle.tree_map.specs.CoverSums.{SumsData, sum_at}
-use Rattle.tree_map.specs.Offers.{AreInTurn, AreKeptBefore, IsBefore, IsFirstLeast, IsOffered, choice_of}
+use Rattle.tree_map.specs.Offers.{AreInTurn, AreKeptBefore, IsBefore, IsOffered, choice_of}
 use Rattle.tree_map.proofs.HadShapes.{sum_in}
 use Rattle.tree_map.proofs.ReadRows.{index_order, none_at, row_gives, row_of, within_row}
 use Rattle.tree_map.proofs.Rows.{index_shape}
@@ -23,7 +23,6 @@ pub record AreKeptBelow (t : SumsData) (place index : ℕ) (offers : List Offer)
   pub below : (k : ℕ) (o : Offer) → slice_get offers k ≡ Some o → row_index t.w o.shape < index
   pub complete : (s : TreeShape) (n : ℕ) → sum_at t place s ≡ Some n → row_index t.w s < index → IsOffered offers (Keep s) s n
   pub in_turn : AreInTurn offers
-  pub small : (k : ℕ) (o : Offer) → slice_get offers k ≡ Some o → o.sum < 2 ^ 32
 
 module _ (t : SumsData) (place : ℕ) where
   module _ (index : ℕ) (xs : List Offer) (are : AreKeptBelow t place index xs) where
@@ -34,7 +33,6 @@ module _ (t : SumsData) (place : ℕ) where
       below = λ k o at. omega (arith, are.below k o at);
       complete = λ s n e lt. are.complete s n e (none_at t place index s n none e lt);
       in_turn = are.in_turn;
-      small = are.small;
     }
 
     pub kept_all : length (row_of t place) ≤ index → AreKeptBefore (sum_at t place) (record { height = t.h + 1; width = 1 }) xs
@@ -44,12 +42,11 @@ module _ (t : SumsData) (place : ℕ) where
       before = λ k o at. inl (omega (arith, (sum_in t place o.shape o.sum (are.sums k o at)).high));
       complete = λ s n e lt. are.complete s n e (omega (arith, within_row t place s n e));
       in_turn = are.in_turn;
-      small = are.small;
     }
 
-    pub kept_push : (o : Offer) → choice_of o.choice ≡ Keep o.shape → IsShapeIn t.w t.h o.shape → row_index t.w o.shape ≡ index → slice_get (row_of t place) index ≡ Some o.sum → 0 < o.sum → o.sum < 2 ^ 32
+    pub kept_push : (o : Offer) → choice_of o.choice ≡ Keep o.shape → IsShapeIn t.w t.h o.shape → row_index t.w o.shape ≡ index → slice_get (row_of t place) index ≡ Some o.sum → 0 < o.sum
         → AreKeptBelow t place (index + 1) (xs ++ o ∷ [])
-    kept_push o keep in_ here at some fits = record {
+    kept_push o keep in_ here at some = record {
       keeps = λ k x e. elim (slice_get-push_cases xs o k x e) [ inl old ↦ are.keeps k x old | inr new ↦ subst (λ (y : Offer). choice_of y.choice ≡ Keep y.shape) new.1 keep ];
       sums = λ k x e. elim (slice_get-push_cases xs o k x e) [ inl old ↦ are.sums k x old | inr new ↦ subst (λ (y : Offer). sum_at t place y.shape ≡ Some y.sum) new.1 found ];
       below = λ k x e. elim (slice_get-push_cases xs o k x e) [
@@ -61,7 +58,6 @@ module _ (t : SumsData) (place : ℕ) where
         | inr le ↦ last s n e (index_shape t.w t.h o.shape s in_ (sum_in t place s n e) (omega (arith, here)))
       ];
       in_turn = turn;
-      small = λ k x e. elim (slice_get-push_cases xs o k x e) [ inl old ↦ are.small k x old | inr new ↦ subst (λ (y : Offer). y.sum < 2 ^ 32) new.1 fits ];
     }
       where
         found : sum_at t place o.shape ≡ Some o.sum
@@ -97,34 +93,3 @@ module _ (t : SumsData) (place : ℕ) where
                 (earlier_of a o (are.keeps i a x) keep (index_order t.w t.h a.shape o.shape (sum_in t place a.shape a.sum (are.sums i a x)) in_ (omega (arith, here, are.below i a x))))
             by (inr x) (inl y) = let within = slice_get_within xs k b y in absurd (omega (arith, x.0))
             by (inr x) (inr y) = absurd (omega (arith, x.0, y.0))
-
--- one offer more, of less sum than those before or not
-pub less_found : (xs : List Offer) (i : ℕ) (least o : Offer) → IsFirstLeast xs i least → slice_get xs i ≡ Some o → o.sum < least.sum → IsFirstLeast xs (i + 1) o
-less_found xs i least o is at less = record {
-  place = i;
-  within = omega arith;
-  at = at;
-  least_of_all = λ k x lt e. elim (cases_lt k i) [
-    | inl old ↦ (let le = is.least_of_all k x old e in omega arith)
-    | inr new ↦ (let same : o ≡ x = same_Some o x (sym at ∙ ap (slice_get xs) (let here : i ≡ k = omega arith in here) ∙ e) in let sums = ap (λ (y : Offer). y.sum) same in omega arith)
-  ];
-  first = λ k x lt e same. elim (cases_lt k i) [
-    | inl old ↦ (let le = is.least_of_all k x old e in absurd (omega arith))
-    | inr new ↦ omega arith
-  ];
-}
-
-pub none_less : (xs : List Offer) (i : ℕ) (least o : Offer) → IsFirstLeast xs i least → slice_get xs i ≡ Some o → least.sum ≤ o.sum → IsFirstLeast xs (i + 1) least
-none_less xs i least o is at le = record {
-  place = is.place;
-  within = omega (arith, is.within);
-  at = is.at;
-  least_of_all = λ k x lt e. elim (cases_lt k i) [
-    | inl old ↦ is.least_of_all k x old e
-    | inr new ↦ (let same : o ≡ x = same_Some o x (sym at ∙ ap (slice_get xs) (let here : i ≡ k = omega arith in here) ∙ e) in let sums = ap (λ (y : Offer). y.sum) same in omega arith)
-  ];
-  first = λ k x lt e same. elim (cases_lt k i) [
-    | inl old ↦ is.first k x old e same
-    | inr new ↦ omega (arith, is.within)
-  ];
-}

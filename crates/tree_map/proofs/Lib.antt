@@ -8,12 +8,9 @@ pub mod FirstOffers
 pub mod FirstShapes
 pub mod FreeEdges
 pub mod HadShapes
-pub mod KeptChoices
 pub mod KeptOffers
 pub mod LeastPlan
-pub mod Marks
 pub mod OfferedChoices
-pub mod OneUser
 pub mod PlanCosts
 pub mod PlanCovers
 pub mod PlanOne
@@ -28,6 +25,3 @@ pub mod Rows
 pub mod SumBounds
 pub mod SumReads
 pub mod TabledRows
-pub mod Tallies
-pub mod Totals
-pub mod TreeSums

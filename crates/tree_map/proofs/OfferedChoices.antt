@@ -2,7 +2,6 @@
 use Rattle.std.proofs.Common.{◌≡◌, ◌⊎◌, ◌↔◌, inl, inr, refl, sym, ap, subst, ◌∙◌, ℕ, zero, suc, ◌+◌, ◌≤◌, ◌<◌, Bool, false, List, [], ◌∷◌, ◌++◌, length, map, Some, slice_get, arith}
 use Rattle.std.specs.List.{range_with_len}
 use Rattle.std.specs.Prelude.{slice_index_or}
-use Rattle.std.proofs.lemmas.Bool.{cases_lt}
 use Rattle.std.proofs.lemmas.List.FromFn.{get_or-map-range_with_len, length-map-range_with_len}
 use Rattle.std.proofs.lemmas.Option.{same_Some, slice_get_within}
 use Rattle.dom_base.proofs.Lists.{slice_get-append, slice_get-push, slice_get-push_cases}
@@ -15,10 +14,11 @@ use Rattle.tree_map.specs.Covers.{Choice, CoverPart, CutOff, Earlier, End, IsCho
 use Rattle.cover_plan.specs.Covers.{IsLeastRoot}
 use Rattle.tree_map.specs.CoverSums.{SumsData, sum_at}
 use Rattle.tree_map.specs.LeastPlans.{IsPartOf, free, literal, operator_of, shared}
-use Rattle.tree_map.specs.Offers.{AreInTurn, AreKeptBefore, AreOffers, HasNoFreePair, IsArmWithin, IsBefore, IsFirstLeast, IsFirstShape, IsFreePair, IsOffered, choice_of}
+use Rattle.dual_rail.specs.ForestOrder.{ReadsBefore}
+use Rattle.tree_map.specs.Offers.{AreInTurn, AreKeptBefore, AreOffers, HasNoFreePair, HasSums, IsBefore, IsFirstShape, IsFreePair, IsOffered, choice_of}
 use Rattle.tree_map.specs.Plans.{is_free}
 use Rattle.cover_plan.proofs.Chosen.{least_of_all_one}
-use Rattle.tree_map.proofs.PlanCovers.{is_free-of, is_free-true}
+use Rattle.compound_plan.proofs.FreePairs.{is_free-of, is_free-true}
 use Rattle.tree_map.proofs.HadShapes.{sum_in}
 use Rattle.cover_plan.proofs.Recurrence.{sum_bounded, table_least}
 use Rattle.cover_plan.proofs.SimpleRoots.{root_back, root_here}
@@ -69,58 +69,34 @@ module _ (t : SumsData) (place : ℕ) (xs : List Offer) (are : AreKeptBefore (su
   pub all_kept : (s : TreeShape) (n : ℕ) → sum_at t place s ≡ Some n → IsOffered xs (Keep s) s n
   all_kept s n e = let g = sum_in t place s n e in are.complete s n e (inl (omega (arith, g.high)))
 
-  -- the first offer of least sum has the shape of a root
-  pub first_shape : (o : Offer) → IsFirstLeast xs (length xs) o → IsFirstShape (sum_at t place) o.shape
-  first_shape o is = record {
-    sum = o.sum;
-    sum_is = are.sums is.place o is.at;
-    least = λ s n e. (let x = all_kept s n e in
-        let lt = slice_get_within xs x.place x.offer x.at in subst (λ m. o.sum ≤ m) x.sum_is (is.least_of_all x.place x.offer lt x.at));
-    first = λ s e. first s (all_kept s o.sum e);
-  }
-    where
-      first : (s : TreeShape) → IsOffered xs (Keep s) s o.sum → Lower o.shape s
-      first s x =
-          let lt = slice_get_within xs x.place x.offer x.at in
-          let le = is.first x.place x.offer lt x.at x.sum_is in
-          elim (cases_lt is.place x.place) [
-            | inl less ↦ subst (Lower o.shape) x.shape_is (before_lower o.shape (x.offer).shape (rw (are.keeps is.place o is.at, are.keeps x.place x.offer x.at) at (are.in_turn is.place x.place o x.offer less is.at x.at)))
-            | inr ge ↦ (let here : is.place ≡ x.place = omega arith in
-                let same : o ≡ x.offer = same_Some o x.offer (sym is.at ∙ ap (slice_get xs) here ∙ x.at) in
-                subst (Lower o.shape) (ap (λ (y : Offer). y.shape) same ∙ x.shape_is) (inr (refl, omega arith)))
-          ]
-
-  pub none_kept : length xs ≡ 0 → (s : TreeShape) (n : ℕ) → sum_at t place s ≡ Some n → ⊥
-  none_kept none s n e = let x = all_kept s n e in let lt = slice_get_within xs x.place x.offer x.at in omega arith
-
   module _ (op : Operator) (l r : CoverPart) (wide : 1 ≤ t.w) (tall : 1 ≤ t.h) (sums : (s : TreeShape) (n : ℕ) → (sum_at t place s ≡ Some n) ↔ IsLeast t.w t.h (Join op l r) s n) where
-    pub no_offers : length xs ≡ 0 → AreOffers t.w t.h (Join op l r) xs
+    pub no_offers : (HasSums (sum_at t place) → ⊥) → AreOffers t.w t.h (Join op l r) xs
     no_offers none = record {
-      sound = λ k o at. absurd (let lt = slice_get_within xs k o at in omega arith);
+      sound = λ k o at. absurd (none (o.shape, o.sum, are.sums k o at));
       complete = λ x s n is. absurd (never x s n is);
       in_turn = are.in_turn;
     }
       where
         never : (x : Choice) (s : TreeShape) (n : ℕ) → IsChoice t.w t.h (Join op l r) x s n → ⊥
         never Nothing s n is = is
-        never (Keep k) s n is = none_kept none k n ((sums k n).1 is.1)
+        never (Keep k) s n is = none (k, n, (sums k n).1 is.1)
         never CutOff s n (leaf, (below, least, sum)) =
             let b = root_back ordinary_costs refl t.w t.h op l r below least in
             let x = least_offered t place op l r wide tall sums b.0 b.1 in
-            none_kept none x.0 b.0 x.1
+            none (x.0, b.0, x.1)
 
-    pub with_cut : (o cut : Offer) → IsFirstLeast xs (length xs) o → choice_of cut.choice ≡ CutOff → cut.shape ≡ leaf_shape → cut.sum ≡ 1 + (o.sum + 5) → AreOffers t.w t.h (Join op l r) (xs ++ cut ∷ [])
-    unfolding first_shape
-    with_cut o cut first choice_is shape_is sum_is = record { sound = sound; complete = complete; in_turn = turn }
+    pub with_cut : (root : TreeShape) (m : ℕ) → IsFirstShape (sum_at t place) root → sum_at t place root ≡ Some m → (cut : Offer) → choice_of cut.choice ≡ CutOff → cut.shape ≡ leaf_shape
+        → cut.sum ≡ 1 + (m + 5) → AreOffers t.w t.h (Join op l r) (xs ++ cut ∷ [])
+    with_cut root m first root_sum cut choice_is shape_is sum_is = record { sound = sound; complete = complete; in_turn = turn }
       where
-        least : IsLeastOfAll t.w t.h (Join op l r) o.sum
-        least = first_is_least t place op l r wide tall sums o.shape (first_shape o first)
+        least : IsLeastOfAll t.w t.h (Join op l r) m
+        least = subst (IsLeastOfAll t.w t.h (Join op l r)) (same_Some first.sum m (sym first.sum_is ∙ root_sum)) (first_is_least t place op l r wide tall sums root first)
 
         sound : (k : ℕ) (x : Offer) → slice_get (xs ++ cut ∷ []) k ≡ Some x → IsChoice t.w t.h (Join op l r) (choice_of x.choice) x.shape x.sum
         sound k x at =
             elim (slice_get-push_cases xs cut k x at) [
               | inl old ↦ rw (are.keeps k x old) (refl, (sums x.shape x.sum).0 (are.sums k x old))
-              | inr new ↦ subst (λ (y : Offer). IsChoice t.w t.h (Join op l r) (choice_of y.choice) y.shape y.sum) new.1 (rw choice_is (shape_is, (o.sum + 5, root_here ordinary_costs refl t.w t.h op l r o.sum least, sum_is)))
+              | inr new ↦ subst (λ (y : Offer). IsChoice t.w t.h (Join op l r) (choice_of y.choice) y.shape y.sum) new.1 (rw choice_is (shape_is, (m + 5, root_here ordinary_costs refl t.w t.h op l r m least, sum_is)))
             ]
 
         complete : (x : Choice) (s : TreeShape) (n : ℕ) → IsChoice t.w t.h (Join op l r) x s n → IsOffered (xs ++ cut ∷ []) x s n
@@ -135,10 +111,10 @@ module _ (t : SumsData) (place : ℕ) (xs : List Offer) (are : AreKeptBefore (su
           sum_is = sum_is ∙ cut_sum below is ∙ sym sum;
         }
           where
-            cut_sum : (below : ℕ) → IsLeastRoot ordinary_costs t.w t.h (Join op l r) below → 1 + (o.sum + 5) ≡ 1 + below
+            cut_sum : (below : ℕ) → IsLeastRoot ordinary_costs t.w t.h (Join op l r) below → 1 + (m + 5) ≡ 1 + below
             cut_sum below is =
                 let b = root_back ordinary_costs refl t.w t.h op l r below is in
-                ap (λ m. 1 + (m + 5)) (least_of_all_one ordinary_costs t.w t.h (Join op l r) o.sum b.0 least b.1) ∙ ap (λ m. 1 + m) (sym b.2)
+                ap (λ k. 1 + (k + 5)) (least_of_all_one ordinary_costs t.w t.h (Join op l r) m b.0 least b.1) ∙ ap (λ k. 1 + k) (sym b.2)
 
         turn : AreInTurn (xs ++ cut ∷ [])
         turn i k a b lt at too = by (slice_get-push_cases xs cut i a at) (slice_get-push_cases xs cut k b too)
@@ -190,7 +166,7 @@ module _ (forest : ForestData) (frees : List Bool) (are : frees ≡ map (is_free
       absurd (let f = free_at place (slice_get_within forest.pairs place pair at) in let g = none place refl in let e = is_free-of forest place is in cc)
 
   -- and a free edge leads to the part below its pair
-  pub free_part : (P : CoverPart → Type 0) (arm : Arm) (place : ℕ) (part : CoverPart) → IsArmWithin (length frees) arm → IsFreePair frees arm place
+  pub free_part : (P : CoverPart → Type 0) (arm : Arm) (place : ℕ) (part : CoverPart) → ReadsBefore (length frees) arm → IsFreePair frees arm place
       → ((pair : Pair) (l r : CoverPart) → slice_get forest.pairs place ≡ Some pair → IsPartOf forest (left_arm pair) l → IsPartOf forest (right_arm pair) r → P (Join (operator_of pair) l r))
       → IsPartOf forest arm part → P part
   free_part P _ place _ within is_free_pair make literal = absurd (let e = is_free_pair.0 in cc)

@@ -4,17 +4,18 @@ use Rattle.std.proofs.lemmas.Bool.{cases_lt, le-leb, lt-leb}
 use Rattle.std.proofs.lemmas.Option.{slice_get_within}
 use Rattle.dom_base.proofs.Bools.{and_both}
 use Rattle.dual_rail.specs.declared.forest.Arm.{Arm}
-use Rattle.dual_rail.specs.declared.forest.Arm.TheVariants.{Literal, Pair as pair_arm}
 use Rattle.dual_rail.specs.declared.forest.Pair.{Pair}
 use Rattle.dual_rail.specs.ForestData.{ForestData}
+use Rattle.dual_rail.proofs.ForestOrders.{reads_later}
 use Rattle.dual_rail.specs.ForestOrder.{AreInOrder, ReadsBefore}
 use Rattle.dual_rail.specs.Forests.{left_arm, right_arm}
 use Rattle.tree_map.specs.Covers.{CoverPart, Cover, End, Join, Kept, Cut, Single, Split, IsCover, sum_of}
 use Rattle.tree_map.specs.LeastPlans.{IsPartOf, literal, shared, free, operator_of}
 use Rattle.tree_map.specs.Plans.{IsFree, is_free}
-use Rattle.tree_map.proofs.PlanCovers.{cover_cost, is_free-not, is_free-of, is_free-true, pairs_in}
-use Rattle.tree_map.proofs.Tallies.{arm_value, arms_value, tally, tally-is, tally_total}
-use Rattle.tree_map.proofs.Totals.{total, total_constant}
+use Rattle.compound_plan.proofs.FreePairs.{is_free-not, is_free-of, is_free-true}
+use Rattle.tree_map.proofs.PlanCovers.{cover_cost, pairs_in}
+use Rattle.compound_plan.proofs.Tallies.{arm_value, arms_value, tally, tally-is, tally_total}
+use Rattle.compound_plan.proofs.Totals.{total, total_constant}
 
 total_at : (f : ℕ → ℕ) (r a n : ℕ) → a ≤ r → r < a + n → f r ≤ total f a n
 total_at f r a zero low high = absurd (omega arith)
@@ -22,10 +23,6 @@ total_at f r a (suc n) low high = elim (cases_lt a r) [
   | inl lt ↦ (let more = total_at f r (a + 1) n (omega arith) (omega arith) in omega arith)
   | inr le ↦ (let same : r ≡ a = omega arith in rw same (omega arith))
 ]
-
-pub reads_later : (q p : ℕ) (arm : Arm) → q < p → ReadsBefore q arm → ReadsBefore p arm
-reads_later q p (Literal rail) lt before = tt
-reads_later q p (pair_arm place) lt before = omega arith
 
 and_no : (a b : Bool) → b ≡ false → a && b ≡ false
 and_no true b e = e
@@ -70,7 +67,7 @@ module _ (forest : ForestData) (order : AreInOrder forest.pairs) (p : ℕ) where
   arm_pairs (free {place = q} {pair = pair} is e dl dr) before =
       let reads = order q pair e in
       rw (hands_on-of q is before, below-is q pair e)
-      (ap₂ (λ m n. 1 + (m + n)) (arm_pairs dl (reads_later q p (left_arm pair) before reads.0)) (arm_pairs dr (reads_later q p (right_arm pair) before reads.1)))
+      (ap₂ (λ m n. 1 + (m + n)) (arm_pairs dl (reads_later q p (left_arm pair) reads.0 (omega (arith, before)))) (arm_pairs dr (reads_later q p (right_arm pair) reads.1 (omega (arith, before)))))
 
   pub few_pairs : (pair : Pair) {l r : CoverPart} → slice_get forest.pairs p ≡ Some pair → IsPartOf forest (left_arm pair) l → IsPartOf forest (right_arm pair) r
       → pairs_in (Join (operator_of pair) l r) ≤ length forest.pairs

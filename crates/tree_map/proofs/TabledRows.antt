@@ -12,6 +12,7 @@ use Rattle.dual_rail.specs.declared.forest.Arm.{Arm}
 use Rattle.dual_rail.specs.declared.forest.Arm.TheVariants.{Literal, Pair as pair_arm}
 use Rattle.dual_rail.specs.declared.forest.Pair.{Pair}
 use Rattle.dual_rail.specs.ForestData.{ForestData}
+use Rattle.dual_rail.proofs.ForestOrders.{reads_later}
 use Rattle.dual_rail.specs.ForestOrder.{AreInOrder, IsForest, ReadsBefore}
 use Rattle.dual_rail.specs.Forests.{left_arm, right_arm}
 use Rattle.gate_decompose.specs.Items.{Among}
@@ -24,7 +25,7 @@ use Rattle.tree_map.specs.LeastPlans.{IsPartOf, operator_of}
 use Rattle.tree_map.proofs.ArmEntries.{best_same, combined_same, shape_in}
 use Rattle.tree_map.proofs.HadShapes.{shape_had_in, sum_in}
 use Rattle.cover_plan.proofs.Recurrence.{arm_reached, shape_some, table_least}
-use Rattle.tree_map.proofs.RootShapes.{arm_part}
+use Rattle.compound_plan.proofs.PlanParts.{arm_part}
 use Rattle.tree_map.proofs.Rows.{index_in}
 use Rattle.tree_map.proofs.SumBounds.{few_in_arm, few_sums, some_sum}
 use Rattle.tree_map.proofs.SumReads.{shape_had}
@@ -196,12 +197,10 @@ module _ (forest : ForestData) (w h m : ℕ) (t : SumsData) (arms : Arm × Arm) 
       (subst (ReadsBefore m) (sym turn.left) x.0, subst (ReadsBefore m) (sym turn.right) x.1)
 
   later : (free : List Bool) → AreFreeOf forest free → (arm : Arm) → ReadsBefore m arm → ReadsBefore (length free) arm
-  later free are (Literal rail) before = tt
-  later free are (pair_arm place) before =
+  later free are arm before =
       let n = length forest.pairs in
       let count : length free ≡ n = ap length are ∙ length-map (range_with_len 0 n) (is_free forest) ∙ length-range_with_len 0 n in
-      let inside = within in
-      omega arith
+      reads_later m (length free) arm before (omega (arith, count, within))
 
   pub turn_there : (free : List Bool) → AreFreeOf forest free → ReadsBefore (length free) (arms.0) × ReadsBefore (length free) (arms.1)
   turn_there free are = (later free are (arms.0) reads.0, later free are (arms.1) reads.1)

@@ -10,7 +10,7 @@ combined = general.combined ordinary_costs
 
 -- the entry of a pair that is cut, whose own least sum is this
 abbrev pub cut_entry : Option ℕ → List Entry
-cut_entry below = general.cut_entry (option_map (λ n. n + 5) below)
+cut_entry below = general.cut_entry (option_map (λ n. n + ordinary_costs.simple) below)
 
 -- the entries of an arm: an end is a leaf, and a pair is kept with an entry of its table or cut
 abbrev pub arm_entries : ℕ → ℕ → CoverPart → List Entry

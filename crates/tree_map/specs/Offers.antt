@@ -1,7 +1,7 @@
 -- Offers for an arm: its choices in order, with the shape and the sum that each gives.
-use Rattle.std.specs.Prelude.{ℕ, ◌<◌, ◌≤◌, ◌^◌, ◌≡◌, ◌⊎◌, Bool, true, false, List, Option, Some, slice_get, slice_index_or}
+use Rattle.std.specs.Prelude.{ℕ, ◌<◌, ◌≤◌, ◌≡◌, ◌⊎◌, Bool, true, false, List, Option, Some, slice_get, slice_index_or}
 use Rattle.dual_rail.specs.declared.forest.Arm.{Arm}
-use Rattle.dual_rail.specs.declared.forest.Arm.TheVariants.{Literal, Pair as pair_arm}
+use Rattle.dual_rail.specs.declared.forest.Arm.TheVariants.{Pair as pair_arm}
 use Rattle.tree_map.specs.declared.offers.Choice.{Choice as offered_choice}
 use Rattle.tree_map.specs.declared.offers.Choice.TheVariants.{Keep as offered_keep, CutOff as offered_cut, Nothing as offered_nothing}
 use Rattle.tree_map.specs.declared.offers.Offer.{Offer}
@@ -40,15 +40,6 @@ pub record AreKeptBefore (sum_of : TreeShape → Option ℕ) (limit : TreeShape)
   pub complete : (shape : TreeShape) (sum : ℕ) → sum_of shape ≡ Some sum → IsBefore shape limit
       → IsOffered offers (Keep shape) shape sum
   pub in_turn : AreInTurn offers
-  pub small : (k : ℕ) (o : Offer) → slice_get offers k ≡ Some o → o.sum < 2 ^ 32
-
--- the first of the offers of least sum, among so many
-pub record IsFirstLeast (offers : List Offer) (count : ℕ) (least : Offer) : Type 0 where
-  pub place : ℕ
-  pub within : place ≤ count
-  pub at : slice_get offers place ≡ Some least
-  pub least_of_all : (k : ℕ) (o : Offer) → k < count → slice_get offers k ≡ Some o → least.sum ≤ o.sum
-  pub first : (k : ℕ) (o : Offer) → k < count → slice_get offers k ≡ Some o → o.sum ≡ least.sum → place ≤ k
 
 -- the shape of least sum, of these the lowest, and of these the narrowest
 pub record IsFirstShape (sum_of : TreeShape → Option ℕ) (shape : TreeShape) : Type 0 where
@@ -67,11 +58,6 @@ pub record AreOffers (w h : ℕ) (part : CoverPart) (offers : List Offer) : Type
 -- a pair has some shape
 abbrev pub HasSums : (TreeShape → Option ℕ) → Type 0
 HasSums sum_of = (shape : TreeShape) × (sum : ℕ) × (sum_of shape ≡ Some sum)
-
--- an arm that names a pair names one of so many
-abbrev pub IsArmWithin : ℕ → Arm → Type 0
-IsArmWithin count (Literal rail) = Unit {0}
-IsArmWithin count (pair_arm place) = place < count
 
 -- a free edge leads from the arm to this pair
 abbrev pub IsFreePair : List Bool → Arm → ℕ → Type 0

@@ -1,20 +1,14 @@
 -- Shapes that make kept free edges a plan.
-use Rattle.std.specs.Prelude.{ℕ, ◌≡◌, Bool, true, cond, List, length, Some, slice_get}
+use Rattle.std.specs.Prelude.{ℕ, ◌≡◌, Bool, true, List, length, Some, slice_get}
 use Rattle.sp_network.specs.Tree.{Tree}
-use Rattle.dual_rail.specs.declared.forest.Arm.{Arm}
-use Rattle.dual_rail.specs.declared.forest.Arm.TheVariants.{Literal, Pair as pair_arm}
 use Rattle.dual_rail.specs.declared.forest.Pair.{Pair}
-use Rattle.tree_map.specs.Covers.{Fits, TreeShape, joined_shape, leaf_shape}
+use Rattle.tree_map.specs.Covers.{Fits, TreeShape, joined_shape}
 use Rattle.dual_rail.specs.ForestData.{ForestData}
 use Rattle.dual_rail.specs.ForestOrder.{AreInOrder}
 use Rattle.dual_rail.specs.Forests.{left_arm, right_arm}
+pub use Rattle.compound_plan.specs.PlanParts.{arm_shape}
 use Rattle.tree_map.specs.LeastPlans.{IsChosenPlan, IsDecided, operator_of}
 use Rattle.tree_map.specs.Plans.{IsFree, IsPlan, is_kept}
-
--- the shape of an arm in the tree above it, where each pair has a shape
-abbrev pub arm_shape : List Bool → (ℕ → TreeShape) → Arm → TreeShape
-arm_shape kept shape (Literal rail) = leaf_shape
-arm_shape kept shape (pair_arm place) = cond (is_kept kept place) (shape place) leaf_shape
 
 -- each pair has the shape of its arms, within the bounds
 abbrev pub AreShapes : ForestData → ℕ → ℕ → List Bool → (ℕ → TreeShape) → Type 0

@@ -2,7 +2,7 @@
 ghost use Rattle.std.specs.Prelude.{◌≡◌, ◌<◌, IfOk, MatchOption, Some, length, replicate, slice_set, slice_get, true, false};
 ghost use Rattle.dual_rail.specs.Forests.{left_arm, right_arm};
 ghost use Rattle.tree_map.specs.Covers.{leaf_shape};
-ghost use Rattle.tree_map.specs.Offers.{IsArmWithin};
+ghost use Rattle.dual_rail.specs.ForestOrder.{ReadsBefore};
 ghost use Rattle.tree_map.specs.Ties.{kept_with, shapes_with};
 
 use crate::offers::Choice;
@@ -54,8 +54,8 @@ impl Decisions {
 
     /// Keeps the pair that an arm leads to, where this is the choice.
     fn choose(&mut self, arm: Arm, choice: Choice)
-        requires kept { IsArmWithin (length self.old.kept.items) arm }
-        requires shapes { IsArmWithin (length self.old.shapes.items) arm }
+        requires kept { ReadsBefore (length self.old.kept.items) arm }
+        requires shapes { ReadsBefore (length self.old.shapes.items) arm }
         ensures kept { self.new.kept.items ≡ kept_with arm choice self.old.kept.items }
         ensures shapes { self.new.shapes.items ≡ shapes_with arm choice self.old.shapes.items }
     {
@@ -75,17 +75,17 @@ impl Decisions {
         right: Choice,
     )
         requires place { place < length self.old.shapes.items }
-        requires left_kept { IsArmWithin (length self.old.kept.items) (left_arm pair) }
-        requires right_kept { IsArmWithin (length self.old.kept.items) (right_arm pair) }
-        requires left_shapes { IsArmWithin (length self.old.shapes.items) (left_arm pair) }
-        requires right_shapes { IsArmWithin (length self.old.shapes.items) (right_arm pair) }
+        requires left_kept { ReadsBefore (length self.old.kept.items) (left_arm pair) }
+        requires right_kept { ReadsBefore (length self.old.kept.items) (right_arm pair) }
+        requires left_shapes { ReadsBefore (length self.old.shapes.items) (left_arm pair) }
+        requires right_shapes { ReadsBefore (length self.old.shapes.items) (right_arm pair) }
         ensures kept { self.new.kept.items
             ≡ kept_with (right_arm pair) right (kept_with (left_arm pair) left self.old.kept.items) }
         ensures shapes { self.new.shapes.items
             ≡ shapes_with (right_arm pair) right
             (shapes_with (left_arm pair) left (slice_set self.old.shapes.items place shape)) }
     {
-        let (Pair::And(left_arm, right_arm) | Pair::Or(left_arm, right_arm)) = pair;
+        let (left_arm, right_arm) = pair.arms();
         self.shapes[place] = shape;
         self.choose(left_arm, left);
         self.choose(right_arm, right);

@@ -1,13 +1,14 @@
 //! Free edges of a forest.
-ghost use Rattle.std.specs.Prelude.{◌≡◌, ◌&&◌, ◌==◌, ◌<◌, ℕ, All, IfOk, count_by, length, map, slice_index_or, false};
+ghost use Rattle.std.specs.Prelude.{◌≡◌, ◌&&◌, ◌==◌, ◌<◌, ℕ, All, IfOk, MatchOption, count_by, length, map, slice_index_or, false};
 ghost use Rattle.std.specs.List.{range_with_len};
-ghost use Rattle.dual_rail.specs.ForestOrder.{AreInOrder};
 ghost use Rattle.dual_rail.specs.Forests.{is_end_from};
 ghost use Rattle.dual_rail.specs.Uses.{IsEndThere};
+ghost use Rattle.dual_rail.specs.ForestOrder.{AreInOrder, ReadsBefore};
+ghost use Rattle.tree_map.specs.Offers.{HasNoFreePair, IsFreePair};
 ghost use Rattle.tree_map.specs.Plans.{is_free};
 
 use dom_base::OutOfMemory;
-use dual_rail::{End, Forest};
+use dual_rail::{Arm, End, Forest};
 use std::alloc::Global;
 
 /// For each pair whether the edge to it is free: its one use is by a pair. The one error is out of
@@ -42,5 +43,16 @@ fn leave_out_ends(free: &mut [bool], ends: &[End])
         if let End::FromDynamic(place) | End::FromOutput(place) = end {
             free[*place as usize] = false;
         }
+    }
+}
+
+/// The pair that a free edge from an arm leads to.
+pub(crate) fn free_pair(free: &[bool], arm: Arm) -> Option<usize>
+    requires { ReadsBefore (length free.now) arm }
+    ensures { MatchOption result (HasNoFreePair free.now arm) (IsFreePair free.now arm) }
+{
+    match arm {
+        Arm::Pair(place) if free[place as usize] => Some(place as usize),
+        _ => None,
     }
 }

@@ -1,8 +1,8 @@
 //! Covers of a forest by trees within a width and a height, of least cost (Zhao, Sapatnekar 1998).
 #![tactic(auto)]
 
-mod arms;
 mod bounds;
+mod cost;
 mod decisions;
 mod free;
 mod laws;
@@ -14,8 +14,8 @@ mod sums;
 mod ties;
 mod trees;
 
-pub use arms::arms_of;
 pub use bounds::Bounds;
+pub use cost::CELL_COST;
 pub use laws::{
     chosen_cover_is_one, chosen_plan_is_least, shapes_make_plans, tables_are_least,
     tree_values_are_kept,

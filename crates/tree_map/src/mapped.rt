@@ -2,13 +2,13 @@
 ghost use Rattle.std.specs.Prelude.{◌≡◌, ◌≤◌, ℕ, Bool, IfOk, List};
 ghost use Rattle.sp_network.specs.Tree.{Tree};
 ghost use Rattle.tree_map.specs.LeastPlans.{IsChosenPlan};
-ghost use Rattle.tree_map.specs.MappedCover.{HaveFirstClock, plan_trees};
+ghost use Rattle.tree_map.specs.MappedCover.{HaveFirstClock, plan_trees, root_cell_numbers};
 
 use crate::bounds::Bounds;
 use crate::free::free_edges;
 use crate::sums::sums_of;
 use crate::ties::decisions;
-use crate::trees::{Cover, trees_of};
+use crate::trees::{Cover, cells_of};
 use dom_base::OutOfMemory;
 use dual_rail::Forest;
 use sp_network::GatePlan;
@@ -23,11 +23,12 @@ pub fn cover(alloc: Global, forest: &Forest, bounds: Bounds) -> Result<Cover, Ou
     requires some_height { 2 ≤ bounds.h }
     requires few_high { bounds.h ≤ 6 }
     ensures chosen { IfOk result (λ c. IsChosenPlan forest.now bounds.w bounds.h c.kept.items (plan_trees c.plans.items)) }
+    ensures cells { IfOk result (λ c. c.cells.items ≡ root_cell_numbers c.kept.items) }
     ensures clocks { IfOk result (λ c. HaveFirstClock c.plans.items) }
 {
     let kept = kept_edges(alloc, forest, bounds)?;
-    let plans = trees_of(alloc, forest, &kept)?;
-    Ok(Cover { kept, plans })
+    let (cells, plans) = cells_of(alloc, forest, &kept)?;
+    Ok(Cover { kept, cells, plans })
 }
 
 /// For each pair of a forest whether the chosen cover keeps its edge: what `cover` says of it, without the trees. A

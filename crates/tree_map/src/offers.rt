@@ -1,13 +1,16 @@
 //! Offers for an arm: its choices in order, with the shape and the sum that each gives.
-ghost use Rattle.std.specs.Prelude.{◌+◌, ◌^◌, ◌≤◌, ◌<◌, ◌≡◌, MatchOption, OnOk, false, length, map, true};
+ghost use Rattle.std.specs.Prelude.{◌+◌, ◌^◌, ◌≤◌, ◌<◌, ◌≡◌, MatchOption, OnOk, Some, false, length, map, true};
 ghost use Rattle.std.specs.List.{range_with_len};
 ghost use Rattle.dual_rail.specs.ForestData.{ForestData};
 ghost use Rattle.tree_map.specs.Covers.{CoverPart};
 ghost use Rattle.tree_map.specs.CoverSums.{AreSumsOf, sum_at};
 ghost use Rattle.tree_map.specs.LeastPlans.{IsPartOf};
-ghost use Rattle.tree_map.specs.Offers.{AreKeptBefore, AreOffers, HasNoFreePair, HasSums, IsArmWithin, IsFirstLeast, IsFirstShape, IsFreePair};
+ghost use Rattle.dual_rail.specs.ForestOrder.{ReadsBefore};
+ghost use Rattle.tree_map.specs.Offers.{AreKeptBefore, AreOffers, HasNoFreePair, HasSums, IsFirstShape, IsFreePair};
 ghost use Rattle.tree_map.specs.Plans.{is_free};
 
+use crate::cost::CELL_COST;
+use crate::free::free_pair;
 use crate::shape::{LEAF, Shape};
 use crate::sums::Sums;
 use dom_base::OutOfMemory;
@@ -68,23 +71,11 @@ fn kept_offers(sums: &Sums, place: usize, offers: &mut Vec<Offer>) -> Result<(),
     Ok(())
 }
 
-/// The first of the offers of least sum, where there are any.
-fn first_least(offers: &[Offer]) -> Option<Offer>
-    ensures { MatchOption result (length offers.now ≡ 0) (IsFirstLeast offers.now (length offers.now)) }
-{
-    let mut least = *offers.first()?;
-    for offer in offers {
-        if offer.sum < least.sum {
-            least = *offer;
-        }
-    }
-    Some(least)
-}
-
-/// The shape that a root takes: of the shapes of least sum the lowest, and of these the narrowest.
-pub(crate) fn root_shape(sums: &Sums, place: usize) -> Shape
-    requires some { HasSums (sum_at sums.now place) }
-    ensures { IsFirstShape (sum_at sums.now place) result }
+/// The shape that a pair takes as a root, with its sum, where it has any: of the shapes of least sum the lowest,
+/// and of these the narrowest.
+pub(crate) fn root_of(sums: &Sums, place: usize) -> Option<(Shape, u32)>
+    ensures { MatchOption result (HasSums (sum_at sums.now place) → ⊥)
+        (λ r. IsFirstShape (sum_at sums.now place) r.0 × (sum_at sums.now place r.0 ≡ Some r.1)) }
 {
     let bounds = sums.bounds();
     let row = sums.row(place);
@@ -97,7 +88,11 @@ pub(crate) fn root_shape(sums: &Sums, place: usize) -> Shape
             least = sum;
         }
     }
-    Shape::at(bounds, first)
+    if least == 0 {
+        None
+    } else {
+        Some((Shape::at(bounds, first), least))
+    }
 }
 
 /// Whether a number of a row is less than another, where 0 is none.
@@ -106,17 +101,6 @@ fn is_less(sum: u32, other: u32) -> bool
     ensures not_less { result ≡ false → 0 < sum → (0 < other) × (other ≤ sum) }
 {
     sum != 0 && (other == 0 || sum < other)
-}
-
-/// The pair that a free edge from an arm leads to.
-fn free_pair(free: &[bool], arm: Arm) -> Option<usize>
-    requires { IsArmWithin (length free.now) arm }
-    ensures { MatchOption result (HasNoFreePair free.now arm) (IsFreePair free.now arm) }
-{
-    match arm {
-        Arm::Pair(place) if free[place as usize] => Some(place as usize),
-        _ => None,
-    }
 }
 
 /// Puts the offers for an arm in place of these: to keep the pair that a free edge leads to in each of
@@ -130,7 +114,7 @@ pub(crate) fn offers_of(
 ) -> Result<(), OutOfMemory>
     requires width { 1 ≤ sums.now.w }
     requires height { 1 ≤ sums.now.h }
-    requires there { IsArmWithin (length free.now) arm }
+    requires there { ReadsBefore (length free.now) arm }
     ensures { OnOk result ((forest : ForestData) (part : CoverPart) → AreSumsOf forest sums.now
         → free.now ≡ map (is_free forest) (range_with_len 0 (length forest.pairs)) → IsPartOf forest arm part
         → AreOffers sums.now.w sums.now.h part offers.new.items) }
@@ -141,11 +125,11 @@ pub(crate) fn offers_of(
         return Ok(());
     };
     kept_offers(sums, place, offers)?;
-    if let Some(least) = first_least(offers.as_slice()) {
+    if let Some((_, least)) = root_of(sums, place) {
         let cut = Offer {
             choice: Choice::CutOff,
             shape: LEAF,
-            sum: 1 + (least.sum + 5),
+            sum: 1 + (roomy(least) + CELL_COST as u64),
         };
         offers.push(cut)?;
     }

@@ -1,9 +1,11 @@
 //! Shapes of trees: a height and a width.
-ghost use Rattle.std.specs.Prelude.{◌≡◌, ◌+◌, ◌*◌, ◌<◌, ◌^◌};
+ghost use Rattle.std.specs.Prelude.{◌≡◌, ◌+◌, ◌*◌, ◌<◌, ◌≤◌, ◌^◌};
 ghost use Rattle.tree_map.specs.CoverRows.{IsShapeIn, row_index};
 ghost use Rattle.tree_map.specs.Covers.{InParallel, InSeries, joined_shape, leaf_shape};
+ghost use Rattle.tree_map.specs.LeastPlans.{operator_of};
 
 use crate::Bounds;
+use dual_rail::Pair;
 use std::marker::Model;
 
 /// The height of a tree, its most switches in series, and its width, its most branches in parallel.
@@ -50,8 +52,29 @@ impl Shape {
         }
     }
 
+    /// Where the number of this shape stands in the row of each pair.
+    pub(crate) fn index(self, bounds: Bounds) -> usize
+        requires within { IsShapeIn bounds.w bounds.h self }
+        requires few { bounds.w * bounds.h ≤ 48 }
+        ensures { result ≡ row_index bounds.w self }
+    {
+        ((self.height - 1) * bounds.w + (self.width - 1)) as usize
+    }
+
+    /// The shape of the tree of a pair whose arms have these shapes: And is series, and Or is parallel.
+    pub(crate) fn joined(pair: Pair, left: Shape, right: Shape) -> Shape
+        requires height { left.height + right.height < 2 ^ 32 }
+        requires width { left.width + right.width < 2 ^ 32 }
+        ensures { result ≡ joined_shape (operator_of pair) left right }
+    {
+        match pair {
+            Pair::And(_, _) => left.in_series(right),
+            Pair::Or(_, _) => left.in_parallel(right),
+        }
+    }
+
     /// The shape of two trees in series.
-    pub(crate) fn in_series(self, below: Shape) -> Shape
+    fn in_series(self, below: Shape) -> Shape
         requires { self.height + below.height < 2 ^ 32 }
         ensures { result ≡ joined_shape InSeries self below }
     {
@@ -62,7 +85,7 @@ impl Shape {
     }
 
     /// The shape of two trees in parallel.
-    pub(crate) fn in_parallel(self, beside: Shape) -> Shape
+    fn in_parallel(self, beside: Shape) -> Shape
         requires { self.width + beside.width < 2 ^ 32 }
         ensures { result ≡ joined_shape InParallel self beside }
     {

@@ -5,6 +5,7 @@ ghost use Rattle.tree_map.specs.CoverTables.{Entry, combined, lowest};
 ghost use Rattle.tree_map.specs.LeastPlans.{operator_of};
 
 use crate::Bounds;
+use crate::shape::Shape;
 use dual_rail::Pair;
 
 /// A shape that an arm of a pair can have in the tree of the pair, and the least sum that it has in
@@ -14,6 +15,18 @@ pub(crate) struct ShapeSum {
     pub height: u32,
     pub width: u32,
     pub sum: u32,
+}
+
+impl ShapeSum {
+    /// The shape.
+    fn shape(self) -> Shape
+        ensures { result ≡ record { height = self.height; width = self.width } }
+    {
+        Shape {
+            height: self.height,
+            width: self.width,
+        }
+    }
 }
 
 /// The least sum of these entries.
@@ -30,24 +43,17 @@ pub(crate) fn cheapest(entries: &[ShapeSum]) -> Option<u32>
     least
 }
 
-/// What the arms of a pair come to: And is series, and Or is parallel.
+/// What the arms of a pair come to.
 fn joined(pair: Pair, left: ShapeSum, right: ShapeSum) -> ShapeSum
     requires left { IsSmall (entry_of left) }
     requires right { IsSmall (entry_of right) }
     ensures { entry_of result ≡ joined_entry (operator_of pair) (entry_of left) (entry_of right) }
 {
-    let sum = left.sum + right.sum;
-    match pair {
-        Pair::And(_, _) => ShapeSum {
-            height: left.height + right.height,
-            width: left.width.max(right.width),
-            sum,
-        },
-        Pair::Or(_, _) => ShapeSum {
-            height: left.height.max(right.height),
-            width: left.width + right.width,
-            sum,
-        },
+    let Shape { height, width } = Shape::joined(pair, left.shape(), right.shape());
+    ShapeSum {
+        height,
+        width,
+        sum: left.sum + right.sum,
     }
 }
 
@@ -72,7 +78,7 @@ fn keep_least(row: &mut [u32], bounds: Bounds, entry: ShapeSum)
     if entry.height > bounds.h || entry.width > bounds.w {
         return;
     }
-    let index = ((entry.height - 1) * bounds.w + (entry.width - 1)) as usize;
+    let index = entry.shape().index(bounds);
     row[index] = lesser(row[index], entry.sum);
 }
 

@@ -11,7 +11,8 @@ ghost use Rattle.tree_map.specs.CoverSums.{AreSumsOf, sum_at};
 ghost use Rattle.tree_map.specs.Plans.{is_free};
 
 use crate::Bounds;
-use crate::arms::arms_of;
+use crate::cost::CELL_COST;
+use crate::free::free_pair;
 use crate::shape::Shape;
 use crate::shape_sum::{ShapeSum, cheapest, join_arms};
 use dom_base::OutOfMemory;
@@ -102,7 +103,7 @@ impl Sums {
             entries.push(ShapeSum {
                 height: 1,
                 width: 1,
-                sum: sum + 6,
+                sum: sum + (1 + CELL_COST),
             })?;
         }
         Ok(())
@@ -121,18 +122,16 @@ impl Sums {
         ensures { OnOk result ((forest : ForestData) (place : ℕ) → AreFreeOf forest free.now → ReadsBefore place arm
             → AreTabled forest place self.now → AreEntriesOf forest self.now.w self.now.h arm (map entry_of entries.new.items)) }
     {
-        match arm {
-            Arm::Pair(place) if free[place as usize] => self.pair_entries(place as usize, entries),
-            _ => {
-                entries.clear();
-                entries.push(ShapeSum {
-                    height: 1,
-                    width: 1,
-                    sum: 1,
-                })?;
-                Ok(())
-            }
-        }
+        let Some(place) = free_pair(free, arm) else {
+            entries.clear();
+            entries.push(ShapeSum {
+                height: 1,
+                width: 1,
+                sum: 1,
+            })?;
+            return Ok(());
+        };
+        self.pair_entries(place, entries)
     }
 
     /// Appends the sums of one more pair.
@@ -171,7 +170,7 @@ pub(crate) fn sums_of(
     let mut left_entries = Vec::new(alloc);
     let mut right_entries = Vec::new(alloc);
     for pair in &forest.pairs {
-        let (left, right) = arms_of(*pair);
+        let (left, right) = pair.arms();
         table.arm_entries(free, left, &mut left_entries)?;
         table.arm_entries(free, right, &mut right_entries)?;
         join_arms(row, bounds, *pair, &left_entries, &right_entries);

@@ -2,16 +2,15 @@
 ghost use Rattle.std.specs.Prelude.{◌≡◌, ◌≤◌, ◌<◌, ◌*◌, ℕ, IfOk, IfSome, MatchOption, None, Some, length, map, slice_get, true, false};
 ghost use Rattle.std.specs.List.{range_with_len};
 ghost use Rattle.dual_rail.specs.declared.forest.Pair.{Pair as PairData};
-ghost use Rattle.tree_map.specs.Covers.{TreeShape, joined_shape};
+ghost use Rattle.tree_map.specs.Covers.{TreeShape};
 ghost use Rattle.tree_map.specs.CoverSums.{AreSumsOf, sum_at};
-ghost use Rattle.tree_map.specs.LeastPlans.{IsDecided, operator_of};
+ghost use Rattle.tree_map.specs.LeastPlans.{IsDecided};
 ghost use Rattle.tree_map.specs.Offers.{HasSums, IsFirstShape};
 ghost use Rattle.tree_map.specs.Plans.{IsFree, is_free, is_kept};
 ghost use Rattle.tree_map.specs.Ties.{AreFirstOffers, AreSmall, Give, IsDecision, IsFirstRight, IsSmall, NoneGives, SomeGive};
 
-use crate::arms::arms_of;
 use crate::decisions::{Decision, Decisions};
-use crate::offers::{Offer, offers_of, root_shape};
+use crate::offers::{Offer, offers_of, root_of};
 use crate::shape::Shape;
 use crate::sums::Sums;
 use dom_base::OutOfMemory;
@@ -26,18 +25,6 @@ struct Wanted {
     sum: u64,
 }
 
-/// The shape of a pair whose arms have these shapes.
-fn joined(pair: Pair, left: Shape, right: Shape) -> Shape
-    requires left { IsSmall left }
-    requires right { IsSmall right }
-    ensures { result ≡ joined_shape (operator_of pair) left right }
-{
-    match pair {
-        Pair::And(_, _) => left.in_series(right),
-        Pair::Or(_, _) => left.in_parallel(right),
-    }
-}
-
 impl Wanted {
     /// Whether two offers give it.
     fn is_given(&self, left: &Offer, right: &Offer) -> bool
@@ -48,7 +35,7 @@ impl Wanted {
     {
         left.sum <= self.sum
             && right.sum == self.sum - left.sum
-            && joined(self.pair, left.shape, right.shape) == self.shape
+            && Shape::joined(self.pair, left.shape, right.shape) == self.shape
     }
 
     /// The first offer for the right arm that gives it with an offer for the left arm.
@@ -90,7 +77,12 @@ fn shape_of(sums: &Sums, place: usize, kept: Option<Shape>) -> Shape
 {
     match kept {
         Some(shape) => shape,
-        None => root_shape(sums, place),
+        None => {
+            let Some((shape, _)) = root_of(sums, place) else {
+                unreachable!()
+            };
+            shape
+        }
     }
 }
 
@@ -115,7 +107,7 @@ fn decision_of(
         → IsDecision forest.now sums.now.w sums.now.h pair kept d.shape d.left d.right) }
 {
     let pair = forest.pairs[place];
-    let (left_arm, right_arm) = arms_of(pair);
+    let (left_arm, right_arm) = pair.arms();
     let shape = shape_of(sums, place, kept);
     let Some(sum) = sums.sum(place, shape.height, shape.width) else {
         unreachable!()

@@ -12,24 +12,26 @@ use dual_rail::{Arm, Forest, Pair, Rail};
 use sp_network::{GatePlan, Sp};
 use std::alloc::Global;
 
-/// A cover of a forest: for each pair whether its edge is kept, and the plan of the cell of each root,
-/// in order.
+/// A cover of a forest: for each pair whether its edge is kept and the number of the cell that it would be
+/// the root of, and the plan of the cell of each root, in order.
 #[derive(Drop)]
 pub struct Cover {
     pub kept: Vec<bool>,
+    pub cells: Vec<u32>,
     pub plans: Vec<GatePlan>,
 }
 
-/// The plans of the cells of a cover, each with the tree of its root and the clock 1. The one error is
-/// out of memory.
-pub(crate) fn trees_of(
+/// The cells of a cover: for each pair the number of the cell that it would be the root of, and the plans of
+/// the cells, each with the tree of its root and the clock 1. The one error is out of memory.
+pub(crate) fn cells_of(
     alloc: Global,
     forest: &Forest,
     kept: &[bool],
-) -> Result<Vec<GatePlan>, OutOfMemory>
+) -> Result<(Vec<u32>, Vec<GatePlan>), OutOfMemory>
     requires one_each { length kept.now ≡ length forest.now.pairs }
-    ensures trees { IfOk result (λ plans. AllZip (IsTreeOf forest.now kept.now) (roots kept.now) (plan_trees plans.items)) }
-    ensures clocks { IfOk result (λ plans. HaveFirstClock plans.items) }
+    ensures cells { IfOk result (λ c. c.0.items ≡ root_cell_numbers kept.now) }
+    ensures trees { IfOk result (λ c. AllZip (IsTreeOf forest.now kept.now) (roots kept.now) (plan_trees c.1.items)) }
+    ensures clocks { IfOk result (λ c. HaveFirstClock c.1.items) }
 {
     let pairs = forest.pairs.len();
     let cells = cell_numbers(alloc, kept)?;
@@ -40,7 +42,7 @@ pub(crate) fn trees_of(
             plans.push(GatePlan { tree, clock: 1 })?;
         }
     }
-    Ok(plans)
+    Ok((cells, plans))
 }
 
 /// For each pair the number of the cell that it would be the root of: how many pairs before it aren't kept. The one

@@ -20,14 +20,14 @@ offers_of-requires-clause-there c =
     let forest = subst IsForest c.forest.view_is c.forest.invariant in
     let at = pair_read c.args.forest.now c.forest.inside.pairs.items (ap (λ (g : ForestData). g.pairs) c.forest.view_is) c.args.place c.index-pair.result.now c.requires.place c.index-pair.ensures in
     left_within c.args.forest.now c.args.sums.now c.args.free.now c.requires.width c.requires.height forest.in_place.in_order c.requires.sums c.requires.free c.args.place c.index-pair.result.now at
-    c.arms_of-left_arm.result.0 c.arms_of-left_arm.ensures.left
+    c.arms-left_arm.result.0 c.arms-left_arm.ensures.left
 
 pub offers_of-requires-2-clause-there : goal.offers_of-requires-2-clause-there
 offers_of-requires-2-clause-there c =
     let forest = subst IsForest c.forest.view_is c.forest.invariant in
     let at = pair_read c.args.forest.now c.forest.inside.pairs.items (ap (λ (g : ForestData). g.pairs) c.forest.view_is) c.args.place c.index-pair.result.now c.requires.place c.index-pair.ensures in
     right_within c.args.forest.now c.args.sums.now c.args.free.now c.requires.width c.requires.height forest.in_place.in_order c.requires.sums c.requires.free c.args.place c.index-pair.result.now at
-    c.arms_of-left_arm.result.1 c.arms_of-left_arm.ensures.right
+    c.arms-left_arm.result.1 c.arms-left_arm.ensures.right
 
 pub first_offers-left-requires-clause-lefts : goal.first_offers-left-requires-clause-lefts
 first_offers-left-requires-clause-lefts c =
@@ -35,7 +35,7 @@ first_offers-left-requires-clause-lefts c =
     let at = pair_read c.args.forest.now c.forest.inside.pairs.items (ap (λ (g : ForestData). g.pairs) c.forest.view_is) c.args.place c.index-pair.result.now c.requires.place c.index-pair.ensures in
     subst AreSmall (sym c.as_slice.ensures.value)
     (small_left c.args.forest.now c.args.sums.now c.args.free.now c.requires.width c.requires.height forest.in_place.in_order c.requires.sums c.requires.free c.args.place c.index-pair.result.now at
-    c.arms_of-left_arm.result.0 c.offers_of.new.offers.items c.arms_of-left_arm.ensures.left c.in_ok-offers_of.ensures)
+    c.arms-left_arm.result.0 c.offers_of.new.offers.items c.arms-left_arm.ensures.left c.in_ok-offers_of.ensures)
 
 pub first_offers-left-requires-clause-rights : goal.first_offers-left-requires-clause-rights
 first_offers-left-requires-clause-rights c =
@@ -43,7 +43,7 @@ first_offers-left-requires-clause-rights c =
     let at = pair_read c.args.forest.now c.forest.inside.pairs.items (ap (λ (g : ForestData). g.pairs) c.forest.view_is) c.args.place c.index-pair.result.now c.requires.place c.index-pair.ensures in
     subst AreSmall (sym c.as_slice-2.ensures.value)
     (small_right c.args.forest.now c.args.sums.now c.args.free.now c.requires.width c.requires.height forest.in_place.in_order c.requires.sums c.requires.free c.args.place c.index-pair.result.now at
-    c.arms_of-left_arm.result.1 c.offers_of-2.new.offers.items c.arms_of-left_arm.ensures.right c.in_ok-offers_of-2.ensures)
+    c.arms-left_arm.result.1 c.offers_of-2.new.offers.items c.arms-left_arm.ensures.right c.in_ok-offers_of-2.ensures)
 
 pub first_offers-left-requires-clause-some : goal.first_offers-left-requires-clause-some
 first_offers-left-requires-clause-some c =
@@ -53,7 +53,7 @@ first_offers-left-requires-clause-some c =
     subst (λ xs. SomeGive wanted xs c.as_slice-2.result.now) (sym c.as_slice.ensures.value)
     (subst (SomeGive wanted c.offers_of.new.offers.items) (sym c.as_slice-2.ensures.value)
     (given c.args.forest.now c.args.sums.now c.args.free.now c.requires.width c.requires.height forest.in_place.in_order c.requires.sums c.requires.free c.args.place c.index-pair.result.now at
-    c.arms_of-left_arm.result.0 c.arms_of-left_arm.result.1 c.offers_of.new.offers.items c.offers_of-2.new.offers.items c.arms_of-left_arm.ensures.left c.arms_of-left_arm.ensures.right c.in_ok-offers_of.ensures c.in_ok-offers_of-2.ensures
+    c.arms-left_arm.result.0 c.arms-left_arm.result.1 c.offers_of.new.offers.items c.offers_of-2.new.offers.items c.arms-left_arm.ensures.left c.arms-left_arm.ensures.right c.in_ok-offers_of.ensures c.in_ok-offers_of-2.ensures
     c.shape_of-shape.result c.from.result (ap (sum_at c.args.sums.now c.args.place) (sym c.shape.view_is) ∙ sym c.sum.ensures ∙ c.in-Some.is ∙ ap Some (sym c.from.ensures))))
 
 pub returns : goal.returns
@@ -64,7 +64,7 @@ returns c = λ pair at.
     let wanted : Wanted = record { pair = c.index-pair.result.now; shape = c.shape_of-shape.result; sum = c.from.result } in
     subst (λ p. IsDecision c.args.forest.now c.args.sums.now.w c.args.sums.now.h p c.args.kept c.shape_of-shape.result c.first_offers-left.result.0.choice c.first_offers-left.result.1.choice) same
     (decided c.args.forest.now c.args.sums.now c.args.free.now c.requires.width c.requires.height forest.in_place.in_order c.requires.sums c.requires.free c.args.place c.index-pair.result.now here
-    c.arms_of-left_arm.result.0 c.arms_of-left_arm.result.1 c.offers_of.new.offers.items c.offers_of-2.new.offers.items c.arms_of-left_arm.ensures.left c.arms_of-left_arm.ensures.right c.in_ok-offers_of.ensures c.in_ok-offers_of-2.ensures
+    c.arms-left_arm.result.0 c.arms-left_arm.result.1 c.offers_of.new.offers.items c.offers_of-2.new.offers.items c.arms-left_arm.ensures.left c.arms-left_arm.ensures.right c.in_ok-offers_of.ensures c.in_ok-offers_of-2.ensures
     c.shape_of-shape.result c.from.result (ap (sum_at c.args.sums.now c.args.place) (sym c.shape.view_is) ∙ sym c.sum.ensures ∙ c.in-Some.is ∙ ap Some (sym c.from.ensures))
     c.first_offers-left.result.0 c.first_offers-left.result.1 c.args.kept
     (subst (λ xs. AreFirstOffers wanted xs c.offers_of-2.new.offers.items c.first_offers-left.result.0 c.first_offers-left.result.1) c.as_slice.ensures.value

@@ -6,7 +6,8 @@ use Rattle.dual_rail.specs.ForestOrder.{IsForest}
 use Rattle.dual_rail.specs.Forests.{left_arm, right_arm}
 use Rattle.tree_map.specs.Plans.{is_kept}
 use Rattle.tree_map.specs.Ties.{kept_with, shapes_with}
-use Rattle.tree_map.proofs.FirstOffers.{arm_within, pair_read}
+use Rattle.dual_rail.proofs.ForestOrders.{reads_later}
+use Rattle.tree_map.proofs.FirstOffers.{pair_read}
 use Rattle.tree_map.proofs.DecidedLists.{all_decided, kept_length, kept_sum_at, none_decided, pair_decided, shape_in, shapes_length}
 use Rattle.tree_map.proofs.PlanThere.{State}
 use Rattle.tree_map.proofs.ties.decisions.Goals as goal
@@ -49,7 +50,7 @@ decide-requires-clause-left_kept c =
     let one : c.loop-place.place ≡ suc (c.loop-place.place - 1) = omega (arith, c.loop-place-test.true) in
     let lt : c.loop-place.place - 1 < length c.args.forest.now.pairs = omega (arith, c.loop-place-test.true, c.loop-place.auto.place, count) in
     let at = pair_read c.args.forest.now c.forest.inside.pairs.items pairs_are (c.loop-place.place - 1) c.index.result.now lt c.index.ensures in
-    arm_within (c.loop-place.place - 1) (length c.loop-place.decisions.kept.items) (left_arm c.index.result.now) (forest.in_place.in_order (c.loop-place.place - 1) c.index.result.now at).0
+    reads_later (c.loop-place.place - 1) (length c.loop-place.decisions.kept.items) (left_arm c.index.result.now) (forest.in_place.in_order (c.loop-place.place - 1) c.index.result.now at).0
     (omega (arith, lt, c.loop-place.invariant.kept_count))
 
 pub decide-requires-clause-right_kept : goal.decide-requires-clause-right_kept
@@ -61,7 +62,7 @@ decide-requires-clause-right_kept c =
     let one : c.loop-place.place ≡ suc (c.loop-place.place - 1) = omega (arith, c.loop-place-test.true) in
     let lt : c.loop-place.place - 1 < length c.args.forest.now.pairs = omega (arith, c.loop-place-test.true, c.loop-place.auto.place, count) in
     let at = pair_read c.args.forest.now c.forest.inside.pairs.items pairs_are (c.loop-place.place - 1) c.index.result.now lt c.index.ensures in
-    arm_within (c.loop-place.place - 1) (length c.loop-place.decisions.kept.items) (right_arm c.index.result.now) (forest.in_place.in_order (c.loop-place.place - 1) c.index.result.now at).1
+    reads_later (c.loop-place.place - 1) (length c.loop-place.decisions.kept.items) (right_arm c.index.result.now) (forest.in_place.in_order (c.loop-place.place - 1) c.index.result.now at).1
     (omega (arith, lt, c.loop-place.invariant.kept_count))
 
 pub decide-requires-clause-left_shapes : goal.decide-requires-clause-left_shapes
@@ -73,7 +74,7 @@ decide-requires-clause-left_shapes c =
     let one : c.loop-place.place ≡ suc (c.loop-place.place - 1) = omega (arith, c.loop-place-test.true) in
     let lt : c.loop-place.place - 1 < length c.args.forest.now.pairs = omega (arith, c.loop-place-test.true, c.loop-place.auto.place, count) in
     let at = pair_read c.args.forest.now c.forest.inside.pairs.items pairs_are (c.loop-place.place - 1) c.index.result.now lt c.index.ensures in
-    arm_within (c.loop-place.place - 1) (length c.loop-place.decisions.shapes.items) (left_arm c.index.result.now) (forest.in_place.in_order (c.loop-place.place - 1) c.index.result.now at).0
+    reads_later (c.loop-place.place - 1) (length c.loop-place.decisions.shapes.items) (left_arm c.index.result.now) (forest.in_place.in_order (c.loop-place.place - 1) c.index.result.now at).0
     (omega (arith, lt, c.loop-place.invariant.shapes_count))
 
 pub decide-requires-clause-right_shapes : goal.decide-requires-clause-right_shapes
@@ -85,7 +86,7 @@ decide-requires-clause-right_shapes c =
     let one : c.loop-place.place ≡ suc (c.loop-place.place - 1) = omega (arith, c.loop-place-test.true) in
     let lt : c.loop-place.place - 1 < length c.args.forest.now.pairs = omega (arith, c.loop-place-test.true, c.loop-place.auto.place, count) in
     let at = pair_read c.args.forest.now c.forest.inside.pairs.items pairs_are (c.loop-place.place - 1) c.index.result.now lt c.index.ensures in
-    arm_within (c.loop-place.place - 1) (length c.loop-place.decisions.shapes.items) (right_arm c.index.result.now) (forest.in_place.in_order (c.loop-place.place - 1) c.index.result.now at).1
+    reads_later (c.loop-place.place - 1) (length c.loop-place.decisions.shapes.items) (right_arm c.index.result.now) (forest.in_place.in_order (c.loop-place.place - 1) c.index.result.now at).1
     (omega (arith, lt, c.loop-place.invariant.shapes_count))
 
 pub loop-place-preserved : goal.loop-place-preserved

@@ -8,7 +8,8 @@ use Rattle.dual_rail.specs.declared.forest.Pair.TheVariants.{And, Or}
 use Rattle.dual_rail.specs.ForestData.{ForestData}
 use Rattle.dual_rail.specs.ForestOrder.{ReadsBefore}
 use Rattle.tree_map.specs.Plans.{IsArmTree, literal, IsTreeOf}
-use Rattle.tree_map.proofs.ArmTrees.{and_tree, cell_at, cell_within, leaf_tree, length-cells, left_there, or_tree, pair_at, right_there, room_less, tree_below}
+use Rattle.tree_map.proofs.ArmTrees.{and_tree, cell_at, cell_within, leaf_tree, length-cells, left_there, or_tree, pair_at, right_there, room_less}
+use Rattle.compound_plan.proofs.PlanTrees.{tree_below}
 use Rattle.tree_map.proofs.trees.+tree.Goals as goal
 
 pub pair_tree-arm_tree-requires : goal.pair_tree-arm_tree-requires

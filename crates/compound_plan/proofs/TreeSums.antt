@@ -2,7 +2,7 @@
 use Rattle.std.proofs.Common.{arith, refl, suc, zero, ℕ, ◌*◌, ◌+◌, ◌≡◌}
 use Rattle.std.proofs.Math.Nat.{mul-add, mul-one}
 use Rattle.sp_network.specs.Tree.{Parallel, Series, Tree, inner_count, leaves}
-use Rattle.tree_map.specs.Plans.{tree_sum}
+use Rattle.compound_plan.specs.PlanTrees.{tree_sum}
 
 pub tree_sum-is : (n : ℕ) (tree : Tree ℕ) → tree_sum n tree ≡ leaves tree + n * inner_count tree
 tree_sum-is zero tree = omega arith

@@ -4,8 +4,8 @@ use Rattle.sp_network.specs.declared.plan.GatePlan.{GatePlan}
 use Rattle.tree_map.specs.MappedCover.{HaveFirstClock, plan_trees}
 use Rattle.tree_map.specs.Plans.{IsTreeOf}
 use Rattle.tree_map.proofs.RootTrees.{first_clocks, roots_before, trees_kept, trees_more}
-use Rattle.tree_map.proofs.trees.trees_of.Goals.{then-not-kept-place+in_ok-tree+in_ok-push, else-not-kept-place}
-use Rattle.tree_map.proofs.trees.trees_of.Goals as goal
+use Rattle.tree_map.proofs.trees.cells_of.Goals.{then-not-kept-place+in_ok-tree+in_ok-push, else-not-kept-place}
+use Rattle.tree_map.proofs.trees.cells_of.Goals as goal
 
 pub loop-place-preserved : goal.loop-place-preserved
 loop-place-preserved c = record {

@@ -8,9 +8,9 @@ use Rattle.dual_rail.specs.ForestData.{ForestData}
 use Rattle.dual_rail.specs.Forests.{left_arm, right_arm}
 use Rattle.cover_plan.specs.Covers.{Costs, IsChoice, IsLeast}
 use Rattle.cover_plan.specs.Parts.{CoverPart, Join, Keep, TreeShape}
-use Rattle.tree_map.specs.LeastPlans.{IsPartOf, free, literal, operator_of, shared}
-use Rattle.tree_map.specs.Plans.{IsFree}
-use Rattle.tree_map.proofs.LeastPlan.{part_one}
+use Rattle.compound_plan.specs.PlanParts.{IsPartOf, free, literal, operator_of, shared}
+use Rattle.compound_plan.specs.PlanTrees.{IsFree}
+use Rattle.compound_plan.proofs.PlanParts.{part_one}
 
 -- a choice to keep is there for a free edge alone
 pub keep_free : (c : Costs) (forest : ForestData) (w h : ℕ) (arm : Arm) (t : CoverPart) (a : ℕ) (s s' : TreeShape) (m : ℕ) → IsPartOf forest arm t → arm ≡ pair_arm a → IsChoice c w h t (Keep s) s' m → IsFree forest a

@@ -1,11 +1,11 @@
 -- The first number that is least of all belongs to the shape of a root.
-use Rattle.std.proofs.Common.{◌≡◌, ◌≤◌, sym, ap, subst, ◌+◌, length, get_or, slice_get, Some, arith}
+use Rattle.std.proofs.Common.{◌≡◌, ◌≤◌, ◌<◌, sym, ap, subst, ◌+◌, length, get_or, slice_get, Some, arith}
 use Rattle.std.proofs.lemmas.Option.{slice_get-get_or}
 use Rattle.tree_map.specs.CoverRows.{IsShapeIn, row_index}
-use Rattle.tree_map.proofs.FirstShapes.{IsFirstBelow, first_found, first_is, first_stays, first_within}
+use Rattle.tree_map.proofs.FirstShapes.{IsFirstBelow, first_found, first_is, first_stays, first_sum, first_within, none_had}
 use Rattle.tree_map.proofs.ReadRows.{row_of}
-use Rattle.tree_map.proofs.offers.root_shape.Goals.{then-is_less, else-is_less}
-use Rattle.tree_map.proofs.offers.root_shape.Goals as goal
+use Rattle.tree_map.proofs.offers.root_of.Goals.{then-is_less, else-is_less}
+use Rattle.tree_map.proofs.offers.root_of.Goals as goal
 
 pub loop-index-preserved : goal.loop-index-preserved
 loop-index-preserved c =
@@ -30,13 +30,24 @@ at-requires c =
     let t = c.args.sums.now in
     let row : c.row-row.result.now ≡ row_of t c.args.place = c.row-row.ensures in
     let all : length (row_of t c.args.place) ≤ c.loop-index.index = omega (arith, ap length row, c.loop-index-test.false, c.loop-index.auto.index-end) in
-    record { within = rw (c.bounds-bounds.ensures.width, c.bounds-bounds.ensures.height) (first_within t c.args.place c.loop-index.index c.loop-index.first c.loop-index.least c.loop-index.invariant all c.requires.some) }
+    let some : 0 < c.loop-index.least = omega (arith, c.if-least-eq0.false) in
+    record { within = rw (c.bounds-bounds.ensures.width, c.bounds-bounds.ensures.height) (first_within t c.args.place c.loop-index.index c.loop-index.first c.loop-index.least c.loop-index.invariant all some) }
 
-pub returns : goal.returns
-returns c =
+pub returns-then-least-eq0 : goal.returns-then-least-eq0
+returns-then-least-eq0 c =
     let t = c.args.sums.now in
     let row : c.row-row.result.now ≡ row_of t c.args.place = c.row-row.ensures in
     let all : length (row_of t c.args.place) ≤ c.loop-index.index = omega (arith, ap length row, c.loop-index-test.false, c.loop-index.auto.index-end) in
+    none_had t c.args.place c.loop-index.index c.loop-index.first c.loop-index.least c.loop-index.invariant all (omega (arith, c.if-least-eq0.true))
+
+pub returns-else-least-eq0 : goal.returns-else-least-eq0
+returns-else-least-eq0 c =
+    let t = c.args.sums.now in
+    let row : c.row-row.result.now ≡ row_of t c.args.place = c.row-row.ensures in
+    let all : length (row_of t c.args.place) ≤ c.loop-index.index = omega (arith, ap length row, c.loop-index-test.false, c.loop-index.auto.index-end) in
+    let some : 0 < c.loop-index.least = omega (arith, c.if-least-eq0.false) in
     let in_ : IsShapeIn t.w t.h c.at.result = rw (c.bounds-bounds.ensures.width, c.bounds-bounds.ensures.height) at c.at.ensures.within in
-    let here : row_index t.w c.at.result ≡ c.loop-index.first = rw c.bounds-bounds.ensures.width at c.at.ensures.index in
-    first_is t c.args.place c.loop-index.index c.loop-index.first c.loop-index.least c.loop-index.invariant all c.requires.some c.at.result in_ here
+    let here : row_index t.w c.at.result ≡ c.loop-index.first = rw c.bounds-bounds.ensures.width at c.at.ensures.index in (
+      first_is t c.args.place c.loop-index.index c.loop-index.first c.loop-index.least c.loop-index.invariant all some c.at.result in_ here,
+      first_sum t c.args.place c.loop-index.index c.loop-index.first c.loop-index.least c.loop-index.invariant all some c.at.result in_ here,
+    )

@@ -1,14 +1,14 @@
--- A pair that is used once has one user, by one arm.
+-- A pair that is used has a user, and a pair that is used once has one, by one arm.
 use Rattle.std.proofs.lemmas.Option.{same_Some}
-use Rattle.std.proofs.Common.{◌≡◌, ◌⊎◌, inl, inr, refl, sym, ap, subst, ℕ, zero, suc, ◌+◌, ◌≤◌, ◌<◌, Bool, true, false, cond, List, [], ◌∷◌, Some, slice_get, sum_by, count_by, eq-eqb, arith}
+use Rattle.std.proofs.Common.{◌≡◌, ◌⊎◌, inl, inr, refl, sym, ap, subst, ℕ, zero, suc, ◌+◌, ◌≤◌, ◌<◌, Bool, true, false, cond, List, [], ◌∷◌, Some, slice_get, sum_by, count_by, eq-eqb, eqb-true, arith}
 use Rattle.std.proofs.lemmas.Bool.{cases_lt}
 use Rattle.std.proofs.lemmas.List.Sums.{sum_by-cons}
 use Rattle.dual_rail.specs.declared.forest.Arm.{Arm}
-use Rattle.dual_rail.specs.declared.forest.Arm.TheVariants.{Pair as pair_arm}
+use Rattle.dual_rail.specs.declared.forest.Arm.TheVariants.{Literal, Pair as pair_arm}
 use Rattle.dual_rail.specs.declared.forest.Pair.{Pair}
 use Rattle.dual_rail.specs.declared.forest.Pair.TheVariants.{And, Or}
 use Rattle.dual_rail.specs.Forests.{arms_of, is_pair_arm, left_arm, right_arm}
-use Rattle.tree_map.proofs.Tallies.{uses}
+use Rattle.compound_plan.proofs.Tallies.{uses}
 
 -- the arms of a pair name a place
 abbrev pub Names : ℕ → Pair → Type 0
@@ -71,3 +71,35 @@ one_arm pairs q u x once e f g =
     let two = twice_counts q x f g in
     let sum = one_counts (λ z. count_by (is_pair_arm q) (arms_of z)) pairs u x e in
     omega arith
+
+arm-is : (p : ℕ) (arm : Arm) → is_pair_arm p arm ≡ true → arm ≡ pair_arm p
+arm-is p (Literal rail) e = absurd (cc)
+arm-is p (pair_arm q) e = ap pair_arm (eqb-true q p e)
+
+named_by : (p : ℕ) (pair : Pair) → 1 ≤ count_by (is_pair_arm p) (arms_of pair) → Names p pair
+named_by p (And a b) h = by (is_pair_arm p a) (is_pair_arm p b) refl refl h
+  where
+    by : (x y : Bool) → is_pair_arm p a ≡ x → is_pair_arm p b ≡ y → 1 ≤ 0 + cond x 1 0 + cond y 1 0 → (a ≡ pair_arm p) ⊎ (b ≡ pair_arm p)
+    by true y e f le = inl (arm-is p a e)
+    by false true e f le = inr (arm-is p b f)
+    by false false e f le = absurd (omega arith)
+named_by p (Or a b) h = by (is_pair_arm p a) (is_pair_arm p b) refl refl h
+  where
+    by : (x y : Bool) → is_pair_arm p a ≡ x → is_pair_arm p b ≡ y → 1 ≤ 0 + cond x 1 0 + cond y 1 0 → (a ≡ pair_arm p) ⊎ (b ≡ pair_arm p)
+    by true y e f le = inl (arm-is p a e)
+    by false true e f le = inr (arm-is p b f)
+    by false false e f le = absurd (omega arith)
+
+-- a pair that is used is named by an arm
+pub user : (pairs : List Pair) (p : ℕ) → 1 ≤ uses pairs p → (u : ℕ) × (pair : Pair) × (slice_get pairs u ≡ Some pair) × Names p pair
+user [] p h = absurd (omega arith)
+user (pair ∷ pairs) p h = by (cases_lt 0 (count_by (is_pair_arm p) (arms_of pair))) (λ g. user pairs p g)
+  where
+    sum : uses (pair ∷ pairs) p ≡ count_by (is_pair_arm p) (arms_of pair) + uses pairs p
+    sum = sum_by-cons (λ x. count_by (is_pair_arm p) (arms_of x)) pair pairs
+
+    by : (0 < count_by (is_pair_arm p) (arms_of pair)) ⊎ (count_by (is_pair_arm p) (arms_of pair) ≤ 0)
+        → (1 ≤ uses pairs p → (u : ℕ) × (x : Pair) × (slice_get pairs u ≡ Some x) × Names p x)
+        → (u : ℕ) × (x : Pair) × (slice_get (pair ∷ pairs) u ≡ Some x) × Names p x
+    by (inl lt) more = (0, pair, refl, named_by p pair (omega arith))
+    by (inr le) more = let r = more (omega (arith, sum)) in (suc r.0, r.1, r.2, r.3)

@@ -3,7 +3,7 @@ use Rattle.std.proofs.Common.{◌≡◌, ◌⊎◌, inl, inr, refl, sym, ap, sub
 use Rattle.std.proofs.lemmas.Bool.{cases_eq}
 use Rattle.dual_rail.specs.declared.forest.Arm.{Arm}
 use Rattle.dual_rail.specs.declared.forest.Arm.TheVariants.{Literal, Pair as pair_arm}
-use Rattle.tree_map.specs.Covers.{Choice, CutOff, Keep, Nothing, TreeShape}
+use Rattle.cover_plan.specs.Parts.{Choice, CutOff, Keep, Nothing, TreeShape}
 
 -- what a choice for an arm changes: a kept pair is marked, and has the shape of the choice
 unfoldable pub mark : Arm → Choice → (ℕ → Bool) → ℕ → Bool

@@ -7,8 +7,9 @@ use Rattle.dual_rail.specs.declared.forest.Arm.TheVariants.{Literal, Pair as pai
 use Rattle.dual_rail.specs.declared.forest.Pair.{Pair}
 use Rattle.dual_rail.specs.declared.forest.Pair.TheVariants.{And, Or}
 use Rattle.dual_rail.specs.Forests.{is_pair_arm, arms_of, left_arm, right_arm}
+use Rattle.dual_rail.proofs.ForestOrders.{reads_later}
 use Rattle.dual_rail.specs.ForestOrder.{AreInOrder, ReadsBefore}
-use Rattle.tree_map.proofs.Totals.{total, total_same, total_add, total_one, total_parts, total_shift, total_zero}
+use Rattle.compound_plan.proofs.Totals.{total, total_same, total_add, total_one, total_parts, total_shift, total_zero}
 
 -- what an arm hands on
 abbrev pub arm_value : (ℕ → ℕ) → Arm → ℕ
@@ -104,13 +105,20 @@ module _ (pairs : List Pair) (order : AreInOrder pairs) (c : ℕ → Bool) (own 
   reads_below p pair e =
       let within = slice_get_within pairs p pair e in
       let h = order p pair e in
-      (later (left_arm pair) h.0 within, later (right_arm pair) h.1 within)
-    where
-      later : (arm : Arm) → ReadsBefore p arm → p < length pairs → ReadsBefore (length pairs) arm
-      later (Literal rail) x lt = tt
-      later (pair_arm place) x lt = omega arith
+      (reads_later p (length pairs) (left_arm pair) h.0 (omega (arith, within)), reads_later p (length pairs) (right_arm pair) h.1 (omega (arith, within)))
 
-  -- where each pair that hands on is named by one arm, the tallies of the others add up to all own numbers
+  -- where each pair that hands on is named by one arm, the arms hand on what these pairs have
+  pub arms_once : ((q : ℕ) → q < length pairs → c q ≡ true → uses pairs q ≡ 1) → (f : ℕ → ℕ)
+      → total (λ p. arms_value (λ q. cond (c q) (f q) 0) (slice_get pairs p)) 0 (length pairs) ≡ total (λ q. cond (c q) (f q) 0) 0 (length pairs)
+  arms_once once f =
+      let g : ℕ → ℕ = λ q. cond (c q) (f q) 0 in
+      arms_total g (length pairs) pairs reads_below ∙ total_same (λ q. uses pairs q * g q) g 0 (length pairs) (λ q low high. single q (omega arith) (c q) refl)
+    where
+      single : (q : ℕ) → q < length pairs → (b : Bool) → c q ≡ b → uses pairs q * cond b (f q) 0 ≡ cond b (f q) 0
+      single q lt true e = rw (once q lt e) (omega arith)
+      single q lt false e = omega arith
+
+  -- and the tallies of the others add up to all own numbers
   pub tally_total : ((q : ℕ) → q < length pairs → c q ≡ true → uses pairs q ≡ 1)
       → total (λ p. cond (c p) 0 (tally pairs c own p)) 0 (length pairs) ≡ total own 0 (length pairs)
   tally_total once =
@@ -119,11 +127,6 @@ module _ (pairs : List Pair) (order : AreInOrder pairs) (c : ℕ → Bool) (own 
       let g : ℕ → ℕ = λ q. cond (c q) (f q) 0 in
       let all : total f 0 n ≡ total own 0 n + total (λ p. arms_value g (slice_get pairs p)) 0 n =
       total_same f (λ p. own p + arms_value g (slice_get pairs p)) 0 n (λ p low high. tally-is p) ∙ total_add own (λ p. arms_value g (slice_get pairs p)) 0 n in
-      let handed : total (λ p. arms_value g (slice_get pairs p)) 0 n ≡ total g 0 n =
-      arms_total g n pairs reads_below ∙ total_same (λ q. uses pairs q * g q) g 0 n (λ q low high. single q (omega arith) (c q) refl) in
+      let handed : total (λ p. arms_value g (slice_get pairs p)) 0 n ≡ total g 0 n = arms_once once f in
       let parts = total_parts c f 0 n in
       omega (arith, all, handed, parts)
-    where
-      single : (q : ℕ) → q < length pairs → (b : Bool) → c q ≡ b → uses pairs q * cond b (tally pairs c own q) 0 ≡ cond b (tally pairs c own q) 0
-      single q lt true e = rw (once q lt e) (omega arith)
-      single q lt false e = omega arith
