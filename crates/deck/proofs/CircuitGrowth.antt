@@ -1,9 +1,10 @@
 -- Circuits that grow: devices add nets and devices at the end, and each net keeps its number.
-use Rattle.std.proofs.Common.{◌≡◌, ℕ, List, [], ◌∷◌, ◌++◌, map, refl, sym, ap, ◌∙◌, nat_eq, append_assoc, append-nil}
+use Rattle.std.proofs.Common.{◌≡◌, ℕ, List, [], ◌∷◌, ◌++◌, map, refl, sym, ap, subst, ◌∙◌, nat_eq, append_assoc, append-nil}
 use Rattle.std.specs.List.{AllByRecursion, IsDistinct}
 use Rattle.std.specs.Cmp.Lexicographic.{pointwise}
 use Rattle.dom_base.specs.declared.kind.Kind.{Kind}
 use Rattle.deck.specs.CircuitData.{CircuitData}
+use Rattle.deck.specs.declared.device.Device.{Device}
 use Rattle.deck.specs.CircuitGrowth.{Grew}
 use Rattle.deck.specs.NamedDevices.{NamedDevice, with_devices}
 use Rattle.deck.specs.Nets.{with_net, with_nets}
@@ -39,6 +40,17 @@ Grew-same {old} e = record {
   devices = ap (λ (c : CircuitData). c.devices) e ∙ sym (append-nil old.devices);
 }
 
+-- a circuit whose nets and devices are those after a push, or as they were
+pub Grew-made : (old : CircuitData) (nets : List (List ℕ)) (devices : List Device) (kind : Kind) (d g s : List ℕ)
+    → nets ≡ with_nets old.nets d g s → devices ≡ old.devices ++ added_device old.nets kind d g s ∷ []
+    → Grew old (record old { nets = nets; devices = devices })
+Grew-made old nets devices kind d g s nets_are devices_are =
+    subst (Grew old) (λ i. record old { nets = sym nets_are i; devices = sym devices_are i }) (pushed-grew old kind d g s)
+
+pub Grew-kept : (old : CircuitData) (nets : List (List ℕ)) (devices : List Device) → nets ≡ old.nets → devices ≡ old.devices
+    → Grew old (record old { nets = nets; devices = devices })
+Grew-kept old nets devices nets_are devices_are = Grew-same (λ i. record old { nets = nets_are i; devices = devices_are i })
+
 pub Grew-trans : (a b c : CircuitData) → Grew a b → Grew b c → Grew a c
 Grew-trans a b c x y = record {
   more_nets = x.more_nets ++ y.more_nets;
@@ -49,6 +61,10 @@ Grew-trans a b c x y = record {
   nets = y.nets ∙ ap (λ l. l ++ y.more_nets) x.nets ∙ append_assoc a.nets x.more_nets y.more_nets;
   devices = y.devices ∙ ap (λ l. l ++ y.more_devices) x.devices ∙ append_assoc a.devices x.more_devices y.more_devices;
 }
+
+-- a circuit that grew in two steps
+pub Grew-then : {a b c : CircuitData} → Grew a b → Grew b c → Grew a c
+Grew-then {a} {b} {c} x y = Grew-trans a b c x y
 
 -- one more device, at the end
 pub with_devices-push : (c : CircuitData) (ds : List (NamedDevice (List ℕ))) (d : NamedDevice (List ℕ)) → with_devices c (ds ++ d ∷ []) ≡ pushed (with_devices c ds) d.kind d.drain d.gate d.source

@@ -7,6 +7,7 @@ use Rattle.dom_base.specs.declared.kind.Kind.{Kind}
 use Rattle.deck.specs.declared.device.Device.{Device}
 use Rattle.deck.specs.CircuitData.{CircuitData}
 use Rattle.deck.specs.NamedDevices.{NamedDevice, named_device, with_devices}
+use Rattle.deck.specs.Limits.{most_devices, most_ports}
 use Rattle.deck.specs.Nets.{net_name, with_net, with_nets, ends, IsInRange, IsNumbered, numbers_used, IsCircuit}
 use Rattle.deck.specs.Numbers.{AreNumbersOf}
 use Rattle.deck.specs.Pushes.{added_device, pushed}
@@ -34,7 +35,7 @@ numbers_used-le n (d ∷ ds) a = omega (arith, numbers_used-le (max (max (max n 
 
 -- one more device, at the end
 pub IsCircuit-pushed : (ports : ℕ) (nets : List (List ℕ)) (devices : List Device) (kind : Kind) (d g s : List ℕ)
-    → IsCircuit ports nets devices → length devices < 2 ^ 24 → IsCircuit ports (with_nets nets d g s) (devices ++ added_device nets kind d g s ∷ [])
+    → IsCircuit ports nets devices → length devices < most_devices → IsCircuit ports (with_nets nets d g s) (devices ++ added_device nets kind d g s ∷ [])
 IsCircuit-pushed ports nets devices kind d g s is room =
     let a = number_fits nets d in
     let b = number_fits (with_net nets d) g in
@@ -62,12 +63,12 @@ numbers_fit nets d g s p few at =
 
 -- what holds of a circuit holds after a push
 pub IsCircuit-push : (c : CircuitData) (kind : Kind) (d g s : List ℕ)
-    → IsCircuit c.ports c.nets c.devices → length c.devices < 2 ^ 24
+    → IsCircuit c.ports c.nets c.devices → length c.devices < most_devices
     → let p = pushed c kind d g s in IsCircuit p.ports p.nets p.devices
 IsCircuit-push c kind d g s is room = IsCircuit-pushed c.ports c.nets c.devices kind d g s is room
 
 -- what holds of every circuit holds with more devices
-pub IsCircuit-with_devices : (c : CircuitData) (ds : List (NamedDevice (List ℕ))) → IsCircuit c.ports c.nets c.devices → length c.devices + length ds ≤ 2 ^ 24
+pub IsCircuit-with_devices : (c : CircuitData) (ds : List (NamedDevice (List ℕ))) → IsCircuit c.ports c.nets c.devices → length c.devices + length ds ≤ most_devices
     → let e = with_devices c ds in IsCircuit e.ports e.nets e.devices
 IsCircuit-with_devices c [] is few = is
 IsCircuit-with_devices c (d ∷ ds) is few =
@@ -93,7 +94,7 @@ IsCircuit-in_range ports nets devices is =
 pub IsCircuit-ports : (ports : ℕ) (nets : List (List ℕ)) (devices : List Device) → IsCircuit ports nets devices → ports ≤ length nets
 IsCircuit-ports ports nets devices is = omega (arith, is.all_used, numbers_used-ge ports (ends devices))
 
-pub IsCircuit-few : (ports : ℕ) (nets : List (List ℕ)) (devices : List Device) → IsCircuit ports nets devices → length nets ≤ 2 ^ 20 + 3 * 2 ^ 24
+pub IsCircuit-few : (ports : ℕ) (nets : List (List ℕ)) (devices : List Device) → IsCircuit ports nets devices → length nets ≤ most_ports + 3 * most_devices
 IsCircuit-few ports nets devices is = omega (arith, is.all_used, numbers_used-le ports devices is.in_order, is.few_ports)
 
 -- the circuit with these devices, and so many of its nets

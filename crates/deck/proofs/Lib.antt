@@ -7,8 +7,11 @@ pub mod DeckUnique
 pub mod DeviceNumbers
 pub mod EscapedNames
 pub mod Escaping
+pub mod JoinedNames
+pub mod KnownNumbers
 pub mod NetNames
 pub mod NetNumbers
+pub mod NetsAt
 pub mod OneCircuit
 pub mod PortDecisions
 pub mod PortLayout

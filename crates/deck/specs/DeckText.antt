@@ -1,5 +1,5 @@
 -- The circuit of a deck, the text of one subcircuit of transistors (SPICE subcircuit and M cards).
-use Rattle.std.specs.Prelude.{ℕ, ◌≤◌, ◌≡◌, ◌≢◌, ◌^◌, Bool, true, false, ◌==◌, ◌||◌, ◌&&◌, not, if◌then◌else◌, List, [], ◌∷◌, ◌++◌, length, map, filter, take, drop, Option, Some, None, All, nat_eq, codes}
+use Rattle.std.specs.Prelude.{ℕ, ◌≤◌, ◌≡◌, ◌≢◌, Bool, true, false, ◌==◌, ◌||◌, ◌&&◌, not, if◌then◌else◌, List, [], ◌∷◌, ◌++◌, length, map, filter, take, drop, Option, Some, None, All, nat_eq, codes}
 use Rattle.std.specs.List.{AllZip, IsDistinct, filter_map, list_any}
 use Rattle.std.specs.Str.{str_to_ascii_lowercase}
 use Rattle.std.specs.Cmp.Lexicographic.{pointwise}
@@ -9,6 +9,7 @@ use Rattle.dom_base.specs.declared.kind.Kind.{Kind}
 use Rattle.dom_base.specs.declared.kind.Kind.TheVariants.{N as nch, P as pch, Keep}
 use Rattle.deck.specs.declared.phase.Phase.{Phase}
 use Rattle.deck.specs.CircuitData.{CircuitData}
+use Rattle.deck.specs.Limits.{most_devices, most_ports}
 use Rattle.deck.specs.NamedDevices.{NamedDevice, with_devices}
 
 -- a line as it is read: without blanks and tabs at its start, and with upper-case ASCII letters as lower-case
@@ -122,8 +123,8 @@ pub record IsDeckOf (text : List ℕ) (circuit : CircuitData) : Type 0 where
   pub few_closing : length closing ≤ 1
   pub no_equals : All HasNoEquals (name ∷ ports)
   pub ports_differ : IsDistinct (pointwise nat_eq) ports
-  pub few_ports : length ports ≤ 2 ^ 20
-  pub few_devices : length devices ≤ 2 ^ 24
+  pub few_ports : length ports ≤ most_ports
+  pub few_devices : length devices ≤ most_devices
   pub cards_are : AllZip IsDeviceCard device_cards devices
   pub circuit_is : circuit ≡ with_devices (bare_circuit name (deck_phases text) ports) devices
 

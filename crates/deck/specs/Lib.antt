@@ -12,6 +12,7 @@ pub mod FaultsWithCalls
 pub mod Limits
 pub mod NamedDevices
 pub mod Nets
+pub mod NetsAt
 pub mod NumberedDevices
 pub mod Numbers
 pub mod Paths

@@ -1,16 +1,18 @@
 //! Circuits.
-ghost use Rattle.std.specs.Prelude.{◌≡◌, ◌<◌, ◌≤◌, ◌+◌, ◌++◌, ◌∷◌, ◌^◌, [], All, IfOk, OnErr, OnOk, length, nat_eq, take};
+ghost use Rattle.std.specs.Prelude.{◌≡◌, ◌<◌, ◌≤◌, ◌+◌, ◌++◌, All, IfOk, OnErr, OnOk, length, nat_eq};
 ghost use Rattle.std.specs.Cmp.Lexicographic.{pointwise};
 ghost use Rattle.std.specs.List.{IsDistinct};
 ghost use Rattle.dom_base.specs.Names.{IsNetName};
 ghost use Rattle.deck.specs.Limits.{most_clocks, most_devices, most_pins_and_outputs};
-ghost use Rattle.deck.specs.Nets.{IsCircuit, with_nets};
+ghost use Rattle.deck.specs.Nets.{IsCircuit};
 ghost use Rattle.deck.specs.Ports.{IsOutput, IsPin};
-ghost use Rattle.deck.specs.Pushes.{added_device, new_circuit, pushed};
+ghost use Rattle.deck.specs.Pushes.{new_circuit, pushed};
 ghost use Rattle.deck.specs.Whole.{IsWhole};
 
-use crate::number::{NetSet, add_all, number_ends};
+use crate::net_at::NetAt;
+use crate::number::{NetSet, add_all};
 use crate::ports::leading_nets;
+use crate::push::push_held;
 use crate::{Device, Phase};
 use dom_base::{Kind, NameDigest, NameHash, NetName, OutOfMemory};
 use std::alloc::Global;
@@ -88,14 +90,11 @@ impl Circuit {
         ensures ok { OnOk result (self.new ≡ pushed self.old kind drain.now gate.now source.now) }
         ensures err { OnErr result (self.new ≡ self.old) }
     {
-        let before = self.nets.len();
-        match push_device(&mut self.nets, &mut self.devices, kind, drain, gate, source) {
-            Ok(()) => Ok(()),
-            Err(failed) => {
-                self.nets.truncate(before);
-                Err(failed)
-            }
-        }
+        let drain = NetAt::found(self, drain);
+        let gate = NetAt::found(self, gate);
+        let source = NetAt::found(self, source);
+        push_held(self, kind, drain, gate, source)?;
+        Ok(())
     }
 
     /// The number of devices, at most 16,777,216.
@@ -129,33 +128,6 @@ fn add_names<'a>(digest: &mut NameDigest<'a>, names: &'a [NetName]) -> Result<()
     for name in names {
         digest.add(name.as_bytes())?;
     }
-    Ok(())
-}
-
-/// Adds a device between the nets of these names at the end, and its nets where they are new. After
-/// a refusal some of the nets may stand at the end.
-fn push_device(
-    nets: &mut NetSet,
-    devices: &mut Vec<Device>,
-    kind: Kind,
-    drain: &NetName,
-    gate: &NetName,
-    source: &NetName,
-) -> Result<(), OutOfMemory>
-    requires { length nets.old.keys + 3 < 2 ^ 32 }
-    ensures nets { OnOk result (nets.new.keys ≡ with_nets nets.old.keys drain.now gate.now source.now) }
-    ensures devices { OnOk result (devices.new.items
-        ≡ devices.old.items ++ added_device nets.old.keys kind drain.now gate.now source.now ∷ []) }
-    ensures kept { OnErr result (devices.new.items ≡ devices.old.items) }
-    ensures begins { take (length nets.old.keys) nets.new.keys ≡ nets.old.keys }
-{
-    let (drain, gate, source) = number_ends(nets, drain, gate, source)?;
-    devices.push(Device {
-        kind,
-        drain: drain as u32,
-        gate: gate as u32,
-        source: source as u32,
-    })?;
     Ok(())
 }
 

@@ -6,8 +6,9 @@ ghost use Rattle.deck.specs.Numbers.{with_all};
 ghost use Rattle.deck.specs.Ports.{clock_ports, latch_ports, leading_ports};
 
 use crate::limits::UNCLOCKED_COUNT;
-use crate::number::{NetSet, number};
-use dom_base::{NameBytes, NameHash, NetName, OutOfMemory};
+use crate::names::fixed_name;
+use crate::number::{NetSet, add};
+use dom_base::{NameHash, OutOfMemory};
 use std::alloc::Global;
 
 /// The names of the clocks.
@@ -59,8 +60,7 @@ pub fn leading_nets(alloc: Global, hash: NameHash, clocks: u8) -> Result<NetSet,
 {
     let mut nets = NetSet::with_hasher(alloc, hash);
     for port in 0..clocks + UNCLOCKED_COUNT {
-        let name = NetName(NameBytes::from_slice(alloc, leading_port(clocks, port))?);
-        number(&mut nets, &name)?;
+        add(&mut nets, &fixed_name(alloc, leading_port(clocks, port))?)?;
     }
     Ok(nets)
 }

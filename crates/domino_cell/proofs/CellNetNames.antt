@@ -11,7 +11,8 @@ use Rattle.std.proofs.lemmas.List.Folds.{list_any-append}
 use Rattle.deck.specs.Escapes.{escaped}
 use Rattle.deck.specs.Ports.{IsPin, IsOutput, leading_ports}
 use Rattle.sp_network.specs.Tree.{Tree, inner_count}
-use Rattle.domino_cell.specs.NamedCell.{HasCellNames, IsStageName}
+use Rattle.domino_cell.specs.Cell.{IsStageNet}
+use Rattle.domino_cell.specs.NamedCell.{HasCellNames}
 use Rattle.deck.proofs.NetNumbers.{HasNumber-from}
 use Rattle.domino_cell.specs.CellNames.{cell_nets}
 use Rattle.deck.specs.PortNames.{output_name}
@@ -47,7 +48,7 @@ pub first_apart : (x y : ℕ) (xs ys : List ℕ) → x ≢ y → x ∷ xs ≢ y 
 first_apart x y xs ys apart e = let same : x ≡ y = cc in apart same
 
 -- a name that begins with another byte than `d`, `f` and `t`
-stage_apart : (x : ℕ) (xs : List ℕ) (tree : Tree (List ℕ)) → x ≢ 100 → x ≢ 102 → x ≢ 116 → (name : List ℕ) → IsStageName cell_nets tree name → x ∷ xs ≢ name
+stage_apart : (x : ℕ) (xs : List ℕ) (tree : Tree (List ℕ)) → x ≢ 100 → x ≢ 102 → x ≢ 116 → (name : List ℕ) → IsStageNet cell_nets tree name → x ∷ xs ≢ name
 stage_apart x xs tree d f t name (inl e) z = first_apart x 100 xs (48 ∷ []) d (z ∙ e)
 stage_apart x xs tree d f t name (inr (inl e)) z = first_apart x 102 xs (48 ∷ []) f (z ∙ e)
 stage_apart x xs tree d f t name (inr (inr (j, lt, e))) z = first_apart x 116 xs (48 ∷ 95 ∷ decimal j) t (z ∙ e)
@@ -56,7 +57,7 @@ stage_apart x xs tree d f t name (inr (inr (j, lt, e))) z = first_apart x 116 xs
 abbrev IsInside : List (List ℕ) → List (List ℕ) → List ℕ → Type 0
 IsInside pins outs name = list_any (pointwise nat_eq name) (leading_ports 1 ++ pins ++ outs) ≡ false
 
-stage_inside : (pins outs : List (List ℕ)) (tree : Tree (List ℕ)) → All IsPin pins → All IsOutput outs → (name : List ℕ) → IsStageName cell_nets tree name
+stage_inside : (pins outs : List (List ℕ)) (tree : Tree (List ℕ)) → All IsPin pins → All IsOutput outs → (name : List ℕ) → IsStageNet cell_nets tree name
     → IsInside pins outs name
 stage_inside pins outs tree a b name (inl e) = subst (IsInside pins outs) (sym e) (dynamic_inside pins outs a b)
 stage_inside pins outs tree a b name (inr (inl e)) = subst (IsInside pins outs) (sym e) (foot_inside pins outs a b)

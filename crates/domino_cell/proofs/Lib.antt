@@ -3,9 +3,7 @@ pub mod CellCircuits
 pub mod CellLaws
 pub mod CellNetNames
 pub mod Cells
-pub mod KnownNumbers
 pub mod NamedCells
-pub mod NetNames
 pub mod NetsAt
 pub mod Paths
 pub mod PushedCells

@@ -13,7 +13,7 @@ use Rattle.deck.specs.CircuitData.{CircuitData}
 use Rattle.deck.specs.Nets.{net_number}
 use Rattle.deck.specs.Sources.{is_source}
 use Rattle.deck.specs.NamedDevices.{NamedDevice, device_of, map_device, with_devices}
-use Rattle.domino_cell.specs.NamedCell.{HasCellNames, IsBuilt, IsNumberedCell, IsStageName}
+use Rattle.domino_cell.specs.NamedCell.{HasCellNames, IsBuilt, IsNumberedCell}
 use Rattle.domino_cell.specs.Cell.{CellNets, IsCell, IsStageNet, cell, dynamic_stage, inverter, map_nets}
 use Rattle.sp_network.specs.Tree.{Tree, Leaf, Series, Parallel, inner_count, map_tree}
 use Rattle.domino_cell.specs.Spelling.{spell}
@@ -167,7 +167,7 @@ module _ (ports : List (List ℕ)) (e : CircuitData) (nets : CellNets (List ℕ)
       let same : net_number e.nets name ≡ net_number ports name = ap (λ l. net_number l name) built.nets ∙ net_number-append ports built.more name at in
       omega (arith, same, slice_get_within ports (net_number ports name) name at, built.port_count)
 
-  inside_behind : (name : List ℕ) → IsStageName nets tree name → e.ports ≤ net_number e.nets name
+  inside_behind : (name : List ℕ) → IsStageNet nets tree name → e.ports ≤ net_number e.nets name
   inside_behind name is =
       let same : net_number e.nets name ≡ net_number (ports ++ built.more) name = ap (λ l. net_number l name) built.nets in
       omega (arith, same, net_number-behind ports built.more name (names.inside name is), built.port_count)
@@ -175,7 +175,7 @@ module _ (ports : List (List ℕ)) (e : CircuitData) (nets : CellNets (List ℕ)
   -- a net of the dynamic stage is the number of one of its names
   record OfStage (n : ℕ) : Type 0 where
     name : List ℕ
-    is : IsStageName nets tree name
+    is : IsStageNet nets tree name
     at : HasNumber e.nets name
     number_is : n ≡ net_number e.nets name
 
@@ -189,20 +189,20 @@ module _ (ports : List (List ℕ)) (e : CircuitData) (nets : CellNets (List ℕ)
   below_count : (j : ℕ) → j < inner_count image_tree → j < inner_count tree
   below_count j lt = omega (arith, lt, inner_count-map_tree (net_number e.nets) tree)
 
-  not_stage : (name : List ℕ) → HasNumber e.nets name → ((s : List ℕ) → IsStageName nets tree s → name ≢ s)
+  not_stage : (name : List ℕ) → HasNumber e.nets name → ((s : List ℕ) → IsStageNet nets tree s → name ≢ s)
       → (n : ℕ) → IsStageNet image_nets image_tree n → net_number e.nets name ≡ n → ⊥
   not_stage name at apart n is z =
       let s = of_stage n is in
       apart s.name s.is (same_number e.nets name s.name at s.at (z ∙ s.number_is))
 
-  port_apart : (name : List ℕ) → HasNumber ports name → (s : List ℕ) → IsStageName nets tree s → name ≢ s
+  port_apart : (name : List ℕ) → HasNumber ports name → (s : List ℕ) → IsStageNet nets tree s → name ≢ s
   port_apart name at s is z = let same = ap (net_number e.nets) z in omega (arith, same, port_below name at, inside_behind s is)
 
   -- a device that does not end at a net of the dynamic stage
   IsAway : Device → Type 0
   IsAway d = (n : ℕ) → IsStageNet image_nets image_tree n → (d.drain ≡ n) ⊎ (d.source ≡ n) → ⊥
 
-  away : (kind : Kind) (gate : ℕ) (drain source : List ℕ) → HasNumber e.nets drain → ((s : List ℕ) → IsStageName nets tree s → drain ≢ s)
+  away : (kind : Kind) (gate : ℕ) (drain source : List ℕ) → HasNumber e.nets drain → ((s : List ℕ) → IsStageNet nets tree s → drain ≢ s)
       → HasNumber e.nets source → HasNumber ports source → IsAway (record { kind = kind; drain = net_number e.nets drain; gate = gate; source = net_number e.nets source })
   unfolding IsAway
   away kind gate drain source drain_at apart source_at port n is (inl z) = not_stage drain drain_at apart n is z

@@ -22,7 +22,6 @@ use Rattle.sp_network.specs.Tree.{Tree, inner_count, leaves, map_tree}
 use Rattle.sp_network.proofs.TreeImages.{inner_count-map_tree, tree_conduction-map_tree}
 use Rattle.domino_cell.specs.Cell.{CellNets, IsStageNet, cell, dynamic_stage, inverter, map_nets}
 use Rattle.domino_cell.specs.HeldNames.{AreNamesOfCell, held_nets}
-use Rattle.domino_cell.specs.NamedCell.{IsStageName}
 use Rattle.domino_cell.specs.NamedTrees.{inner_net, named_tree}
 use Rattle.domino_cell.specs.PushedNames.{HasRoomForCell, IsNewNet, IsPort, inner_front, numbered_cell}
 use Rattle.domino_cell.specs.PushedPaths.{HoldsCell, JoinsWhereOne, MayJoinWhereNotZero}
@@ -49,7 +48,7 @@ pub record AreCellNames (nets : CellNets (List ℕ)) (tree : Tree (List ℕ)) : 
   pub foot_apart : nets.dynamic ≢ nets.foot
   pub inner_apart : (j : ℕ) → j < inner_count tree → (nets.inner j ≢ nets.dynamic) × (nets.inner j ≢ nets.foot)
   pub inners_apart : (i j : ℕ) → i < inner_count tree → j < inner_count tree → nets.inner i ≡ nets.inner j → i ≡ j
-  pub driven_apart : (name : List ℕ) → IsStageName nets tree name → nets.output ≢ name
+  pub driven_apart : (name : List ℕ) → IsStageNet nets tree name → nets.output ≢ name
 
 module _ (c : CircuitData) (nets : CellNets (List ℕ)) (tree : Tree (List ℕ)) (circuit : IsCircuit c.ports c.nets c.devices) (room : HasRoomForCell c nets)
     (names : AreCellNames nets tree) where
@@ -68,7 +67,7 @@ module _ (c : CircuitData) (nets : CellNets (List ℕ)) (tree : Tree (List ℕ))
   abbrev image_tree : Tree ℕ
   image_tree = map_tree number tree
 
-  stage_new : (name : List ℕ) → IsStageName nets tree name → IsNewNet c name
+  stage_new : (name : List ℕ) → IsStageNet nets tree name → IsNewNet c name
   stage_new name (inl z) = subst (IsNewNet c) (sym z) room.dynamic
   stage_new name (inr (inl z)) = subst (IsNewNet c) (sym z) room.foot
   stage_new name (inr (inr (j, lt, z))) = subst (IsNewNet c) (sym z) (room.inner j)
@@ -115,7 +114,7 @@ module _ (c : CircuitData) (nets : CellNets (List ℕ)) (tree : Tree (List ℕ))
   -- a net of the dynamic stage is the number of one of its names
   record OfStage (n : ℕ) : Type 0 where
     name : List ℕ
-    is : IsStageName nets tree name
+    is : IsStageNet nets tree name
     at : HasNumber e.nets name
     number_is : n ≡ number name
 
@@ -222,7 +221,7 @@ AreCellNames-numbered clock k tree few = record {
   driven_apart = driven;
 }
   where
-    driven : (name : List ℕ) → IsStageName (numbered_cell clock k) tree name → codes "z" ++ decimal k ≢ name
+    driven : (name : List ℕ) → IsStageNet (numbered_cell clock k) tree name → codes "z" ++ decimal k ≢ name
     driven name (inl same) z = first_apart 122 100 (decimal k) (decimal k) (λ y. omega arith) (z ∙ same)
     driven name (inr (inl same)) z = first_apart 122 102 (decimal k) (decimal k) (λ y. omega arith) (z ∙ same)
     driven name (inr (inr (j, lt, same))) z = first_apart 122 116 (decimal k) _ (λ y. omega arith) (z ∙ same)

@@ -30,6 +30,11 @@ EachLeaf-dual P (Leaf gate) h = h
 EachLeaf-dual P (Series l r) h = (EachLeaf-dual P l h.0, EachLeaf-dual P r h.1)
 EachLeaf-dual P (Parallel l r) h = (EachLeaf-dual P l h.0, EachLeaf-dual P r h.1)
 
+-- the devices of a tree between ends by other names
+pub renamed_ends : (c : CircuitData) (kind : Kind) (inner : ℕ → List ℕ) (t : Tree (List ℕ)) (k : ℕ) {top top' bottom bottom' : List ℕ}
+    → top ≡ top' → bottom ≡ bottom' → with_devices c (spell kind inner t top bottom k) ≡ with_devices c (spell kind inner t top' bottom' k)
+renamed_ends c kind inner t k same_top same_bottom = λ i. with_devices c (spell kind inner t (same_top i) (same_bottom i) k)
+
 -- the parts of a series, one after the other
 pub series_pushed : (old between new : CircuitData) (kind : Kind) (inner : ℕ → List ℕ) (name : ℕ → List ℕ) (tree l r : Tree ℕ) (top bottom middle : List ℕ) (k next : ℕ)
     → tree ≡ Series l r → middle ≡ inner k → next ≡ k + 1 + inner_count l

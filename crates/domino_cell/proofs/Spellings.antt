@@ -1,16 +1,12 @@
 -- Spellings over other nets: of each net's image, and with other inner nets.
-use Rattle.std.proofs.Common.{◌≡◌, ℕ, ◌+◌, ◌<◌, ◌++◌, ◌≤◌, List, length, map, refl, ap, ◌∙◌, arith, add-zero, length-append}
-use Rattle.std.specs.List.{AllByRecursion}
-use Rattle.dom_base.proofs.Lists.{AllByRecursion-append}
-use Rattle.dom_base.specs.Names.{IsNetName}
+use Rattle.std.proofs.Common.{◌≡◌, ℕ, ◌+◌, ◌<◌, ◌++◌, length, map, refl, ap, ◌∙◌, arith, add-zero, length-append}
 use Rattle.std.proofs.lemmas.List.{map-append}
 use Rattle.dom_base.specs.declared.kind.Kind.{Kind}
 use Rattle.dom_base.specs.declared.kind.Kind.TheVariants.{N as nch}
 use Rattle.deck.specs.NamedDevices.{map_device}
-use Rattle.sp_network.specs.Tree.{Tree, Leaf, Series, Parallel, EachLeaf, inner_count, leaves, map_tree}
+use Rattle.sp_network.specs.Tree.{Tree, Leaf, Series, Parallel, inner_count, leaves, map_tree}
 use Rattle.sp_network.proofs.TreeImages.{inner_count-map_tree}
 use Rattle.domino_cell.specs.Cell.{CellNets, cell, dynamic_stage, inverter, map_nets}
-use Rattle.domino_cell.specs.NamedCell.{NamesNets}
 use Rattle.domino_cell.specs.Spelling.{spell}
 
 -- the images of the cards are the cards of the image
@@ -72,17 +68,3 @@ length-spell kind inner (Series l r) top bottom k =
 length-spell kind inner (Parallel l r) top bottom k =
     length-append (spell kind inner l top bottom k) (spell kind inner r top bottom (k + inner_count l))
     ∙ (λ i. length-spell kind inner l top bottom k i + length-spell kind inner r top bottom (k + inner_count l) i)
-
--- the devices of a tree whose nets have net names
-pub spell-named : (kind : Kind) (inner : ℕ → List ℕ) (bound : ℕ) (t : Tree (List ℕ)) (top bottom : List ℕ) (k : ℕ) → ((j : ℕ) → j < bound → IsNetName (inner j)) → k + inner_count t ≤ bound
-    → EachLeaf IsNetName t → IsNetName top → IsNetName bottom → AllByRecursion NamesNets (spell kind inner t top bottom k)
-spell-named kind inner bound (Leaf gate) top bottom k named fit leaf is_top is_bottom = ((is_top, leaf, is_bottom), tt)
-spell-named kind inner bound (Series l r) top bottom k named fit each is_top is_bottom =
-    let middle = named k (omega arith) in
-    AllByRecursion-append NamesNets (spell kind inner l top (inner k) (k + 1)) (spell kind inner r (inner k) bottom (k + 1 + inner_count l))
-    (spell-named kind inner bound l top (inner k) (k + 1) named (omega arith) each.0 is_top middle)
-    (spell-named kind inner bound r (inner k) bottom (k + 1 + inner_count l) named (omega arith) each.1 middle is_bottom)
-spell-named kind inner bound (Parallel l r) top bottom k named fit each is_top is_bottom =
-    AllByRecursion-append NamesNets (spell kind inner l top bottom k) (spell kind inner r top bottom (k + inner_count l))
-    (spell-named kind inner bound l top bottom k named (omega arith) each.0 is_top is_bottom)
-    (spell-named kind inner bound r top bottom (k + inner_count l) named (omega arith) each.1 is_top is_bottom)

@@ -50,7 +50,7 @@ abbrev pub cell : {Net : Type 0} → CellNets Net → Tree Net → List (NamedDe
 cell nets tree = dynamic_stage nets tree ++ inverter nets.vdd nets.vss nets.dynamic nets.output
 
 -- n is the dynamic net, the foot net or an inner net of the tree
-abbrev pub IsStageNet : CellNets ℕ → Tree ℕ → ℕ → Type 0
+abbrev pub IsStageNet : {Net : Type 0} → CellNets Net → Tree Net → Net → Type 0
 IsStageNet nets tree n = (n ≡ nets.dynamic) ⊎ ((n ≡ nets.foot) ⊎ ((j : ℕ) × (j < inner_count tree) × (n ≡ nets.inner j)))
 
 -- the cell stands in the circuit, and no device but its own ends at a net of its dynamic stage

@@ -1,17 +1,12 @@
 -- A domino cell whose nets are given by name, behind the ports of a circuit.
-use Rattle.std.specs.Prelude.{◌≡◌, ◌≢◌, ℕ, ◌<◌, ◌⊎◌, false, List, ◌++◌, nat_eq, length, map, All, codes}
+use Rattle.std.specs.Prelude.{◌≡◌, ◌≢◌, ℕ, ◌<◌, false, List, ◌++◌, nat_eq, length, map, All, codes}
 use Rattle.std.specs.List.{list_any, starts_with}
 use Rattle.std.specs.Cmp.Lexicographic.{pointwise}
-use Rattle.dom_base.specs.Names.{IsNetName}
 use Rattle.deck.specs.CircuitData.{CircuitData}
 use Rattle.deck.specs.NamedDevices.{NamedDevice}
 use Rattle.deck.specs.NumberedDevices.{HasNumber, IsNumberedDevice, numbered_device}
 use Rattle.sp_network.specs.Tree.{Tree, inner_count}
-use Rattle.domino_cell.specs.Cell.{CellNets}
-
--- the name is the dynamic net, the foot net or an inner net of the tree
-abbrev pub IsStageName : CellNets (List ℕ) → Tree (List ℕ) → List ℕ → Type 0
-IsStageName nets tree name = (name ≡ nets.dynamic) ⊎ ((name ≡ nets.foot) ⊎ ((j : ℕ) × (j < inner_count tree) × (name ≡ nets.inner j)))
+use Rattle.domino_cell.specs.Cell.{CellNets, IsStageNet}
 
 -- the names of a cell behind these ports, and of one more inverter that drives `out`
 pub record HasCellNames (ports : List (List ℕ)) (nets : CellNets (List ℕ)) (tree : Tree (List ℕ)) (out : List ℕ) : Type 0 where
@@ -22,12 +17,12 @@ pub record HasCellNames (ports : List (List ℕ)) (nets : CellNets (List ℕ)) (
   pub vss_in : starts_with nat_eq nets.vss (codes "o_") ≡ false
   pub supplies : nets.vdd ≢ nets.vss
   -- the nets of the dynamic stage are no ports, and differ
-  pub inside : (name : List ℕ) → IsStageName nets tree name → list_any (pointwise nat_eq name) ports ≡ false
+  pub inside : (name : List ℕ) → IsStageNet nets tree name → list_any (pointwise nat_eq name) ports ≡ false
   pub foot_apart : nets.dynamic ≢ nets.foot
   pub inner_apart : (j : ℕ) → j < inner_count tree → (nets.inner j ≢ nets.dynamic) × (nets.inner j ≢ nets.foot)
   pub inners_apart : (i j : ℕ) → i < inner_count tree → j < inner_count tree → nets.inner i ≡ nets.inner j → i ≡ j
   -- what the inverters drive is none of them
-  pub driven_apart : (name : List ℕ) → IsStageName nets tree name → (nets.output ≢ name) × (out ≢ name)
+  pub driven_apart : (name : List ℕ) → IsStageNet nets tree name → (nets.output ≢ name) × (out ≢ name)
 
 -- the names of a cell have numbers
 pub record IsNumberedCell (all : List (List ℕ)) (nets : CellNets (List ℕ)) (tree : Tree (List ℕ)) (out : List ℕ) : Type 0 where
@@ -47,7 +42,3 @@ pub record IsBuilt (ports : List (List ℕ)) (e : CircuitData) (named : List (Na
   pub nets : e.nets ≡ ports ++ more
   pub devices : e.devices ≡ map (numbered_device e.nets) named
   pub stand : All (IsNumberedDevice e.nets) named
-
--- the nets of a device have names of nets
-abbrev pub NamesNets : NamedDevice (List ℕ) → Type 0
-NamesNets d = IsNetName d.drain × IsNetName d.gate × IsNetName d.source

@@ -1,18 +1,7 @@
--- Nets that stand at the numbers which are held for them.
-use Rattle.std.specs.Prelude.{◌≡◌, ℕ, List, Option, Some, None, IfSome, slice_get, slice_index_or}
-use Rattle.deck.specs.declared.device.Device.{Device}
+-- Nets of gates that stand at the numbers which are held for them.
+use Rattle.std.specs.Prelude.{◌≡◌, ℕ, List, Option, Some, None, slice_get, slice_index_or}
 use Rattle.deck.specs.Nets.{net_name}
-
--- where a number is held, the net of this name stands at it
-abbrev pub StandsAt : List (List ℕ) → Option ℕ → List ℕ → Type 0
-StandsAt nets number name = IfSome number (λ i. slice_get nets i ≡ Some name)
 
 -- gate by gate, the net of the gate stands at the number that is held for it
 pub record AreNumbersAt (nets names : List (List ℕ)) (numbers : List (Option ℕ)) : Type 0 where
   pub at : (gate n : ℕ) → slice_index_or numbers gate None ≡ Some n → slice_get nets n ≡ Some (net_name names gate)
-
--- the nets of these names stand at the ends of the device
-pub record HasEnds (nets : List (List ℕ)) (d g s : List ℕ) (device : Device) : Type 0 where
-  pub drain : slice_get nets device.drain ≡ Some d
-  pub gate : slice_get nets device.gate ≡ Some g
-  pub source : slice_get nets device.source ≡ Some s

@@ -3,16 +3,16 @@
 //! Integrated Circuits: dynamic logic).
 #![tactic(auto)]
 
+mod inverter;
 mod laws;
 mod names;
-mod net_at;
 mod numbers;
 mod push;
 mod tree;
 mod worked;
 
+pub use inverter::push_inverter;
 pub use laws::{cell_pulls_down, tree_joins_foot};
 pub use names::CellNames;
-pub use net_at::{NetAt, push_at, reserve_nets};
 pub use numbers::{number_of, set_number};
 pub use push::{push_domino, push_numbered_domino, push_static};

@@ -2,8 +2,9 @@
 ghost use Rattle.std.specs.Prelude.{◌≡◌, ◌++◌, All, IfOk, OnOk, codes};
 ghost use Rattle.std.specs.Fmt.{decimal};
 ghost use Rattle.dom_base.specs.Names.{IsNetByte, IsNetName};
-ghost use Rattle.domino_cell.specs.HeldNames.{AreNamesOfCell, AreNamesOfGate};
+ghost use Rattle.domino_cell.specs.HeldNames.{AreNamesOfCell, AreNamesOfGate, AreNetsOfCell, StandInCircuit};
 
+use deck::{Circuit, NetAt, fixed_name, joined_name, numbered_name};
 use dom_base::{NameBytes, NetName, OutOfMemory, append_number_to_name, append_to_name};
 use std::alloc::Global;
 
@@ -26,8 +27,8 @@ impl CellNames {
     {
         let tree = numbered_name(alloc, b"t", k)?;
         Ok(CellNames {
-            vdd: joined_name(alloc, b"vdd", b"")?,
-            vss: joined_name(alloc, b"vss", b"")?,
+            vdd: fixed_name(alloc, b"vdd")?,
+            vss: fixed_name(alloc, b"vss")?,
             clock: numbered_name(alloc, b"ck", u32::from(clock))?,
             dynamic: numbered_name(alloc, b"d", k)?,
             output: numbered_name(alloc, b"z", k)?,
@@ -53,6 +54,32 @@ impl CellNames {
         self.front = longer_name(tree, b"_")?;
         Ok(())
     }
+
+    /// The nets of these names in a circuit whose first ports may be the supplies and the clocks.
+    pub fn nets_at(&self, circuit: &Circuit, clock: u8) -> CellNetsAt<'_>
+        ensures named { AreNetsOfCell self.now result }
+        ensures stand { StandInCircuit circuit.now.nets result }
+    {
+        CellNetsAt {
+            vdd: NetAt::expected(circuit, &self.vdd, 0),
+            vss: NetAt::expected(circuit, &self.vss, 1),
+            clock: NetAt::expected(circuit, &self.clock, 1 + u32::from(clock)),
+            dynamic: NetAt::named(&self.dynamic),
+            output: NetAt::named(&self.output),
+            foot: NetAt::named(&self.foot),
+        }
+    }
+}
+
+/// The nets of a domino cell but the inner ones, with the numbers that they may have.
+#[derive(Clone, Copy)]
+pub struct CellNetsAt<'a> {
+    pub vdd: NetAt<'a>,
+    pub vss: NetAt<'a>,
+    pub clock: NetAt<'a>,
+    pub dynamic: NetAt<'a>,
+    pub output: NetAt<'a>,
+    pub foot: NetAt<'a>,
 }
 
 /// The supplies, and how the inner nets of a static gate begin.
@@ -70,41 +97,16 @@ impl GateNames {
         ensures { IfOk result (AreNamesOfGate out.now) }
     {
         Ok(GateNames {
-            vdd: joined_name(alloc, b"vdd", b"")?,
-            vss: joined_name(alloc, b"vss", b"")?,
+            vdd: fixed_name(alloc, b"vdd")?,
+            vss: fixed_name(alloc, b"vss")?,
             upper: joined_name(alloc, out.as_bytes(), b"_p")?,
             lower: joined_name(alloc, out.as_bytes(), b"_n")?,
         })
     }
 }
 
-/// The name of a front and a number in decimal digits.
-#[tactic(auto, using(crate::proofs::NetNames::joined_names))]
-pub fn numbered_name(alloc: Global, front: &[u8], number: u32) -> Result<NetName, OutOfMemory>
-    requires { All IsNetByte front.now }
-    ensures { IfOk result (λ name. name ≡ front.now ++ decimal number) }
-{
-    let mut bytes = NameBytes::new(alloc);
-    append_to_name(&mut bytes, front)?;
-    append_number_to_name(&mut bytes, u64::from(number))?;
-    Ok(NetName(bytes))
-}
-
-/// The name of these two parts.
-#[tactic(auto, using(crate::proofs::NetNames::joined_names))]
-fn joined_name(alloc: Global, front: &[u8], rest: &[u8]) -> Result<NetName, OutOfMemory>
-    requires front { IsNetName front.now }
-    requires rest { All IsNetByte rest.now }
-    ensures { IfOk result (λ name. name ≡ front.now ++ rest.now) }
-{
-    let mut bytes = NameBytes::new(alloc);
-    append_to_name(&mut bytes, front)?;
-    append_to_name(&mut bytes, rest)?;
-    Ok(NetName(bytes))
-}
-
 /// The decimal digits of a number, which may stand in a name.
-#[tactic(auto, using(crate::proofs::NetNames::joined_names))]
+#[tactic(auto, using(deck::proofs::JoinedNames::joined_names))]
 fn number_bytes(alloc: Global, number: u32) -> Result<NameBytes, OutOfMemory>
     ensures digits { IfOk result (λ bytes. bytes.items ≡ decimal number) }
     ensures good { IfOk result (λ bytes. All IsNetByte bytes.items) }
@@ -115,7 +117,7 @@ fn number_bytes(alloc: Global, number: u32) -> Result<NameBytes, OutOfMemory>
 }
 
 /// A name with more bytes behind it.
-#[tactic(auto, using(crate::proofs::NetNames::joined_names))]
+#[tactic(auto, using(deck::proofs::JoinedNames::joined_names))]
 fn longer_name(name: NetName, rest: &[u8]) -> Result<NetName, OutOfMemory>
     requires { All IsNetByte rest.now }
     ensures { IfOk result (λ longer. longer ≡ name ++ rest.now) }

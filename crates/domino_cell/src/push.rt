@@ -13,11 +13,11 @@ ghost use Rattle.domino_cell.specs.NetsAt.{AreNumbersAt};
 ghost use Rattle.domino_cell.specs.PushedNames.{HasRoomForCell, HasRoomForGate, numbered_cell, static_gate};
 ghost use Rattle.domino_cell.specs.PushedPaths.{HoldsCell, IsDrivenByTree, JoinsWhereOne, MayJoinWhereNotZero};
 
+use crate::inverter::push_inverter;
 use crate::names::{CellNames, GateNames};
-use crate::net_at::{NetAt, known_at, push_held};
 use crate::numbers::keep_number;
 use crate::tree::TreeNames;
-use deck::Circuit;
+use deck::{Circuit, NetAt, push_held};
 use dom_base::{Kind, NetName, OutOfMemory, ToVdd, ToVss};
 use sp_network::{GatePlan, Sp};
 use std::alloc::Global;
@@ -117,48 +117,15 @@ fn push_cell(
         gates: names,
         front: nets.front.as_bytes(),
     };
-    let vdd = NetAt {
-        name: &nets.vdd,
-        number: known_at(circuit, &nets.vdd, 0),
-    };
-    let vss = NetAt {
-        name: &nets.vss,
-        number: known_at(circuit, &nets.vss, 1),
-    };
-    let clock = NetAt {
-        name: &nets.clock,
-        number: known_at(circuit, &nets.clock, 1 + u32::from(plan.clock)),
-    };
-    let dynamic = NetAt {
-        name: &nets.dynamic,
-        number: None,
-    };
-    let output = NetAt {
-        name: &nets.output,
-        number: None,
-    };
-    let foot = NetAt {
-        name: &nets.foot,
-        number: None,
-    };
-    let precharge = push_held(circuit, Kind::P, dynamic, clock, vdd)?;
-    let dynamic = NetAt {
-        name: &nets.dynamic,
-        number: Some(precharge.drain),
-    };
-    let keeper = push_held(circuit, Kind::Keep, dynamic, output, vdd)?;
-    let output = NetAt {
-        name: &nets.output,
-        number: Some(keeper.gate),
-    };
-    let (_, number) = tree.push(alloc, circuit, &plan.tree, dynamic, foot, 0, numbers)?;
-    let foot = NetAt {
-        name: &nets.foot,
-        number: Some(number),
-    };
-    push_held(circuit, Kind::N, foot, clock, vss)?;
-    push_held(circuit, Kind::P, output, dynamic, vdd)?;
-    let last = push_held(circuit, Kind::N, output, dynamic, vss)?;
+    let cell = nets.nets_at(circuit, plan.clock);
+    let precharge = push_held(circuit, Kind::P, cell.dynamic, cell.clock, cell.vdd)?;
+    let dynamic = cell.dynamic.at(precharge.drain);
+    let keeper = push_held(circuit, Kind::Keep, dynamic, cell.output, cell.vdd)?;
+    let output = cell.output.at(keeper.gate);
+    let (_, number) = tree.push(alloc, circuit, &plan.tree, dynamic, cell.foot, 0, numbers)?;
+    let foot = cell.foot.at(number);
+    push_held(circuit, Kind::N, foot, cell.clock, cell.vss)?;
+    let last = push_inverter(circuit, dynamic, output, cell.vdd, cell.vss)?;
     keep_number(numbers, names, gate, &nets.output, last.drain);
     Ok(())
 }
@@ -223,18 +190,9 @@ fn push_gate(
         gates: names,
         front: nets.lower.as_bytes(),
     };
-    let out = NetAt {
-        name: out,
-        number: None,
-    };
-    let vdd = NetAt {
-        name: &nets.vdd,
-        number: None,
-    };
-    let vss = NetAt {
-        name: &nets.vss,
-        number: None,
-    };
+    let out = NetAt::named(out);
+    let vdd = NetAt::named(&nets.vdd);
+    let vss = NetAt::named(&nets.vss);
     let mut upper_numbers = Vec::new(alloc);
     let upper_numbers = upper_numbers.as_mut_slice();
     to_vdd.push(alloc, circuit, upper, out, vdd, 0, upper_numbers)?;

@@ -4,16 +4,15 @@ ghost use Rattle.dom_base.specs.Names.{IsNetByte};
 ghost use Rattle.deck.specs.CircuitGrowth.{Grew};
 ghost use Rattle.deck.specs.Limits.{most_devices};
 ghost use Rattle.deck.specs.NamedDevices.{with_devices};
+ghost use Rattle.deck.specs.NetsAt.{StandsAt};
 ghost use Rattle.sp_network.specs.Tree.{EachLeaf, inner_count, leaves};
 ghost use Rattle.sp_network.specs.TypedTree.{tree_of};
-ghost use Rattle.domino_cell.specs.NetsAt.{AreNumbersAt, StandsAt};
+ghost use Rattle.domino_cell.specs.NetsAt.{AreNumbersAt};
 ghost use Rattle.domino_cell.specs.NamedTrees.{inner_net, named_tree};
 ghost use Rattle.domino_cell.specs.Spelling.{spell};
 
-use crate::names::numbered_name;
-use crate::net_at::{NetAt, known_number, push_held};
 use crate::numbers::{number_of, set_number};
-use deck::Circuit;
+use deck::{Circuit, NetAt, numbered_name, push_held};
 use dom_base::{NetName, OutOfMemory, Polarity};
 use sp_network::Sp;
 use std::alloc::Global;
@@ -71,10 +70,7 @@ impl<'a> TreeNames<'a> {
             }
             Sp::Series(left, right) => {
                 let name = numbered_name(alloc, self.front, inner)?;
-                let middle = NetAt {
-                    name: &name,
-                    number: None,
-                };
+                let middle = NetAt::named(&name);
                 let (next, number) = self.push(
                     alloc,
                     circuit,
@@ -84,26 +80,14 @@ impl<'a> TreeNames<'a> {
                     inner + 1,
                     numbers,
                 )?;
-                let middle = NetAt {
-                    name: &name,
-                    number: Some(number),
-                };
-                let bottom = NetAt {
-                    name: bottom.name,
-                    number: known_number(circuit.nets.as_slice(), bottom),
-                };
+                let middle = middle.at(number);
+                let bottom = bottom.checked(circuit);
                 self.push(alloc, circuit, right, middle, bottom, next, numbers)
             }
             Sp::Parallel(left, right) => {
                 let (next, number) = self.push(alloc, circuit, left, top, bottom, inner, numbers)?;
-                let bottom = NetAt {
-                    name: bottom.name,
-                    number: Some(number),
-                };
-                let top = NetAt {
-                    name: top.name,
-                    number: known_number(circuit.nets.as_slice(), top),
-                };
+                let top = top.checked(circuit);
+                let bottom = bottom.at(number);
                 self.push(alloc, circuit, right, top, bottom, next, numbers)
             }
         }

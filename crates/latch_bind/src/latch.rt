@@ -7,10 +7,9 @@ ghost use Rattle.deck.specs.Pushes.{pushed};
 ghost use Rattle.latch_bind.specs.HeldNames.{AreLatchPorts, held_inverter, held_reset};
 ghost use Rattle.latch_bind.specs.Latches.{HasRoomForLatch, named_latch};
 
-use crate::names::{ClockNets, LatchPorts, StageNames, SupplyNames, numbered_name};
-use deck::Circuit;
+use crate::names::{ClockNets, LatchPorts, StageNames, SupplyNames};
+use deck::{Circuit, NetAt, numbered_name, push_at};
 use dom_base::{Kind, NetName, OutOfMemory};
-use domino_cell::{NetAt, push_at};
 use std::alloc::Global;
 
 /// Appends the nine devices of latch `j` with its start value: a master that takes the net `xJ`
@@ -76,21 +75,12 @@ fn push_parts(
         ++ held_reset ports.now slave.now.out init ∷ [])) }
     ensures grew { Grew circuit.old circuit.new }
 {
-    let data = NetAt {
-        name: input,
-        number: None,
-    };
     let supplies = &ports.supplies;
+    let data = NetAt::named(input);
     let held = push_inverter(circuit, supplies, master, ports.master_clocks(), data)?;
-    let data = NetAt {
-        name: &master.out,
-        number: Some(held),
-    };
+    let data = NetAt::named(&master.out).at(held);
     let number = push_inverter(circuit, supplies, slave, ports.slave_clocks(), data)?;
-    let out = NetAt {
-        name: &slave.out,
-        number: Some(number),
-    };
+    let out = NetAt::named(&slave.out).at(number);
     push_reset(circuit, ports, out, init)?;
     Ok(())
 }
@@ -111,27 +101,11 @@ fn push_inverter(
 {
     let vdd = supplies.vdd_net();
     let vss = supplies.vss_net();
-    let out = NetAt {
-        name: &stage.out,
-        number: None,
-    };
-    let (number, data) = push_branch(
-        circuit,
-        Kind::P,
-        out,
-        clocks.opposite,
-        &stage.upper,
-        input,
-        vdd,
-    )?;
-    let out = NetAt {
-        name: &stage.out,
-        number: Some(number),
-    };
-    let input = NetAt {
-        name: input.name,
-        number: Some(data),
-    };
+    let out = NetAt::named(&stage.out);
+    let upper = &stage.upper;
+    let (number, data) = push_branch(circuit, Kind::P, out, clocks.opposite, upper, input, vdd)?;
+    let out = out.at(number);
+    let input = input.at(data);
     push_branch(
         circuit,
         Kind::N,
@@ -161,15 +135,9 @@ fn push_branch(
         kind between.now input.entry.name.now supply.entry.name.now) }
     ensures grew { Grew circuit.old circuit.new }
 {
-    let middle = NetAt {
-        name: between,
-        number: None,
-    };
+    let middle = NetAt::named(between);
     let first = push_at(circuit, kind, out, clock, middle)?;
-    let middle = NetAt {
-        name: between,
-        number: Some(first.source),
-    };
+    let middle = middle.at(first.source);
     let second = push_at(circuit, kind, middle, input, supply)?;
     Ok((first.drain, second.gate))
 }
@@ -187,13 +155,8 @@ fn push_reset(
 {
     let supplies = &ports.supplies;
     if init {
-        push_at(
-            circuit,
-            Kind::P,
-            out,
-            ports.reset_opposite_net(),
-            supplies.vdd_net(),
-        )?;
+        let reset = ports.reset_opposite_net();
+        push_at(circuit, Kind::P, out, reset, supplies.vdd_net())?;
     } else {
         push_at(circuit, Kind::N, out, ports.reset_net(), supplies.vss_net())?;
     }

@@ -6,5 +6,5 @@ mod names;
 mod sink;
 
 pub use latch::{push_held_latch, push_latch};
-pub use names::{LatchPorts, joined_name, numbered_name};
+pub use names::LatchPorts;
 pub use sink::push_sink;

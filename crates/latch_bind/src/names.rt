@@ -1,12 +1,11 @@
 //! Names of the nets of a latch.
 ghost use Rattle.std.specs.Prelude.{◌≡◌, ◌++◌, All, IfOk, codes};
 ghost use Rattle.std.specs.Fmt.{decimal};
-ghost use Rattle.dom_base.specs.Names.{IsNetByte, IsNetName};
+ghost use Rattle.dom_base.specs.Names.{IsNetByte};
 ghost use Rattle.latch_bind.specs.HeldNames.{AreLatchPorts, AreNamesOfStage, AreSupplies};
 
-use deck::Circuit;
-use dom_base::{NameBytes, NetName, OutOfMemory, append_number_to_name, append_to_name};
-use domino_cell::NetAt;
+use deck::{Circuit, NetAt, fixed_name, joined_name, numbered_name};
+use dom_base::{NetName, OutOfMemory};
 use std::alloc::Global;
 
 /// The two supplies.
@@ -22,8 +21,8 @@ impl SupplyNames {
         ensures { IfOk result AreSupplies }
     {
         Ok(SupplyNames {
-            vdd: joined_name(alloc, b"vdd", b"")?,
-            vss: joined_name(alloc, b"vss", b"")?,
+            vdd: fixed_name(alloc, b"vdd")?,
+            vss: fixed_name(alloc, b"vss")?,
         })
     }
 
@@ -31,20 +30,14 @@ impl SupplyNames {
     pub fn vdd_net(&self) -> NetAt<'_>
         ensures { result.name.now ≡ self.now.vdd }
     {
-        NetAt {
-            name: &self.vdd,
-            number: Some(0),
-        }
+        NetAt::named(&self.vdd).at(0)
     }
 
     /// `vss`, which may be the second net.
     pub fn vss_net(&self) -> NetAt<'_>
         ensures { result.name.now ≡ self.now.vss }
     {
-        NetAt {
-            name: &self.vss,
-            number: Some(1),
-        }
+        NetAt::named(&self.vss).at(1)
     }
 }
 
@@ -67,16 +60,16 @@ impl LatchPorts {
     pub fn new(alloc: Global, circuit: &Circuit) -> Result<LatchPorts, OutOfMemory>
         ensures { IfOk result AreLatchPorts }
     {
-        let master = joined_name(alloc, b"lm", b"")?;
-        let first = first_number(circuit, &master);
+        let master = fixed_name(alloc, b"lm")?;
+        let first = NetAt::found(circuit, &master).number.unwrap_or(0);
         Ok(LatchPorts {
             supplies: SupplyNames::new(alloc)?,
             master,
-            master_opposite: joined_name(alloc, b"lmb", b"")?,
-            slave: joined_name(alloc, b"ls", b"")?,
-            slave_opposite: joined_name(alloc, b"lsb", b"")?,
-            reset: joined_name(alloc, b"rs", b"")?,
-            reset_opposite: joined_name(alloc, b"rsb", b"")?,
+            master_opposite: fixed_name(alloc, b"lmb")?,
+            slave: fixed_name(alloc, b"ls")?,
+            slave_opposite: fixed_name(alloc, b"lsb")?,
+            reset: fixed_name(alloc, b"rs")?,
+            reset_opposite: fixed_name(alloc, b"rsb")?,
             first,
         })
     }
@@ -121,18 +114,7 @@ impl LatchPorts {
     fn port<'a>(&self, name: &'a NetName, place: u32) -> NetAt<'a>
         ensures { result.name.now ≡ name.now }
     {
-        NetAt {
-            name,
-            number: Some(self.first.saturating_add(place)),
-        }
-    }
-}
-
-/// The number of the net of this name in a circuit, or 0.
-fn first_number(circuit: &Circuit, name: &NetName) -> u32 {
-    match circuit.nets.get_index_of(name) {
-        Some(number) => u32::try_from(number).unwrap_or(0),
-        None => 0,
+        NetAt::named(name).at(self.first.saturating_add(place))
     }
 }
 
@@ -163,29 +145,4 @@ impl StageNames {
         let lower = joined_name(alloc, out.as_bytes(), b"n")?;
         Ok(StageNames { out, upper, lower })
     }
-}
-
-/// The name of a front and a number in decimal digits.
-#[tactic(auto, using(domino_cell::proofs::NetNames::joined_names))]
-pub fn numbered_name(alloc: Global, front: &[u8], number: u32) -> Result<NetName, OutOfMemory>
-    requires { All IsNetByte front.now }
-    ensures { IfOk result (λ name. name ≡ front.now ++ decimal number) }
-{
-    let mut bytes = NameBytes::new(alloc);
-    append_to_name(&mut bytes, front)?;
-    append_number_to_name(&mut bytes, u64::from(number))?;
-    Ok(NetName(bytes))
-}
-
-/// The name of these two parts.
-#[tactic(auto, using(domino_cell::proofs::NetNames::joined_names))]
-pub fn joined_name(alloc: Global, front: &[u8], rest: &[u8]) -> Result<NetName, OutOfMemory>
-    requires front { IsNetName front.now }
-    requires rest { All IsNetByte rest.now }
-    ensures { IfOk result (λ name. name ≡ front.now ++ rest.now) }
-{
-    let mut bytes = NameBytes::new(alloc);
-    append_to_name(&mut bytes, front)?;
-    append_to_name(&mut bytes, rest)?;
-    Ok(NetName(bytes))
 }

@@ -7,9 +7,9 @@ ghost use Rattle.domino_cell.specs.PushedPaths.{IsDrivenByTree};
 ghost use Rattle.latch_bind.specs.Sinks.{HasRoomForSink, sink_inverter};
 
 use crate::names::SupplyNames;
-use deck::Circuit;
-use dom_base::{Kind, NetName, OutOfMemory};
-use domino_cell::{NetAt, push_at};
+use deck::{Circuit, NetAt};
+use dom_base::{NetName, OutOfMemory};
+use domino_cell::push_inverter;
 use std::alloc::Global;
 
 /// Appends the inverter of a sink from `gate` to `out`. Where the value of `gate` is known, a
@@ -29,32 +29,11 @@ pub fn push_sink(
 {
     let supplies = SupplyNames::new(alloc)?;
     let before = circuit.device_count();
-    let input = NetAt {
-        name: gate,
-        number: None,
-    };
-    let output = NetAt {
-        name: out,
-        number: None,
-    };
-    let vdd = NetAt {
-        name: &supplies.vdd,
-        number: Some(0),
-    };
-    let vss = NetAt {
-        name: &supplies.vss,
-        number: Some(1),
-    };
-    let first = push_at(circuit, Kind::P, output, input, vdd)?;
-    let input = NetAt {
-        name: gate,
-        number: Some(first.gate),
-    };
-    let output = NetAt {
-        name: out,
-        number: Some(first.drain),
-    };
-    match push_at(circuit, Kind::N, output, input, vss) {
+    let input = NetAt::named(gate);
+    let output = NetAt::named(out);
+    let vdd = supplies.vdd_net().checked(circuit);
+    let vss = supplies.vss_net().checked(circuit);
+    match push_inverter(circuit, input, output, vdd, vss) {
         Ok(_) => Ok(()),
         Err(failed) => {
             circuit.cut(before);

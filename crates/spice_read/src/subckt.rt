@@ -1,7 +1,8 @@
 //! The subcircuit of a deck, made card by card.
-ghost use Rattle.std.specs.Prelude.{◌≡◌, ◌<◌, ◌^◌, ℕ, [], All, IfOk, OnOk, IsErrOf, Option, Some, None, length, map};
+ghost use Rattle.std.specs.Prelude.{◌≡◌, ◌<◌, ℕ, [], All, IfOk, OnOk, IsErrOf, Option, Some, None, length, map};
 ghost use Rattle.std.specs.Str.{str_to_ascii_lowercase};
 ghost use Rattle.dom_base.specs.Names.{IsNetName};
+ghost use Rattle.deck.specs.Limits.{most_devices};
 ghost use Rattle.deck.specs.Numbers.{with_all};
 ghost use Rattle.spice_read.specs.Subckts.{end_fault, ending_fault, fault_in, opening_fault, ports_fault, room_fault, AnswersFault};
 ghost use Rattle.spice_read.specs.Subckts.{after_device, after_ends, opened, subckt_after, with_device, HasNames, IsFinished, IsWordedCard};
@@ -10,14 +11,10 @@ ghost use Rattle.spice_read.specs.declared.subckt.Subckt.TheVariants.{Open};
 use crate::DeckFault;
 use crate::cards::{Card, Cards, Form};
 use crate::words::net_name;
-use deck::{Circuit, DeckKind, NetSet};
+use deck::{Circuit, DeckKind, MOST_DEVICES, MOST_PORTS, NetSet};
 use dom_base::{Kind, NameHash, NetName, OutOfMemory};
 use std::alloc::Global;
 use std::mem;
-
-const MOST_DEVICES: u32 = 16_777_216;
-
-const MOST_PORTS: usize = 1_048_576;
 
 /// What was read of the subcircuit: nothing, or its circuit, while it is open or once it is closed.
 #[derive(Drop)]
@@ -49,7 +46,7 @@ fn open(alloc: Global, hash: NameHash, card: &Card<'_>) -> Result<Circuit, DeckF
     if nets.len() < card.ports().len() {
         return Err(card.fault(DeckKind::DuplicatePort));
     }
-    if MOST_PORTS < nets.len() {
+    if nets.len() > MOST_PORTS as usize {
         return Err(card.fault(DeckKind::TooMany));
     }
     let ports = nets.len() as u32;
@@ -69,7 +66,7 @@ fn push_device(
     kind: Kind,
     card: &Card<'_>,
 ) -> Result<(), OutOfMemory>
-    requires room { length circuit.old.devices < 2 ^ 24 }
+    requires room { length circuit.old.devices < most_devices }
     requires names { HasNames 5 card.now }
     ensures { OnOk result (circuit.new ≡ with_device circuit.old kind card.now) }
 {

@@ -1,12 +1,10 @@
-use Rattle.std.proofs.Common.{◌≡◌, ◌<◌, ap, arith, length, subst, sym, ◌∙◌}
-use Rattle.std.specs.Prelude.{codes}
+use Rattle.std.proofs.Common.{◌<◌, ap, arith, length, subst, sym, ◌∙◌}
 use Rattle.dom_base.specs.declared.kind.Kind.TheVariants.{N as nch, P as pch}
 use Rattle.deck.specs.NamedDevices.{with_devices}
 use Rattle.deck.proofs.CircuitGrowth.{Grew-trans}
-use Rattle.sp_network.specs.Tree.{EachLeaf, dual, leaves}
+use Rattle.sp_network.specs.Tree.{EachLeaf, leaves}
 use Rattle.sp_network.specs.TypedTree.{tree_of}
 use Rattle.domino_cell.specs.NamedTrees.{inner_net, named_tree}
-use Rattle.domino_cell.specs.PushedNames.{lower_front, upper_front}
 use Rattle.domino_cell.specs.Spelling.{spell}
 use Rattle.domino_cell.proofs.PushedGates.{gate_devices_pushed}
 use Rattle.domino_cell.proofs.PushedTrees.{EachLeaf-dual, inner_count-below, leaves-dual}
@@ -36,18 +34,30 @@ returns-in_err-push-2-clause-grew c = Grew-trans c.args.circuit.now c.push.new.c
 pub returns-clause-grew : goal.returns-clause-grew
 returns-clause-grew c = Grew-trans c.args.circuit.now c.push.new.circuit c.push-2.new.circuit c.push.ensures.grew c.push-2.ensures.grew
 
+pub push-requires-clause-top : goal.push-requires-clause-top
+push-requires-clause-top c = c.named-out.ensures.stands c.args.circuit.now.nets
+
+pub push-requires-clause-bottom : goal.push-requires-clause-bottom
+push-requires-clause-bottom c = c.named-vdd.ensures.stands c.args.circuit.now.nets
+
+pub push-requires-2-clause-top : goal.push-requires-2-clause-top
+push-requires-2-clause-top c = c.named-out.ensures.stands c.push.new.circuit.nets
+
+pub push-requires-2-clause-bottom : goal.push-requires-2-clause-bottom
+push-requires-2-clause-bottom c = c.named-vss.ensures.stands c.push.new.circuit.nets
+
 pub returns-clause-devices : goal.returns-clause-devices
 returns-clause-devices c =
     let named = c.requires.named in
-    let low = named_tree c.args.names.now (tree_of c.args.tree.now) in
-    let upper : with_devices c.args.circuit.now
-    (spell pch (inner_net c.as_bytes.result.now) (named_tree c.args.names.now (tree_of c.args.upper.now)) c.args.out.now c.args.nets.now.vdd 0)
-    ≡ with_devices c.args.circuit.now
-    (spell pch (inner_net (upper_front c.args.out.now)) (named_tree c.args.names.now (dual (tree_of c.args.tree.now))) c.args.out.now (codes "vdd") 0)
-    = λ i. with_devices c.args.circuit.now
-    (spell pch (inner_net ((c.as_bytes.ensures.bytes ∙ named.upper) i)) (named_tree c.args.names.now (c.requires.upper i)) c.args.out.now (named.vdd i) 0) in
-    let lower : with_devices c.push.new.circuit (spell nch (inner_net c.as_bytes-2.result.now) low c.args.out.now c.args.nets.now.vss 0)
-    ≡ with_devices c.push.new.circuit (spell nch (inner_net (lower_front c.args.out.now)) low c.args.out.now (codes "vss") 0)
-    = λ i. with_devices c.push.new.circuit (spell nch (inner_net ((c.as_bytes-2.ensures.bytes ∙ named.lower) i)) low c.args.out.now (named.vss i) 0) in
-    gate_devices_pushed c.args.circuit.now c.push.new.circuit c.push-2.new.circuit c.args.out.now c.args.names.now (tree_of c.args.tree.now)
-    (c.in_ok-push.ensures.devices ∙ upper) (c.in_ok-push-2.ensures.devices ∙ lower)
+    let old = c.args.circuit.now in
+    let between = c.push.new.circuit in
+    let names = c.args.names.now in
+    let out = c.named-out.ensures.name in
+    let vdd = c.named-vdd.ensures.name ∙ named.vdd in
+    let vss = c.named-vss.ensures.name ∙ named.vss in
+    let front = c.as_bytes.ensures.bytes ∙ named.upper in
+    let front_below = c.as_bytes-2.ensures.bytes ∙ named.lower in
+    let low = named_tree names (tree_of c.args.tree.now) in
+    gate_devices_pushed old between c.push-2.new.circuit c.args.out.now names (tree_of c.args.tree.now)
+    (c.in_ok-push.ensures.devices ∙ (λ i. with_devices old (spell pch (inner_net (front i)) (named_tree names (c.requires.upper i)) (out i) (vdd i) 0)))
+    (c.in_ok-push-2.ensures.devices ∙ (λ i. with_devices between (spell nch (inner_net (front_below i)) low (out i) (vss i) 0)))

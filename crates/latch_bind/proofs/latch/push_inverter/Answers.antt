@@ -1,6 +1,5 @@
-use Rattle.std.proofs.Common.{List, ap, ℕ, ◌∙◌}
+use Rattle.std.proofs.Common.{◌∙◌}
 use Rattle.dom_base.specs.declared.kind.Kind.TheVariants.{N as nch, P as pch}
-use Rattle.deck.specs.CircuitData.{CircuitData}
 use Rattle.deck.specs.Pushes.{pushed}
 use Rattle.deck.proofs.CircuitGrowth.{Grew-trans}
 use Rattle.latch_bind.proofs.latch.push_inverter.Goals as goal
@@ -18,8 +17,10 @@ returns-clause-devices c =
     let stage = c.args.stage.now in
     let input = c.args.input.name.now in
     let clocks = c.args.clocks in
-    let first : List ℕ → CircuitData = λ vdd. pushed (pushed c.args.circuit.now pch stage.out clocks.opposite.name.now stage.upper) pch stage.upper input vdd in
-    let second : CircuitData → List ℕ → CircuitData = λ x vss. pushed (pushed x nch stage.out clocks.clock.name.now stage.lower) nch stage.lower input vss in
+    let out = c.named-out.ensures.name in
+    let out_again = c.at-out.ensures.name ∙ out in
+    let input_again = c.at-input.ensures.name in
+    let first = c.in_ok-number.ensures.devices
+    ∙ (λ i. pushed (pushed c.args.circuit.now pch (out i) clocks.opposite.name.now stage.upper) pch stage.upper input (c.vdd_net-vdd.ensures i)) in
     c.in_ok-push_branch.ensures.devices
-    ∙ ap (λ (x : CircuitData). second x c.vss_net-vss.result.name.now) c.in_ok-number.ensures.devices
-    ∙ (λ i. second (first (c.vdd_net-vdd.ensures i)) (c.vss_net-vss.ensures i))
+    ∙ (λ i. pushed (pushed (first i) nch (out_again i) clocks.clock.name.now stage.lower) nch stage.lower (input_again i) (c.vss_net-vss.ensures i))

@@ -20,16 +20,16 @@ returns-then-len-ports-clause-fault c = λ line kind is.
     let all = sym (length-map c.ports-2.result.now (λ w. str_to_ascii_lowercase w.now)) ∙ ap length c.ports-2.ensures in
     answered c.fault.result c.args.card.now.number line _ kind _ c.fault.ensures (twice_fault c.args.card.now c.in_ok-nets.nets.keys keys _ all (omega (arith, c.if-len-ports.true, c.len.ensures.len))) is
 
-pub returns-then-len-gt-MOST_PORTS-clause-fault : goal.returns-then-len-gt-MOST_PORTS-clause-fault
-returns-then-len-gt-MOST_PORTS-clause-fault c = λ line kind is.
+pub returns-then-len-clause-fault : goal.returns-then-len-clause-fault
+returns-then-len-clause-fault c = λ line kind is.
     let keys = c.in_ok-nets.ensures ∙ ap (with_all _) c.ports.ensures in
     let all = sym (length-map c.ports-2.result.now (λ w. str_to_ascii_lowercase w.now)) ∙ ap length c.ports-2.ensures in
-    answered c.fault-then-len-gt-MOST_PORTS.result c.args.card.now.number line _ kind _ c.fault-then-len-gt-MOST_PORTS.ensures (many_fault c.args.card.now c.in_ok-nets.nets.keys keys _ all (λ l. omega (arith, c.if-len-ports.false, c.len.ensures.len, l)) (omega (arith, c.if-len-gt-MOST_PORTS.true, c.len-2.ensures.len))) is
+    answered c.fault-then-len.result c.args.card.now.number line _ kind _ c.fault-then-len.ensures (many_fault c.args.card.now c.in_ok-nets.nets.keys keys _ all (λ l. omega (arith, c.if-len-ports.false, c.len.ensures.len, l)) (omega (arith, c.if-len.true, c.len-2.ensures.len))) is
 
 pub returns-clause-circuit : goal.returns-clause-circuit
 returns-clause-circuit c =
     let keys = c.in_ok-nets.ensures ∙ ap (with_all _) c.ports.ensures in
     let all = sym (length-map c.ports-2.result.now (λ w. str_to_ascii_lowercase w.now)) ∙ ap length c.ports-2.ensures in
-    let clean = no_fault_of_ports c.args.card.now c.in_ok-nets.nets.keys keys _ all (λ l. omega (arith, c.if-len-ports.false, c.len.ensures.len, l)) (λ l. omega (arith, c.if-len-gt-MOST_PORTS.false, c.len-2.ensures.len, l)) in
+    let clean = no_fault_of_ports c.args.card.now c.in_ok-nets.nets.keys keys _ all (λ l. omega (arith, c.if-len-ports.false, c.len.ensures.len, l)) (λ l. omega (arith, c.if-len.false, c.len-2.ensures.len, l)) in
     let set = port_set (port_names c.args.card.now) c.in_ok-nets.nets.keys (good_ports c.args.card.now clean) keys in
     (clean, opened-parts c.args.card.now _ _ _ _ _ (c.in_ok-net_name.ensures ∙ c.word.ensures) c.new.ensures.items c.len-ports.ensures.len set.keys_are c.new-2.ensures.items)

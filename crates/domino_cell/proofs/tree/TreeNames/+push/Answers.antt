@@ -1,13 +1,14 @@
-use Rattle.std.proofs.Common.{get_or, ◌≡◌, ◌<◌, length, Some, [], ap, ap₂, refl, sym, subst, ◌∙◌}
+use Rattle.std.specs.Prelude.{IfOk}
+use Rattle.std.proofs.Common.{get_or, slice_get, ◌≡◌, ◌<◌, length, Some, [], ap, ap₂, refl, sym, subst, ◌∙◌}
 use Rattle.std.proofs.lemmas.Option.{get_or_from_slice_get, slice_get-get_or}
 use Rattle.std.proofs.lemmas.Result.{on_ok_weaker}
 use Rattle.deck.specs.CircuitGrowth.{Grew}
 use Rattle.deck.specs.Nets.{net_name}
-use Rattle.deck.proofs.CircuitGrowth.{Grew-same, pushed-grew}
+use Rattle.deck.proofs.CircuitGrowth.{Grew-same, Grew-trans, pushed-grew}
 use Rattle.sp_network.specs.Tree.{EachLeaf, Parallel, Series}
 use Rattle.sp_network.specs.TypedTree.{tree_of}
-use Rattle.domino_cell.specs.NamedTrees.{inner_net}
-use Rattle.domino_cell.proofs.PushedTrees.{parallel_pushed, series_pushed}
+use Rattle.domino_cell.specs.NamedTrees.{inner_net, named_tree}
+use Rattle.domino_cell.proofs.PushedTrees.{parallel_pushed, renamed_ends, series_pushed}
 use Rattle.domino_cell.specs.NetsAt.{AreNumbersAt}
 use Rattle.domino_cell.proofs.NetsAt.{AreNumbersAt-grew, AreNumbersAt-set}
 use Rattle.domino_cell.proofs.tree.TreeNames.+push.Goals as goal
@@ -27,9 +28,11 @@ returns-in_ok-next-in-Series-clause-devices g t c =
     on_ok_weaker c.push-in-Series.result
     (λ two. series_pushed c.args.circuit.now c.push.new.circuit c.push-in-Series.new.circuit _
     (inner_net c.args.self.now.front.now) (net_name c.args.self.now.gates.now) (tree_of c.args.tree.now) (tree_of c.deref.result.now)
-    (tree_of c.deref-in-Series.result.now) c.args.top.name.now c.args.bottom.name.now _ c.args.inner _
+    (tree_of c.deref-in-Series.result.now) c.args.top.name.now c.args.bottom.name.now c.named-middle.result.name.now c.args.inner _
     (ap tree_of c.in-Series.is ∙ ap₂ Series (ap tree_of (sym c.deref.ensures)) (ap tree_of (sym c.deref-in-Series.ensures)))
-    c.in_ok-name-in-Series.ensures c.in_ok-next-in-Series.ensures.next c.in_ok-next-in-Series.ensures.devices two)
+    (c.named-middle.ensures.name ∙ c.in_ok-name-in-Series.ensures) c.in_ok-next-in-Series.ensures.next c.in_ok-next-in-Series.ensures.devices
+    (two ∙ renamed_ends c.push.new.circuit g.S.Polarity.KIND (inner_net c.args.self.now.front.now)
+    (named_tree c.args.self.now.gates.now (tree_of c.deref-in-Series.result.now)) c.in_ok-next-in-Series.next c.at-middle.ensures.name c.checked-bottom.ensures.name))
     c.push-in-Series.ensures.devices
 
 pub returns-in_ok-next-in-Parallel-clause-devices : goal.returns-in_ok-next-in-Parallel-clause-devices
@@ -39,7 +42,9 @@ returns-in_ok-next-in-Parallel-clause-devices g t c =
     (inner_net c.args.self.now.front.now) (net_name c.args.self.now.gates.now) (tree_of c.args.tree.now) (tree_of c.deref-in-Parallel.result.now)
     (tree_of c.deref-in-Parallel-2.result.now) c.args.top.name.now c.args.bottom.name.now c.args.inner _
     (ap tree_of c.in-Parallel.is ∙ ap₂ Parallel (ap tree_of (sym c.deref-in-Parallel.ensures)) (ap tree_of (sym c.deref-in-Parallel-2.ensures)))
-    c.in_ok-next-in-Parallel.ensures.next c.in_ok-next-in-Parallel.ensures.devices two)
+    c.in_ok-next-in-Parallel.ensures.next c.in_ok-next-in-Parallel.ensures.devices
+    (two ∙ renamed_ends c.push-in-Parallel.new.circuit g.S.Polarity.KIND (inner_net c.args.self.now.front.now)
+    (named_tree c.args.self.now.gates.now (tree_of c.deref-in-Parallel-2.result.now)) c.in_ok-next-in-Parallel.next c.checked-top.ensures.name c.at-bottom.ensures.name))
     c.push-in-Parallel-2.ensures.devices
 
 pub returns-in_ok-device-in-Leaf-clause-numbers : goal.returns-in_ok-device-in-Leaf-clause-numbers
@@ -56,3 +61,28 @@ returns-in_ok-device-in-Leaf-clause-numbers g t c =
     (AreNumbersAt-set new.nets names c.args.numbers.now gate c.in_ok-device-in-Leaf.device.gate
     (AreNumbersAt-grew old new names c.args.numbers.now grew c.requires.numbers)
     (c.in_ok-device-in-Leaf.ensures.ends.gate ∙ ap Some (sym found)))
+
+pub returns-in_ok-next-in-Series-clause-grew : goal.returns-in_ok-next-in-Series-clause-grew
+returns-in_ok-next-in-Series-clause-grew g t c =
+    Grew-trans c.args.circuit.now c.push.new.circuit c.push-in-Series.new.circuit c.in_ok-next-in-Series.ensures.grew c.push-in-Series.ensures.grew
+
+pub returns-in_ok-next-in-Series-clause-stands : goal.returns-in_ok-next-in-Series-clause-stands
+returns-in_ok-next-in-Series-clause-stands g t c =
+    subst (λ name. IfOk c.push-in-Series.result (λ p. slice_get c.push-in-Series.new.circuit.nets p.1 ≡ Some name))
+    c.checked-bottom.ensures.name c.push-in-Series.ensures.stands
+
+pub returns-in_ok-next-in-Series-clause-numbers : goal.returns-in_ok-next-in-Series-clause-numbers
+returns-in_ok-next-in-Series-clause-numbers g t c = c.push-in-Series.ensures.numbers
+
+pub returns-in_ok-next-in-Parallel-clause-grew : goal.returns-in_ok-next-in-Parallel-clause-grew
+returns-in_ok-next-in-Parallel-clause-grew g t c =
+    Grew-trans c.args.circuit.now c.push-in-Parallel.new.circuit c.push-in-Parallel-2.new.circuit
+    c.in_ok-next-in-Parallel.ensures.grew c.push-in-Parallel-2.ensures.grew
+
+pub returns-in_ok-next-in-Parallel-clause-stands : goal.returns-in_ok-next-in-Parallel-clause-stands
+returns-in_ok-next-in-Parallel-clause-stands g t c =
+    subst (λ name. IfOk c.push-in-Parallel-2.result (λ p. slice_get c.push-in-Parallel-2.new.circuit.nets p.1 ≡ Some name))
+    c.at-bottom.ensures.name c.push-in-Parallel-2.ensures.stands
+
+pub returns-in_ok-next-in-Parallel-clause-numbers : goal.returns-in_ok-next-in-Parallel-clause-numbers
+returns-in_ok-next-in-Parallel-clause-numbers g t c = c.push-in-Parallel-2.ensures.numbers

@@ -1,6 +1,6 @@
 use Rattle.std.proofs.Common.{ap, ◌∙◌}
 use Rattle.deck.specs.Nets.{net_number, with_net}
-use Rattle.domino_cell.proofs.net_at.add.Goals as goal
+use Rattle.deck.proofs.number.add.Goals as goal
 
 pub returns-clause-number : goal.returns-clause-number
 returns-clause-number c = c.in_ok-number.ensures.index ∙ ap (λ name. net_number c.args.nets.now.keys name) c.in_ok-copy.ensures

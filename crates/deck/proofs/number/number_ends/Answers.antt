@@ -1,8 +1,8 @@
 use Rattle.std.proofs.Common.{◌∙◌, ap, subst, sym}
 use Rattle.deck.specs.Nets.{with_net}
-use Rattle.domino_cell.specs.NetsAt.{StandsAt}
-use Rattle.domino_cell.proofs.NetsAt.{StandsAt-later}
-use Rattle.domino_cell.proofs.net_at.number_ends.Goals as goal
+use Rattle.deck.specs.NetsAt.{StandsAt}
+use Rattle.deck.proofs.NetsAt.{StandsAt-later}
+use Rattle.deck.proofs.number.number_ends.Goals as goal
 
 pub number-requires-2-clause-stands : goal.number-requires-2-clause-stands
 number-requires-2-clause-stands c =

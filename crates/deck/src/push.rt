@@ -1,34 +1,17 @@
-//! Devices between nets whose numbers may be known.
-ghost use Rattle.std.specs.Prelude.{◌≡◌, ◌<◌, ◌+◌, ◌-◌, ◌++◌, ◌∷◌, ◌^◌, [], IfOk, OnErr, OnOk, Some, if◌then◌else◌, is_ok, length, nat_eq, take};
+//! Devices that are added between nets whose numbers may be known.
+ghost use Rattle.std.specs.Prelude.{◌≡◌, ◌<◌, ◌+◌, ◌++◌, ◌∷◌, ◌^◌, [], IfOk, OnErr, OnOk, length, nat_eq, take};
 ghost use Rattle.std.specs.Cmp.Lexicographic.{pointwise};
 ghost use Rattle.std.specs.List.{IsDistinct};
+ghost use Rattle.deck.specs.CircuitGrowth.{Grew};
 ghost use Rattle.deck.specs.Limits.{most_devices};
-ghost use Rattle.deck.specs.Nets.{net_number, with_net, with_nets};
-ghost use Rattle.deck.specs.Numbers.{AreNumbersOf};
+ghost use Rattle.deck.specs.Nets.{with_nets};
+ghost use Rattle.deck.specs.NetsAt.{HasEnds, StandsAt};
 ghost use Rattle.deck.specs.Pushes.{added_device, pushed};
-ghost use Rattle.domino_cell.specs.NetsAt.{HasEnds, StandsAt};
 
-use deck::{Circuit, Device, NetSet};
-use dom_base::{Kind, NetName, OutOfMemory};
-
-/// A net by its name, and the number that it may have in a circuit. Where another net or none has
-/// this number, the net is looked up by its name.
-#[derive(Clone, Copy)]
-pub struct NetAt<'a> {
-    pub name: &'a NetName,
-    pub number: Option<u32>,
-}
-
-/// This number, where the net of this name stands at it.
-pub fn known_at(circuit: &Circuit, name: &NetName, number: u32) -> Option<u32>
-    ensures { StandsAt circuit.now.nets result name.now }
-{
-    let net = NetAt {
-        name,
-        number: Some(number),
-    };
-    known_number(circuit.nets.as_slice(), net)
-}
+use crate::net_at::NetAt;
+use crate::number::{NetSet, number_ends};
+use crate::{Circuit, Device};
+use dom_base::{Kind, OutOfMemory};
 
 /// Makes room for so many nets more, where memory suffices. The circuit stays as it is.
 pub fn reserve_nets(circuit: &mut Circuit, more: usize)
@@ -54,20 +37,11 @@ pub fn push_at(
     ensures ok { OnOk result (circuit.new ≡ pushed circuit.old kind drain.entry.name.now gate.entry.name.now source.entry.name.now) }
     ensures device { IfOk result (λ device. device ≡ added_device circuit.old.nets kind drain.entry.name.now gate.entry.name.now source.entry.name.now) }
     ensures err { OnErr result (circuit.new ≡ circuit.old) }
+    ensures grew { Grew circuit.old circuit.new }
 {
-    let nets = circuit.nets.as_slice();
-    let drain = NetAt {
-        name: drain.name,
-        number: known_number(nets, drain),
-    };
-    let gate = NetAt {
-        name: gate.name,
-        number: known_number(nets, gate),
-    };
-    let source = NetAt {
-        name: source.name,
-        number: known_number(nets, source),
-    };
+    let drain = drain.checked(circuit);
+    let gate = gate.checked(circuit);
+    let source = source.checked(circuit);
     push_held(circuit, kind, drain, gate, source)
 }
 
@@ -89,6 +63,7 @@ pub fn push_held(
     ensures device { IfOk result (λ device. device ≡ added_device circuit.old.nets kind drain.entry.name.now gate.entry.name.now source.entry.name.now) }
     ensures ends { IfOk result (HasEnds circuit.new.nets drain.entry.name.now gate.entry.name.now source.entry.name.now) }
     ensures err { OnErr result (circuit.new ≡ circuit.old) }
+    ensures grew { Grew circuit.old circuit.new }
 {
     let before = circuit.nets.len();
     match push_device(
@@ -138,71 +113,4 @@ fn push_device(
     };
     devices.push(device)?;
     Ok(device)
-}
-
-/// The numbers of a device's nets. After a refusal some of the nets may stand at the end.
-fn number_ends(
-    nets: &mut NetSet,
-    drain: NetAt<'_>,
-    gate: NetAt<'_>,
-    source: NetAt<'_>,
-) -> Result<(usize, usize, usize), OutOfMemory>
-    requires drain { StandsAt nets.old.keys drain.number drain.name.now }
-    requires gate { StandsAt nets.old.keys gate.number gate.name.now }
-    requires source { StandsAt nets.old.keys source.number source.name.now }
-    requires distinct { IsDistinct (pointwise nat_eq) nets.old.keys }
-    ensures numbers { IfOk result (AreNumbersOf nets.old.keys drain.entry.name.now gate.entry.name.now source.entry.name.now) }
-    ensures keys { OnOk result (nets.new.keys ≡ with_nets nets.old.keys drain.entry.name.now gate.entry.name.now source.entry.name.now) }
-    ensures begins { take (length nets.old.keys) nets.new.keys ≡ nets.old.keys }
-{
-    let drain = number(nets, drain)?;
-    let gate = number(nets, gate)?;
-    let source = number(nets, source)?;
-    Ok((drain, gate, source))
-}
-
-/// The number of a net that stands at the number which is held for it. Where none is held, it is added at the
-/// end where it is new. A refusal adds nothing.
-#[tactic(auto, using(crate::proofs::KnownNumbers::known_numbers))]
-fn number(nets: &mut NetSet, net: NetAt<'_>) -> Result<usize, OutOfMemory>
-    requires stands { StandsAt nets.old.keys net.number net.name.now }
-    requires distinct { IsDistinct (pointwise nat_eq) nets.old.keys }
-    ensures number { IfOk result (λ i. i ≡ net_number nets.old.keys net.entry.name.now) }
-    ensures keys { nets.new.keys ≡ (if is_ok result then with_net nets.old.keys net.entry.name.now else nets.old.keys) }
-    ensures distinct { IsDistinct (pointwise nat_eq) nets.new.keys }
-{
-    if let Some(number) = net.number {
-        return Ok(number as usize);
-    }
-    add(nets, net.name)
-}
-
-/// The number of a net, which is added at the end where it is new, by its name. A refusal adds nothing.
-fn add(nets: &mut NetSet, name: &NetName) -> Result<usize, OutOfMemory>
-    ensures number { IfOk result (λ i. i ≡ net_number nets.old.keys name.now) }
-    ensures keys { nets.new.keys ≡ (if is_ok result then with_net nets.old.keys name.now else nets.old.keys) }
-{
-    let copy = copied(name)?;
-    let (number, _) = nets.insert_full(copy)?;
-    Ok(number)
-}
-
-/// A copy of a name, by the allocator of its bytes.
-fn copied(name: &NetName) -> Result<NetName, OutOfMemory>
-    ensures { IfOk result (λ copy. copy ≡ name.now) }
-{
-    Ok(name.clone()?)
-}
-
-/// The number that is held for a net, where the net stands at it.
-pub fn known_number(nets: &[NetName], net: NetAt<'_>) -> Option<u32>
-    ensures { StandsAt nets.now result net.entry.name.now }
-{
-    let number = net.number?;
-    let there = nets.get(number as usize)?;
-    if there == net.name {
-        Some(number)
-    } else {
-        None
-    }
 }
