@@ -9,10 +9,11 @@ use Rattle.switch_model.specs.Power.{power_values}
 use Rattle.port_runs.specs.Environment.{Launched, Released, Step, World, is_over, none_fallen}
 use Rattle.port_runs.specs.Moves.{PortValue}
 use Rattle.port_runs.specs.PortRuns.{power_world}
+use Rattle.port_runs.proofs.Steps.{leads_on}
 use Rattle.domino_law.specs.Laws.{HasOwnValues}
 use Rattle.domino_law.specs.LooseDeck.{IsLooseDeck}
 use Rattle.domino_law.specs.Nets.{Net}
-use Rattle.domino_law.specs.Runs.{Run}
+use Rattle.domino_law.specs.Runs.{GivesSources, Run, clocked_deck}
 use Rattle.domino_law.specs.Settings.{HasPorts}
 use Rattle.domino_law.specs.Shape.{Shape}
 use Rattle.domino_law.proofs.OwnRunLaws.{realises_own_run}
@@ -22,7 +23,7 @@ use Rattle.event_sim.specs.Orders.{By}
 use Rattle.trace_tool.specs.Moves.{evaluation_moves, power_moves}
 use Rattle.trace_tool.specs.Courses.{LeadsTo, State}
 use Rattle.chosen_law.specs.Chosen.{IsReadyForPins, IsSettled, Passes, ReadsOwnRun, at_reading}
-use Rattle.chosen_law.proofs.Chosen.{evaluation_is_legal, latching_is_legal, power_is_legal, run_append}
+use Rattle.chosen_law.proofs.Chosen.{evaluation_is_legal, latching_is_legal, power_is_legal}
 
 module _ (place : ℕ → ℕ → ℕ) (roles : Roles) (links : LinksData) (net : Net → ℕ) (s : Shape) (ports : HasPorts roles links net s) where
   -- where a run came to, with the cycles that are over
@@ -42,7 +43,8 @@ module _ (place : ℕ → ℕ → ℕ) (roles : Roles) (links : LinksData) (net 
     → LeadsTo (By place) links (record { values = w.values; step = step }) (moves pins) events read
     → (fallen : ℕ → Bool) × IsFallen fallen × (steps : List Step) × Run links net s steps w (at_reading s fallen (is_over w.place w.past w.pins) pins read)
     × IsSettled links net s (at_reading s fallen (is_over w.place w.past w.pins) pins read)) where
-  pub evaluated_run : (w : World) (done : List (List Bool)) (t : State) → Came place roles links net s ports w done t → (pins : List Bool) (events : List Event) (read : State)
+  pub evaluated_run : (w : World) (done : List (List Bool)) (t : State) → Came place roles links net s ports w done t
+      → (pins : List Bool) (events : List Event) (read : State)
       → length pins ≡ s.pins → LeadsTo (By place) links t (moves pins) events read
       → (fallen : ℕ → Bool) × IsFallen fallen × (steps : List Step) × Run links net s steps w (at_reading s fallen done pins read) × IsSettled links net s (at_reading s fallen done pins read)
   evaluated_run w done t came pins events read long l =
@@ -50,12 +52,13 @@ module _ (place : ℕ → ℕ → ℕ) (roles : Roles) (links : LinksData) (net 
         e.0,
         e.1,
         came.steps ++ e.2,
-        subst (λ d. Run links net s (came.steps ++ e.2) w (at_reading s e.0 d pins read)) came.over (run_append links net s came.steps e.2 w came.world _ came.run e.3),
+        subst (λ d. Run links net s (came.steps ++ e.2) w (at_reading s e.0 d pins read)) came.over (leads_on (clocked_deck links s) (GivesSources links net s) came.steps e.2 w came.world _ came.run e.3),
         subst (λ d. IsSettled links net s (at_reading s e.0 d pins read)) came.over e.4,
       )
 
   -- whole cycles from there
-  pub came_on : (w : World) (done cycles : List (List Bool)) (t u : State) → Came place roles links net s ports w done t → AllByRecursion (λ p. length p ≡ s.pins) cycles
+  pub came_on : (w : World) (done cycles : List (List Bool)) (t u : State) → Came place roles links net s ports w done t
+      → AllByRecursion (λ p. length p ≡ s.pins) cycles
       → Passes (By place) links roles moves t cycles u → Came place roles links net s ports w (done ++ cycles) u
   came_on w done [] t u came long p =
       subst (Came place roles links net s ports w (done ++ [])) (sym p) (subst (λ d. Came place roles links net s ports w d t) (sym (append-nil done)) came)
@@ -66,7 +69,7 @@ module _ (place : ℕ → ℕ → ℕ) (roles : Roles) (links : LinksData) (net 
         steps = e.2 ++ l.0;
         world = record { place = Launched; risen = s.clocks; fallen = e.0; past = done; pins = pins; values = (p.1).values };
         step = (p.1).step;
-        run = run_append links net s e.2 l.0 w _ _ e.3 l.1;
+        run = leads_on (clocked_deck links s) (GivesSources links net s) e.2 l.0 w _ _ e.3 l.1;
         ready = l.2;
         over = refl;
         values = refl;
@@ -91,7 +94,8 @@ powered_to place c roles net s ports powered start power =
 
 -- where all clocks fall together none has fallen at a reading
 module _ (place : ℕ → ℕ → ℕ) (c : CircuitData) (roles : Roles) (net : Net → ℕ) (s : Shape) (ports : HasPorts roles (links_of c roles) net s) where
-  legal : (pins : List Bool) (events : List Event) (w : World) (step : ℕ) (read : State) → IsReadyForPins (links_of c roles) net s w → length pins ≡ s.pins
+  legal : (pins : List Bool) (events : List Event) (w : World) (step : ℕ) (read : State) → IsReadyForPins (links_of c roles) net s w
+      → length pins ≡ s.pins
       → LeadsTo (By place) (links_of c roles) (record { values = w.values; step = step }) (evaluation_moves roles pins) events read
       → (fallen : ℕ → Bool) × (fallen ≡ none_fallen) × (steps : List Step) × Run (links_of c roles) net s steps w (at_reading s fallen (is_over w.place w.past w.pins) pins read)
       × IsSettled (links_of c roles) net s (at_reading s fallen (is_over w.place w.past w.pins) pins read)
@@ -107,11 +111,13 @@ module _ (place : ℕ → ℕ → ℕ) (c : CircuitData) (roles : Roles) (net : 
       came_on place roles (links_of c roles) net s ports (evaluation_moves roles) (λ f. f ≡ none_fallen) legal (power_world c roles) [] cycles start last
       (powered_to place c roles net s ports powered start power) all passes
 
-  reads : (cycles : List (List Bool)) (pins : List Bool) (powered evaluated : List Event) (start last read : State) → IsLooseDeck (links_of c roles) net s
+  reads : (cycles : List (List Bool)) (pins : List Bool) (powered evaluated : List Event) (start last read : State)
+      → IsLooseDeck (links_of c roles) net s
       → AllByRecursion (λ p. length p ≡ s.pins) cycles → length pins ≡ s.pins
       → LeadsTo (By place) (links_of c roles) (record { values = power_values c roles; step = 0 }) (power_moves roles) powered start
       → Passes (By place) (links_of c roles) roles (evaluation_moves roles) start cycles last
-      → LeadsTo (By place) (links_of c roles) last (evaluation_moves roles pins) evaluated read → HasOwnValues net s (at_reading s none_fallen cycles pins read)
+      → LeadsTo (By place) (links_of c roles) last (evaluation_moves roles pins) evaluated read
+      → HasOwnValues net s (at_reading s none_fallen cycles pins read)
   reads cycles pins powered evaluated start last read loose all long power passes l =
       let came = came_after cycles powered start last all power passes in
       let e = evaluated_run place roles (links_of c roles) net s ports (evaluation_moves roles) (λ f. f ≡ none_fallen) legal (power_world c roles) cycles last came pins evaluated read long l in

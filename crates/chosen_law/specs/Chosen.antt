@@ -13,7 +13,8 @@ use Rattle.domino_law.specs.Places.{AreSources}
 use Rattle.domino_law.specs.Runs.{Run}
 use Rattle.domino_law.specs.Settings.{HasPorts, HaveRisen}
 use Rattle.domino_law.specs.Shape.{Shape}
-use Rattle.domino_law.specs.Laws.{HasOwnValues, RestsIn}
+use Rattle.domino_law.specs.Laws.{HasOwnValues}
+use Rattle.port_runs.specs.LegalSteps.{RestsIn}
 use Rattle.domino_law.specs.LooseDeck.{IsLooseDeck}
 use Rattle.event_sim.specs.declared.event.Event.{Event}
 use Rattle.event_sim.specs.Orders.{By}

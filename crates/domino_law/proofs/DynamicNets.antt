@@ -1,30 +1,28 @@
 -- The nets of cells are dynamic nets and domino outputs.
 use Rattle.std.specs.List.{AllByRecursion}
 use Rattle.std.specs.Prelude.{Contains, None, Option, Some}
-use Rattle.std.proofs.Common.{[], arith, inl, inr, map, refl, subst, suc, zero, ℕ, ◌+◌, ◌<◌, ◌∙◌, ◌≡◌}
+use Rattle.std.proofs.Common.{[], arith, inl, inr, map, refl, suc, zero, ℕ, ◌+◌, ◌<◌, ◌∙◌, ◌≡◌}
 use Rattle.std.proofs.lemmas.List.Elements.{recursion_from_All}
 use Rattle.dom_base.specs.declared.kind.Kind.TheVariants.{N as nch, P as pch}
 use Rattle.dom_base.proofs.Decided.{dec_nat}
 use Rattle.dom_base.proofs.Lists.{AllByRecursion-left, AllByRecursion-right}
-use Rattle.deck.specs.CircuitData.{CircuitData}
 use Rattle.deck.specs.NamedDevices.{device_of}
-use Rattle.deck.specs.Paths.{Ends}
-use Rattle.deck.specs.PortLayout.{first_clock}
 use Rattle.deck.specs.declared.device.Device.{Device}
 use Rattle.deck.specs.declared.role.Roles.{Roles}
 use Rattle.domino_cell.specs.Spelling.{spell}
 use Rattle.domino_cell.specs.Stage.{Inside, Spot, Top, stage}
 use Rattle.sp_network.specs.Tree.{Leaf, Series, Tree, inner_count}
 use Rattle.sp_network.proofs.TreeImages.{inner_count-map_tree}
-use Rattle.switch_model.specs.LinksData.{links_of}
+use Rattle.switch_model.specs.LinksData.{LinksData, links_of}
 use Rattle.stage_law.specs.Precharged.{taps_from}
 use Rattle.domino_cell.specs.Tapped.{tap_card, tapped}
-use Rattle.port_runs.specs.Periods.{IsClockPort, IsDynamicNet}
+use Rattle.port_runs.specs.Periods.{IsClockPort, vdd_port}
+use Rattle.port_runs.proofs.DynamicNets.{dynamic_as, output_as}
 use Rattle.domino_law.specs.Branches.{dynamic, dynamic_taps, numbered, static_branches}
 use Rattle.domino_law.specs.DynamicNets.{CellsAreDynamic, CellsAreDynamicByPorts, InvertersAreDomino, OutputsAreDominoByPorts}
 use Rattle.domino_law.specs.Honest.{IsDynamicSpot}
 use Rattle.domino_law.specs.Nets.{At, Clock, Dynamic, Net, Output, Vdd, Vss, gate_net, CellSide, Gate, left_side}
-use Rattle.domino_law.specs.Periods.{IsDeckDynamicNet}
+use Rattle.domino_law.specs.Periods.{IsDeckClock}
 use Rattle.domino_law.specs.Settings.{HasPorts}
 use Rattle.domino_law.specs.Shape.{DynamicStage, Shape, Style, WithKeeper, WithPrecharge, dynamic_nets}
 use Rattle.domino_law.proofs.DeckParts.{dynamic_is}
@@ -68,9 +66,7 @@ cells_are_dynamic links net s loose k c e a i =
       there = precharge_there (Contains links.devices) net s.style (λ x. net (At (Dynamic k) x)) k c
           (recursion_from_All _ _ (dynamic_is loose.deck k c e).there) a i;
       kind_is = refl;
-      clock = c.clock;
-      clock_is = (loose.deck.shape).clocks_are k c e;
-      gated = refl;
+      gated = (c.clock, (loose.deck.shape).clocks_are k c e, refl);
       joined = inl (refl, refl);
     }
 
@@ -94,31 +90,18 @@ inverters_are_domino links net s loose k c e part b =
     }
 
 -- by the ports of a circuit
-dynamic_by_ports : (c : CircuitData) (roles : Roles) (net : Net → ℕ) (s : Shape) → HasPorts roles (links_of c roles) net s
-    → (n : ℕ) → IsDeckDynamicNet (links_of c roles) net s n → IsDynamicNet c roles n
-dynamic_by_ports c roles net s ports n d =
-    record {
-      precharge = d.precharge;
-      there = d.there;
-      kind_is = d.kind_is;
-      gated = clock_port (d.precharge).gate d.clock (d.gated ∙ ports.numbers (Clock d.clock) d.clock_is) (subst (λ m. d.clock < m) ports.clocks_are d.clock_is);
-      joined = subst (λ m. Ends d.precharge n m) (ports.numbers Vdd tt) d.joined;
-    }
+clock_port : (roles : Roles) (links : LinksData) (net : Net → ℕ) (s : Shape) → HasPorts roles links net s → (g : ℕ) → IsDeckClock net s g → IsClockPort roles g
+clock_port roles links net s ports g (clock, here, is) = (omega (arith, at), omega (arith, at, here, ports.clocks_are))
   where
-    clock_port : (g i : ℕ) → g ≡ first_clock + i → i < roles.clocks → IsClockPort roles g
-    clock_port g i z l = (omega (arith, z), omega (arith, z, l))
+    at : g ≡ 2 + clock
+    at = is ∙ ports.numbers (Clock clock) here
 
 pub cells_are_dynamic_by_ports : CellsAreDynamicByPorts
 cells_are_dynamic_by_ports c roles net s loose ports k cell e a i =
-    dynamic_by_ports c roles net s ports (net (At (Dynamic k) a)) (cells_are_dynamic (links_of c roles) net s loose k cell e a i)
+    dynamic_as c.devices (IsDeckClock net s) (IsClockPort roles) (net Vdd) vdd_port (clock_port roles (links_of c roles) net s ports)
+    (ports.numbers Vdd tt) (net (At (Dynamic k) a)) (cells_are_dynamic (links_of c roles) net s loose k cell e a i)
 
 pub outputs_are_domino_by_ports : OutputsAreDominoByPorts
 outputs_are_domino_by_ports c roles net s loose ports k cell e =
-    let d = inverters_are_domino (links_of c roles) net s loose k cell e (Output k) (cell, e, refl, refl) in
-    record {
-      pull_up = d.pull_up;
-      there = d.there;
-      kind_is = d.kind_is;
-      gated = dynamic_by_ports c roles net s ports (d.pull_up).gate d.gated;
-      joined = subst (λ m. Ends d.pull_up (net (At (Output k) Top)) m) (ports.numbers Vdd tt) d.joined;
-    }
+    output_as c.devices (IsDeckClock net s) (IsClockPort roles) (net Vdd) vdd_port (clock_port roles (links_of c roles) net s ports)
+    (ports.numbers Vdd tt) (net (At (Output k) Top)) (inverters_are_domino (links_of c roles) net s loose k cell e (Output k) (cell, e, refl, refl))

@@ -2,6 +2,7 @@
 use Rattle.std.specs.List.{AllByRecursion}
 use Rattle.std.specs.Prelude.{Contains, None, Option, Some, slice_get, ◌⊎◌}
 use Rattle.std.proofs.Common.{Bool, List, [], arith, false, inl, inr, map, refl, subst, suc, sym, true, zero, zero-add, ℕ, ◌+◌, ◌<◌, ◌∙◌, ◌∷◌, ◌≡◌, ◌≤◌}
+use Rattle.std.proofs.lemmas.Option.{same_Some}
 use Rattle.std.proofs.lemmas.List.Elements.{All-contains_itself, All-from_recursion, Contains-append_left, Contains-append_right, recursion_from_All}
 use Rattle.dom_base.specs.declared.kind.Kind.TheVariants.{N as nch}
 use Rattle.dom_base.proofs.Lists.{AllByRecursion-append, AllByRecursion-contains, AllByRecursion-left, AllByRecursion-map, AllByRecursion-right, AllByRecursion-weaker, Contains-first, Contains-later, Contains-slice_get}
@@ -20,8 +21,8 @@ use Rattle.stage_law.specs.Precharged.{taps_from}
 use Rattle.domino_cell.specs.Tapped.{IsTapped, Tap, tap_branch, tap_card, tapped, ways}
 use Rattle.domino_law.specs.Branches.{HasBranches, clocked, dynamic, dynamic_taps, numbered, reset_branch, static_branches}
 use Rattle.domino_law.specs.LooseDeck.{IsNet, IsSourceNet, IsSpotOf}
-use Rattle.domino_law.specs.Nets.{At, Clock, Complement, Dynamic, Gate, Lm, Lmb, Ls, Lsb, Master, Net, Next, Output, Part, Sink, Slave, Vdd, Vss, gate_net, own, CellSide}
-use Rattle.domino_law.specs.Shape.{DominoCell, DynamicStage, Latch, Shape, Style, WithKeeper, WithPrecharge, dynamic_nets, gate_tree}
+use Rattle.domino_law.specs.Nets.{At, Clock, Complement, Dynamic, Lm, Lmb, Ls, Lsb, Master, Net, Next, Output, Part, Sink, Slave, Vdd, Vss, gate_net, own, CellSide}
+use Rattle.domino_law.specs.Shape.{DynamicStage, Shape, Style, WithKeeper, WithPrecharge, dynamic_nets, gate_tree}
 use Rattle.domino_law.specs.Spelled.{IsSpelledDeck, SpelledIsLoose}
 use Rattle.domino_law.proofs.Statics.{IsSeries, dual_inner, dynamic_series, gate_series, side_unique}
 use Rattle.domino_law.proofs.Ways.{other_ways}
@@ -32,24 +33,12 @@ use Rattle.domino_law.proofs.SpelledParts.{deck_devices_are}
 -- a part has one list of branches
 one_list : (s : Shape) (net : Net → ℕ) (part : Part) (bs cs : List Branch) (ts us : List Tap) → HasBranches s net part bs ts → HasBranches s net part cs us → (bs ≡ cs) × (ts ≡ us)
 one_list s net (Dynamic k) bs cs ts us (c, e, z, z') (d, f, y, y') = let same : c ≡ d = side_unique s k c d e f in (z ∙ (rw same (sym y)), z' ∙ (rw same (sym y')))
-one_list s net (Output k) bs cs ts us (c, e, z, z') (d, f, y, y') = let same : c ≡ d = some_same (sym e ∙ f) in (z ∙ (rw same (sym y)), z' ∙ sym y')
-  where
-    some_same : {c d : DominoCell} → Some c ≡ Some d → c ≡ d
-    some_same e = cc
+one_list s net (Output k) bs cs ts us (c, e, z, z') (d, f, y, y') = let same : c ≡ d = same_Some _ _ (sym e ∙ f) in (z ∙ (rw same (sym y)), z' ∙ sym y')
 one_list s net (Complement l) bs cs ts us (e, z, z') (f, y, y') = (z ∙ sym y, z' ∙ sym y')
 one_list s net (Master j) bs cs ts us (b, e, z, z') (d, f, y, y') = (z ∙ sym y, z' ∙ sym y')
-one_list s net (Slave j) bs cs ts us (b, e, z, z') (d, f, y, y') = let same : b ≡ d = some_same (sym e ∙ f) in (z ∙ (rw same (sym y)), z' ∙ sym y')
-  where
-    some_same : {c d : Latch} → Some c ≡ Some d → c ≡ d
-    some_same e = cc
-one_list s net (Next j) bs cs ts us (b, e, z, z') (d, f, y, y') = let same : b ≡ d = some_same (sym e ∙ f) in (z ∙ (rw same (sym y)), z' ∙ sym y')
-  where
-    some_same : {c d : Latch} → Some c ≡ Some d → c ≡ d
-    some_same e = cc
-one_list s net (Sink i) bs cs ts us (g, e, z, z') (d, f, y, y') = let same : g ≡ d = some_same (sym e ∙ f) in (z ∙ (rw same (sym y)), z' ∙ sym y')
-  where
-    some_same : {c d : Gate} → Some c ≡ Some d → c ≡ d
-    some_same e = cc
+one_list s net (Slave j) bs cs ts us (b, e, z, z') (d, f, y, y') = let same : b ≡ d = same_Some _ _ (sym e ∙ f) in (z ∙ (rw same (sym y)), z' ∙ sym y')
+one_list s net (Next j) bs cs ts us (b, e, z, z') (d, f, y, y') = let same : b ≡ d = same_Some _ _ (sym e ∙ f) in (z ∙ (rw same (sym y)), z' ∙ sym y')
+one_list s net (Sink i) bs cs ts us (g, e, z, z') (d, f, y, y') = let same : g ≡ d = same_Some _ _ (sym e ∙ f) in (z ∙ (rw same (sym y)), z' ∙ sym y')
 
 -- each branch of a part leads to a supply of the deck
 supplied : (s : Shape) (net : Net → ℕ) (part : Part) (bs : List Branch) (taps : List Tap) → HasBranches s net part bs taps → AllByRecursion (λ b. (b.supply ≡ net Vdd) ⊎ (b.supply ≡ net Vss)) (ways bs taps)

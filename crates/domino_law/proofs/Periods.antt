@@ -1,7 +1,7 @@
 -- In an evaluation period a dynamic net falls at most once, and a domino output rises at most once.
 use Rattle.std.specs.List.{AllByRecursion}
-use Rattle.std.specs.Prelude.{slice_set, ◌≢◌, ◌⊎◌}
-use Rattle.std.proofs.Common.{Bool, List, [], ap, false, inl, inr, length, refl, subst, sym, ℕ, ◌++◌, ◌<◌, ◌∙◌, ◌∷◌, ◌≡◌, true}
+use Rattle.std.specs.Prelude.{◌≢◌, ◌⊎◌}
+use Rattle.std.proofs.Common.{Bool, List, [], ap, false, inl, inr, refl, subst, sym, ℕ, ◌∙◌, ◌∷◌, ◌≡◌, true}
 use Rattle.std.proofs.lemmas.List.{get_or-set_other, get_or-set_same}
 use Rattle.dom_base.specs.Tri.{opposite}
 use Rattle.dom_base.specs.declared.tri.Tri.{Tri}
@@ -11,14 +11,14 @@ use Rattle.deck.specs.declared.device.Device.{Device}
 use Rattle.sp_network.specs.Known.{IsKnown}
 use Rattle.domino_cell.specs.Stage.{Spot, Top}
 use Rattle.switch_model.specs.LinksData.{LinksData, is_first}
-use Rattle.switch_model.specs.Targets.{IsPending}
 use Rattle.port_runs.specs.Environment.{Capture, Captured, Evaluation, Happens, IsNext, Launched, Moves, Open, Place, Precharge, Released, Reset, Rise, Step, Take, World, Fall, fallen_at}
-use Rattle.port_runs.specs.Periods.{IsAtMostOnce, IsNever, IsInPeriodOf}
+use Rattle.port_runs.specs.Periods.{IsAtMostOnce, IsNever, IsInPeriodOf, IsOnceIn}
+use Rattle.port_runs.proofs.Steps.{leads_cut}
 use Rattle.domino_law.specs.Honest.{IsHonest}
 use Rattle.domino_law.specs.LooseDeck.{HoldsDeck, IsLooseDeck}
 use Rattle.domino_law.specs.Nets.{At, Net, Next, Output, Part, Sink, Dynamic, FromDynamic, Gate}
-use Rattle.domino_law.specs.OrderLaws.{InPeriod, IsOnceFrom}
-use Rattle.domino_law.specs.Runs.{TakesStep, IsHonestWorld, Run}
+use Rattle.domino_law.specs.OrderLaws.{InPeriod}
+use Rattle.domino_law.specs.Runs.{GivesSources, TakesStep, IsHonestWorld, Run, clocked_deck}
 use Rattle.domino_law.specs.Shape.{Shape, DominoCell, IsCellAt, IsGate, gate_tree}
 use Rattle.domino_law.proofs.DeckParts.{clock-known, gate-known, next_is, output-known, part-free, sink_is, spot-free, zero_or_one, value-known}
 use Rattle.domino_law.proofs.DominoNets.{IsDomino, falls, rises_next, rises_output, rises_sink}
@@ -26,7 +26,7 @@ use Rattle.domino_law.proofs.Events.{spot_charged, spot_event, held_side, keeper
 use Rattle.domino_law.proofs.EventsHonest.{next_stays, output_stays, sink_stays}
 use Rattle.domino_law.proofs.Goals.{lag_event, output_event}
 use Rattle.domino_law.proofs.Lags.{IsInStep, dynamic_goal, gate_goal}
-use Rattle.domino_law.proofs.NetEvents.{no_event}
+use Rattle.domino_law.proofs.NetEvents.{NextEvent, after_next, next_event, no_event}
 use Rattle.domino_law.proofs.Places.{IsCap}
 use Rattle.domino_law.proofs.Tracked.{InStepWorld, IsTracked, power_tracked, run_tracked, step_tracked}
 use Rattle.domino_law.specs.Places.{up_at, ClockState, AfterFall, BeforeRise, Raised}
@@ -63,12 +63,12 @@ clash_goal s i part spot x y (rises_sink e f z) p q = zero_or_one (sym p ∙ q)
 module _ {devices : List Device} {is_source : ℕ → Bool} {net : Net → ℕ} {s : Shape} (deck : HoldsDeck devices is_source net s)
     {place : Place} {up : ℕ → ClockState} {old new pins : ℕ → Bool} {kept : ℕ → Tri} {before : List Tri}
     (h : IsHonest devices is_source net s place up old new pins kept before) (lag : IsInStep net s place up old new pins before) (period : IsPeriod place)
-    (i : ℕ) (open_there : up i ≢ AfterFall) (n : ℕ) (v : Tri) (lt : n < length before) (pending : IsPending devices is_source before n v) where
-  in_evaluation : (x : ℕ) → x ≡ n → (IsCap place → value_of (slice_set before n v) x ≡ value_of before x) → place ≡ Evaluation
+    (i : ℕ) (open_there : up i ≢ AfterFall) (event : NextEvent devices is_source before) where
+  in_evaluation : (x : ℕ) → x ≡ event.net → (IsCap place → value_of (after_next event) x ≡ value_of before x) → place ≡ Evaluation
   in_evaluation x m f =
       elim (period_place place period) [
         | inl e ↦ e
-        | inr cap ↦ absurd (no_event devices is_source before n v pending lt x m (f cap))
+        | inr cap ↦ absurd (no_event event x m (f cap))
       ]
 
   goal_there : (pl : Place) (st : ClockState) → pl ≡ Evaluation → st ≢ AfterFall → dynamic_goal pl st ≡ Zero
@@ -88,33 +88,33 @@ module _ {devices : List Device} {is_source : ℕ → Bool} {net : Net → ℕ} 
   gate_there _ k a f clock ev = absurd (cc)
 
   -- an event gives a dynamic net Zero, and a domino output One
-  pub domino_event : (part : Part) (spot : Spot) (goal : Tri) → IsDomino s i part spot goal → net (At part spot) ≡ n → v ≡ goal
+  pub domino_event : (part : Part) (spot : Spot) (goal : Tri) → IsDomino s i part spot goal → net (At part spot) ≡ event.net → event.value ≡ goal
   domino_event part spot goal (falls {k = k} {c = c} {a = a} e clock x) m =
       elim (clock-known deck h.frame k c e) [
         | inl off ↦ absurd (elim ((h.cells.sides k c e).spots_idle off a x) [
-          | inl one ↦ pending.2 ((rw m at one) ∙ sym (spot_charged deck h n v lt pending k c e off a x m))
+          | inl one ↦ event.pending.2 ((rw m at one) ∙ sym (spot_charged deck h event k c e off a x m))
           | inr late ↦ cell_open c.clock clock late
         ])
         | inr on ↦ elim (dec_previous up c.clock) [
           | inl early ↦ (
-              let f = held_side deck h n v lt pending k c e on early in
+              let f = held_side deck h event k c e on early in
               let top : a ≡ Top = keeper_spot s.style c a f.0 x in
-              absurd (no_event devices is_source before n v pending lt (net (At (Dynamic k) Top)) (subst (λ b. net (At (Dynamic k) b) ≡ n) top m) f.2)
+              absurd (no_event event (net (At (Dynamic k) Top)) (subst (λ b. net (At (Dynamic k) b) ≡ event.net) top m) f.2)
               )
-          | inr free ↦ (spot_event deck h n v lt pending k c e on free a x m).1
+          | inr free ↦ (spot_event deck h event k c e on free a x m).1
         ]
       ]
   domino_event part spot goal (rises_output {k = k} {c = c} e clock) m =
-      output_event deck h n v lt pending lag k c e m
-      ∙ ap opposite (goal_there place (up c.clock) (in_evaluation (net (At (Output k) Top)) m (λ cap. output_stays deck h n v lt pending cap k c e)) (cell_open c.clock clock))
+      output_event deck h event lag k c e m
+      ∙ ap opposite (goal_there place (up c.clock) (in_evaluation (net (At (Output k) Top)) m (λ cap. output_stays deck h event cap k c e)) (cell_open c.clock clock))
   domino_event part spot goal (rises_next {j = j} {k = k} {b = b} e f clock) m =
-      let ev : place ≡ Evaluation = in_evaluation (net (At (Next j) Top)) m (λ cap. next_stays deck h n v lt pending cap j b e) in
-      lag_event deck h.frame n v lt pending lag (λ a. net (At (Next j) a)) (gate_tree s b.next) (gate_goal s place up old new pins b.next)
+      let ev : place ≡ Evaluation = in_evaluation (net (At (Next j) Top)) m (λ cap. next_stays deck h event cap j b e) in
+      lag_event deck h.frame event lag (λ a. net (At (Next j) a)) (gate_tree s b.next) (gate_goal s place up old new pins b.next)
       (next_is deck j b e) (value-known net s before (gate-known deck h) b.next ((deck.shape).nexts j b e)) (lag.nexts j b e) m
       ∙ ap opposite (gate_there b.next k ((deck.shape).nexts j b e) f clock ev)
   domino_event part spot goal (rises_sink {j = j} {k = k} {g = g} e f clock) m =
-      let ev : place ≡ Evaluation = in_evaluation (net (At (Sink j) Top)) m (λ cap. sink_stays deck h n v lt pending cap j g e) in
-      lag_event deck h.frame n v lt pending lag (λ a. net (At (Sink j) a)) (gate_tree s g) (gate_goal s place up old new pins g)
+      let ev : place ≡ Evaluation = in_evaluation (net (At (Sink j) Top)) m (λ cap. sink_stays deck h event cap j g e) in
+      lag_event deck h.frame event lag (λ a. net (At (Sink j) a)) (gate_tree s g) (gate_goal s place up old new pins g)
       (sink_is deck j g e) (value-known net s before (gate-known deck h) g ((deck.shape).outputs_are j g e)) (lag.outputs j g e) m
       ∙ ap opposite (gate_there g k ((deck.shape).outputs_are j g e) f clock ev)
 
@@ -125,10 +125,10 @@ module _ {devices : List Device} {is_source : ℕ → Bool} {net : Net → ℕ} 
   domino-known part spot goal (rises_next {j = j} {b = b} e f z) = (h.frame.nexts j b e, inr refl)
   domino-known part spot goal (rises_sink {j = j} {g = g} e f z) = (h.frame.outputs j g e, inr refl)
 
-  pub domino_before : (part : Part) (spot : Spot) (goal : Tri) → IsDomino s i part spot goal → net (At part spot) ≡ n → value_of before n ≡ opposite goal
+  pub domino_before : (part : Part) (spot : Spot) (goal : Tri) → IsDomino s i part spot goal → net (At part spot) ≡ event.net → value_of before event.net ≡ opposite goal
   domino_before part spot goal d m =
       let k = domino-known part spot goal d in
-      other (value_of before n) goal (rw m at k.0) k.1 (λ z. pending.2 (z ∙ sym (domino_event part spot goal d m)))
+      other (value_of before event.net) goal (rw m at k.0) k.1 (λ z. event.pending.2 (z ∙ sym (domino_event part spot goal d m)))
     where
       other : (x y : Tri) → IsKnown x → IsKnown y → x ≢ y → x ≡ opposite y
       other x y (inl a) (inl b) ne = absurd (ne (a ∙ sym b))
@@ -157,7 +157,7 @@ module _ {links : LinksData} {net : Net → ℕ} {s : Shape} (loose : IsLooseDec
   step_period : (step : Step) (w w' : World) → TakesStep links net s step w w' → IsInPeriodOf i step → IsOpen w → IsOpen w'
   step_period (Happens n) w w' r ne p = subst IsOpen (sym r.1) p
   step_period (Moves (Open place)) w w' r ne p =
-      subst IsOpen (sym r.1) (period_open w.place place p.0 ((r.2).0) (λ z. ne.0 (ap (λ x. Moves (Open x)) z)), stays w.place place p.0 ((r.2).0))
+      subst IsOpen (sym (r.1).1) (period_open w.place place p.0 ((r.0).0) (λ z. ne.0 (ap (λ x. Moves (Open x)) z)), stays w.place place p.0 ((r.0).0))
     where
       stays : (pl pl' : Place) → IsPeriod pl → IsNext pl pl' → fallen_at pl' w.fallen i ≡ false
       stays Evaluation Capture q f = p.1
@@ -167,16 +167,16 @@ module _ {links : LinksData} {net : Net → ℕ} {s : Shape} (loose : IsLooseDec
       stays Captured Precharge q f = p.1
       stays Captured _ q f = absurd f
       stays _ _ q f = absurd q
-  step_period (Moves (Take pins)) w w' r ne p = absurd (no w.place ((r.2).0) p.0)
+  step_period (Moves (Take pins)) w w' r ne p = absurd (no w.place ((r.0).0) p.0)
     where
       no : (pl : Place) → (pl ≡ Released) ⊎ (pl ≡ Launched) → IsPeriod pl → ⊥
       no Evaluation f q = elim f [ inl z ↦ cc | inr z ↦ cc ]
       no Capture f q = elim f [ inl z ↦ cc | inr z ↦ cc ]
       no Captured f q = elim f [ inl z ↦ cc | inr z ↦ cc ]
       no _ f q = q
-  step_period (Moves Rise) w w' r ne p = subst IsOpen (sym r.1) p
+  step_period (Moves Rise) w w' r ne p = subst IsOpen (sym (r.1).1) p
   step_period (Moves (Fall k)) w w' r ne p =
-      subst IsOpen (sym r.1) (p.0, fallen_with-other k w.fallen i (λ z. ne.1 (ap (λ x. Moves (Fall x)) (sym z))) ∙ p.1)
+      subst IsOpen (sym (r.1).1) (p.0, fallen_with-other k w.fallen i (λ z. ne.1 (ap (λ x. Moves (Fall x)) (sym z))) ∙ p.1)
 
   -- in the period the state is honest and in step
   state_there : (w : World) → IsTracked loose w → IsPeriod w.place → IsHonestWorld links net s w × InStepWorld loose w
@@ -193,10 +193,10 @@ module _ {links : LinksData} {net : Net → ℕ} {s : Shape} (loose : IsLooseDec
       let h = state_there w t p.0 in
       let o = open_at w.place w.risen w.fallen p.0 p.1 in
       let e = r.2 in (
-        domino_before loose.deck h.0 h.1 p.0 i o (net (At part spot)) e.0 e.1 e.2 part spot goal d refl,
+        domino_before loose.deck h.0 h.1 p.0 i o (next_event e) part spot goal d refl,
         subst (λ u. value_of u.values (net (At part spot)) ≡ goal) (sym r.1)
             (rw e.3 (get_or-set_same w.values (net (At part spot)) e.0 Unknown e.1)
-            ∙ domino_event loose.deck h.0 h.1 p.0 i o (net (At part spot)) e.0 e.1 e.2 part spot goal d refl),
+            ∙ domino_event loose.deck h.0 h.1 p.0 i o (next_event e) part spot goal d refl),
       )
 
   -- another step leaves its value
@@ -205,8 +205,9 @@ module _ {links : LinksData} {net : Net → ℕ} {s : Shape} (loose : IsLooseDec
       subst (λ u. value_of u.values (net (At part spot)) ≡ value_of w.values (net (At part spot))) (sym r.1)
       (rw (r.2).3 (get_or-set_other w.values n (net (At part spot)) (r.2).0 Unknown (λ z. ne (ap (λ x. Happens x) (sym z)))))
   step_keeps (Moves move) w w' r ne =
-      subst (λ u. value_of u.values (net (At part spot)) ≡ value_of w.values (net (At part spot))) (sym r.1)
-      ((r.3).others (net (At part spot)) (domino-free part spot goal d))
+      let m = r.1 in
+      subst (λ u. value_of u.values (net (At part spot)) ≡ value_of w.values (net (At part spot))) (sym m.1)
+      (((m.2).0).others (net (At part spot)) (domino-free part spot goal d))
 
   -- once it has its goal it has no more events in the period
   never_again : (steps : List Step) (w w' : World) → Run links net s steps w w' → IsTracked loose w → IsOpen w → AllByRecursion (IsInPeriodOf i) steps
@@ -246,16 +247,9 @@ module _ {links : LinksData} {net : Net → ℕ} {s : Shape} (loose : IsLooseDec
           let n = never_again (step ∷ steps) w w' r t p q g in
           last_there steps r.0 r.2 (step_tracked loose step w r.0 r.1 t) (step_period step w r.0 r.1 q.0 p) q.1 (step_keeps step w r.0 r.1 n.0 ∙ g)
 
--- a run in two parts
-pub run_split : (links : LinksData) (net : Net → ℕ) (s : Shape) (steps more : List Step) (w w' : World) → Run links net s (steps ++ more) w w'
-    → (mid : World) × Run links net s steps w mid × Run links net s more mid w'
-run_split links net s [] more w w' r = (w, refl, r)
-run_split links net s (step ∷ steps) more w w' r =
-    let k = run_split links net s steps more r.0 w' r.2 in (k.0, (r.0, r.1, k.1), k.2)
-
 -- the law for a part
 pub part_once : (links : LinksData) (net : Net → ℕ) (s : Shape) (i : ℕ) (steps : List Step) (u : World) → IsLooseDeck links net s → InPeriod links net s i steps u
-    → (part : Part) (spot : Spot) (goal : Tri) → IsDomino s i part spot goal → IsOnceFrom links net s steps u (net (At part spot)) (opposite goal) goal
+    → (part : Part) (spot : Spot) (goal : Tri) → IsDomino s i part spot goal → IsOnceIn links steps u (net (At part spot)) (opposite goal) goal
 part_once links net s i steps u loose period part spot goal d =
     record {
       once = at_most_once loose i part spot goal d steps k.2.0 u k.2.2 t p period.period;
@@ -263,14 +257,14 @@ part_once links net s i steps u loose period part spot goal d =
           (e.0, e.1, never_before loose i part spot goal d steps k.2.0 u u' k.2.2 t p period.period x);
     }
   where
-    k : (mid : World) × Run links net s period.earlier period.start mid × Run links net s (Moves (Open Evaluation) ∷ steps) mid u
-    k = run_split links net s period.earlier (Moves (Open Evaluation) ∷ steps) period.start u period.run
+    k : (mid : World) × Run links net s period.earlier (period.run).0 mid × Run links net s (Moves (Open Evaluation) ∷ steps) mid u
+    k = leads_cut (clocked_deck links s) (GivesSources links net s) period.earlier (Moves (Open Evaluation) ∷ steps) (period.run).0 u (period.run).2
 
     t : IsTracked loose k.2.0
-    t = step_tracked loose (Moves (Open Evaluation)) k.0 k.2.0 k.2.1 (run_tracked loose period.earlier period.start k.0 k.1 (power_tracked loose period.start period.power))
+    t = step_tracked loose (Moves (Open Evaluation)) k.0 k.2.0 k.2.1 (run_tracked loose period.earlier (period.run).0 k.0 k.1 (power_tracked loose (period.run).0 (period.run).1))
 
     p : IsOpen loose i part spot goal d k.2.0
-    p = subst (IsOpen loose i part spot goal d) (sym k.2.1.1) (tt, refl)
+    p = subst (IsOpen loose i part spot goal d) (sym ((k.2.1).1).1) (tt, refl)
 
     tu : IsTracked loose u
     tu = run_tracked loose steps k.2.0 u k.2.2 t

@@ -4,7 +4,6 @@ use Rattle.std.proofs.Common.{Bool, List, [], arith, inl, inr, length, map, subs
 use Rattle.std.specs.List.{AllByRecursion}
 use Rattle.dom_base.proofs.Lists.{AllByRecursion-both, AllByRecursion-right}
 use Rattle.deck.specs.CircuitData.{CircuitData}
-use Rattle.deck.specs.Paths.{Ends}
 use Rattle.deck.specs.PortLayout.{first_output, source_count}
 use Rattle.deck.specs.Switches.{value_of}
 use Rattle.deck.specs.declared.device.Device.{Device}
@@ -17,6 +16,7 @@ use Rattle.port_runs.specs.Environment.{Capture, Captured, Clocking, Evaluation,
 use Rattle.port_runs.specs.Periods.{IsClockPort, IsDominoOutput, IsDynamicNet, IsInPeriod, vdd_port, vss_port}
 use Rattle.port_runs.specs.PortRuns.{LeadsBy, Rests, Runs, RunsBy, power_world}
 use Rattle.port_runs.specs.Readings.{HasResetBy, IsLaunchedBy, IsReadBy}
+use Rattle.port_runs.proofs.DynamicNets.{dynamic_as, output_as}
 use Rattle.port_runs.proofs.Steps.{leads_no_falls, leads_none, leads_widen}
 use Rattle.domino_law.specs.DominoDeck.{AreRunsOf, DecksRunAsDomino, IsLooseDominoDeck}
 use Rattle.domino_law.specs.EveryRun.{ClocksAlike, IsEvaluating, IsOutputPort, ReachesRest, RunsAsDomino}
@@ -24,7 +24,7 @@ use Rattle.domino_law.specs.Joins.{IsContest, IsOverpowered}
 use Rattle.domino_law.specs.LooseDeck.{IsLooseDeck}
 use Rattle.domino_law.specs.Nets.{At, Clock, Gate, Net, Sink, Vdd, Vss}
 use Rattle.domino_law.specs.OrderLaws.{InPeriod}
-use Rattle.domino_law.specs.Periods.{IsDeckDominoOutput, IsDeckDynamicNet}
+use Rattle.domino_law.specs.Periods.{IsDeckClock, IsDeckDominoOutput, IsDeckDynamicNet}
 use Rattle.domino_law.specs.Places.{up_at}
 use Rattle.domino_law.specs.Runs.{IsPower, Run}
 use Rattle.domino_law.specs.Shape.{IsOutputAt, Shape}
@@ -40,7 +40,7 @@ module _ (c : CircuitData) (roles : Roles) (net : Net → ℕ) (s : Shape) (deck
   loose = domino_deck_is_loose roles (links_of c roles) net s deck
 
   pub start : IsPower (links_of c roles) net s (power_world c roles)
-  start = power c roles net s loose deck.ports
+  start = power c roles net s deck.ports
 
   vdd_is : net Vdd ≡ vdd_port
   vdd_is = (deck.ports).numbers Vdd tt
@@ -48,57 +48,38 @@ module _ (c : CircuitData) (roles : Roles) (net : Net → ℕ) (s : Shape) (deck
   vss_is : net Vss ≡ vss_port
   vss_is = (deck.ports).numbers Vss tt
 
-  dynamic_is : (n : ℕ) → IsDynamicNet c roles n → IsDeckDynamicNet (links_of c roles) net s n
-  dynamic_is n h =
-      let clock : ℕ = (h.precharge).gate - 2 in
-      let low : clock < roles.clocks = clock_low (h.precharge).gate h.gated in
-      let here : clock < s.clocks = subst (λ m. clock < m) (sym (deck.ports).clocks_are) low in
-      record {
-        precharge = h.precharge;
-        there = h.there;
-        kind_is = h.kind_is;
-        clock = clock;
-        clock_is = here;
-        gated = clock_same (h.precharge).gate h.gated ∙ sym ((deck.ports).numbers (Clock clock) here);
-        joined = subst (λ m. Ends h.precharge n m) (sym vdd_is) h.joined;
-      }
+  clock_is : (g : ℕ) → IsClockPort roles g → IsDeckClock net s g
+  clock_is g i = (g - 2, here, same ∙ sym ((deck.ports).numbers (Clock (g - 2)) here))
     where
-      clock_low : (g : ℕ) → IsClockPort roles g → g - 2 < roles.clocks
-      clock_low g i = omega (arith, i.0, i.1)
+      here : g - 2 < s.clocks
+      here = omega (arith, i.0, i.1, (deck.ports).clocks_are)
 
-      clock_same : (g : ℕ) → IsClockPort roles g → g ≡ 2 + (g - 2)
-      clock_same g i = omega (arith, i.0)
+      same : g ≡ 2 + (g - 2)
+      same = omega (arith, i.0)
+
+  dynamic_is : (n : ℕ) → IsDynamicNet c roles n → IsDeckDynamicNet (links_of c roles) net s n
+  dynamic_is = dynamic_as c.devices (IsClockPort roles) (IsDeckClock net s) vdd_port (net Vdd) clock_is (sym vdd_is)
 
   output_is : (n : ℕ) → IsDominoOutput c roles n → IsDeckDominoOutput (links_of c roles) net s n
-  output_is n h = record {
-    pull_up = h.pull_up;
-    there = h.there;
-    kind_is = h.kind_is;
-    gated = dynamic_is (h.pull_up).gate h.gated;
-    joined = subst (λ m. Ends h.pull_up n m) (sym vdd_is) h.joined;
-  }
+  output_is = output_as c.devices (IsClockPort roles) (IsDeckClock net s) vdd_port (net Vdd) clock_is (sym vdd_is)
 
   -- an evaluation period of a dynamic net is one of the deck's, where such runs are the deck's
   in_period : (clocking : Clocking)
       → ((steps : List Step) (w : World) → RunsBy clocking c roles steps w → Run (links_of c roles) net s steps (power_world c roles) w)
-      → (n : ℕ) (d : IsDynamicNet c roles n) (steps : List Step) (w : World) → IsEvaluating clocking d steps w
-      → InPeriod (links_of c roles) net s ((d.precharge).gate - 2) steps w
-  in_period Together run_of n d steps w h = record {
-    start = power_world c roles;
-    power = start;
+      → (port : ℕ) (steps : List Step) (w : World) → IsEvaluating clocking c roles port steps w
+      → InPeriod (links_of c roles) net s (port - 2) steps w
+  in_period Together run_of port steps w h = record {
     earlier = h.earlier;
-    run = run_of (h.earlier ++ Moves (Open Evaluation) ∷ steps) w h.run;
-    period = AllByRecursion-both IsInPeriod (λ step. step ≢ Moves (Fall ((d.precharge).gate - 2))) steps h.period
-        (AllByRecursion-right (λ step. step ≢ Moves (Fall ((d.precharge).gate - 2))) h.earlier (Moves (Open Evaluation) ∷ steps)
-        (leads_no_falls c roles (h.earlier ++ Moves (Open Evaluation) ∷ steps) (power_world c roles) w h.run ((d.precharge).gate - 2))).1;
+    run = (power_world c roles, start, run_of (h.earlier ++ Moves (Open Evaluation) ∷ steps) w h.run);
+    period = AllByRecursion-both IsInPeriod (λ step. step ≢ Moves (Fall (port - 2))) steps h.period
+        (AllByRecursion-right (λ step. step ≢ Moves (Fall (port - 2))) h.earlier (Moves (Open Evaluation) ∷ steps)
+        (leads_no_falls c roles (h.earlier ++ Moves (Open Evaluation) ∷ steps) (power_world c roles) w h.run (port - 2))).1;
   }
-  in_period Overlapping run_of n d steps w h =
-      subst (λ i. InPeriod (links_of c roles) net s i steps w) (clock_number h.0 (d.precharge).gate h.1)
+  in_period Overlapping run_of port steps w h =
+      subst (λ i. InPeriod (links_of c roles) net s i steps w) (clock_number h.0 port h.1)
       (record {
-        start = power_world c roles;
-        power = start;
         earlier = (h.2).earlier;
-        run = run_of ((h.2).earlier ++ Moves (Open Evaluation) ∷ steps) w (h.2).run;
+        run = (power_world c roles, start, run_of ((h.2).earlier ++ Moves (Open Evaluation) ∷ steps) w (h.2).run);
         period = (h.2).period;
       })
     where
@@ -163,7 +144,7 @@ module _ (c : CircuitData) (roles : Roles) (net : Net → ℕ) (s : Shape) (deck
   ]
 
   pub run_of : (steps : List Step) (w : World) → RunsBy clocking c roles steps w → Run (links_of c roles) net s steps (power_world c roles) w
-  run_of steps w r = is_run c roles net s (loose c roles net s deck) (deck.ports) steps w (leads_own steps (power_world c roles) w r)
+  run_of steps w r = is_run c roles net s deck.ports steps w (leads_own steps (power_world c roles) w r)
 
   pub overpowered : (w : World) (p : List Device) → HasResetBy clocking c roles w
       → IsContest c.devices (is_first (source_count roles)) w.values vdd_port vss_port p
@@ -177,10 +158,10 @@ module _ (c : CircuitData) (roles : Roles) (net : Net → ℕ) (s : Shape) (deck
       → LeadsBy clocking c roles (map (λ n. Happens n) events) w w' → length events ≤ most_events (links_of c roles)
   few_events steps events w w' r more =
       let stands = loose c roles net s deck in
-      let first = run_is c roles net s stands deck.ports steps (power_world c roles) w (leads_own steps (power_world c roles) w r)
-      (power_set c roles net s stands deck.ports) in
+      let first = run_is c roles net s deck.ports steps (power_world c roles) w (leads_own steps (power_world c roles) w r)
+      (power_set c roles net s deck.ports) in
       events_are_few (links_of c roles) net s steps events (power_world c roles) w w' stands (start c roles net s deck) first.0
-      (run_is c roles net s stands deck.ports (map (λ n. Happens n) events) w w' (leads_own (map (λ n. Happens n) events) w w' more) first.1).0
+      (run_is c roles net s deck.ports (map (λ n. Happens n) events) w w' (leads_own (map (λ n. Happens n) events) w w' more) first.1).0
 
   reaches_rest : (steps : List Step) (w : World) → RunsBy clocking c roles steps w → ReachesRest clocking c roles w
   reaches_rest steps w r =
@@ -223,18 +204,16 @@ module _ (c : CircuitData) (roles : Roles) (net : Net → ℕ) (s : Shape) (deck
       )
 
   pub runs_as_domino : RunsAsDomino clocking c roles
-  unfolding dynamic_is output_is
+  unfolding clock_is dynamic_is output_is
   runs_as_domino =
       let stands = loose c roles net s deck in
       record {
         falls_once = λ steps w n d h.
-            let once = dynamic_falls_once (links_of c roles) net s steps w n stands (dynamic_is c roles net s deck n d)
-            (in_period c roles net s deck clocking run_of n d steps w h) in
-            record { once = once.once; event = λ w' does. once.event w' does };
+            dynamic_falls_once (links_of c roles) net s steps w n stands (dynamic_is c roles net s deck n d)
+            (in_period c roles net s deck clocking run_of (d.precharge).gate steps w h);
         rises_once = λ steps w n d h.
-            let once = output_rises_once (links_of c roles) net s steps w n stands (output_is c roles net s deck n d)
-            (in_period c roles net s deck clocking run_of (d.pull_up).gate d.gated steps w h) in
-            record { once = once.once; event = λ w' does. once.event w' does };
+            output_rises_once (links_of c roles) net s steps w n stands (output_is c roles net s deck n d)
+            (in_period c roles net s deck clocking run_of ((d.gated).precharge).gate steps w h);
         no_short = λ w a b h.
             no_short (links_of c roles) net s h.steps (power_world c roles) w stands (start c roles net s deck) (run_of h.steps w h.run) h.beyond a b;
         no_contest = λ w p h rest k.

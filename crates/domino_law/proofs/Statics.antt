@@ -1,6 +1,7 @@
 -- The values of static gates, and the nets that gates consist of.
 use Rattle.std.specs.Prelude.{None, Option, Some, slice_get, ◌⊎◌}
 use Rattle.std.proofs.Common.{List, ap, inl, inr, refl, sym, ℕ, ◌∙◌, ◌≡◌}
+use Rattle.std.proofs.lemmas.Option.{same_Some}
 use Rattle.dom_base.specs.Tri.{opposite}
 use Rattle.dom_base.specs.declared.kind.Kind.TheVariants.{N as nch, P as pch}
 use Rattle.dom_base.specs.declared.tri.Tri.{Tri}
@@ -131,11 +132,8 @@ right_is s k c t e r = (c, e, rw r refl)
 -- a side has one clock and one tree
 pub side_unique : (s : Shape) (k : CellSide) (c d : DynamicStage) → IsSideAt s k c → IsSideAt s k d → c ≡ d
 side_unique s k c d e f =
-    let cells : e.0 ≡ f.0 = some_same (sym e.1 ∙ f.1) in
-    some_same (sym e.2 ∙ (ap (λ x. side_of x k.side) cells ∙ f.2))
-  where
-    some_same : {X : Type 0} {x y : X} → Some x ≡ Some y → x ≡ y
-    some_same z = cc
+    let cells : e.0 ≡ f.0 = same_Some _ _ (sym e.1 ∙ f.1) in
+    same_Some _ _ (sym e.2 ∙ (ap (λ x. side_of x k.side) cells ∙ f.2))
 
 -- the clock of a side is its cell's
 pub side_clock : (cell : DominoCell) (side : Side) (c : DynamicStage) → side_of cell side ≡ Some c → c.clock ≡ cell.clock

@@ -1,6 +1,6 @@
 -- From power to the rest of reset each part takes one known value, once.
-use Rattle.std.specs.Prelude.{None, Option, Some, slice_get, slice_set, ◌≢◌, ◌⊎◌}
-use Rattle.std.proofs.Common.{Bool, List, inl, inr, length, refl, sym, ℕ, ◌<◌, ◌∙◌, ◌≡◌}
+use Rattle.std.specs.Prelude.{None, Option, Some, slice_get, ◌≢◌, ◌⊎◌}
+use Rattle.std.proofs.Common.{Bool, List, inl, inr, refl, sym, ℕ, ◌∙◌, ◌≡◌}
 use Rattle.dom_base.specs.Tri.{opposite}
 use Rattle.dom_base.specs.declared.tri.Tri.{Tri}
 use Rattle.dom_base.specs.declared.tri.Tri.TheVariants.{One, Unknown, Zero}
@@ -8,7 +8,6 @@ use Rattle.deck.specs.Switches.{value_of}
 use Rattle.deck.specs.declared.device.Device.{Device}
 use Rattle.sp_network.specs.Known.{IsKnown}
 use Rattle.domino_cell.specs.Stage.{IsStage, Top}
-use Rattle.switch_model.specs.Targets.{IsPending}
 use Rattle.dom_base.proofs.Decided.{dec_nat}
 use Rattle.switch_model.proofs.Searches.{clash}
 use Rattle.port_runs.specs.Environment.{Reset, bit}
@@ -18,7 +17,7 @@ use Rattle.domino_law.specs.Nets.{At, Clock, Complement, Dynamic, FromDynamic, F
 use Rattle.domino_law.specs.Places.{AreSources}
 use Rattle.domino_law.specs.Shape.{DominoCell, HasComplement, IsCellAt, IsGate, IsLatchAt, IsOutputAt, IsSignal, Latch, Shape, DynamicStage, IsSideAt, dynamic_nets, gate_tree}
 use Rattle.domino_law.proofs.DeckParts.{complement_is, dynamic_is, master_is, next_is, opposite-known, output_is, sink_is, slave_is}
-use Rattle.domino_law.proofs.NetEvents.{kept_at, moved_to, no_event, now_at, source_kept, stays_at_target}
+use Rattle.domino_law.proofs.NetEvents.{NextEvent, after_next, kept_at, moved_to, no_event, now_at, source_kept, stays_at_target}
 use Rattle.domino_law.proofs.Parts.{master_held, precharges, slave_reset, static_target, static_unknown}
 use Rattle.domino_law.proofs.Places.{bit-known}
 use Rattle.sp_network.specs.Tree.{EachLeaf, Tree, both}
@@ -112,21 +111,21 @@ module _ {devices : List Device} {is_source : ℕ → Bool} {net : Net → ℕ} 
     gate_wakes High a = inr (h.sources Vdd tt)
     gate_wakes Low a = inr (h.sources Vss tt)
 
-    module _ (n : ℕ) (v : Tri) (lt : n < length before) (pending : IsPending devices is_source before n v) where
+    module _ (event : NextEvent devices is_source before) where
       -- an event of a static gate gives it its value, and its gate has its own
       static_wakes : (part : Part) (g : Gate) (goal : Tri) → IsGate s g → IsStage devices is_source (λ a. net (At part a)) (static_branches net (gate_tree s g)) → goal ≡ opposite (wake_gate g)
-          → Awakes before part g goal → net (At part Top) ≡ n → (v ≡ goal) × HasWoken before g
+          → Awakes before part g goal → net (At part Top) ≡ event.net → (event.value ≡ goal) × HasWoken before g
       static_wakes part g goal a is z k m =
           elim (gate_wakes g a) [
             | inr e ↦
                 let w : gate_value net s before g ≡ wake_gate g = tree_all (λ a. value_of before (net a)) (wake_gate g) (gate_tree s g) e in (
-                  moved_to devices is_source before n v pending (net (At part Top)) (opposite (gate_value net s before g)) m
+                  moved_to event (net (At part Top)) (opposite (gate_value net s before g)) m
                       (static_target devices is_source net before (h.sources Vdd tt) (h.sources Vss tt) (λ b. net (At part b)) (gate_tree s g) is (rw w (wake_gate-known g a)))
                       ∙ (rw w (sym z)),
                   e,
                 )
             | inl e ↦ absurd (elim k [
-              | inl u ↦ pending.2 ((rw m at u) ∙ sym (moved_to devices is_source before n v pending (net (At part Top)) Unknown m (static_unknown devices is_source net before (h.sources Vdd tt) (h.sources Vss tt) (λ b. net (At part b)) (gate_tree s g) is e)))
+              | inl u ↦ event.pending.2 ((rw m at u) ∙ sym (moved_to event (net (At part Top)) Unknown m (static_unknown devices is_source net before (h.sources Vdd tt) (h.sources Vss tt) (λ b. net (At part b)) (gate_tree s g) is e)))
               | inr u ↦ unknown (wake_gate g) (wake_gate-known g a) (sym (tree_all (λ a. value_of before (net a)) (wake_gate g) (gate_tree s g) u.1) ∙ e)
             ])
           ]
@@ -135,25 +134,25 @@ module _ {devices : List Device} {is_source : ℕ → Bool} {net : Net → ℕ} 
           unknown w (inl x) y = let z : Zero ≡ Unknown = sym x ∙ y in cc
           unknown w (inr x) y = let z : One ≡ Unknown = sym x ∙ y in cc
 
-      dynamic_wakes : (k : CellSide) (c : DynamicStage) → IsSideAt s k c → net (At (Dynamic k) Top) ≡ n → v ≡ One
+      dynamic_wakes : (k : CellSide) (c : DynamicStage) → IsSideAt s k c → net (At (Dynamic k) Top) ≡ event.net → event.value ≡ One
       dynamic_wakes k c e m =
-          moved_to devices is_source before n v pending (net (At (Dynamic k) Top)) One m
+          moved_to event (net (At (Dynamic k) Top)) One m
           (precharges devices is_source net before (h.sources Vdd tt) (h.sources Vss tt) s.style (λ a. net (At (Dynamic k) a)) k c (dynamic_is deck k c e) (h.sources (Clock c.clock) ((deck.shape).clocks_are k c e)))
 
-      slave_wakes : (j : ℕ) (b : Latch) → IsLatchAt s j b → net (At (Slave j) Top) ≡ n → v ≡ wake_own (FromLatch j)
+      slave_wakes : (j : ℕ) (b : Latch) → IsLatchAt s j b → net (At (Slave j) Top) ≡ event.net → event.value ≡ wake_own (FromLatch j)
       slave_wakes j b e m =
-          rw e (moved_to devices is_source before n v pending (net (At (Slave j) Top)) (bit b.init) m
+          rw e (moved_to event (net (At (Slave j) Top)) (bit b.init) m
           (slave_reset devices is_source net before (h.sources Vdd tt) (h.sources Vss tt) (λ a. net (At (Slave j) a)) (At (Master j) Top) b.init (slave_is deck j b e)
           (h.sources Lsb tt) (h.sources Ls tt) (h.sources Rs tt) (h.sources Rsb tt)))
 
-      master_sleeps : (j : ℕ) (b : Latch) → IsLatchAt s j b → net (At (Master j) Top) ≢ n
+      master_sleeps : (j : ℕ) (b : Latch) → IsLatchAt s j b → net (At (Master j) Top) ≢ event.net
       master_sleeps j b e m =
-          no_event devices is_source before n v pending lt (net (At (Master j) Top)) m
-          (stays_at_target devices is_source before n v pending (net (At (Master j) Top)) (value_of before (net (At (Master j) Top))) refl
+          no_event event (net (At (Master j) Top)) m
+          (stays_at_target event (net (At (Master j) Top)) (value_of before (net (At (Master j) Top))) refl
           (master_held devices is_source net before (h.sources Vdd tt) (h.sources Vss tt) (λ a. net (At (Master j) a)) (At (Next j) Top) (master_is deck j b e) (h.sources Lmb tt) (h.sources Lm tt)))
 
       -- an event gives a part its value
-      pub wakes : (part : Part) (a : IsPart s part) → net (At part Top) ≡ n → v ≡ wake_goal part a
+      pub wakes : (part : Part) (a : IsPart s part) → net (At part Top) ≡ event.net → event.value ≡ wake_goal part a
       wakes (Dynamic k) a m = dynamic_wakes k a.0 a.1 m
       wakes (Output k) a m = (static_wakes (Output k) (FromDynamic k) Zero a (cell_output k a.0 a.1) refl (h.cell_outputs k a.0 a.1) m).0
       wakes (Complement l) a m = (static_wakes (Complement l) (Plus l) _ ((deck.shape).complements_are l a) (complement_is deck l a) refl (h.complements l a) m).0
@@ -162,48 +161,48 @@ module _ {devices : List Device} {is_source : ℕ → Bool} {net : Net → ℕ} 
       wakes (Next j) a m = (static_wakes (Next j) (a.0).next _ ((deck.shape).nexts j a.0 a.1) (next_is deck j a.0 a.1) refl (h.nexts j a.0 a.1) m).0
       wakes (Sink i) a m = (static_wakes (Sink i) a.0 _ ((deck.shape).outputs_are i a.0 a.1) (sink_is deck i a.0 a.1) refl (h.outputs i a.0 a.1) m).0
 
-      simple_after : (part : Part) (goal : Tri) → (net (At part Top) ≡ n → v ≡ goal) → (value_of before (net (At part Top)) ≡ Unknown) ⊎ (value_of before (net (At part Top)) ≡ goal)
-          → (value_of (slice_set before n v) (net (At part Top)) ≡ Unknown) ⊎ (value_of (slice_set before n v) (net (At part Top)) ≡ goal)
+      simple_after : (part : Part) (goal : Tri) → (net (At part Top) ≡ event.net → event.value ≡ goal) → (value_of before (net (At part Top)) ≡ Unknown) ⊎ (value_of before (net (At part Top)) ≡ goal)
+          → (value_of (after_next event) (net (At part Top)) ≡ Unknown) ⊎ (value_of (after_next event) (net (At part Top)) ≡ goal)
       simple_after part goal f k =
-          elim (dec_nat (net (At part Top)) n) [
-            | inl m ↦ inr (now_at before n v lt (net (At part Top)) m ∙ f m)
-            | inr m ↦ elim k [ inl e ↦ inl (kept_at before n v (net (At part Top)) m ∙ e) | inr e ↦ inr (kept_at before n v (net (At part Top)) m ∙ e) ]
+          elim (dec_nat (net (At part Top)) event.net) [
+            | inl m ↦ inr (now_at event (net (At part Top)) m ∙ f m)
+            | inr m ↦ elim k [ inl e ↦ inl (kept_at event (net (At part Top)) m ∙ e) | inr e ↦ inr (kept_at event (net (At part Top)) m ∙ e) ]
           ]
 
       -- a gate that has its value keeps it
-      gate_keeps : (g : Gate) → IsGate s g → HasWoken before g → HasWoken (slice_set before n v) g
+      gate_keeps : (g : Gate) → IsGate s g → HasWoken before g → HasWoken (after_next event) g
       gate_keeps g a e =
-          EachLeaf-with (λ x. value_of before (net x) ≡ wake_gate g) (λ x. net x ≡ n → v ≡ wake_gate g) (λ x. value_of (slice_set before n v) (net x) ≡ wake_gate g)
-          (λ x e f. elim (dec_nat (net x) n) [
-            | inl m ↦ now_at before n v lt (net x) m ∙ f m
-            | inr m ↦ kept_at before n v (net x) m ∙ e
+          EachLeaf-with (λ x. value_of before (net x) ≡ wake_gate g) (λ x. net x ≡ event.net → event.value ≡ wake_gate g) (λ x. value_of (after_next event) (net x) ≡ wake_gate g)
+          (λ x e f. elim (dec_nat (net x) event.net) [
+            | inl m ↦ now_at event (net x) m ∙ f m
+            | inr m ↦ kept_at event (net x) m ∙ e
           ]) (gate_tree s g) e (at g a)
         where
-          at : (g : Gate) → IsGate s g → EachLeaf (λ x. net x ≡ n → v ≡ wake_gate g) (gate_tree s g)
-          at (Plus (FromPin p)) a = λ m. absurd (clash (is_source n) (rw (← m) (deck.sources (Pin p) a)) pending.0)
+          at : (g : Gate) → IsGate s g → EachLeaf (λ x. net x ≡ event.net → event.value ≡ wake_gate g) (gate_tree s g)
+          at (Plus (FromPin p)) a = λ m. absurd (clash (is_source event.net) (rw (← m) (deck.sources (Pin p) a)) event.pending.0)
           at (Plus (FromLatch j)) a = slave_wakes j a.0 a.1
           at (Minus l) a = wakes (Complement l) a
           at (FromOutput k) a = wakes (Output k) a
-          at (FromDynamic k) a = rw (a.1) (each_dynamic s (λ x. net x ≡ n → v ≡ One) k a.0 a.1 (λ d z side i. dynamic_wakes _ d i))
-          at High a = λ m. absurd (clash (is_source n) (rw (← m) (deck.sources Vdd tt)) pending.0)
-          at Low a = λ m. absurd (clash (is_source n) (rw (← m) (deck.sources Vss tt)) pending.0)
+          at (FromDynamic k) a = rw (a.1) (each_dynamic s (λ x. net x ≡ event.net → event.value ≡ One) k a.0 a.1 (λ d z side i. dynamic_wakes _ d i))
+          at High a = λ m. absurd (clash (is_source event.net) (rw (← m) (deck.sources Vdd tt)) event.pending.0)
+          at Low a = λ m. absurd (clash (is_source event.net) (rw (← m) (deck.sources Vss tt)) event.pending.0)
 
       static_after : (part : Part) (g : Gate) (goal : Tri) → IsGate s g → IsStage devices is_source (λ a. net (At part a)) (static_branches net (gate_tree s g)) → goal ≡ opposite (wake_gate g)
-          → Awakes before part g goal → Awakes (slice_set before n v) part g goal
+          → Awakes before part g goal → Awakes (after_next event) part g goal
       static_after part g goal a is z k =
-          elim (dec_nat (net (At part Top)) n) [
-            | inl m ↦ let w = static_wakes part g goal a is z k m in inr (now_at before n v lt (net (At part Top)) m ∙ w.0, gate_keeps g a w.1)
+          elim (dec_nat (net (At part Top)) event.net) [
+            | inl m ↦ let w = static_wakes part g goal a is z k m in inr (now_at event (net (At part Top)) m ∙ w.0, gate_keeps g a w.1)
             | inr m ↦ elim k [
-              | inl e ↦ inl (kept_at before n v (net (At part Top)) m ∙ e)
-              | inr e ↦ inr (kept_at before n v (net (At part Top)) m ∙ e.0, gate_keeps g a e.1)
+              | inl e ↦ inl (kept_at event (net (At part Top)) m ∙ e)
+              | inr e ↦ inr (kept_at event (net (At part Top)) m ∙ e.0, gate_keeps g a e.1)
             ]
           ]
 
-      pub awaking_after : IsAwaking (slice_set before n v)
+      pub awaking_after : IsAwaking (after_next event)
       awaking_after =
           record {
-            sources = λ a i. source_kept devices is_source before n v pending (net a) (deck.sources a i) ∙ h.sources a i;
-            masters = λ j b e. kept_at before n v (net (At (Master j) Top)) (master_sleeps j b e) ∙ h.masters j b e;
+            sources = λ a i. source_kept event (net a) (deck.sources a i) ∙ h.sources a i;
+            masters = λ j b e. kept_at event (net (At (Master j) Top)) (master_sleeps j b e) ∙ h.masters j b e;
             dynamics = λ k c e. simple_after (Dynamic k) One (dynamic_wakes k c e) (h.dynamics k c e);
             slaves = λ j b e. simple_after (Slave j) (wake_own (FromLatch j)) (slave_wakes j b e) (h.slaves j b e);
             cell_outputs = λ k c e. static_after (Output k) (FromDynamic k) Zero (c, e) (cell_output k c e) refl (h.cell_outputs k c e);

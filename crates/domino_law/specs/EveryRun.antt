@@ -21,12 +21,11 @@ use Rattle.domino_law.specs.Joins.{IsContest, IsShort}
 abbrev pub IsOutputPort : Roles → ℕ → Type 0
 IsOutputPort roles n = (first_output roles ≤ n) × (n < first_output roles + roles.outs)
 
--- The last steps of a legal run, in the evaluation period of a dynamic net: since it opened an evaluation whose precharge it has not
--- opened, and in which, where clocks overlap, the clock that precharges the net has not fallen.
-abbrev pub IsEvaluating : Clocking → {c : CircuitData} {roles : Roles} {n : ℕ} → IsDynamicNet c roles n → List Step → World → Type 0
-IsEvaluating Together {c} {roles} d steps w = IsInEvaluation c roles steps w
-IsEvaluating Overlapping {c} {roles} d steps w =
-    (i : ℕ) × ((d.precharge).gate ≡ first_clock + i) × IsInPeriodBy Overlapping c roles i steps w
+-- The last steps of a legal run, in the evaluation period of a dynamic net that this clock port precharges: since it opened an evaluation
+-- whose precharge it has not opened, and in which, where clocks overlap, that clock has not fallen.
+abbrev pub IsEvaluating : Clocking → CircuitData → Roles → ℕ → List Step → World → Type 0
+IsEvaluating Together c roles port steps w = IsInEvaluation c roles steps w
+IsEvaluating Overlapping c roles port steps w = (i : ℕ) × (port ≡ first_clock + i) × IsInPeriodBy Overlapping c roles i steps w
 
 -- the clocks of two runs at the same place stand alike: as many have risen in evaluation, or where they overlap the same are 1
 abbrev pub ClocksAlike : Clocking → Roles → World → World → Type 0
@@ -45,9 +44,11 @@ pub record ReachesRest (clocking : Clocking) (c : CircuitData) (roles : Roles) (
 pub record RunsAsDomino (clocking : Clocking) (c : CircuitData) (roles : Roles) : Type 0 where
   -- in its evaluation period each dynamic net falls at most once, and each domino output rises at most once in that of the dynamic net
   -- that gates it; they have no other event
-  pub falls_once : (steps : List Step) (w : World) (n : ℕ) (d : IsDynamicNet c roles n) → IsEvaluating clocking d steps w
+  pub falls_once : (steps : List Step) (w : World) (n : ℕ) (d : IsDynamicNet c roles n)
+      → IsEvaluating clocking c roles (d.precharge).gate steps w
       → IsOnce c roles steps w n One Zero
-  pub rises_once : (steps : List Step) (w : World) (n : ℕ) (d : IsDominoOutput c roles n) → IsEvaluating clocking d.gated steps w
+  pub rises_once : (steps : List Step) (w : World) (n : ℕ) (d : IsDominoOutput c roles n)
+      → IsEvaluating clocking c roles ((d.gated).precharge).gate steps w
       → IsOnce c roles steps w n Zero One
   -- from the rest of reset on no possible strong path joins two sources of different values, and at rest no possible weak path joins the
   -- supplies

@@ -1,3 +1,4 @@
+pub mod DynamicNets
 pub mod GoingOn
 pub mod Order
 pub mod RunOrder

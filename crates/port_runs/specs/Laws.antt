@@ -47,7 +47,8 @@ pub record MayGoOn (clocking : Clocking) (c : CircuitData) (roles : Roles) (step
       → RunsBy clocking c roles (steps ++ Moves (Open Evaluation) ∷ []) (world_after roles (Open Evaluation) w)
   pub later_clock : w.place ≡ Evaluation → w.risen < roles.clocks
       → RunsBy clocking c roles (steps ++ Moves Rise ∷ []) (world_after roles Rise w)
-  pub early : (k : ℕ) → clocking ≡ Overlapping → w.place ≡ Evaluation → Rests c roles w → k + 1 < w.risen → w.fallen k ≡ false → k + 1 < roles.clocks
+  pub early : (k : ℕ) → clocking ≡ Overlapping → w.place ≡ Evaluation → Rests c roles w → k + 1 < w.risen → w.fallen k ≡ false
+      → k + 1 < roles.clocks
       → RunsBy clocking c roles (steps ++ Moves (Fall k) ∷ []) (world_after roles (Fall k) w)
   pub capture : w.place ≡ Evaluation → w.risen ≡ roles.clocks → Rests c roles w
       → RunsBy clocking c roles (steps ++ Moves (Open Capture) ∷ []) (world_after roles (Open Capture) w)

@@ -1,5 +1,6 @@
 pub mod Environment
 pub mod Laws
+pub mod LegalSteps
 pub mod Moves
 pub mod Order
 pub mod Periods

@@ -1,5 +1,5 @@
 -- The order of the environment's moves in a run, whatever the values of the nets are.
-use Rattle.std.specs.Prelude.{Bool, List, [], length, ℕ, ◌++◌, ◌<◌, ◌∷◌, ◌≡◌, ◌≤◌, ◌⊎◌}
+use Rattle.std.specs.Prelude.{Bool, List, [], false, length, ℕ, ◌++◌, ◌+◌, ◌<◌, ◌∷◌, ◌≡◌, ◌≤◌, ◌⊎◌}
 use Rattle.dom_base.specs.declared.tri.Tri.{Tri}
 use Rattle.port_runs.specs.Environment.{Capture, Evaluation, Happens, Fall, IsNext, Launched, Move, Moves, Open, Pins, Place, Released, Reset, Rise, Step, Take, World, after_move, Clocking, Overlapping}
 
@@ -8,7 +8,8 @@ abbrev pub Allows : Clocking → ℕ → ℕ → Move → World → Type 0
 Allows clocking clocks pins (Open place) w = IsNext w.place place × (place ≡ Capture → w.risen ≡ clocks)
 Allows clocking clocks pins (Take bits) w = ((w.place ≡ Released) ⊎ (w.place ≡ Launched)) × (length bits ≡ pins)
 Allows clocking clocks pins Rise w = (w.place ≡ Evaluation) × (w.risen < clocks)
-Allows clocking clocks pins (Fall k) w = (w.place ≡ Evaluation) × (clocking ≡ Overlapping)
+Allows clocking clocks pins (Fall k) w =
+    (w.place ≡ Evaluation) × (k + 1 < w.risen) × (w.fallen k ≡ false) × (clocking ≡ Overlapping) × (k + 1 < clocks)
 
 -- the steps are events and such moves
 abbrev pub Proceeds : Clocking → ℕ → ℕ → List Step → World → World → Type 0

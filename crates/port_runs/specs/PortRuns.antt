@@ -1,41 +1,38 @@
 -- Legal runs of a circuit by its ports: lists of events and moves, cut anywhere. The ports stand in the order of roles, and all
 -- but the outputs are sources. A port is called by its place in this order, from 0, which is its net's number.
-use Rattle.std.specs.Prelude.{List, [], false, length, ◌+◌, ◌<◌, ◌∷◌, ◌≡◌, ◌⊎◌}
+use Rattle.std.specs.Prelude.{List, [], ◌≡◌}
 use Rattle.dom_base.specs.declared.tri.Tri.{Tri}
 use Rattle.deck.specs.CircuitData.{CircuitData}
-use Rattle.deck.specs.PortLayout.{source_count}
 use Rattle.deck.specs.declared.role.Roles.{Roles}
-use Rattle.switch_model.specs.LinksData.{is_first}
+use Rattle.switch_model.specs.LinksData.{links_of}
 use Rattle.switch_model.specs.Power.{power_values}
-use Rattle.switch_model.specs.Targets.{EventAt, IsAtRest}
-use Rattle.port_runs.specs.Environment.{Capture, Clocking, Evaluation, Fall, Happens, IsNext, Launched, Move, Moves, Open, Overlapping, Released, Reset, Rise, Step, Take, Together, World, after_move, none_fallen, settings_of}
+use Rattle.port_runs.specs.Environment.{Clocking, Move, Reset, Step, Together, World, none_fallen, settings_of}
+use Rattle.port_runs.specs.LegalSteps.{ClockedLinks, DoesIn, LeadsIn, MayMoveIn, RestsIn}
 use Rattle.port_runs.specs.Moves.{set_all}
 
 -- no net that is no source differs from its target
 abbrev pub Rests : CircuitData → Roles → World → Type 0
-Rests c roles w = IsAtRest c.devices (is_first (source_count roles)) w.values
+Rests c roles w = RestsIn (links_of c roles) w
 
--- What a move needs. The next place is opened at rest, and capture when all clocks have risen. New pins, one bit for
--- each, are taken at the rest of released or launched. A later clock rises at any moment of evaluation. Where clocks overlap, a clock
--- but the last may fall, once, at a rest of evaluation at which the next one has risen.
+-- the circuit with the clocks and the pins of its roles
+abbrev pub clocked_ports : Clocking → CircuitData → Roles → ClockedLinks
+clocked_ports clocking c roles = record { links = links_of c roles; clocking = clocking; clocks = roles.clocks; pins = roles.pins }
+
+-- what a move needs
 abbrev pub MayMoveBy : Clocking → CircuitData → Roles → Move → World → Type 0
-MayMoveBy clocking c roles (Open place) w = IsNext w.place place × Rests c roles w × (place ≡ Capture → w.risen ≡ roles.clocks)
-MayMoveBy clocking c roles (Take pins) w = ((w.place ≡ Released) ⊎ (w.place ≡ Launched)) × Rests c roles w × (length pins ≡ roles.pins)
-MayMoveBy clocking c roles Rise w = (w.place ≡ Evaluation) × (w.risen < roles.clocks)
-MayMoveBy clocking c roles (Fall k) w =
-    (w.place ≡ Evaluation) × Rests c roles w × (k + 1 < w.risen) × (w.fallen k ≡ false) × (clocking ≡ Overlapping) × (k + 1 < roles.clocks)
+MayMoveBy clocking c roles move w = MayMoveIn (clocked_ports clocking c roles) move w
+
+-- the ports of a move are set together
+abbrev pub SetsPorts : Roles → Move → World → List Tri → Type 0
+SetsPorts roles move w values = values ≡ set_all w.values (settings_of roles move w.risen)
 
 -- what a step does: one net takes its target, or the ports of a move are set together
 abbrev pub DoesBy : Clocking → CircuitData → Roles → Step → World → World → Type 0
-DoesBy clocking c roles (Happens n) w w' =
-    (values : List Tri) × (w' ≡ record w { values = values }) × EventAt c.devices (is_first (source_count roles)) n w.values values
-DoesBy clocking c roles (Moves move) w w' =
-    MayMoveBy clocking c roles move w × (w' ≡ record (after_move move w) { values = set_all w.values (settings_of roles move w.risen) })
+DoesBy clocking c roles step w w' = DoesIn (clocked_ports clocking c roles) (SetsPorts roles) step w w'
 
 -- steps lead from one state to another
 abbrev pub LeadsBy : Clocking → CircuitData → Roles → List Step → World → World → Type 0
-LeadsBy clocking c roles [] w w' = w' ≡ w
-LeadsBy clocking c roles (step ∷ steps) w w' = (mid : World) × DoesBy clocking c roles step w mid × LeadsBy clocking c roles steps mid w'
+LeadsBy clocking c roles steps w w' = LeadsIn (clocked_ports clocking c roles) (SetsPorts roles) steps w w'
 
 -- the power state: the ports as the circuit is switched on, and all other nets Unknown
 abbrev pub power_world : CircuitData → Roles → World

@@ -1,5 +1,6 @@
 -- One cycle of a run beside a network's.
 use Rattle.std.proofs.Common.{◌≡◌, ℕ, inl, inr, Bool, List, map, drop, take, Some, slice_get, refl, sym, ap, ◌∙◌, subst, Result, Ok, Err, Option}
+use Rattle.std.proofs.lemmas.Option.{same_Some}
 use Rattle.std.specs.Result.{IsErrAnd}
 use Rattle.dom_base.specs.declared.tri.Tri.{Tri}
 use Rattle.deck.specs.PortLayout.{first_output}
@@ -17,7 +18,6 @@ use Rattle.trace_tool.specs.declared.halt.Halt.TheVariants as halts
 use Rattle.trace_tool.specs.declared.verdict.Verdict.{Verdict}
 use Rattle.trace_tool.specs.declared.verdict.Verdict.TheVariants as verdicts
 use Rattle.trace_tool.proofs.MoveRuns.{course-moved}
-use Rattle.trace_tool.proofs.FirstDifferences.{some_same}
 
 pub after_weaker : (cycle : ℕ) (c : Course) (Rest Rest' : Type 0) (v : Verdict) → (Rest → Rest') → IsAfter cycle c Rest v → IsAfter cycle c Rest' v
 after_weaker cycle (Settled events) Rest Rest' v f x = f x
@@ -62,8 +62,8 @@ module _ {F : Type 0} (P : F → ℕ → ℕ → ℕ → Type 0) where
       → slice_get wanted index ≡ Some one → slice_get (outputs t.setup.roles t.state.values) index ≡ Some value
       → Decides P number pins wanted s (verdicts.Differ number pin one value)
   differs s t number pins wanted m index pin one value (events, ran, counted, few) wrong pin_is one_is value_is =
-      let ones : one ≡ wrong.one = some_same (sym one_is ∙ wrong.wanted_is) in
-      let values : value ≡ wrong.value = some_same (sym value_is ∙ wrong.found_is) in (
+      let ones : one ≡ wrong.one = same_Some _ _ (sym one_is ∙ wrong.wanted_is) in
+      let values : value ≡ wrong.value = same_Some _ _ (sym value_is ∙ wrong.found_is) in (
         Settled events,
         t.state,
         ran.course_is,

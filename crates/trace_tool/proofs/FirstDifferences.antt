@@ -2,14 +2,11 @@
 use Rattle.std.proofs.Common.{◌≡◌, ◌≢◌, ℕ, zero, suc, ◌+◌, ◌<◌, ◌≤◌, ◌⊎◌, inl, inr, true, false, nat_eq, List, [], ◌∷◌, ◌++◌, length, min, take, Some, slice_get, slice_index_or, refl, sym, ap, ◌∙◌, arith}
 use Rattle.std.specs.Cmp.Lexicographic.{bytes_decides, pointwise}
 use Rattle.std.proofs.lemmas.List.{take_all, take_more}
-use Rattle.std.proofs.lemmas.Option.{slice_get-get_or, slice_get_past}
+use Rattle.std.proofs.lemmas.Option.{same_Some, slice_get-get_or, slice_get_past}
 use Rattle.dom_base.specs.Decided.{Decided}
 use Rattle.dom_base.proofs.Decided.{dec_nat, lt_or_ge}
 use Rattle.dom_base.proofs.Lists.{head_same, tail_same}
 use Rattle.trace_tool.specs.Verdicts.{DifferFirstAt}
-
-pub some_same : {X : Type 0} {x y : X} → Some x ≡ Some y → x ≡ y
-some_same e = cc
 
 -- what stands at an index of a front stands there in the list
 front_get : {X : Type 0} (xs : List X) (i j : ℕ) → i < j → slice_get (take j xs) i ≡ slice_get xs i
@@ -72,7 +69,7 @@ differ_here a b i x y same within within' at at' differ = record {
   before = same;
   apart = λ e.
       differ
-      (some_same (ap (λ (l : List ℕ). Some l) at ∙ sym (slice_get-get_or a i x within) ∙ e ∙ slice_get-get_or b i y within' ∙ ap (λ (l : List ℕ). Some l) (sym at')));
+      (same_Some _ _ (ap (λ (l : List ℕ). Some l) at ∙ sym (slice_get-get_or a i x within) ∙ e ∙ slice_get-get_or b i y within' ∙ ap (λ (l : List ℕ). Some l) (sym at')));
 }
 
 -- lists that are the same up to the end of the shorter

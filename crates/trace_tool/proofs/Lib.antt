@@ -4,6 +4,7 @@ pub mod ComparedRuns
 pub mod CosimCauses
 pub mod CourseThere
 pub mod CoursesJoined
+pub mod CycleMoves
 pub mod CycleRuns
 pub mod EventLines
 pub mod FailedCourses
@@ -20,11 +21,12 @@ pub mod OneVerdictOrCause
 pub mod OutputPorts
 pub mod PortCounts
 pub mod PortValues
+pub mod PortWalks
 pub mod SettlingRuns
 pub mod SetupNets
+pub mod ToldEdges
 pub mod TraceCauses
 pub mod TraceRuns
-pub mod ToldEdges
 pub mod TraceThere
 pub mod VerdictClauses
 pub mod VerdictThere

@@ -1,12 +1,13 @@
 -- The first output of a reading that isn't the network's.
 use Rattle.std.proofs.Common.{◌≡◌, ◌≢◌, ℕ, zero, suc, ◌+◌, ◌≤◌, ◌⊎◌, inl, inr, Bool, List, [], ◌∷◌, ◌++◌, length, map, take, Some, slice_get, refl, sym, ap, ◌∙◌, arith}
+use Rattle.std.proofs.lemmas.Option.{same_Some}
 use Rattle.std.proofs.lemmas.List.{length-map, take_all}
 use Rattle.dom_base.specs.declared.tri.Tri.{Tri}
 use Rattle.network.proofs.IndexedLists.{take_next}
 use Rattle.dom_base.proofs.Decided.{dec_tri}
 use Rattle.port_runs.specs.Environment.{bit}
 use Rattle.trace_tool.specs.Verdicts.{IsFirstWrong}
-use Rattle.trace_tool.proofs.FirstDifferences.{index_is_one, some_same}
+use Rattle.trace_tool.proofs.FirstDifferences.{index_is_one}
 
 get_map : (bits : List Bool) (i : ℕ) (one : Bool) → slice_get bits i ≡ Some one → slice_get (map bit bits) i ≡ Some (bit one)
 get_map [] i one at = absurd cc
@@ -30,7 +31,7 @@ bits_all wanted found i same few few' =
 wrong-apart : (names : List (List ℕ)) (wanted : List Bool) (found : List Tri) (pin : List ℕ) (one : Bool) (value : Tri)
     → (w : IsFirstWrong names wanted found pin one value) → slice_get (map bit wanted) w.index ≢ slice_get found w.index
 wrong-apart names wanted found pin one value w same =
-    w.apart (some_same (sym (sym (get_map wanted w.index one w.wanted_is) ∙ same ∙ w.found_is)))
+    w.apart (same_Some _ _ (sym (sym (get_map wanted w.index one w.wanted_is) ∙ same ∙ w.found_is)))
 
 -- it is one
 pub wrong_is_one : (names : List (List ℕ)) (wanted : List Bool) (found : List Tri) (pin pin' : List ℕ) (one one' : Bool) (value value' : Tri)
@@ -38,9 +39,9 @@ pub wrong_is_one : (names : List (List ℕ)) (wanted : List Bool) (found : List 
     → (pin ≡ pin') × (one ≡ one') × (value ≡ value')
 wrong_is_one names wanted found pin pin' one one' value value' x y =
     let same = index_is_one (map bit wanted) found x.index y.index x.before (wrong-apart names wanted found pin one value x) y.before (wrong-apart names wanted found pin' one' value' y) in (
-      some_same (sym x.pin_is ∙ ap (slice_get names) same ∙ y.pin_is),
-      some_same (sym x.wanted_is ∙ ap (slice_get wanted) same ∙ y.wanted_is),
-      some_same (sym x.found_is ∙ ap (slice_get found) same ∙ y.found_is),
+      same_Some _ _ (sym x.pin_is ∙ ap (slice_get names) same ∙ y.pin_is),
+      same_Some _ _ (sym x.wanted_is ∙ ap (slice_get wanted) same ∙ y.wanted_is),
+      same_Some _ _ (sym x.found_is ∙ ap (slice_get found) same ∙ y.found_is),
     )
 
 -- there is none where all are the network's

@@ -30,7 +30,7 @@ pub fn cosim(
     ensures verdict { IfOk result (λ verdict. IsVerdictOf blif.now deck.now stim.now order seed verdict) }
     ensures refused { (why : Fault) → IsErrOf result why → IsCosimRefused blif.now deck.now stim.now why }
 {
-    let network = network_of(alloc, blif)?;
+    let network = network_of_text(alloc, blif)?;
     let circuit = spice_read::read(alloc, deck)?;
     let roles = roles(&circuit)?;
     let cycles = read_stim(alloc, stim, network.inputs)?;
@@ -48,8 +48,8 @@ pub fn cosim(
     Ok(verdict)
 }
 
-/// The network of a text of BLIF.
-fn network_of(alloc: Global, blif: &[u8]) -> Result<Network, TraceFault>
+/// The network of a text of BLIF, which is read and flattened; or the first fault of it.
+pub fn network_of_text(alloc: Global, blif: &[u8]) -> Result<Network, TraceFault>
     ensures network { IfOk result (HasNetworkOf blif.now) }
     ensures refused { (why : Fault) → IsErrOf result why → IsUnflattened blif.now why }
 {

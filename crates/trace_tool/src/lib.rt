@@ -21,7 +21,7 @@ mod simulation;
 mod trace;
 mod verdict;
 
-pub use cosimulation::cosim;
+pub use cosimulation::{cosim, network_of_text};
 pub use fault::TraceFault;
 pub use laws::{
     answer_is_one, edges_are_told, trace_is_one, trace_is_there, verdict_is_one, verdict_is_there,

@@ -1,4 +1,3 @@
 pub mod PortCycles
-pub mod PortWalks
 pub mod RightVerdicts
 pub mod SameVerdicts

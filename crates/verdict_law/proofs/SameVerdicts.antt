@@ -1,5 +1,6 @@
 -- A circuit that realises a network in time has the verdict that all is the same.
-use Rattle.std.proofs.Common.{◌≡◌, ℕ, suc, ◌+◌, All, Bool, List, [], ◌∷◌, ◌++◌, length, map, Some, slice_get, refl, sym, subst, ap, ◌∙◌, arith, append_assoc, inl, inr, zero-add}
+use Rattle.std.proofs.Common.{◌≡◌, ℕ, suc, ◌+◌, All, Bool, List, [], ◌∷◌, ◌++◌, length, map, slice_get, refl, sym, subst, ap, ◌∙◌, arith, append_assoc, inl, inr, zero-add}
+use Rattle.std.proofs.lemmas.Option.{same_Some}
 use Rattle.std.proofs.lemmas.List.Elements.{All-from_recursion, recursion_from_All}
 use Rattle.dom_base.specs.declared.tri.Tri.{Tri}
 use Rattle.dom_base.proofs.Lists.{All-at, AllByRecursion-left, slice_get-behind}
@@ -65,10 +66,7 @@ module _ (order : ℕ → ℕ → ℕ) (network : NetworkData) (c : CircuitData)
   none_wrong : (names : List (List ℕ)) (wanted : List Bool) (found : List Tri) (pin : List ℕ) (one : Bool) (value : Tri) → found ≡ map bit wanted
       → IsFirstWrong names wanted found pin one value → ⊥
   none_wrong names wanted found pin one value same wrong =
-      wrong.apart (some_same value (bit one) (sym wrong.found_is ∙ (ap (λ l. slice_get l wrong.index) same ∙ get_map bit wanted wrong.index one wrong.wanted_is)))
-    where
-      some_same : (x y : Tri) → Some x ≡ Some y → x ≡ y
-      some_same x y e = cc
+      wrong.apart (same_Some value (bit one) (sym wrong.found_is ∙ (ap (λ l. slice_get l wrong.index) same ∙ get_map bit wanted wrong.index one wrong.wanted_is)))
 
   -- what follows a cycle after which the stream is this one is the same
   abbrev RestIsSame : List (List Bool) → List Cycle → List (List Bool) → ℕ → Type 0
