@@ -2,9 +2,9 @@
 use Rattle.std.specs.List.{AllByRecursion}
 use Rattle.std.specs.Prelude.{Some, slice_get, ◌≢◌}
 use Rattle.std.proofs.Common.{List, [], add-zero, arith, refl, subst, suc, zero, ℕ, ◌++◌, ◌+◌, ◌<◌, ◌∷◌, ◌≡◌}
+use Rattle.std.proofs.lemmas.Option.{same_Some}
 use Rattle.dom_base.proofs.Lists.{AllByRecursion-append, AllByRecursion-weaker}
 use Rattle.deck_audit.proofs.Offsets.{Offset, offset_behind, offset_front, offset_whole}
-use Rattle.sp_reduction.proofs.Lists.{some_same}
 
 -- the blocks of the elements, numbered from o on
 abbrev pub blocks : {X Card : Type 0} → (ℕ → X → List Card) → ℕ → List X → List Card
@@ -35,7 +35,7 @@ module _ {X Card : Type 0} (block : ℕ → X → List Card) (Of : ℕ → Card 
   among o [] m x e = absurd (cc)
   among o (y ∷ xs) zero x e =
       subst (λ k. Offset (Of k) (block o y ++ blocks block (o + 1) xs) (block k x)) (plus o)
-      (subst (λ z. Offset (Of o) (block o y ++ blocks block (o + 1) xs) (block o z)) (some_same e)
+      (subst (λ z. Offset (Of o) (block o y ++ blocks block (o + 1) xs) (block o z)) (same_Some _ _ e)
       (offset_front (Of o) (block o y) (blocks block (o + 1) xs) (block o y) (offset_whole (Of o) (block o y)) (no_later o (o + 1) xs (omega arith))))
     where
       plus : (o : ℕ) → o ≡ o + 0

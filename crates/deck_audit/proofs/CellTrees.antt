@@ -15,8 +15,8 @@ use Rattle.sp_reduction.specs.Networks.{Between, Has, Joins, Link, mids}
 use Rattle.deck_audit.specs.Numbered.{Spells}
 use Rattle.deck_audit.specs.Reading.{IsOneOf}
 use Rattle.deck_audit.specs.Words.{StandsAt, link_at}
-use Rattle.sp_reduction.proofs.Lists.{some_same}
 use Rattle.std.proofs.lemmas.List.{length-append, map-append}
+use Rattle.std.proofs.lemmas.Option.{same_Some}
 
 -- a device with this kind, gate and ends is the card, or the card exchanged
 pub card_of : (d : Device) (e : Device) → d.kind ≡ e.kind → d.gate ≡ e.gate → Ends d e.drain e.source → (d ≡ e) ⊎ (d ≡ exchange e)
@@ -24,7 +24,7 @@ card_of d e k g (inl z) = inl (λ i. record { kind = k i; drain = z.0 i; gate = 
 card_of d e k g (inr z) = inr (λ i. record { kind = k i; drain = z.1 i; gate = g i; source = z.0 i })
 
 pub one_device : (ds : List Device) (p : ℕ) (d e : Device) → StandsAt ds p d → StandsAt ds p e → d ≡ e
-one_device ds p d e a b = some_same (sym a ∙ b)
+one_device ds p d e a b = same_Some _ _ (sym a ∙ b)
 
 -- what stands there as it is or exchanged is there
 pub there_of : (ds : List Device) (p : ℕ) (d e : Device) → StandsAt ds p d → (d ≡ e) ⊎ (d ≡ exchange e) → IsOneOf ds e
@@ -70,7 +70,7 @@ leaf_is ds e n a b j d at g d' at' k z =
     ])
 
 first_inner : (x : ℕ) (ms : List ℕ) (inner : ℕ → ℕ) (k n : ℕ) → Inners (x ∷ ms) inner k (1 + n) → x ≡ inner k
-first_inner x ms inner k n h = rw add-zero at (some_same (h 0 (omega arith)))
+first_inner x ms inner k n h = rw add-zero at (same_Some _ _ (h 0 (omega arith)))
 
 left_inners : (x : ℕ) (ls rs : List ℕ) (inner : ℕ → ℕ) (k m n : ℕ) → length ls ≡ m → Inners (x ∷ (ls ++ rs)) inner k (1 + (m + n)) → Inners ls inner (k + 1) m
 left_inners x ls rs inner k m n c h j lt =

@@ -1,6 +1,7 @@
 -- The places of a block of cards, and the nine cards of a latch.
 use Rattle.std.specs.Prelude.{Bool, Contains, Some, false, slice_get, true, ◌≢◌, ◌⊎◌}
 use Rattle.std.proofs.Common.{List, [], ap, arith, refl, subst, suc, sym, zero, ℕ, ◌+◌, ◌∙◌, ◌∷◌, ◌≡◌}
+use Rattle.std.proofs.lemmas.Option.{same_Some}
 use Rattle.dom_base.proofs.Lists.{Contains-first, Contains-later}
 use Rattle.dom_base.specs.declared.kind.Kind.{Kind}
 use Rattle.dom_base.specs.declared.kind.Kind.TheVariants.{N as nch, P as pch}
@@ -12,7 +13,6 @@ use Rattle.circuit_law.specs.Counts.{Distinct}
 use Rattle.circuit_law.specs.Exchanged.{exchange}
 use Rattle.deck_audit.specs.Words.{AreAt, StandsAt}
 use Rattle.deck_audit.proofs.OwnCards.{Placed}
-use Rattle.sp_reduction.proofs.Lists.{some_same}
 use Rattle.deck_audit.proofs.Lists.{all_from, distinct_at}
 
 -- the places that an order gives to a block
@@ -49,7 +49,7 @@ block_places ds order off (e ∷ es) h =
     listed x r (suc i) p z = back order off i p (r.listed i p z)
 
     has : (x : Placed ds order (off + 0) e) (r : BlockPlaces ds order (off + 1) es) → (i : ℕ) (f : Device) → slice_get (e ∷ es) i ≡ Some f → (p : ℕ) → slice_get order (off + i) ≡ Some p → Contains (x.place ∷ r.places) p
-    has x r zero f z p l = subst (Contains (x.place ∷ r.places)) (some_same (sym x.listed ∙ l)) (Contains-first x.place r.places)
+    has x r zero f z p l = subst (Contains (x.place ∷ r.places)) (same_Some _ _ (sym x.listed ∙ l)) (Contains-first x.place r.places)
     has x r (suc i) f z p l = Contains-later x.place r.places p (r.has i f z p (shifted order off i p l))
 
 -- they differ
@@ -70,7 +70,7 @@ same_places ds order off [] h [] (q ∷ qs) a b = absurd b
 same_places ds order off (e ∷ es) h [] qs a b = absurd a
 same_places ds order off (e ∷ es) h (p ∷ ps) [] a b = absurd b
 same_places ds order off (e ∷ es) h (p ∷ ps) (q ∷ qs) a b =
-    let first : p ≡ q = some_same (sym (h 0 e refl p a.0.0 a.0.1 a.0.2) ∙ h 0 e refl q b.0.0 b.0.1 b.0.2) in
+    let first : p ≡ q = same_Some _ _ (sym (h 0 e refl p a.0.0 a.0.1 a.0.2) ∙ h 0 e refl q b.0.0 b.0.1 b.0.2) in
     let rest : ps ≡ qs = same_places ds order (off + 1) es (λ i f z p d at t. shifted order off i p (h (suc i) f z p d at t)) ps qs a.1 b.1 in
     (λ i. first i ∷ rest i)
 
@@ -90,7 +90,7 @@ pub spot_at : (j : ℕ) (init : Bool) (q : ℕ) (x : NamedDevice Net) → slice_
 spot_at j init q x e = by init q e
   where
     is : (y : NamedDevice Net) (n : ℕ) → Some y ≡ Some x → spot y.gate y.kind ≡ n → spot x.gate x.kind ≡ n
-    is y n e z = ap (λ (v : NamedDevice Net). spot v.gate v.kind) (sym (some_same e)) ∙ z
+    is y n e z = ap (λ (v : NamedDevice Net). spot v.gate v.kind) (sym (same_Some _ _ e)) ∙ z
 
     by : (init : Bool) (q : ℕ) → slice_get (one_latch j init) q ≡ Some x → spot x.gate x.kind ≡ q
     by init zero e = is _ 0 e refl

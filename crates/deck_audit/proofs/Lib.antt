@@ -13,6 +13,7 @@ pub mod NumberedNets
 pub mod NumberedParts
 pub mod NumberedSorts
 pub mod LatchBlocks
+pub mod LatchCards
 pub mod Offsets
 pub mod OwnBlocks
 pub mod OwnCards

@@ -1,16 +1,10 @@
--- What stands at an index of a list.
+-- What stands at the indices of a list, and lists without repetition.
 use Rattle.std.specs.List.{AllByRecursion}
 use Rattle.std.specs.Prelude.{Some, slice_get, ◌≢◌}
-use Rattle.std.proofs.Common.{List, [], ap, arith, length, refl, suc, sym, zero, ℕ, ◌<◌, ◌∷◌, ◌≡◌}
+use Rattle.std.proofs.Common.{List, [], ap, arith, refl, suc, sym, zero, ℕ, ◌<◌, ◌∷◌, ◌≡◌}
+use Rattle.std.proofs.lemmas.Option.{same_Some}
 use Rattle.dom_base.proofs.Lists.{AllByRecursion-contains, AllByRecursion-weaker, Contains-slice_get}
 use Rattle.circuit_law.specs.Counts.{Distinct}
-use Rattle.sp_reduction.proofs.Lists.{some_same}
-
--- each index below the length has an element
-pub element_at : {X : Type 0} (xs : List X) (i : ℕ) → i < length xs → (x : X) × (slice_get xs i ≡ Some x)
-element_at [] i l = absurd (omega (arith, l))
-element_at (x ∷ xs) zero l = (x, refl)
-element_at (x ∷ xs) (suc i) l = element_at xs i (omega (arith, l))
 
 -- what holds at each index holds of all
 pub all_from : (P : ℕ → Type 0) (xs : List ℕ) → ((i x : ℕ) → slice_get xs i ≡ Some x → P x) → AllByRecursion P xs
@@ -21,8 +15,8 @@ all_from P (x ∷ xs) h = (h 0 x refl, all_from P xs (λ i y e. h (suc i) y e))
 pub distinct_at : (xs : List ℕ) → Distinct xs → (i j x : ℕ) → slice_get xs i ≡ Some x → slice_get xs j ≡ Some x → i ≡ j
 distinct_at [] d i j x e f = absurd (cc)
 distinct_at (y ∷ xs) d zero zero x e f = refl
-distinct_at (y ∷ xs) d zero (suc j) x e f = absurd (AllByRecursion-contains (λ m. m ≢ y) xs x d.0 (Contains-slice_get xs j x f) (some_same (sym e)))
-distinct_at (y ∷ xs) d (suc i) zero x e f = absurd (AllByRecursion-contains (λ m. m ≢ y) xs x d.0 (Contains-slice_get xs i x e) (some_same (sym f)))
+distinct_at (y ∷ xs) d zero (suc j) x e f = absurd (AllByRecursion-contains (λ m. m ≢ y) xs x d.0 (Contains-slice_get xs j x f) (same_Some _ _ (sym e)))
+distinct_at (y ∷ xs) d (suc i) zero x e f = absurd (AllByRecursion-contains (λ m. m ≢ y) xs x d.0 (Contains-slice_get xs i x e) (same_Some _ _ (sym f)))
 distinct_at (y ∷ xs) d (suc i) (suc j) x e f = ap (λ n. suc n) (distinct_at xs d.1 i j x e f)
 
 -- each element of the list is below the one before it

@@ -2,7 +2,7 @@
 use Rattle.domino_law.proofs.SimpleCells.{simple_inner, simple_output_inner}
 use Rattle.std.specs.Prelude.{Contains, Some, slice_get, ◌≢◌}
 use Rattle.std.proofs.Common.{List, ap, arith, inl, inr, length, refl, subst, suc, sym, zero, ℕ, ◌+◌, ◌<◌, ◌∙◌, ◌≡◌, ◌≤◌}
-use Rattle.std.proofs.lemmas.Option.{slice_get_within}
+use Rattle.std.proofs.lemmas.Option.{same_Some, slice_get_within}
 use Rattle.dom_base.proofs.Decided.{dec_nat}
 use Rattle.dom_base.proofs.Lists.{AllByRecursion-contains, Contains-slice_get}
 use Rattle.dom_base.specs.declared.kind.Kind.TheVariants.{Keep}
@@ -22,7 +22,6 @@ use Rattle.deck_audit.specs.Rules.{KeepsRules}
 use Rattle.deck_audit.specs.Words.{Group, IsFree, IsInner, IsInverterOutput, IsLatchData, IsOutPort, Reached, group_cards, own_nets}
 use Rattle.deck_audit.proofs.NumberedNets.{group_at, inside_is, inside_reached, output_inverts, top_dynamic, cells_simple, side_cell}
 use Rattle.deck_audit.proofs.RuleFacts.{at_place, cards_at, end_of, own_drain, twin_ends, twin_gate, dynamic_no_inside, dynamic_no_latch, latch_of, no_keeper_card, one_group, one_input, reached_back, twin_kind}
-use Rattle.sp_reduction.proofs.Lists.{some_same}
 use Rattle.deck_audit.proofs.Lists.{distinct_at}
 use Rattle.switch_model.proofs.Searches.{ends_at}
 use Rattle.deck_audit.proofs.NumberedSorts.{Differ, Fact, Inv, clash_at, fact_of, latch_part, master_at, position, slave_at, slave_part, sort_of}
@@ -203,7 +202,7 @@ module _ (c : CircuitData) (roles : Roles) (net : Net → ℕ) (s : Shape) (rule
   inside_same k k' a a' b b' cell cell' i i' z z' lt lt' e =
       let e' : net (At (Dynamic (left_side k)) (Inside 0 b)) ≡ net (At (Dynamic (left_side k')) (Inside 0 b')) = sym (ap (λ x. net (At (Dynamic (left_side k)) (Inside x b))) z) ∙ e ∙ ap (λ x. net (At (Dynamic (left_side k')) (Inside x b'))) z' in
       let same : k ≡ k' = inside_apart k k' cell cell' i i' b b' lt lt' e' in
-      let cells : cell' ≡ cell = some_same (sym i' ∙ rw (← same) i) in
+      let cells : cell' ≡ cell = same_Some _ _ (sym i' ∙ rw (← same) i) in
       let place : b ≡ b' = one_inside k cell i b b' lt (subst (λ (x : DominoCell). b' < 1 + inner_count x.tree) cells lt') (e' ∙ ap (λ k. net (At (Dynamic (left_side k)) (Inside 0 b'))) (sym same)) in
       (λ d. At (Dynamic (left_side (same d))) (Inside ((z ∙ sym z') d) (place d)))
 

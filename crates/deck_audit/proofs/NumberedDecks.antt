@@ -4,8 +4,9 @@ use Rattle.domino_law.proofs.Statics.{left_is}
 use Rattle.domino_law.proofs.SimpleCells.{simple_gate}
 use Rattle.std.specs.List.{AllByRecursion}
 use Rattle.std.specs.Prelude.{Contains, ◌⊎◌}
-use Rattle.std.proofs.Common.{List, [], ap, arith, inl, inr, length, refl, subst, sym, ℕ, ◌-◌, ◌<◌, ◌∙◌, ◌∷◌, ◌≡◌, ◌≤◌}
+use Rattle.std.proofs.Common.{List, [], ap, arith, get_or, inl, inr, length, refl, subst, sym, ℕ, ◌-◌, ◌<◌, ◌∙◌, ◌∷◌, ◌≡◌, ◌≤◌}
 use Rattle.std.proofs.lemmas.List.Elements.{Contains-append_left, Contains-append_right}
+use Rattle.std.proofs.lemmas.Option.{slice_get-get_or}
 use Rattle.dom_base.specs.Decided.{Decided}
 use Rattle.dom_base.proofs.Decided.{dec_any, dec_nat, dec_or, lt_or_ge}
 use Rattle.dom_base.proofs.Lists.{AllByRecursion-contains, AllByRecursion-weaker, slice_get-contained}
@@ -21,7 +22,7 @@ use Rattle.circuit_law.specs.Exchanged.{HasDevicesOf, exchange}
 use Rattle.domino_cell.specs.Tapped.{Tap}
 use Rattle.domino_law.specs.Branches.{HasBranches, dynamic, dynamic_taps, master, slave, static_branches}
 use Rattle.domino_law.specs.LooseDeck.{IsNet, IsSourceNet, IsSpotOf}
-use Rattle.domino_law.specs.Nets.{At, Clock, Complement, Dynamic, Gate, Lm, Lmb, Ls, Lsb, Master, Net, Next, Output, Part, Pin, Rs, Rsb, Sink, Slave, Vdd, Vss, gate_net, own, left_side, CellSide}
+use Rattle.domino_law.specs.Nets.{At, Clock, Complement, Dynamic, Gate, High, Lm, Lmb, Ls, Lsb, Master, Net, Next, Output, Part, Pin, Rs, Rsb, Sink, Slave, Vdd, Vss, gate_net, own, left_side, CellSide}
 use Rattle.domino_law.specs.Shape.{DominoCell, IsCellAt, IsLatchAt, Latch, Shape, WithKeeper, DynamicStage, dynamic_nets, gate_tree, left_stage}
 use Rattle.domino_law.specs.Spelled.{deck_devices}
 use Rattle.domino_law.proofs.DeckLists.{StagePart, deck_parts, part_devices, parts_devices}
@@ -30,7 +31,7 @@ use Rattle.domino_law.proofs.SpelledParts.{deck_devices_are}
 use Rattle.deck_audit.specs.Numbered.{IsNumbered, RulesMakeDeck, group_of}
 use Rattle.deck_audit.specs.Reading.{IsOneOf, IsReading, part_cards}
 use Rattle.deck_audit.specs.Rules.{IsLoose, IsUsed, KeepsRules}
-use Rattle.deck_audit.specs.Words.{IsDynamic, IsFree, IsInverterOutput, Group, Reached, StandsAt, group_cards, own_nets}
+use Rattle.deck_audit.specs.Words.{IsDynamic, IsFree, IsInverterOutput, Group, Reached, StandsAt, own_nets}
 use Rattle.deck_audit.proofs.CellTrees.{one_device}
 use Rattle.deck_audit.proofs.NumberedApart.{parts_apart}
 use Rattle.deck_audit.proofs.NumberedSorts.{fact_free, fact_of, fact_touched, sort_of}
@@ -40,7 +41,6 @@ use Rattle.deck_audit.proofs.NumberedParts.{cell_list, cell_there, inverter_owne
 use Rattle.deck_audit.proofs.PortsApart.{ports_apart}
 use Rattle.deck_audit.proofs.Readings.{port_low, reading_is_exchanged_deck}
 use Rattle.deck_audit.proofs.RuleFacts.{at_own}
-use Rattle.deck_audit.proofs.Lists.{element_at}
 
 -- devices are equal or not
 dec_kind : (a b : Kind) → Decided (a ≡ b)
@@ -196,7 +196,7 @@ module _ (c : CircuitData) (roles : Roles) (net : Net → ℕ) (s : Shape) (rule
   at_latch j b i m o p d at t =
       let g = group_at c roles net s rules n j b i in
       let a = (at_own ds roles (length c.nets) rules (group_of net j b) g.0 g.1 m o p d at t).1 in
-      of_card a.card a.twin (AllByRecursion-contains (λ e. Contains (part_cards net (Master j) (master net j) []) e ⊎ Contains (part_cards net (Slave j) (slave net j b) []) e) (group_cards roles (group_of net j b)) a.card (group_owned c roles net s rules n j b i) a.listed)
+      of_card a.card a.twin (group_owned c roles net s rules n j b i a.card a.listed)
     where
       one : (cards : List Device) (e : Device) → (d ≡ e) ⊎ (d ≡ exchange e) → Contains cards e → IsOneOf cards d
       one cards e (inl z) m = inl (rw z m)
@@ -243,9 +243,10 @@ module _ (c : CircuitData) (roles : Roles) (net : Net → ℕ) (s : Shape) (rule
           not (at_inverter (Next l.0) (gate_net (l.1).next) (l.1, l.2, gate_single (l.1).next, refl) (n.nexts l.0 l.1 l.2) p d at (rw same at t))
       | inr o ↦
           let k = m - first_output roles in
-          let g = element_at s.outputs k (omega (arith, o.0, o.1, n.outs_are)) in
-          let same : m ≡ net (At (Sink k) Top) = omega (arith, o.0, n.outputs k g.0 g.1) in
-          not (at_inverter (Sink k) (gate_net g.0) (g.0, g.1, gate_single g.0, refl) (n.sinks k g.0 g.1) p d at (rw same at t))
+          let g = get_or s.outputs k High in
+          let at_g = slice_get-get_or s.outputs k High (omega (arith, o.0, o.1, n.outs_are)) in
+          let same : m ≡ net (At (Sink k) Top) = omega (arith, o.0, n.outputs k g at_g) in
+          not (at_inverter (Sink k) (gate_net g) (g, at_g, gate_single g, refl) (n.sinks k g at_g) p d at (rw same at t))
     ]
     none (inr (inr z)) =
         let l = n.all_complements m z.0 z.1 in

@@ -2,6 +2,7 @@
 use Rattle.std.specs.List.{AllByRecursion}
 use Rattle.std.specs.Prelude.{Bool, Some, false, slice_get, true, ◌≢◌, ◌⊎◌}
 use Rattle.std.proofs.Common.{List, None, [], ap, ap₂, arith, inl, inr, refl, subst, suc, sym, zero, ℕ, ◌++◌, ◌+◌, ◌∙◌, ◌∷◌, ◌≡◌}
+use Rattle.std.proofs.lemmas.Option.{same_Some}
 use Rattle.dom_base.proofs.Lists.{AllByRecursion-append, AllByRecursion-weaker}
 use Rattle.dom_base.specs.declared.kind.Kind.TheVariants.{Keep, N as nch, P as pch}
 use Rattle.deck.specs.NamedDevices.{NamedDevice}
@@ -15,7 +16,6 @@ use Rattle.domino_law.specs.Shape.{DominoCell, IsCellAt, IsLatchAt, IsOutputAt, 
 use Rattle.domino_law.specs.Spelled.{cell_cards, complement_cards, latch_cards, next_cards, one_cell, one_latch, output_cards, reset_card, shape_cards, static_cards}
 use Rattle.deck_audit.proofs.Blocks.{block_offset, blocks, blocks_all}
 use Rattle.deck_audit.proofs.Offsets.{Offset, offset_behind, offset_front, offset_whole}
-use Rattle.sp_reduction.proofs.Lists.{some_same}
 
 -- the net is one of the cell, of the latch, of the complement, of the output, of the latch input
 abbrev pub OfCell : ℕ → Net → Type 0
@@ -238,7 +238,7 @@ complement_among : (l : DeckSignal) (ls : List DeckSignal) (m : ℕ) → slice_g
     → Offset (λ x. OfComplement l x.drain) (complement_cards ls) (complement_block l)
 complement_among l [] m e once = absurd (cc)
 complement_among l (k ∷ ls) zero e once =
-    subst (λ j. Offset (λ x. OfComplement l x.drain) (complement_block j ++ complement_cards ls) (complement_block l)) (sym (some_same e))
+    subst (λ j. Offset (λ x. OfComplement l x.drain) (complement_block j ++ complement_cards ls) (complement_block l)) (sym (same_Some _ _ e))
     (offset_front (λ x. OfComplement l x.drain) (complement_block l) (complement_cards ls) (complement_block l)
     (offset_whole (λ x. OfComplement l x.drain) (complement_block l)) (no_complement l ls (λ i f. suc_zero i (once (suc i) f))))
   where

@@ -1,16 +1,15 @@
 -- A deck with keepers gets a yes.
 use Rattle.std.specs.Prelude.{Some, slice_get, ◌≢◌, ◌⊎◌}
 use Rattle.std.proofs.Common.{List, [], ap, arith, inl, inr, length, refl, subst, suc, sym, zero, ℕ, ◌+◌, ◌<◌, ◌∙◌, ◌∷◌, ◌≡◌, ◌≤◌}
-use Rattle.std.proofs.lemmas.Option.{slice_get_within}
+use Rattle.std.proofs.lemmas.Option.{slice_get_cases, slice_get_within}
 use Rattle.dom_base.proofs.Decided.{dec_nat, lt_or_ge}
 use Rattle.deck.specs.CircuitData.{CircuitData}
 use Rattle.deck.specs.declared.device.Device.{Device}
-use Rattle.deck.specs.declared.role.Roles.{Roles}
 use Rattle.sp_network.specs.Tree.{Leaf, Parallel, Series, Tree, height, leaves, map_tree, width}
 use Rattle.domino_cell.specs.Stage.{Inside, Top}
 use Rattle.domino_law.proofs.Statics.{left_is}
-use Rattle.domino_law.specs.Nets.{At, Clock, Dynamic, Net, Output, gate_net, left_side, CellSide}
-use Rattle.domino_law.specs.Shape.{DominoCell, IsCellAt, Shape, left_stage}
+use Rattle.domino_law.specs.Nets.{At, Clock, Dynamic, Output, gate_net, left_side, CellSide}
+use Rattle.domino_law.specs.Shape.{DominoCell, IsCellAt, left_stage}
 use Rattle.sp_reduction.specs.Networks.{Link, whole_height, whole_width}
 use Rattle.deck_audit.specs.Audits.{HasMeasure, IsCount, IsGreatest, IsYes}
 use Rattle.deck_audit.specs.OwnDecks.{KeeperDecksGetYes, greatest_of}
@@ -23,7 +22,6 @@ use Rattle.deck_audit.proofs.OwnCells.{front}
 use Rattle.deck_audit.proofs.OwnRules.{front_one, keeps_rules, numbered_deck}
 use Rattle.deck_audit.proofs.OwnSignals.{dynamic_is, top_dynamic}
 use Rattle.deck_audit.proofs.OwnTrees.{links, tree}
-use Rattle.deck_audit.proofs.Lists.{element_at}
 use Rattle.sp_network.proofs.TreeImages.{height-map_tree, width-map_tree}
 
 -- counts: one number more
@@ -100,66 +98,64 @@ module _ (w : OwnDeck) where
   abbrev c : CircuitData
   c = w.circuit
 
-  abbrev roles : Roles
-  roles = w.roles
-
-  abbrev net : Net → ℕ
-  net = w.net
-
-  abbrev s : Shape
-  s = w.shape
-
   abbrev cells : List DominoCell
   cells = (w.shape).cells
 
-  abbrev the_links : (k : ℕ) (cell : DominoCell) → IsCellAt s k cell → Tree Link
+  cell_there : (k : ℕ) → k < length cells → (cell : DominoCell) × (slice_get cells k ≡ Some cell)
+  cell_there k l =
+      elim (slice_get_cases cells k).1 [
+        | inl z ↦ (z.0, z.2)
+        | inr z ↦ absurd (omega (arith, l, z.0))
+      ]
+
+  abbrev the_links : (k : ℕ) (cell : DominoCell) → IsCellAt w.shape k cell → Tree Link
   the_links k cell i = links w k cell i
 
-  count : IsCount (IsDynamic c.devices roles) (length c.nets) (length cells)
+  count : IsCount (IsDynamic c.devices w.roles) (length c.nets) (length cells)
   count =
-      equal_count (IsDynamic c.devices roles) (λ n. (k : ℕ) × (k < length cells) × (n ≡ net (At (Dynamic (left_side k)) Top)))
-      (λ n z. let d = element_at cells z.0 z.1 in subst (IsDynamic c.devices roles) (sym z.2) (top_dynamic w z.0 d.0 d.1))
+      equal_count (IsDynamic c.devices w.roles) (λ n. (k : ℕ) × (k < length cells) × (n ≡ w.net (At (Dynamic (left_side k)) Top)))
+      (λ n z. let d = cell_there z.0 z.1 in subst (IsDynamic c.devices w.roles) (sym z.2) (top_dynamic w z.0 d.0 d.1))
       (λ n h. let k = dynamic_is w n h in (k.0, slice_get_within cells k.0 k.1 k.2, k.3))
       (length c.nets) (length cells)
-      (count_listed (λ k. net (At (Dynamic (left_side k)) Top)) (length cells) (length c.nets)
-      (λ k l. let d = element_at cells k l in (((w.deck).spelled).others (Dynamic (left_side k)) Top (left_stage d.0, left_is s k d.0 d.1)).1)
-      (λ i j a b e. let x = element_at cells i a in let y = element_at cells j b in same i j (((w.deck).spelled).apart (At (Dynamic (left_side i)) Top) (At (Dynamic (left_side j)) Top) (left_stage x.0, left_is s i x.0 x.1) (left_stage y.0, left_is s j y.0 y.1) e)))
+      (count_listed (λ k. w.net (At (Dynamic (left_side k)) Top)) (length cells) (length c.nets)
+      (λ k l. let d = cell_there k l in (((w.deck).spelled).others (Dynamic (left_side k)) Top (left_stage d.0, left_is w.shape k d.0 d.1)).1)
+      (λ i j a b e. let x = cell_there i a in let y = cell_there j b in same i j (((w.deck).spelled).apart (At (Dynamic (left_side i)) Top) (At (Dynamic (left_side j)) Top) (left_stage x.0, left_is w.shape i x.0 x.1) (left_stage y.0, left_is w.shape j y.0 y.1) e)))
     where
       same : (i j : ℕ) → At (Dynamic (left_side i)) Top ≡ At (Dynamic (left_side j)) Top → i ≡ j
       same i j e = let z : left_side i ≡ left_side j = cc in ap (λ (q : CellSide). q.cell) z
 
   -- the measures of a tree of a dynamic net are those of its cell
-  of_cell : (x clock out bottom : ℕ) (t : Tree Link) → IsDynamic c.devices roles x → HasFront c.devices roles x clock out → HasTree c.devices roles x clock bottom t
-      → (k : ℕ) × (cell : DominoCell) × (i : IsCellAt s k cell) × (whole_width t ≡ whole_width (the_links k cell i)) × (whole_height t ≡ whole_height (the_links k cell i))
+  of_cell : (x clock out bottom : ℕ) (t : Tree Link) → IsDynamic c.devices w.roles x → HasFront c.devices w.roles x clock out → HasTree c.devices w.roles x clock bottom t
+      → (k : ℕ) × (cell : DominoCell) × (i : IsCellAt w.shape k cell) × (whole_width t ≡ whole_width (the_links k cell i)) × (whole_height t ≡ whole_height (the_links k cell i))
   of_cell x clock out bottom t h f tr =
       let k = dynamic_is w x h in
-      let e = front_one w k.0 k.1 k.2 clock out (subst (λ m. HasFront c.devices roles m clock out) k.3 f) in
-      let tr' : HasTree c.devices roles (net (At (Dynamic (left_side k.0)) Top)) (net (Clock (k.1).clock)) bottom t =
-      subst (λ m. HasTree c.devices roles (net (At (Dynamic (left_side k.0)) Top)) m bottom t) e.0 (subst (λ m. HasTree c.devices roles m clock bottom t) k.3 tr) in
-      let z = cells_have_one_shape c.devices roles (net (At (Dynamic (left_side k.0)) Top)) (net (Clock (k.1).clock)) bottom (net (At (Dynamic (left_side k.0)) (Inside 0 0))) t (the_links k.0 k.1 k.2)
+      let e = front_one w k.0 k.1 k.2 clock out (subst (λ m. HasFront c.devices w.roles m clock out) k.3 f) in
+      let tr' : HasTree c.devices w.roles (w.net (At (Dynamic (left_side k.0)) Top)) (w.net (Clock (k.1).clock)) bottom t =
+      subst (λ m. HasTree c.devices w.roles (w.net (At (Dynamic (left_side k.0)) Top)) m bottom t) e.0 (subst (λ m. HasTree c.devices w.roles m clock bottom t) k.3 tr) in
+      let z = cells_have_one_shape c.devices w.roles (w.net (At (Dynamic (left_side k.0)) Top)) (w.net (Clock (k.1).clock)) bottom (w.net (At (Dynamic (left_side k.0)) (Inside 0 0))) t (the_links k.0 k.1 k.2)
       (top_dynamic w k.0 k.1 k.2).0 tr' (tree w k.0 k.1 k.2) in
       (k.0, k.1, k.2, z.1, z.2)
 
-  width_is : (k : ℕ) (cell : DominoCell) (i : IsCellAt s k cell) → whole_width (the_links k cell i) ≡ width cell.tree
+  width_is : (k : ℕ) (cell : DominoCell) (i : IsCellAt w.shape k cell) → whole_width (the_links k cell i) ≡ width cell.tree
   unfolding links
   width_is k cell i = width_of_links _ _ (map_tree gate_net cell.tree) 0 ∙ width-map_tree gate_net cell.tree
 
-  height_is : (k : ℕ) (cell : DominoCell) (i : IsCellAt s k cell) → whole_height (the_links k cell i) ≡ height cell.tree
+  height_is : (k : ℕ) (cell : DominoCell) (i : IsCellAt w.shape k cell) → whole_height (the_links k cell i) ≡ height cell.tree
   unfolding links
   height_is k cell i = height_of_links _ _ (map_tree gate_net cell.tree) 0 ∙ height-map_tree gate_net cell.tree
 
-  greatest : (measure : Tree Link → ℕ) (of : DominoCell → ℕ) → ((k : ℕ) (cell : DominoCell) (i : IsCellAt s k cell) → measure (the_links k cell i) ≡ of cell)
-      → ((x clock out bottom : ℕ) (t : Tree Link) → IsDynamic c.devices roles x → HasFront c.devices roles x clock out → HasTree c.devices roles x clock bottom t → (k : ℕ) × (cell : DominoCell) × (i : IsCellAt s k cell) × (measure t ≡ measure (the_links k cell i)))
-      → IsGreatest (HasMeasure c.devices roles measure) (greatest_of of cells)
+  greatest : (measure : Tree Link → ℕ) (of : DominoCell → ℕ) → ((k : ℕ) (cell : DominoCell) (i : IsCellAt w.shape k cell) → measure (the_links k cell i) ≡ of cell)
+      → ((x clock out bottom : ℕ) (t : Tree Link) → IsDynamic c.devices w.roles x → HasFront c.devices w.roles x clock out → HasTree c.devices w.roles x clock bottom t → (k : ℕ) × (cell : DominoCell) × (i : IsCellAt w.shape k cell) × (measure t ≡ measure (the_links k cell i)))
+      → IsGreatest (HasMeasure c.devices w.roles measure) (greatest_of of cells)
   greatest measure of is same = record {
     bound = λ v h. let z = same h.0 h.1 h.2 h.3 h.4 h.5 h.6 h.7 in omega (arith, sym h.8 ∙ z.3 ∙ is z.0 z.1 z.2, bound of cells z.0 z.1 z.2);
     had = elim (had of cells) [
       | inl z ↦ inl z
       | inr z ↦ inr (
-        net (At (Dynamic (left_side z.0)) Top),
-        net (Clock (z.1).clock),
-        net (At (Output z.0) Top),
-        net (At (Dynamic (left_side z.0)) (Inside 0 0)),
+        w.net (At (Dynamic (left_side z.0)) Top),
+        w.net (Clock (z.1).clock),
+        w.net (At (Output z.0) Top),
+        w.net (At (Dynamic (left_side z.0)) (Inside 0 0)),
         the_links z.0 z.1 z.2,
         top_dynamic w z.0 z.1 z.2,
         front w z.0 z.1 z.2,
@@ -169,11 +165,11 @@ module _ (w : OwnDeck) where
     ];
   }
 
-  pub gets_yes : IsYes c roles w.order (length cells) (greatest_of (λ cell. width cell.tree) cells) (greatest_of (λ cell. height cell.tree) cells)
+  pub gets_yes : IsYes c w.roles w.order (length cells) (greatest_of (λ cell. width cell.tree) cells) (greatest_of (λ cell. height cell.tree) cells)
   gets_yes = record {
     rules = keeps_rules w;
-    net = net;
-    shape = s;
+    net = w.net;
+    shape = w.shape;
     numbered = numbered_deck w;
     in_order = w.in_order;
     cells_are = count;

@@ -3,25 +3,22 @@ use Rattle.std.specs.List.{AllByRecursion}
 use Rattle.std.specs.Prelude.{Bool, Contains, Some, false, slice_get, true, ◌≢◌, ◌⊎◌}
 use Rattle.std.proofs.Common.{List, [], ap, arith, inl, inr, map, refl, subst, suc, sym, zero, ℕ, ◌+◌, ◌<◌, ◌∙◌, ◌∷◌, ◌≡◌}
 use Rattle.dom_base.proofs.Lists.{AllByRecursion-contains, Contains-slice_get}
-use Rattle.dom_base.specs.declared.kind.Kind.TheVariants.{N as nch, P as pch}
 use Rattle.deck.specs.NamedDevices.{NamedDevice}
-use Rattle.deck.specs.PortLayout.{master_pair, reset_pair, slave_pair}
 use Rattle.deck.specs.declared.device.Device.{Device}
-use Rattle.deck.specs.declared.role.Roles.{Roles}
 use Rattle.domino_cell.specs.Stage.{Inside, Top}
 use Rattle.switch_model.specs.Laws.{EndsAt}
-use Rattle.port_runs.specs.Periods.{vdd_port, vss_port}
 use Rattle.circuit_law.specs.Counts.{Distinct}
 use Rattle.domino_law.specs.LooseDeck.{IsNet}
-use Rattle.domino_law.specs.Nets.{At, Lm, Lmb, Ls, Lsb, Master, Net, Next, Rs, Rsb, Slave, Vdd, Vss}
-use Rattle.domino_law.specs.Shape.{IsLatchAt, Latch, Shape}
+use Rattle.domino_law.specs.Nets.{At, Master, Net, Next, Slave}
+use Rattle.domino_law.specs.Shape.{IsLatchAt, Latch}
 use Rattle.domino_law.specs.Spelled.{one_latch}
 use Rattle.deck_audit.specs.Numbered.{group_of}
 use Rattle.deck_audit.specs.Words.{AreAt, Group, IsGroup, StandsAt, group_cards, own_nets}
 use Rattle.deck_audit.proofs.LatchBlocks.{BlockPlaces, block_places, distinct_block, spot, spot_at}
 use Rattle.deck_audit.proofs.Offsets.{Offset}
 use Rattle.deck_audit.proofs.OwnBlocks.{OfLatch, cell_no_latch, keeper_cards, latch_block, latch_offset, latch_own, one_latch_of, supply_no_latch}
-use Rattle.deck_audit.proofs.OwnCards.{Carded, IsTwin, OwnDeck, Placed, apart, card_of_device, carded, dev_of, device_at, devices_of, part_free, place_of, vdd_is, vss_is}
+use Rattle.deck_audit.proofs.LatchCards.{group_same}
+use Rattle.deck_audit.proofs.OwnCards.{Carded, IsTwin, OwnDeck, Placed, apart, card_of_device, carded, dev_of, device_at, devices, devices_of, part_free, place_of}
 use Rattle.deck_audit.proofs.OwnFacts.{ByGate, Joined, PlainGate, ends_of_card, facts}
 use Rattle.deck_audit.proofs.RuleFacts.{twin_ends, twin_gate, twin_kind}
 use Rattle.switch_model.proofs.Searches.{ends_at}
@@ -32,99 +29,43 @@ NetsDiffer [] = Unit {0}
 NetsDiffer (a ∷ rest) = AllByRecursion (λ b. b ≡ a → ⊥) rest × NetsDiffer rest
 
 module _ (w : OwnDeck) where
-  abbrev ds : List Device
-  ds = (w.circuit).devices
-
-  abbrev roles : Roles
-  roles = w.roles
-
-  abbrev net : Net → ℕ
-  net = w.net
-
-  abbrev s : Shape
-  s = w.shape
-
   -- their numbers differ
-  distinct_nets : (xs : List Net) → AllByRecursion (IsNet s) xs → NetsDiffer xs → Distinct (map net xs)
+  distinct_nets : (xs : List Net) → AllByRecursion (IsNet w.shape) xs → NetsDiffer xs → Distinct (map w.net xs)
   distinct_nets [] h d = tt
   distinct_nets (a ∷ rest) h d = (each rest h.1 d.0, distinct_nets rest h.1 d.1)
     where
-      each : (bs : List Net) → AllByRecursion (IsNet s) bs → AllByRecursion (λ b. b ≡ a → ⊥) bs → AllByRecursion (λ m. m ≢ net a) (map net bs)
+      each : (bs : List Net) → AllByRecursion (IsNet w.shape) bs → AllByRecursion (λ b. b ≡ a → ⊥) bs → AllByRecursion (λ m. m ≢ w.net a) (map w.net bs)
       each [] k d = tt
       each (b ∷ bs) k d = ((λ e. d.0 (apart w b a k.0 h.0 e)), each bs k.1 d.1)
 
-  module _ (j : ℕ) (b : Latch) (i : IsLatchAt s j b) where
-    abbrev pub latch_place : Offset (λ x. OfLatch j x.drain) (keeper_cards s) (latch_block j b)
-    latch_place = latch_offset s j b i
+  module _ (j : ℕ) (b : Latch) (i : IsLatchAt w.shape j b) where
+    abbrev pub latch_place : Offset (λ x. OfLatch j x.drain) (keeper_cards w.shape) (latch_block j b)
+    latch_place = latch_offset w.shape j b i
 
-    pub nine : BlockPlaces ds w.order latch_place.offset (devices_of net (latch_block j b))
+    pub nine : BlockPlaces (devices w) w.order latch_place.offset (devices_of w.net (latch_block j b))
     nine =
-        block_places ds w.order latch_place.offset (devices_of net (latch_block j b))
-        (λ q e z. let x = card_of_device net (latch_block j b) q e z in subst (λ e. Placed ds w.order (latch_place.offset + q) e) x.2 (place_of w (latch_place.offset + q) x.0 (latch_place.to q x.0 x.1)))
-
-    vdd : net Vdd ≡ vdd_port
-    vdd = vdd_is w
-
-    vss : net Vss ≡ vss_port
-    vss = vss_is w
-
-    lm : net Lm ≡ master_pair roles
-    lm = ((w.deck).ports).numbers Lm tt
-
-    lmb : net Lmb ≡ master_pair roles + 1
-    lmb = omega (arith, ((w.deck).ports).numbers Lmb tt)
-
-    ls : net Ls ≡ slave_pair roles
-    ls = ((w.deck).ports).numbers Ls tt
-
-    lsb : net Lsb ≡ slave_pair roles + 1
-    lsb = omega (arith, ((w.deck).ports).numbers Lsb tt)
-
-    rs : net Rs ≡ reset_pair roles
-    rs = ((w.deck).ports).numbers Rs tt
-
-    rsb : net Rsb ≡ reset_pair roles + 1
-    rsb = omega (arith, ((w.deck).ports).numbers Rsb tt)
+        block_places (devices w) w.order latch_place.offset (devices_of w.net (latch_block j b))
+        (λ q e z. let x = card_of_device w.net (latch_block j b) q e z in subst (λ e. Placed (devices w) w.order (latch_place.offset + q) e) x.2 (place_of w (latch_place.offset + q) x.0 (latch_place.to q x.0 x.1)))
 
     abbrev g : Group
-    g = group_of net j b
+    g = group_of w.net j b
 
     -- the cards of the latch are those of its group
-    pub latch_same : devices_of net (latch_block j b) ≡ group_cards roles (group_of net j b)
+    pub latch_same : devices_of w.net (latch_block j b) ≡ group_cards w.roles (group_of w.net j b)
     latch_same = by b.init
       where
-        by : (v : Bool) → devices_of net (one_latch j v) ≡ group_cards roles (group_of net j (record { init = v; next = b.next }))
-        by false = λ i.
-            record { kind = pch; drain = g.master; gate = lmb i; source = g.master_up }
-            ∷ record { kind = pch; drain = g.master_up; gate = g.data_net; source = vdd i }
-            ∷ record { kind = nch; drain = g.master; gate = lm i; source = g.master_down }
-            ∷ record { kind = nch; drain = g.master_down; gate = g.data_net; source = vss i }
-            ∷ record { kind = pch; drain = g.output; gate = lsb i; source = g.output_up }
-            ∷ record { kind = pch; drain = g.output_up; gate = g.master; source = vdd i }
-            ∷ record { kind = nch; drain = g.output; gate = ls i; source = g.output_down }
-            ∷ record { kind = nch; drain = g.output_down; gate = g.master; source = vss i }
-            ∷ record { kind = nch; drain = g.output; gate = rs i; source = vss i }
-            ∷ []
-        by true = λ i.
-            record { kind = pch; drain = g.master; gate = lmb i; source = g.master_up }
-            ∷ record { kind = pch; drain = g.master_up; gate = g.data_net; source = vdd i }
-            ∷ record { kind = nch; drain = g.master; gate = lm i; source = g.master_down }
-            ∷ record { kind = nch; drain = g.master_down; gate = g.data_net; source = vss i }
-            ∷ record { kind = pch; drain = g.output; gate = lsb i; source = g.output_up }
-            ∷ record { kind = pch; drain = g.output_up; gate = g.master; source = vdd i }
-            ∷ record { kind = nch; drain = g.output; gate = ls i; source = g.output_down }
-            ∷ record { kind = nch; drain = g.output_down; gate = g.master; source = vss i }
-            ∷ record { kind = pch; drain = g.output; gate = rsb i; source = vdd i }
-            ∷ []
+        by : (v : Bool) → devices_of w.net (one_latch j v) ≡ group_cards w.roles (group_of w.net j (record { init = v; next = b.next }))
+        by false = group_same w.roles w.net w.shape ((w.deck).ports).numbers j (record { init = false; next = b.next })
+        by true = group_same w.roles w.net w.shape ((w.deck).ports).numbers j (record { init = true; next = b.next })
 
     abbrev group_list : List Net
     group_list =
         At (Next j) Top ∷ At (Master j) Top ∷ At (Slave j) Top ∷ At (Master j) (Inside 0 0) ∷ At (Master j) (Inside 1 0) ∷ At (Slave j) (Inside 0 0) ∷ At (Slave j) (Inside 1 0) ∷ []
 
-    pub inner_is : (v : ℕ) → v < 2 → IsNet s (At (Master j) (Inside v 0))
+    pub inner_is : (v : ℕ) → v < 2 → IsNet w.shape (At (Master j) (Inside v 0))
     inner_is v l = ((b, i), l, refl)
 
-    list_is : AllByRecursion (IsNet s) group_list
+    list_is : AllByRecursion (IsNet w.shape) group_list
     list_is = ((b, i), ((b, i), ((b, i), (inner_is 0 (omega arith), (inner_is 1 (omega arith), (inner_is 0 (omega arith), (inner_is 1 (omega arith), tt)))))))
 
     list_differs : NetsDiffer group_list
@@ -149,9 +90,9 @@ module _ (w : OwnDeck) where
         half' : At (Slave j) (Inside 1 0) ≡ At (Slave j) (Inside 0 0) → ⊥
         half' e = let z : 1 ≡ 0 = ap first e in omega (arith, z)
 
-    pub own_group : IsGroup ds roles (group_of net j b) nine.places
+    pub own_group : IsGroup (devices w) w.roles (group_of w.net j b) nine.places
     own_group = record {
-      cards = subst (AreAt ds nine.places) latch_same nine.cards;
+      cards = subst (AreAt (devices w) nine.places) latch_same nine.cards;
       once = distinct_block w.order (w.in_order).once latch_place.offset nine.places nine.listed;
       differ = distinct_nets group_list list_is list_differs;
       free = (
@@ -170,20 +111,20 @@ module _ (w : OwnDeck) where
     }
 
     -- the own nets of the group are the nets of the latch
-    pub own_of : (a : Net) → IsNet s a → OfLatch j a → Contains (own_nets (group_of net j b)) (net a)
-    own_of (At (Master k) Top) n e = Contains-slice_get (own_nets (group_of net j b)) 0 _ (ap (λ m. Some (net (At (Master m) Top))) e)
-    own_of (At (Slave k) Top) n e = Contains-slice_get (own_nets (group_of net j b)) 1 _ (ap (λ m. Some (net (At (Slave m) Top))) e)
-    own_of (At (Master k) (Inside zero c)) n e = Contains-slice_get (own_nets (group_of net j b)) 2 _ (λ t. Some (net (At (Master (e t)) (Inside 0 (sym n.2 t)))))
-    own_of (At (Master k) (Inside (suc zero) c)) n e = Contains-slice_get (own_nets (group_of net j b)) 3 _ (λ t. Some (net (At (Master (e t)) (Inside 1 (sym n.2 t)))))
-    own_of (At (Slave k) (Inside zero c)) n e = Contains-slice_get (own_nets (group_of net j b)) 4 _ (λ t. Some (net (At (Slave (e t)) (Inside 0 (sym n.2 t)))))
-    own_of (At (Slave k) (Inside (suc zero) c)) n e = Contains-slice_get (own_nets (group_of net j b)) 5 _ (λ t. Some (net (At (Slave (e t)) (Inside 1 (sym n.2 t)))))
+    pub own_of : (a : Net) → IsNet w.shape a → OfLatch j a → Contains (own_nets (group_of w.net j b)) (w.net a)
+    own_of (At (Master k) Top) n e = Contains-slice_get (own_nets (group_of w.net j b)) 0 _ (ap (λ m. Some (w.net (At (Master m) Top))) e)
+    own_of (At (Slave k) Top) n e = Contains-slice_get (own_nets (group_of w.net j b)) 1 _ (ap (λ m. Some (w.net (At (Slave m) Top))) e)
+    own_of (At (Master k) (Inside zero c)) n e = Contains-slice_get (own_nets (group_of w.net j b)) 2 _ (λ t. Some (w.net (At (Master (e t)) (Inside 0 (sym n.2 t)))))
+    own_of (At (Master k) (Inside (suc zero) c)) n e = Contains-slice_get (own_nets (group_of w.net j b)) 3 _ (λ t. Some (w.net (At (Master (e t)) (Inside 1 (sym n.2 t)))))
+    own_of (At (Slave k) (Inside zero c)) n e = Contains-slice_get (own_nets (group_of w.net j b)) 4 _ (λ t. Some (w.net (At (Slave (e t)) (Inside 0 (sym n.2 t)))))
+    own_of (At (Slave k) (Inside (suc zero) c)) n e = Contains-slice_get (own_nets (group_of w.net j b)) 5 _ (λ t. Some (w.net (At (Slave (e t)) (Inside 1 (sym n.2 t)))))
     own_of (At (Master k) (Inside (suc (suc v)) c)) n e = absurd (omega (arith, n.1))
     own_of (At (Slave k) (Inside (suc (suc v)) c)) n e = absurd (omega (arith, n.1))
     own_of a n e = absurd e
 
-    pub of_own : (n : ℕ) → Contains (own_nets (group_of net j b)) n → (a : Net) × IsNet s a × OfLatch j a × (n ≡ net a)
+    pub of_own : (n : ℕ) → Contains (own_nets (group_of w.net j b)) n → (a : Net) × IsNet w.shape a × OfLatch j a × (n ≡ w.net a)
     of_own n c =
-        AllByRecursion-contains (λ n. (a : Net) × IsNet s a × OfLatch j a × (n ≡ net a)) (own_nets (group_of net j b)) n (
+        AllByRecursion-contains (λ n. (a : Net) × IsNet w.shape a × OfLatch j a × (n ≡ w.net a)) (own_nets (group_of w.net j b)) n (
           (At (Master j) Top, (b, i), refl, refl),
           (
             (At (Slave j) Top, (b, i), refl, refl),
@@ -209,10 +150,10 @@ module _ (w : OwnDeck) where
         record { position = q.0; listed = subst (λ j. slice_get w.order j ≡ Some p) q.1 h.listed; at = q.2 }
 
     pub placed : (p : ℕ) (d : Device) (h : Carded w p d) → OfLatch j h.card.drain → Contains nine.places p
-    placed p d h o = let q = in_latch p d h o in nine.has q.position (dev_of net h.card) (device_at net (latch_block j b) q.position h.card q.at) p q.listed
+    placed p d h o = let q = in_latch p d h o in nine.has q.position (dev_of w.net h.card) (device_at w.net (latch_block j b) q.position h.card q.at) p q.listed
 
     -- so is a card that ends at a net of the latch
-    pub drain_of : (p : ℕ) (d : Device) (h : Carded w p d) (a : Net) → IsNet s a → OfLatch j a → EndsAt d (net a) → OfLatch j h.card.drain
+    pub drain_of : (p : ℕ) (d : Device) (h : Carded w p d) (a : Net) → IsNet w.shape a → OfLatch j a → EndsAt d (w.net a) → OfLatch j h.card.drain
     drain_of p d h a n o t = by h.card (facts w h.index h.card h.at).joined (ends_of_card w p d h a n t)
       where
         by : (x : NamedDevice Net) → Joined w x → (x.drain ≡ a) ⊎ (x.source ≡ a) → OfLatch j x.drain
@@ -222,24 +163,24 @@ module _ (w : OwnDeck) where
         by x (inr (inr g)) (inr z) = subst (λ k. OfLatch k x.drain) (one_latch_of g.0 j x.source g.2 (rw z o)) g.1
 
     -- a device like a card of the latch stands at its place
-    pub at_position : (q : ℕ) (x : NamedDevice Net) → slice_get (latch_block j b) q ≡ Some x → (p : ℕ) (d : Device) → StandsAt ds p d → IsTwin net d x → slice_get w.order (latch_place.offset + q) ≡ Some p
+    pub at_position : (q : ℕ) (x : NamedDevice Net) → slice_get (latch_block j b) q ≡ Some x → (p : ℕ) (d : Device) → StandsAt (devices w) p d → IsTwin w.net d x → slice_get w.order (latch_place.offset + q) ≡ Some p
     at_position q x e p d at t =
         let h = carded w p d at in
         let f = facts w h.index h.card h.at in
         let g = facts w (latch_place.offset + q) x (latch_place.to q x e) in
-        let kind = sym (twin_kind d (dev_of net h.card) h.twin) ∙ twin_kind d (dev_of net x) t in
-        let gate = apart w h.card.gate x.gate f.gate_is g.gate_is (sym (twin_gate d (dev_of net h.card) h.twin) ∙ twin_gate d (dev_of net x) t) in
+        let kind = sym (twin_kind d (dev_of w.net h.card) h.twin) ∙ twin_kind d (dev_of w.net x) t in
+        let gate = apart w h.card.gate x.gate f.gate_is g.gate_is (sym (twin_gate d (dev_of w.net h.card) h.twin) ∙ twin_gate d (dev_of w.net x) t) in
         let o = AllByRecursion-contains (λ x. OfLatch j x.drain) (latch_block j b) x (latch_own j b) (Contains-slice_get (latch_block j b) q x e) in
-        let r = in_latch p d h (drain_of p d h x.drain g.drain_is o (ends_at d (net x.drain) (net x.source) (twin_ends d (dev_of net x) t))) in
+        let r = in_latch p d h (drain_of p d h x.drain g.drain_is o (ends_at d (w.net x.drain) (w.net x.source) (twin_ends d (dev_of w.net x) t))) in
         let same : r.position ≡ q = sym (spot_at j b.init r.position h.card r.at) ∙ (λ v. spot (gate v) (kind v)) ∙ spot_at j b.init q x e in
         subst (λ m. slice_get w.order (latch_place.offset + m) ≡ Some p) same r.listed
 
     -- a net that gates no plain device and in latches this one alone
-    pub gated_own : (a : Net) → IsNet s a → (PlainGate a → ⊥) → ((m : ℕ) (c : Latch) (x : NamedDevice Net) → ByGate m c a x → j ≡ m) → (p : ℕ) (d : Device) → StandsAt ds p d → d.gate ≡ net a → Contains nine.places p
+    pub gated_own : (a : Net) → IsNet w.shape a → (PlainGate a → ⊥) → ((m : ℕ) (c : Latch) (x : NamedDevice Net) → ByGate m c a x → j ≡ m) → (p : ℕ) (d : Device) → StandsAt (devices w) p d → d.gate ≡ w.net a → Contains nine.places p
     gated_own a n plain own p d at e =
         let h = carded w p d at in
         let f = facts w h.index h.card h.at in
-        let same = apart w h.card.gate a f.gate_is n (sym (twin_gate d (dev_of net h.card) h.twin) ∙ e) in
+        let same = apart w h.card.gate a f.gate_is n (sym (twin_gate d (dev_of w.net h.card) h.twin) ∙ e) in
         elim f.gating [
           | inl z ↦ absurd (plain (subst PlainGate same z))
           | inr c ↦ placed p d h (subst (λ k. OfLatch k h.card.drain) (sym (own c.0 c.1 h.card (subst (λ a. ByGate c.0 c.1 a h.card) same c.4))) c.3)

@@ -2,6 +2,7 @@
 use Rattle.domino_law.proofs.SimpleCells.{AreSimple, simple_side}
 use Rattle.std.specs.Prelude.{Contains, ◌≢◌}
 use Rattle.std.proofs.Common.{List, [], ap, arith, inl, inr, refl, subst, suc, sym, zero, ℕ, ◌<◌, ◌∙◌, ◌∷◌, ◌≡◌, None}
+use Rattle.std.proofs.lemmas.Option.{same_Some}
 use Rattle.dom_base.proofs.Lists.{AllByRecursion-contains, Contains-slice_get}
 use Rattle.dom_base.specs.declared.kind.Kind.TheVariants.{Keep, N as nch, P as pch}
 use Rattle.deck.specs.declared.device.Device.{Device}
@@ -19,16 +20,15 @@ use Rattle.domino_law.specs.Spelled.{deck_devices}
 use Rattle.deck_audit.proofs.Lists.{Falls, falls_distinct}
 use Rattle.deck_audit.specs.WorkedAudit.{WorkedDeckGetsYes, and_circuit, and_net, and_roles, and_shape}
 use Rattle.deck_audit.proofs.CellShapes.{cells_have_one_shape}
-use Rattle.sp_reduction.proofs.Lists.{some_same}
 use Rattle.deck_audit.proofs.WorkedRules.{clock_is, d5, ds, dynamic_12, dynamic_is, each, front_12, inverts_11, keeps_rules, mid_is, no_complement, no_group, the_tree, tree_is}
 
 -- the numbering of its nets
 one_cell : (k : ℕ) (cell : DominoCell) → IsCellAt and_shape k cell → (k ≡ 0) × (record { clock = 0; tree = Series (Leaf (Plus (FromPin 0))) (Leaf (Plus (FromPin 1))); right = None } ≡ cell)
-one_cell zero cell i = (refl, some_same i)
+one_cell zero cell i = (refl, same_Some _ _ i)
 one_cell (suc k) cell i = absurd (cc)
 
 one_output : (k : ℕ) (g : Gate) → IsOutputAt and_shape k g → (k ≡ 0) × (FromDynamic 0 ≡ g)
-one_output zero g i = (refl, some_same i)
+one_output zero g i = (refl, same_Some _ _ i)
 one_output (suc k) g i = absurd (cc)
 
 no_latch : {X : Type 0} (j : ℕ) (b : Latch) → IsLatchAt and_shape j b → X

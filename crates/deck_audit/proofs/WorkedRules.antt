@@ -1,6 +1,7 @@
 -- The worked deck keeps all rules.
 use Rattle.std.specs.Prelude.{Some, slice_get, ◌≢◌, ◌⊎◌}
 use Rattle.std.proofs.Common.{List, ap, arith, inl, inr, refl, subst, suc, sym, zero, ℕ, ◌+◌, ◌<◌, ◌≡◌, ◌≤◌}
+use Rattle.std.proofs.lemmas.Option.{same_Some}
 use Rattle.dom_base.proofs.Decided.{lt_or_ge}
 use Rattle.dom_base.specs.declared.kind.Kind.TheVariants.{Keep, N as nch, P as pch}
 use Rattle.deck.specs.Paths.{Ends}
@@ -13,7 +14,6 @@ use Rattle.deck_audit.specs.Rules.{DependsOn, HasFront, HasOutput, HasTree, IsIn
 use Rattle.deck_audit.specs.Words.{Group, IsDynamic, IsGroup, IsInverterOutput, IsLatchData, IsLatchOutput, IsOutPort, IsOutputOf, IsPin, MayBeComplement, Reached, StandsAt, here, link_at, step}
 use Rattle.deck_audit.specs.WorkedAudit.{and_circuit, and_roles}
 use Rattle.deck_audit.proofs.RuleFacts.{cards_at, twin_gate}
-use Rattle.sp_reduction.proofs.Lists.{some_same}
 use Rattle.switch_model.proofs.Searches.{ends_at}
 
 abbrev pub ds : List Device
@@ -31,15 +31,15 @@ pub each : (P : ℕ → Device → Type 0)
     → P 7 (record { kind = Keep; drain = 12; gate = 13; source = 0 })
     → P 8 (record { kind = pch; drain = 0; gate = 2; source = 12 })
     → (p : ℕ) (d : Device) → StandsAt ds p d → P p d
-each P a b c e f g h i j zero d s = subst (P 0) (some_same s) a
-each P a b c e f g h i j (suc zero) d s = subst (P 1) (some_same s) b
-each P a b c e f g h i j (suc (suc zero)) d s = subst (P 2) (some_same s) c
-each P a b c e f g h i j (suc (suc (suc zero))) d s = subst (P 3) (some_same s) e
-each P a b c e f g h i j (suc (suc (suc (suc zero)))) d s = subst (P 4) (some_same s) f
-each P a b c e f g h i j (suc (suc (suc (suc (suc zero))))) d s = subst (P 5) (some_same s) g
-each P a b c e f g h i j (suc (suc (suc (suc (suc (suc zero)))))) d s = subst (P 6) (some_same s) h
-each P a b c e f g h i j (suc (suc (suc (suc (suc (suc (suc zero))))))) d s = subst (P 7) (some_same s) i
-each P a b c e f g h i j (suc (suc (suc (suc (suc (suc (suc (suc zero)))))))) d s = subst (P 8) (some_same s) j
+each P a b c e f g h i j zero d s = subst (P 0) (same_Some _ _ s) a
+each P a b c e f g h i j (suc zero) d s = subst (P 1) (same_Some _ _ s) b
+each P a b c e f g h i j (suc (suc zero)) d s = subst (P 2) (same_Some _ _ s) c
+each P a b c e f g h i j (suc (suc (suc zero))) d s = subst (P 3) (same_Some _ _ s) e
+each P a b c e f g h i j (suc (suc (suc (suc zero)))) d s = subst (P 4) (same_Some _ _ s) f
+each P a b c e f g h i j (suc (suc (suc (suc (suc zero))))) d s = subst (P 5) (same_Some _ _ s) g
+each P a b c e f g h i j (suc (suc (suc (suc (suc (suc zero)))))) d s = subst (P 6) (same_Some _ _ s) h
+each P a b c e f g h i j (suc (suc (suc (suc (suc (suc (suc zero))))))) d s = subst (P 7) (same_Some _ _ s) i
+each P a b c e f g h i j (suc (suc (suc (suc (suc (suc (suc (suc zero)))))))) d s = subst (P 8) (same_Some _ _ s) j
 each P a b c e f g h i j (suc (suc (suc (suc (suc (suc (suc (suc (suc p))))))))) d s = absurd (cc)
 
 -- the only dynamic net is 12

@@ -9,10 +9,11 @@ use Rattle.domino_law.proofs.Leaves.{EachLeaf-both, EachLeaf-weaker}
 use Rattle.domino_law.proofs.OwnRuns.{own_is_trees}
 use Rattle.domino_law.proofs.SimpleCells.{AreSimple, simple_bit}
 use Rattle.domino_law.proofs.Statics.{left_is}
-use Rattle.phase_buffer.specs.Buffers.{buffered, chain_length, clock_at, ended, ended_latch, moved, place, reads, taken}
+use Rattle.phase_buffer.specs.Buffers.{buffered, ended, ended_latch, reads, shape_cells, taken}
+use Rattle.phase_buffer.specs.Chains.{chain_length, clock_at, moved, place, taken_at}
 use Rattle.phase_buffer.specs.Laws.{BufferedRunsAlike, MayBeBuffered}
-use Rattle.phase_buffer.proofs.BufferedCells.{buffer_cell, leaves_read, new_buffer, new_cell}
-use Rattle.phase_buffer.proofs.BufferedShapes.{buffered_is_shape, new_simple, reader_chain}
+use Rattle.phase_buffer.proofs.BufferedCells.{buffer_cell, new_buffer, new_cell}
+use Rattle.phase_buffer.proofs.BufferedShapes.{buffered_is_shape, leaves_read, new_simple, reader_chain}
 
 joins_taken : (f : Gate → Gate) (a b : Gate → Bool) (t : Tree Gate) → EachLeaf (λ g. a (f g) ≡ b g) t → joins a (map_tree f t) ≡ joins b t
 joins_taken f a b (Leaf g) h = h
@@ -45,41 +46,41 @@ module _ (s : Shape) (may : MayBeBuffered s) (pins state : ℕ → Bool) where
 
   -- a cell has its old bit, by those of the cells that it reads
   moved_bit : (k : ℕ) (c : DominoCell) → IsCellAt s k c
-      → ((j h : ℕ) (d : DominoCell) → j < k → IsCellAt s j d → h ≤ chain_length s j → own_bit (buffered s) pins state (place s j + h) ≡ own_bit s pins state j)
-      → own_bit (buffered s) pins state (place s k) ≡ own_bit s pins state k
+      → ((j h : ℕ) (d : DominoCell) → j < k → IsCellAt s j d → h ≤ chain_length (shape_cells s) j → own_bit (buffered s) pins state (place (shape_cells s) j + h) ≡ own_bit s pins state j)
+      → own_bit (buffered s) pins state (place (shape_cells s) k) ≡ own_bit s pins state k
   moved_bit k c e below =
-      own_is_tree (buffered s) (buffered_is_shape s may) (new_simple s may) (place s k) (moved s c) (new_cell s k c e)
-      ∙ (joins_taken (taken s c.clock) new_gate old_gate c.tree
-      (EachLeaf-weaker _ (λ g. new_gate (taken s c.clock g) ≡ old_gate g) by c.tree
+      own_is_tree (buffered s) (buffered_is_shape s may) (new_simple s may) (place (shape_cells s) k) (moved (shape_cells s) c) (new_cell (shape_cells s) k c e)
+      ∙ (joins_taken (taken (taken_at (shape_cells s) c.clock)) new_gate old_gate c.tree
+      (EachLeaf-weaker _ (λ g. new_gate (taken (taken_at (shape_cells s) c.clock) g) ≡ old_gate g) by c.tree
       (EachLeaf-both (IsLeafOf s k) (λ g. (j : ℕ) → g ≡ FromOutput j → reads j c.tree ≡ true) c.tree (may.shape.leaves (left_side k) _ (left_is s k c e)) (leaves_read c.tree)))
       ∙ sym (own_is_tree s may.shape old_simple k c e))
     where
-      by : (g : Gate) → IsLeafOf s k g × ((j : ℕ) → g ≡ FromOutput j → reads j c.tree ≡ true) → new_gate (taken s c.clock g) ≡ old_gate g
+      by : (g : Gate) → IsLeafOf s k g × ((j : ℕ) → g ≡ FromOutput j → reads j c.tree ≡ true) → new_gate (taken (taken_at (shape_cells s) c.clock) g) ≡ old_gate g
       by (Plus l) a = refl
       by (Minus l) a = refl
-      by (FromOutput j) a = below j (c.clock - 1 - clock_at (slice_get s.cells j)) (a.0).1.0 (a.0).0 (a.0).1.1 (reader_chain s may j (a.0).1.0 (a.0).1.1 k c e (a.1 j refl))
+      by (FromOutput j) a = below j (c.clock - 1 - clock_at (shape_cells s) (slice_get s.cells j)) (a.0).1.0 (a.0).0 (a.0).1.1 (reader_chain s may j (a.0).1.0 (a.0).1.1 k c e (a.1 j refl))
       by (FromDynamic j) a = absurd a.0
       by High a = absurd a.0
       by Low a = absurd a.0
 
   -- and so has its chain
-  chain_bit : (k : ℕ) (c : DominoCell) → IsCellAt s k c → own_bit (buffered s) pins state (place s k) ≡ own_bit s pins state k
-      → (h : ℕ) → h ≤ chain_length s k → own_bit (buffered s) pins state (place s k + h) ≡ own_bit s pins state k
-  chain_bit k c e first zero l = ap (own_bit (buffered s) pins state) (add-zero (place s k)) ∙ first
+  chain_bit : (k : ℕ) (c : DominoCell) → IsCellAt s k c → own_bit (buffered s) pins state (place (shape_cells s) k) ≡ own_bit s pins state k
+      → (h : ℕ) → h ≤ chain_length (shape_cells s) k → own_bit (buffered s) pins state (place (shape_cells s) k + h) ≡ own_bit s pins state k
+  chain_bit k c e first zero l = ap (own_bit (buffered s) pins state) (add-zero (place (shape_cells s) k)) ∙ first
   chain_bit k c e first (suc j) l =
-      let n = new_buffer s k j c e (omega arith) in
-      own_is_tree (buffered s) (buffered_is_shape s may) (new_simple s may) (place s k + suc j) (buffer_cell (place s k) c.clock j) n
+      let n = new_buffer (shape_cells s) k j c e (omega arith) in
+      own_is_tree (buffered s) (buffered_is_shape s may) (new_simple s may) (place (shape_cells s) k + suc j) (buffer_cell (shape_cells s) (place (shape_cells s) k) c.clock j) n
       ∙ chain_bit k c e first j (omega arith)
 
-  bits_alike : (n k h : ℕ) (c : DominoCell) → k < n → IsCellAt s k c → h ≤ chain_length s k → own_bit (buffered s) pins state (place s k + h) ≡ own_bit s pins state k
+  bits_alike : (n k h : ℕ) (c : DominoCell) → k < n → IsCellAt s k c → h ≤ chain_length (shape_cells s) k → own_bit (buffered s) pins state (place (shape_cells s) k + h) ≡ own_bit s pins state k
   bits_alike zero k h c l e m = absurd (omega arith)
   bits_alike (suc n) k h c l e m = chain_bit k c e (moved_bit k c e (λ j i d low f g. bits_alike n j i d (omega arith) f g)) h m
 
   pub ended_bit : (g : Gate) → IsGate s g → sink_bit (buffered s) pins state (ended s g) ≡ sink_bit s pins state g
   ended_bit (Plus l) a = refl
   ended_bit (Minus l) a = refl
-  ended_bit (FromOutput k) a = ap not (bits_alike (k + 1) k (chain_length s k) a.0 (omega arith) a.1 (omega arith))
-  ended_bit (FromDynamic k) a = ap (λ b. not (not b)) (bits_alike (k + 1) k (chain_length s k) a.0 (omega arith) a.1 (omega arith))
+  ended_bit (FromOutput k) a = ap not (bits_alike (k + 1) k (chain_length (shape_cells s) k) a.0 (omega arith) a.1 (omega arith))
+  ended_bit (FromDynamic k) a = ap (λ b. not (not b)) (bits_alike (k + 1) k (chain_length (shape_cells s) k) a.0 (omega arith) a.1 (omega arith))
   ended_bit High a = refl
   ended_bit Low a = refl
 

@@ -4,16 +4,17 @@ use Rattle.std.proofs.Common.{Bool, List, [], ap, arith, false, inl, inr, map, r
 use Rattle.std.proofs.lemmas.Bool.{eq-eqb}
 use Rattle.std.proofs.lemmas.Option.{slice_get-map}
 use Rattle.dom_base.proofs.Bools.{or_true}
-use Rattle.sp_network.specs.Tree.{EachLeaf, map_tree}
+use Rattle.sp_network.specs.Tree.{EachLeaf, Leaf, Parallel, Series, Tree, map_tree}
 use Rattle.clock_phase.specs.Levels.{greatest}
 use Rattle.domino_law.specs.Nets.{DeckSignal, FromDynamic, FromLatch, FromOutput, FromPin, Gate, High, Low, Minus, Plus, left_side}
 use Rattle.domino_law.specs.Shape.{DominoCell, IsCellAt, IsGate, IsLatchAt, IsLeafOf, IsOfClocks, IsOfLastClock, IsOutputAt, IsShape, IsSignal, Latch, Shape, DynamicStage}
 use Rattle.domino_law.proofs.Leaves.{EachLeaf-both, EachLeaf-map, EachLeaf-weaker}
 use Rattle.domino_law.proofs.SimpleCells.{AreSimple, simple_side}
 use Rattle.domino_law.proofs.Statics.{left_is}
-use Rattle.phase_buffer.specs.Buffers.{buffered, chain_length, clock_at, end_at, ended, ended_latch, is_of, place, reader_clocks, reads, sinks, taken, taken_at, takes}
+use Rattle.phase_buffer.specs.Buffers.{buffered, ended, ended_latch, is_of, reads, shape_cells, sinks, taken, takes}
+use Rattle.phase_buffer.specs.Chains.{chain_length, clock_at, end_at, place, reader_clocks, taken_at}
 use Rattle.phase_buffer.specs.Laws.{BufferedMayOverlap, IsNoLater, MayBeBuffered}
-use Rattle.phase_buffer.proofs.BufferedCells.{IsNewCell, any_new, chain_at, leaves_read, one_new, place_below, reader_within, readers_below}
+use Rattle.phase_buffer.proofs.BufferedCells.{IsNewCell, any_new, chain_at, one_new, place_below, reader_within, readers_below}
 use Rattle.dom_base.proofs.Decided.{lt_or_ge}
 
 -- what stands at a place of a mapped list
@@ -40,39 +41,56 @@ takes_right : (k : ℕ) (a b : List Gate) → takes k b ≡ true → takes k (a 
 takes_right k [] b e = e
 takes_right k (g ∷ a) b e = rw (takes_right k a b e) (or_true (is_of k g))
 
+-- a leaf that is taken from a cell makes the tree read it
+pub leaves_read : (t : Tree Gate) → EachLeaf (λ g. (j : ℕ) → g ≡ FromOutput j → reads j t ≡ true) t
+leaves_read (Leaf g) = λ j e. rw e (eq-eqb j j refl)
+leaves_read (Series l r) = (
+  EachLeaf-weaker _ (λ g. (j : ℕ) → g ≡ FromOutput j → (reads j l || reads j r) ≡ true) (λ g h j e. rw (h j e) refl) l (leaves_read l),
+  EachLeaf-weaker _ (λ g. (j : ℕ) → g ≡ FromOutput j → (reads j l || reads j r) ≡ true) (λ g h j e. rw (h j e) (or_true (reads j l))) r (leaves_read r),
+)
+leaves_read (Parallel l r) = (
+  EachLeaf-weaker _ (λ g. (j : ℕ) → g ≡ FromOutput j → (reads j l || reads j r) ≡ true) (λ g h j e. rw (h j e) refl) l (leaves_read l),
+  EachLeaf-weaker _ (λ g. (j : ℕ) → g ≡ FromOutput j → (reads j l || reads j r) ≡ true) (λ g h j e. rw (h j e) (or_true (reads j l))) r (leaves_read r),
+)
+
+-- the h-th of a cell and its chain, with its clock
+pub shape_chain : (s : Shape) (k : ℕ) (c : DominoCell) → IsCellAt s k c → (h : ℕ) → h ≤ chain_length (shape_cells s) k
+    → (d : DominoCell) × IsCellAt (buffered s) (place (shape_cells s) k + h) d × (d.clock ≡ c.clock + h)
+shape_chain s = chain_at (shape_cells s) (λ at clock. refl) (λ number c. refl)
+
 module _ (s : Shape) (may : MayBeBuffered s) where
   -- the clock of a cell
-  clock_is : (k : ℕ) (c : DominoCell) → IsCellAt s k c → clock_at (slice_get s.cells k) ≡ c.clock
+  clock_is : (k : ℕ) (c : DominoCell) → IsCellAt s k c → clock_at (shape_cells s) (slice_get s.cells k) ≡ c.clock
   clock_is k c e = rw e refl
 
   -- the chain of a cell that a reader of this clock reads is long enough
   pub reader_chain : (j : ℕ) (d : DominoCell) → IsCellAt s j d → (m : ℕ) (c : DominoCell) → IsCellAt s m c → reads j c.tree ≡ true
-      → c.clock - 1 - clock_at (slice_get s.cells j) ≤ chain_length s j
+      → c.clock - 1 - clock_at (shape_cells s) (slice_get s.cells j) ≤ chain_length (shape_cells s) j
   reader_chain j d e m c f r = go (takes j (sinks s)) refl
     where
-      l : c.clock ≤ greatest (reader_clocks j s.cells)
-      l = reader_within j s.cells m c f r
+      l : c.clock ≤ greatest (reader_clocks (shape_cells s) j s.cells)
+      l = reader_within (shape_cells s) j s.cells m c f r
 
       b : c.clock < s.clocks
       b = may.shape.clocks_are (left_side m) _ (left_is s m c f)
 
-      go : (v : Bool) → takes j (sinks s) ≡ v → c.clock - 1 - clock_at (slice_get s.cells j) ≤ (if takes j (sinks s) then s.clocks - 1 else greatest (reader_clocks j s.cells) - 1) - clock_at (slice_get s.cells j)
+      go : (v : Bool) → takes j (sinks s) ≡ v → c.clock - 1 - clock_at (shape_cells s) (slice_get s.cells j) ≤ (if takes j (sinks s) then s.clocks - 1 else greatest (reader_clocks (shape_cells s) j s.cells) - 1) - clock_at (shape_cells s) (slice_get s.cells j)
       go true w = rw w (omega (arith, b))
       go false w = rw w (omega (arith, l))
 
   -- and that of a cell that a sink takes from ends at the last clock
-  sink_chain : (j : ℕ) (d : DominoCell) → IsCellAt s j d → takes j (sinks s) ≡ true → d.clock + chain_length s j + 1 ≡ s.clocks
+  sink_chain : (j : ℕ) (d : DominoCell) → IsCellAt s j d → takes j (sinks s) ≡ true → d.clock + chain_length (shape_cells s) j + 1 ≡ s.clocks
   sink_chain j d e t = rw (t, e) (sum d.clock s.clocks (may.shape.clocks_are (left_side j) _ (left_is s j d e)))
     where
       sum : (a b : ℕ) → a < b → a + (b - 1 - a) + 1 ≡ b
       sum a b l = omega arith
 
   -- no clock of a chain is beyond the last
-  chain_within : (k : ℕ) (c : DominoCell) → IsCellAt s k c → c.clock + chain_length s k < s.clocks
+  chain_within : (k : ℕ) (c : DominoCell) → IsCellAt s k c → c.clock + chain_length (shape_cells s) k < s.clocks
   chain_within k c e = go (takes k (sinks s)) refl
     where
-      l : greatest (reader_clocks k s.cells) ≤ s.clocks - 1
-      l = readers_below k (s.clocks - 1) s.cells (λ m d f. let b = may.shape.clocks_are (left_side m) _ (left_is s m d f) in omega arith)
+      l : greatest (reader_clocks (shape_cells s) k s.cells) ≤ s.clocks - 1
+      l = readers_below (shape_cells s) k (s.clocks - 1) s.cells (λ m d f. let b = may.shape.clocks_are (left_side m) _ (left_is s m d f) in omega arith)
 
       b : c.clock < s.clocks
       b = may.shape.clocks_are (left_side k) _ (left_is s k c e)
@@ -80,7 +98,7 @@ module _ (s : Shape) (may : MayBeBuffered s) where
       some : 1 ≤ s.clocks
       some = may.some_clock
 
-      go : (v : Bool) → takes k (sinks s) ≡ v → c.clock + ((if takes k (sinks s) then s.clocks - 1 else greatest (reader_clocks k s.cells) - 1) - clock_at (slice_get s.cells k)) < s.clocks
+      go : (v : Bool) → takes k (sinks s) ≡ v → c.clock + ((if takes k (sinks s) then s.clocks - 1 else greatest (reader_clocks (shape_cells s) k s.cells) - 1) - clock_at (shape_cells s) (slice_get s.cells k)) < s.clocks
       go true w = rw (w, e) (omega (arith, b))
       go false w = rw (w, e) (omega (arith, b, l, some))
 
@@ -91,11 +109,11 @@ module _ (s : Shape) (may : MayBeBuffered s) where
 
   -- a reader of this clock takes a cell of its own clock or of the one before
   taken_is : (m : ℕ) (c : DominoCell) → IsCellAt s m c → (j : ℕ) → j < m → (d : DominoCell) → IsCellAt s j d → reads j c.tree ≡ true → d.clock ≤ c.clock
-      → (taken_at s c.clock j < place s m) × (b : DominoCell) × IsCellAt (buffered s) (taken_at s c.clock j) b × ((b.clock ≡ c.clock) ⊎ (b.clock + 1 ≡ c.clock))
+      → (taken_at (shape_cells s) c.clock j < place (shape_cells s) m) × (b : DominoCell) × IsCellAt (buffered s) (taken_at (shape_cells s) c.clock j) b × ((b.clock ≡ c.clock) ⊎ (b.clock + 1 ≡ c.clock))
   taken_is m c f j low d e r le =
       let h = reader_chain j d e m c f r in
-      let b = chain_at s j d e (c.clock - 1 - clock_at (slice_get s.cells j)) h in
-      let p = place_below s j m low in
+      let b = shape_chain s j d e (c.clock - 1 - clock_at (shape_cells s) (slice_get s.cells j)) h in
+      let p = place_below (shape_cells s) j m low in
       (omega (arith, h, p), b.0, b.1, apart d.clock c.clock (b.0).clock le (b.2 ∙ ap (λ n. d.clock + (c.clock - 1 - n)) (clock_is j d e)))
     where
       apart : (a c b : ℕ) → a ≤ c → b ≡ a + (c - 1 - a) → (b ≡ c) ⊎ (b + 1 ≡ c)
@@ -104,32 +122,32 @@ module _ (s : Shape) (may : MayBeBuffered s) where
 
   -- the leaves of a moved cell
   IsTaken : ℕ → ℕ → Gate → Type 0
-  IsTaken m clock g = IsLeafOf (buffered s) (place s m) g × IsOfClocks (buffered s) clock g
+  IsTaken m clock g = IsLeafOf (buffered s) (place (shape_cells s) m) g × IsOfClocks (buffered s) clock g
 
-  moved_leaves : (m : ℕ) (c : DominoCell) → IsCellAt s m c → EachLeaf (IsTaken m c.clock) (map_tree (taken s c.clock) c.tree)
+  moved_leaves : (m : ℕ) (c : DominoCell) → IsCellAt s m c → EachLeaf (IsTaken m c.clock) (map_tree (taken (taken_at (shape_cells s) c.clock)) c.tree)
   unfolding IsTaken
   moved_leaves m c f =
-      EachLeaf-map (IsTaken m c.clock) (taken s c.clock) c.tree
-      (EachLeaf-weaker _ (λ g. IsTaken m c.clock (taken s c.clock g)) by c.tree
+      EachLeaf-map (IsTaken m c.clock) (taken (taken_at (shape_cells s) c.clock)) c.tree
+      (EachLeaf-weaker _ (λ g. IsTaken m c.clock (taken (taken_at (shape_cells s) c.clock) g)) by c.tree
       (EachLeaf-both (IsLeafOf s m) (λ g. IsNoLater s c.clock g × ((j : ℕ) → g ≡ FromOutput j → reads j c.tree ≡ true)) c.tree (may.shape.leaves (left_side m) _ (left_is s m c f))
       (EachLeaf-both (IsNoLater s c.clock) (λ g. (j : ℕ) → g ≡ FromOutput j → reads j c.tree ≡ true) c.tree (may.no_later m c f) (leaves_read c.tree))))
     where
-      by : (g : Gate) → IsLeafOf s m g × (IsNoLater s c.clock g × ((j : ℕ) → g ≡ FromOutput j → reads j c.tree ≡ true)) → IsTaken m c.clock (taken s c.clock g)
+      by : (g : Gate) → IsLeafOf s m g × (IsNoLater s c.clock g × ((j : ℕ) → g ≡ FromOutput j → reads j c.tree ≡ true)) → IsTaken m c.clock (taken (taken_at (shape_cells s) c.clock) g)
       by (Plus l) a = (signal_there l a.0, tt)
       by (Minus l) a = (a.0, tt)
       by (FromOutput j) a =
           let t = taken_is m c f j (a.0).0 (a.0).1.0 (a.0).1.1 (a.1.1 j refl) (a.1.0 (a.0).1.0 (a.0).1.1) in
-          ((t.0, (t.1, t.2)), (λ d e. subst (λ (x : DominoCell). (x.clock ≡ c.clock) ⊎ (x.clock + 1 ≡ c.clock)) (one_new s (taken_at s c.clock j) t.1 d t.2 e) t.3))
+          ((t.0, (t.1, t.2)), (λ d e. subst (λ (x : DominoCell). (x.clock ≡ c.clock) ⊎ (x.clock + 1 ≡ c.clock)) (one_new (shape_cells s) (taken_at (shape_cells s) c.clock j) t.1 d t.2 e) t.3))
       by (FromDynamic j) a = absurd a.0
       by High a = absurd a.0
       by Low a = absurd a.0
 
   -- the leaf of a buffer
-  buffer_leaf : (k : ℕ) (c : DominoCell) → IsCellAt s k c → (j : ℕ) → j < chain_length s k
-      → IsLeafOf (buffered s) (place s k + suc j) (FromOutput (place s k + j)) × IsOfClocks (buffered s) (c.clock + 1 + j) (FromOutput (place s k + j))
+  buffer_leaf : (k : ℕ) (c : DominoCell) → IsCellAt s k c → (j : ℕ) → j < chain_length (shape_cells s) k
+      → IsLeafOf (buffered s) (place (shape_cells s) k + suc j) (FromOutput (place (shape_cells s) k + j)) × IsOfClocks (buffered s) (c.clock + 1 + j) (FromOutput (place (shape_cells s) k + j))
   buffer_leaf k c e j l =
-      let b = chain_at s k c e j (omega arith) in
-      ((omega arith, (b.0, b.1)), (λ d f. inr (ap (λ (x : DominoCell). x.clock + 1) (sym (one_new s (place s k + j) b.0 d b.1 f)) ∙ (ap (λ n. n + 1) b.2 ∙ sum c.clock j))))
+      let b = shape_chain s k c e j (omega arith) in
+      ((omega arith, (b.0, b.1)), (λ d f. inr (ap (λ (x : DominoCell). x.clock + 1) (sym (one_new (shape_cells s) (place (shape_cells s) k + j) b.0 d b.1 f)) ∙ (ap (λ n. n + 1) b.2 ∙ sum c.clock j))))
     where
       sum : (a j : ℕ) → a + j + 1 ≡ a + 1 + j
       sum a j = omega arith
@@ -139,11 +157,11 @@ module _ (s : Shape) (may : MayBeBuffered s) where
   ended_is (Plus l) a t = (signal_there l a, tt)
   ended_is (Minus l) a t = (a, tt)
   ended_is (FromOutput k) a t =
-      let b = chain_at s k a.0 a.1 (chain_length s k) (omega arith) in
-      ((b.0, b.1), (λ d f. ap (λ (x : DominoCell). x.clock + 1) (sym (one_new s (end_at s k) b.0 d b.1 f)) ∙ (ap (λ n. n + 1) b.2 ∙ sink_chain k a.0 a.1 (t k (eq-eqb k k refl)))))
+      let b = shape_chain s k a.0 a.1 (chain_length (shape_cells s) k) (omega arith) in
+      ((b.0, b.1), (λ d f. ap (λ (x : DominoCell). x.clock + 1) (sym (one_new (shape_cells s) (end_at (shape_cells s) k) b.0 d b.1 f)) ∙ (ap (λ n. n + 1) b.2 ∙ sink_chain k a.0 a.1 (t k (eq-eqb k k refl)))))
   ended_is (FromDynamic k) a t =
-      let b = chain_at s k a.0 a.1 (chain_length s k) (omega arith) in
-      ((b.0, b.1), (λ d f. ap (λ (x : DominoCell). x.clock + 1) (sym (one_new s (end_at s k) b.0 d b.1 f)) ∙ (ap (λ n. n + 1) b.2 ∙ sink_chain k a.0 a.1 (t k (eq-eqb k k refl)))))
+      let b = shape_chain s k a.0 a.1 (chain_length (shape_cells s) k) (omega arith) in
+      ((b.0, b.1), (λ d f. ap (λ (x : DominoCell). x.clock + 1) (sym (one_new (shape_cells s) (end_at (shape_cells s) k) b.0 d b.1 f)) ∙ (ap (λ n. n + 1) b.2 ∙ sink_chain k a.0 a.1 (t k (eq-eqb k k refl)))))
   ended_is High a t = (tt, tt)
   ended_is Low a t = (tt, tt)
 
@@ -158,9 +176,9 @@ module _ (s : Shape) (may : MayBeBuffered s) where
   -- the cells of the buffered shape
   new_leaves : (m : ℕ) (d : DominoCell) → IsCellAt (buffered s) m d → EachLeaf (λ g. IsLeafOf (buffered s) m g × IsOfClocks (buffered s) d.clock g) d.tree
   unfolding IsTaken
-  new_leaves m d e = by (any_new s m d e)
+  new_leaves m d e = by (any_new (shape_cells s) m d e)
     where
-      by : IsNewCell s m d → EachLeaf (λ g. IsLeafOf (buffered s) m g × IsOfClocks (buffered s) d.clock g) d.tree
+      by : IsNewCell (shape_cells s) m d → EachLeaf (λ g. IsLeafOf (buffered s) m g × IsOfClocks (buffered s) d.clock g) d.tree
       by n = elim n.of [
         | inl p ↦ rw (p.0, p.1) (moved_leaves n.old n.cell n.cell_is)
         | inr p ↦ rw (p.2, p.3) (buffer_leaf n.old n.cell n.cell_is p.0 p.1)
@@ -168,10 +186,10 @@ module _ (s : Shape) (may : MayBeBuffered s) where
 
   new_clock : (m : ℕ) (d : DominoCell) → IsCellAt (buffered s) m d → d.clock < s.clocks
   new_clock m d e =
-      let n = any_new s m d e in
+      let n = any_new (shape_cells s) m d e in
       elim n.of [
         | inl p ↦ rw p.1 (may.shape.clocks_are (left_side n.old) _ (left_is s n.old n.cell n.cell_is))
-        | inr p ↦ let l = chain_within n.old n.cell n.cell_is in rw p.3 (below n.cell.clock (chain_length s n.old) p.0 s.clocks l p.1)
+        | inr p ↦ let l = chain_within n.old n.cell n.cell_is in rw p.3 (below n.cell.clock (chain_length (shape_cells s) n.old) p.0 s.clocks l p.1)
       ]
     where
       below : (a l j c : ℕ) → a + l < c → j < l → a + 1 + j < c
@@ -180,7 +198,7 @@ module _ (s : Shape) (may : MayBeBuffered s) where
   -- buffered cells are simple
   pub new_simple : AreSimple (buffered s)
   new_simple m d e =
-      let n = any_new s m d e in
+      let n = any_new (shape_cells s) m d e in
       elim n.of [
         | inl p ↦ ap (λ (x : DominoCell). x.right) p.1
         | inr p ↦ ap (λ (x : DominoCell). x.right) p.3

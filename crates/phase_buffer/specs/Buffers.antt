@@ -1,11 +1,10 @@
--- Chains of buffers between cells whose clocks are apart: each cell is followed by a buffer for each clock up to the one before its
--- last reader's, or up to the last clock where a sink takes from it (Harris and Horowitz, Skew-tolerant domino circuits).
-use Rattle.std.specs.Prelude.{Bool, List, None, Option, Some, [], false, if◌then◌else◌, map, nat_eq, slice_get, suc, zero, ℕ, ◌++◌, ◌+◌, ◌-◌, ◌∷◌, ◌||◌}
+-- Shapes with chains of buffers, whose clocks are numbered from 0 (Harris and Horowitz, Skew-tolerant domino circuits).
+use Rattle.std.specs.Prelude.{Bool, List, None, [], false, map, nat_eq, ℕ, ◌++◌, ◌-◌, ◌∷◌, ◌||◌}
 use Rattle.sp_network.specs.Tree.{Leaf, Parallel, Series, Tree, map_tree}
-use Rattle.clock_phase.specs.Levels.{greatest}
 use Rattle.port_runs.specs.Environment.{Overlapping}
 use Rattle.domino_law.specs.Nets.{FromDynamic, FromOutput, Gate}
 use Rattle.domino_law.specs.Shape.{DominoCell, Latch, Shape}
+use Rattle.phase_buffer.specs.Chains.{Cells, end_at, with_chains}
 
 -- the gate is taken from cell k
 abbrev pub is_of : ℕ → Gate → Bool
@@ -23,60 +22,32 @@ abbrev pub takes : ℕ → List Gate → Bool
 takes k [] = false
 takes k (g ∷ gates) = is_of k g || takes k gates
 
--- the clocks of the cells that read cell k
-abbrev pub reader_clocks : ℕ → List DominoCell → List ℕ
-reader_clocks k [] = []
-reader_clocks k (c ∷ cells) = if reads k c.tree then c.clock ∷ reader_clocks k cells else reader_clocks k cells
-
 -- the gates of the sinks: of the outputs and of the latch inputs
 abbrev pub sinks : Shape → List Gate
 sinks s = s.outputs ++ map (λ (b : Latch). b.next) s.latches
 
--- the last clock of the chain of cell k; clocks are numbered from 0
-abbrev pub chain_last : Shape → ℕ → ℕ
-chain_last s k = if takes k (sinks s) then s.clocks - 1 else greatest (reader_clocks k s.cells) - 1
+-- the gate of the output of a cell, where cells have these new numbers
+abbrev pub taken : (ℕ → ℕ) → Gate → Gate
+taken number (FromOutput j) = FromOutput (number j)
+taken number g = g
 
-abbrev pub clock_at : Option DominoCell → ℕ
-clock_at None = 0
-clock_at (Some c) = c.clock
-
--- how many buffers follow cell k
-abbrev pub chain_length : Shape → ℕ → ℕ
-chain_length s k = chain_last s k - clock_at (slice_get s.cells k)
-
--- the new number of cell k: the cells before it and their buffers come first
-abbrev pub place : Shape → ℕ → ℕ
-place s zero = 0
-place s (suc k) = place s k + 1 + chain_length s k
-
--- so many buffers, each of the next clock, from the cell at this place on
-abbrev pub chain : ℕ → ℕ → ℕ → List DominoCell
-chain at clock zero = []
-chain at clock (suc n) = record { clock = clock + 1; tree = Leaf (FromOutput at); right = None } ∷ chain (at + 1) (clock + 1) n
-
--- a reader of this clock takes cell j itself, or its buffer of the clock before
-abbrev pub taken_at : Shape → ℕ → ℕ → ℕ
-taken_at s clock j = place s j + (clock - 1 - clock_at (slice_get s.cells j))
-
-abbrev pub taken : Shape → ℕ → Gate → Gate
-taken s clock (FromOutput j) = FromOutput (taken_at s clock j)
-taken s clock g = g
-
-abbrev pub moved : Shape → DominoCell → DominoCell
-moved s c = record { clock = c.clock; tree = map_tree (taken s c.clock) c.tree; right = None }
-
--- the cells from number k on, each with its chain
-abbrev pub buffered_cells : Shape → ℕ → List DominoCell → List DominoCell
-buffered_cells s k [] = []
-buffered_cells s k (c ∷ cells) = moved s c ∷ (chain (place s k) c.clock (chain_length s k) ++ buffered_cells s (suc k) cells)
+-- the cells of a shape
+abbrev pub shape_cells : Shape → Cells DominoCell
+shape_cells s = record {
+  first = 0;
+  last = s.clocks - 1;
+  cells = s.cells;
+  clock = λ (c : DominoCell). c.clock;
+  reads = λ k (c : DominoCell). reads k c.tree;
+  is_taken = λ k. takes k (sinks s);
+  buffer = λ at clock. record { clock = clock; tree = Leaf (FromOutput at); right = None };
+  reading = λ number (c : DominoCell). record { clock = c.clock; tree = map_tree (taken number) c.tree; right = None };
+}
 
 -- a sink takes from the last of the chain
-abbrev pub end_at : Shape → ℕ → ℕ
-end_at s k = place s k + chain_length s k
-
 abbrev pub ended : Shape → Gate → Gate
-ended s (FromOutput k) = FromOutput (end_at s k)
-ended s (FromDynamic k) = FromDynamic (end_at s k)
+ended s (FromOutput k) = FromOutput (end_at (shape_cells s) k)
+ended s (FromDynamic k) = FromDynamic (end_at (shape_cells s) k)
 ended s g = g
 
 abbrev pub ended_latch : Shape → Latch → Latch
@@ -90,7 +61,7 @@ buffered s = record {
   pins = s.pins;
   clocks = s.clocks;
   complements = s.complements;
-  cells = buffered_cells s 0 s.cells;
+  cells = with_chains (shape_cells s) 0 s.cells;
   latches = map (ended_latch s) s.latches;
   outputs = map (ended s) s.outputs;
 }

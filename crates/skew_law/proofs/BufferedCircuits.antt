@@ -21,7 +21,8 @@ use Rattle.domino_law.specs.Shape.{overlapping}
 use Rattle.deck_law.specs.NetNames.{deck_shape}
 use Rattle.deck_law.proofs.Numbers.{the_shape}
 use Rattle.skew_law.specs.BufferedDecks.{IsBufferedDeck}
-use Rattle.phase_buffer.specs.BufferedPlans.{DeckPlan, new_cells}
+use Rattle.phase_buffer.specs.BufferedPlans.{DeckPlan, plan_cells}
+use Rattle.phase_buffer.specs.Chains.{with_chains}
 use Rattle.skew_law.specs.BufferedPlans.{buffered_circuit, cells_taken, new_end, plan_of}
 use Rattle.skew_law.proofs.NamedPlans.{complements_same, named_deck, the_plan, the_shape_same}
 use Rattle.skew_law.proofs.PlannedShapes.{leaves_are, planned_deck, planned_may_be_buffered}
@@ -68,13 +69,13 @@ module _ (network : NetworkData) (options : SynthOptions) (plain : CircuitData) 
 
   abbrev cards : List (NamedDevice (List ℕ))
   cards =
-      named_devices WithKeeper (pins_of network) (outs_of network) (starts_of network) (new_cells p 0 cells)
-      (complements_of network (new_cells p 0 cells) (map (new_end p) ends)) (map (new_end p) ends)
+      named_devices WithKeeper (pins_of network) (outs_of network) (starts_of network) (with_chains (plan_cells p) 0 cells)
+      (complements_of network (with_chains (plan_cells p) 0 cells) (map (new_end p) ends)) (map (new_end p) ends)
 
   circuit_is : circuit ≡ with_devices (new_circuit circuit.name circuit.phases d.clocks d.pins d.outs)
-      (named_devices WithKeeper d.pins d.outs d.starts (new_cells (the_plan plain d may) 0 d.cells) d.complements (map (new_end (the_plan plain d may)) d.ends))
+      (named_devices WithKeeper d.pins d.outs d.starts (with_chains (plan_cells (the_plan plain d may)) 0 d.cells) d.complements (map (new_end (the_plan plain d may)) d.ends))
   circuit_is = λ i. with_devices (new_circuit (sym (named_cards bare cards).0 i) (sym (named_cards bare cards).1 i) options.phases (pins_of network) (outs_of network))
-      (named_devices WithKeeper (pins_of network) (outs_of network) (starts_of network) (new_cells (plan_same i) 0 cells) (complements_same p ends i) (map (new_end (plan_same i)) ends))
+      (named_devices WithKeeper (pins_of network) (outs_of network) (starts_of network) (with_chains (plan_cells (plan_same i)) 0 cells) (complements_same p ends i) (map (new_end (plan_same i)) ends))
 
   pub buffered_shape : HasBufferedShape network options circuit
   buffered_shape = record {

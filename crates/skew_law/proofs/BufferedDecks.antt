@@ -1,6 +1,6 @@
 -- Buffered decks of a network are right where their clocks overlap and where all fall together.
 use Rattle.domino_cell.specs.Style.{WithKeeper}
-use Rattle.std.proofs.Common.{ap, ap₂, arith, inl, inr, length, length-drop, drop, take, refl, subst, sym, ℕ, ◌++◌, ◌∙◌, ◌≡◌, ◌≤◌}
+use Rattle.std.proofs.Common.{ap, ap₂, arith, inl, inr, length, length-drop, drop, take, refl, subst, sym, ◌++◌, ◌∙◌, ◌≡◌, ◌≤◌}
 use Rattle.std.proofs.Math.Seq.{take-append_seam}
 use Rattle.blif_read.proofs.AcceptedIsGoodModels.{accepted_file}
 use Rattle.deck.specs.CircuitData.{CircuitData}

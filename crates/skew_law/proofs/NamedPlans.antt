@@ -24,11 +24,11 @@ use Rattle.domino_law.proofs.Statics.{left_is}
 use Rattle.deck_law.specs.NetNames.{cell_shape, gate_of}
 use Rattle.deck_law.proofs.Numbers.{the_shape}
 use Rattle.deck_law.proofs.SpelledDecks.{cell_exists}
-use Rattle.phase_buffer.specs.Buffers.{buffered, chain_length, place}
+use Rattle.phase_buffer.specs.Buffers.{buffered, shape_cells}
+use Rattle.phase_buffer.specs.Chains.{chain, chain_length, end_at, place, taken_at, with_chains}
 use Rattle.phase_buffer.specs.Laws.{MayBeBuffered}
-use Rattle.phase_buffer.proofs.BufferedCells.{chain_at}
-use Rattle.phase_buffer.proofs.BufferedShapes.{buffered_may_overlap}
-use Rattle.phase_buffer.specs.BufferedPlans.{DeckPlan, buffers, buffers_after, new_cells, new_gate, new_number, plan_clock}
+use Rattle.phase_buffer.proofs.BufferedShapes.{buffered_may_overlap, shape_chain}
+use Rattle.phase_buffer.specs.BufferedPlans.{DeckPlan, new_gate, plan_cells}
 use Rattle.skew_law.specs.BufferedPlans.{cells_taken, new_end}
 use Rattle.skew_law.proofs.BufferedPlans.{length_is, new_shape, place_is, shape_of, shape_same}
 
@@ -45,43 +45,43 @@ each_at P (y ∷ xs) h (suc k) x e = each_at P xs h.1 k x e
 module _ (p : DeckPlan) where
   -- buffers and moved readers have clocks too
   new_clocks : (k : ℕ) (cs : List CellPlan) → ((j : ℕ) (c : CellPlan) → slice_get cs j ≡ Some c → 1 ≤ c.clock)
-      → AllByRecursion (λ (c : CellPlan). 1 ≤ c.clock) (new_cells p k cs)
+      → AllByRecursion (λ (c : CellPlan). 1 ≤ c.clock) (with_chains (plan_cells p) k cs)
   new_clocks k [] h = tt
   new_clocks k (c ∷ cs) h = (
     h 0 c refl,
-    AllByRecursion-append (λ (c : CellPlan). 1 ≤ c.clock) (buffers p (new_number p k) c.clock (buffers_after p k)) (new_cells p (suc k) cs)
-        (each (new_number p k) c.clock (buffers_after p k)) (new_clocks (suc k) cs (λ j d e. h (suc j) d e)),
+    AllByRecursion-append (λ (c : CellPlan). 1 ≤ c.clock) (chain (plan_cells p) (place (plan_cells p) k) c.clock (chain_length (plan_cells p) k)) (with_chains (plan_cells p) (suc k) cs)
+        (each (place (plan_cells p) k) c.clock (chain_length (plan_cells p) k)) (new_clocks (suc k) cs (λ j d e. h (suc j) d e)),
   )
     where
-      each : (at clock n : ℕ) → AllByRecursion (λ (c : CellPlan). 1 ≤ c.clock) (buffers p at clock n)
+      each : (at clock n : ℕ) → AllByRecursion (λ (c : CellPlan). 1 ≤ c.clock) (chain (plan_cells p) at clock n)
       each at clock zero = tt
       each at clock (suc n) = (omega arith, each (at + 1) (clock + 1) n)
 
   -- no minus rail is read but where it was
-  rail_read : (leaf clock : ℕ) → leaf < p.leaves → (t : Tree ℕ) → reads (2 * leaf + 1) (map_tree (new_gate p clock) t) ≡ reads (2 * leaf + 1) t
+  rail_read : (leaf clock : ℕ) → leaf < p.leaves → (t : Tree ℕ) → reads (2 * leaf + 1) (map_tree (new_gate p.leaves (taken_at (plan_cells p) clock)) t) ≡ reads (2 * leaf + 1) t
   rail_read leaf clock low (Leaf gate) = by (nat_lt gate (2 * p.leaves)) refl
     where
-      by : (b : Bool) → nat_lt gate (2 * p.leaves) ≡ b → (new_gate p clock gate == 2 * leaf + 1) ≡ (gate == 2 * leaf + 1)
+      by : (b : Bool) → nat_lt gate (2 * p.leaves) ≡ b → (new_gate p.leaves (taken_at (plan_cells p) clock) gate == 2 * leaf + 1) ≡ (gate == 2 * leaf + 1)
       by true e = rw e refl
       by false e =
           let ge = ltb-false gate (2 * p.leaves) e in
-          rw e (ne_eqb (2 * p.leaves + (new_number p (gate - 2 * p.leaves) + (clock - 1 - plan_clock (slice_get p.cells (gate - 2 * p.leaves))))) (2 * leaf + 1)
+          rw e (ne_eqb (2 * p.leaves + taken_at (plan_cells p) clock (gate - 2 * p.leaves)) (2 * leaf + 1)
           (λ z. omega (arith, low, z)) ∙ sym (ne_eqb gate (2 * leaf + 1) (λ z. omega (arith, low, ge, z))))
   rail_read leaf clock low (Series l r) = rw (rail_read leaf clock low l, rail_read leaf clock low r) refl
   rail_read leaf clock low (Parallel l r) = rw (rail_read leaf clock low l, rail_read leaf clock low r) refl
 
-  no_buffer : (leaf : ℕ) → leaf < p.leaves → (at clock n : ℕ) → list_any (λ (c : CellPlan). reads (2 * leaf + 1) c.tree) (buffers p at clock n) ≡ false
+  no_buffer : (leaf : ℕ) → leaf < p.leaves → (at clock n : ℕ) → list_any (λ (c : CellPlan). reads (2 * leaf + 1) c.tree) (chain (plan_cells p) at clock n) ≡ false
   no_buffer leaf low at clock zero = refl
   no_buffer leaf low at clock (suc n) =
       rw (ne_eqb (2 * p.leaves + at) (2 * leaf + 1) (λ z. omega (arith, low, z)), no_buffer leaf low (at + 1) (clock + 1) n) refl
 
   cells_name : (leaf : ℕ) → leaf < p.leaves → (k : ℕ) (cs : List CellPlan)
-      → list_any (λ (c : CellPlan). reads (2 * leaf + 1) c.tree) (new_cells p k cs) ≡ list_any (λ (c : CellPlan). reads (2 * leaf + 1) c.tree) cs
+      → list_any (λ (c : CellPlan). reads (2 * leaf + 1) c.tree) (with_chains (plan_cells p) k cs) ≡ list_any (λ (c : CellPlan). reads (2 * leaf + 1) c.tree) cs
   cells_name leaf low k [] = refl
   cells_name leaf low k (c ∷ cs) =
       ap₂ (λ a b. a || b) (rail_read leaf c.clock low c.tree)
-      (list_any-append (λ (c : CellPlan). reads (2 * leaf + 1) c.tree) (buffers p (new_number p k) c.clock (buffers_after p k)) (new_cells p (suc k) cs)
-      ∙ ap₂ (λ a b. a || b) (no_buffer leaf low (new_number p k) c.clock (buffers_after p k)) (cells_name leaf low (suc k) cs))
+      (list_any-append (λ (c : CellPlan). reads (2 * leaf + 1) c.tree) (chain (plan_cells p) (place (plan_cells p) k) c.clock (chain_length (plan_cells p) k)) (with_chains (plan_cells p) (suc k) cs)
+      ∙ ap₂ (λ a b. a || b) (no_buffer leaf low (place (plan_cells p) k) c.clock (chain_length (plan_cells p) k)) (cells_name leaf low (suc k) cs))
 
   literal : (leaf : ℕ) (end : SinkEnd) → is_plus_literal leaf (new_end p end) ≡ is_plus_literal leaf end
   literal leaf (Fixed b) = refl
@@ -93,11 +93,11 @@ module _ (p : DeckPlan) where
   ends_name leaf [] = refl
   ends_name leaf (end ∷ ends) = ap₂ (λ a b. a || b) (literal leaf end) (ends_name leaf ends)
 
-  pub names_same : (ends : List SinkEnd) (leaf : ℕ) → leaf < p.leaves → names_complement (new_cells p 0 p.cells) (map (new_end p) ends) leaf ≡ names_complement p.cells ends leaf
+  pub names_same : (ends : List SinkEnd) (leaf : ℕ) → leaf < p.leaves → names_complement (with_chains (plan_cells p) 0 p.cells) (map (new_end p) ends) leaf ≡ names_complement p.cells ends leaf
   names_same ends leaf low = ap₂ (λ a b. a || b) (cells_name leaf low 0 p.cells) (ends_name leaf ends)
 
   pub complements_same : (ends : List SinkEnd)
-      → filter (names_complement (new_cells p 0 p.cells) (map (new_end p) ends)) (range_with_len 0 p.leaves) ≡ filter (names_complement p.cells ends) (range_with_len 0 p.leaves)
+      → filter (names_complement (with_chains (plan_cells p) 0 p.cells) (map (new_end p) ends)) (range_with_len 0 p.leaves) ≡ filter (names_complement p.cells ends) (range_with_len 0 p.leaves)
   complements_same ends = filter_same _ _ 0 p.leaves (λ x lt. names_same ends x (omega (arith, lt)))
 
 module _ (plain : CircuitData) (d : IsNamedDeck WithKeeper plain) (may : MayBeBuffered (the_shape d)) where
@@ -123,10 +123,10 @@ module _ (plain : CircuitData) (d : IsNamedDeck WithKeeper plain) (may : MayBeBu
   abbrev pub L : ℕ
   L = length d.pins + length d.starts
 
-  there : (k : ℕ) (c : CellPlan) → slice_get (new_cells the_plan 0 d.cells) k ≡ Some c → IsCellAt t k (cell_shape P L c)
-  there k c e = slice_get-map (cell_shape P L) (new_cells the_plan 0 d.cells) k ∙ ap (option_map (cell_shape P L)) e
+  there : (k : ℕ) (c : CellPlan) → slice_get (with_chains (plan_cells the_plan) 0 d.cells) k ≡ Some c → IsCellAt t k (cell_shape P L c)
+  there k c e = slice_get-map (cell_shape P L) (with_chains (plan_cells the_plan) 0 d.cells) k ∙ ap (option_map (cell_shape P L)) e
 
-  pub below : ReadsBelow L (new_cells the_plan 0 d.cells)
+  pub below : ReadsBelow L (with_chains (plan_cells the_plan) 0 d.cells)
   below k c e =
       EachLeaf-weaker (λ g. IsLeafOf t k (gate_of P L g)) (λ g. g < 2 * L + k) (λ g h. by g (nat_lt g (2 * L)) refl h) c.tree
       (each_back (IsLeafOf t k) (gate_of P L) c.tree (shape.leaves (left_side k) (left_stage (cell_shape P L c)) (left_is t k (cell_shape P L c) (there k c e))))
@@ -138,30 +138,30 @@ module _ (plain : CircuitData) (d : IsNamedDeck WithKeeper plain) (may : MayBeBu
           let leaf : (g - 2 * L < k) × ((c : DominoCell) × IsCellAt t (g - 2 * L) c) = rw z at h in
           omega (arith, ge, leaf.0)
 
-  pub clocks : (k : ℕ) (c : CellPlan) → slice_get (new_cells the_plan 0 d.cells) k ≡ Some c → (1 ≤ c.clock) × (c.clock ≤ d.clocks)
+  pub clocks : (k : ℕ) (c : CellPlan) → slice_get (with_chains (plan_cells the_plan) 0 d.cells) k ≡ Some c → (1 ≤ c.clock) × (c.clock ≤ d.clocks)
   clocks k c e =
-      let some = each_at (λ (c : CellPlan). 1 ≤ c.clock) (new_cells the_plan 0 d.cells) (new_clocks the_plan 0 d.cells clocked) k c e in
+      let some = each_at (λ (c : CellPlan). 1 ≤ c.clock) (with_chains (plan_cells the_plan) 0 d.cells) (new_clocks the_plan 0 d.cells clocked) k c e in
       let few = shape.clocks_are (left_side k) (left_stage (cell_shape P L c)) (left_is t k (cell_shape P L c) (there k c e)) in
       (some, omega (arith, some, few))
 
   -- the last of a chain is there
-  last_there : (k : ℕ) → k < length d.cells → new_number the_plan k + buffers_after the_plan k < length (new_cells the_plan 0 d.cells)
+  last_there : (k : ℕ) → k < length d.cells → end_at (plan_cells the_plan) k < length (with_chains (plan_cells the_plan) 0 d.cells)
   last_there k lt =
       let c = cell_exists (cell_shape P L) d.cells k lt in
-      let l = chain_at (the_shape d) k c.0 c.1 (chain_length (the_shape d) k) (omega arith) in
+      let l = shape_chain (the_shape d) k c.0 c.1 (chain_length (shape_cells (the_shape d)) k) (omega arith) in
       let is = shape_of d.pins d.outs d.starts d.complements d.ends the_plan refl refl d.one_end clocked in
-      let at : IsCellAt t (place (the_shape d) k + chain_length (the_shape d) k) l.0 =
-      subst (λ (s : Shape). IsCellAt s (place (the_shape d) k + chain_length (the_shape d) k) l.0) (sym the_shape_same) l.1 in
-      let within = slice_get_within t.cells (place (the_shape d) k + chain_length (the_shape d) k) l.0 at in
-      subst (λ n. new_number the_plan k + buffers_after the_plan k < n) (length_map (cell_shape P L) (new_cells the_plan 0 d.cells))
+      let at : IsCellAt t (end_at (shape_cells (the_shape d)) k) l.0 =
+      subst (λ (s : Shape). IsCellAt s (end_at (shape_cells (the_shape d)) k) l.0) (sym the_shape_same) l.1 in
+      let within = slice_get_within t.cells (end_at (shape_cells (the_shape d)) k) l.0 at in
+      subst (λ n. end_at (plan_cells the_plan) k < n) (length_map (cell_shape P L) (with_chains (plan_cells the_plan) 0 d.cells))
       (subst (λ n. n < length t.cells) (ap₂ (λ a b. a + b) (place_is P the_plan d.ends (the_shape d) is k) (length_is P the_plan d.ends (the_shape d) is k)) within)
 
-  pub ends : (k : ℕ) (e : SinkEnd) → slice_get (map (new_end the_plan) d.ends) k ≡ Some e → IsEndIn L (length (new_cells the_plan 0 d.cells)) e
+  pub ends : (k : ℕ) (e : SinkEnd) → slice_get (map (new_end the_plan) d.ends) k ≡ Some e → IsEndIn L (length (with_chains (plan_cells the_plan) 0 d.cells)) e
   ends k e at =
       let m = get_of_map (new_end the_plan) d.ends k e at in
-      subst (IsEndIn L (length (new_cells the_plan 0 d.cells))) m.2 (by m.0 (All-at (IsEndIn L (length d.cells)) d.ends k m.0 d.ends_are m.1))
+      subst (IsEndIn L (length (with_chains (plan_cells the_plan) 0 d.cells))) m.2 (by m.0 (All-at (IsEndIn L (length d.cells)) d.ends k m.0 d.ends_are m.1))
     where
-      by : (x : SinkEnd) → IsEndIn L (length d.cells) x → IsEndIn L (length (new_cells the_plan 0 d.cells)) (new_end the_plan x)
+      by : (x : SinkEnd) → IsEndIn L (length d.cells) x → IsEndIn L (length (with_chains (plan_cells the_plan) 0 d.cells)) (new_end the_plan x)
       by (Fixed b) i = tt
       by (OfLeaf leaf plus) i = i
       by (OfDynamic n) i = last_there n i
@@ -169,23 +169,23 @@ module _ (plain : CircuitData) (d : IsNamedDeck WithKeeper plain) (may : MayBeBu
 
   abbrev pub named_deck : (circuit : CircuitData)
       → circuit ≡ with_devices (new_circuit circuit.name circuit.phases d.clocks d.pins d.outs)
-      (named_devices WithKeeper d.pins d.outs d.starts (new_cells the_plan 0 d.cells) d.complements (map (new_end the_plan) d.ends))
+      (named_devices WithKeeper d.pins d.outs d.starts (with_chains (plan_cells the_plan) 0 d.cells) d.complements (map (new_end the_plan) d.ends))
       → IsNamedDeck WithKeeper circuit
   named_deck circuit circuit_is = record {
     clocks = d.clocks;
     pins = d.pins;
     outs = d.outs;
     starts = d.starts;
-    cells = new_cells the_plan 0 d.cells;
+    cells = with_chains (plan_cells the_plan) 0 d.cells;
     complements = d.complements;
     ends = map (new_end the_plan) d.ends;
     roles = d.roles;
     reads_below = below;
-    clocks_are = all_from (λ (c : CellPlan). (1 ≤ c.clock) × (c.clock ≤ d.clocks)) (new_cells the_plan 0 d.cells) clocks;
+    clocks_are = all_from (λ (c : CellPlan). (1 ≤ c.clock) × (c.clock ≤ d.clocks)) (with_chains (plan_cells the_plan) 0 d.cells) clocks;
     in_order = d.in_order;
     of_leaves = d.of_leaves;
     named = λ leaf lt e. d.named leaf lt (sym (names_same the_plan d.ends leaf lt) ∙ e);
     one_end = length_map (new_end the_plan) d.ends ∙ d.one_end;
-    ends_are = all_from (IsEndIn L (length (new_cells the_plan 0 d.cells))) (map (new_end the_plan) d.ends) ends;
+    ends_are = all_from (IsEndIn L (length (with_chains (plan_cells the_plan) 0 d.cells))) (map (new_end the_plan) d.ends) ends;
     circuit_is = circuit_is;
   }

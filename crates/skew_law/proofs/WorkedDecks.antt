@@ -6,7 +6,8 @@ use Rattle.dom_base.specs.declared.kind.Kind.{Kind}
 use Rattle.dom_base.specs.declared.kind.Kind.TheVariants.{Keep, N, P}
 use Rattle.deck.specs.NamedDevices.{NamedDevice}
 use Rattle.sp_network.specs.Tree.{Leaf, Series}
-use Rattle.phase_buffer.specs.BufferedPlans.{DeckPlan, new_cells}
+use Rattle.phase_buffer.specs.BufferedPlans.{DeckPlan, plan_cells}
+use Rattle.phase_buffer.specs.Chains.{with_chains}
 use Rattle.std.specs.Fmt.{decimal}
 use Rattle.deck_form.specs.DeckNets.{OfDynamic, clock_net, dynamic_net, named_devices, output_net, vdd, vss}
 use Rattle.skew_law.specs.BufferedPlans.{new_end}
@@ -16,7 +17,7 @@ worked_plan = record { leaves = 2; clocks = 2; cells = record { tree = Series (L
 
 abbrev worked_devices : List (NamedDevice (List ℕ))
 worked_devices =
-    named_devices WithKeeper (codes "i_a" ∷ codes "i_b" ∷ []) (codes "o_y" ∷ []) [] (new_cells worked_plan 0 worked_plan.cells) []
+    named_devices WithKeeper (codes "i_a" ∷ codes "i_b" ∷ []) (codes "o_y" ∷ []) [] (with_chains (plan_cells worked_plan) 0 worked_plan.cells) []
     (map (new_end worked_plan) (OfDynamic 0 ∷ []))
 
 fifteen : length worked_devices ≡ 15

@@ -5,7 +5,8 @@ use Rattle.deck.specs.CircuitData.{CircuitData}
 use Rattle.sp_network.specs.Tree.{Tree}
 use Rattle.gate_decompose.specs.Sinks.{leaf_count}
 use Rattle.network.specs.NetworkData.{NetworkData}
-use Rattle.phase_buffer.specs.BufferedPlans.{DeckPlan, last_number, new_cells}
+use Rattle.phase_buffer.specs.BufferedPlans.{DeckPlan, plan_cells}
+use Rattle.phase_buffer.specs.Chains.{end_at, with_chains}
 use Rattle.deck_form.specs.DeckNets.{Fixed, OfDynamic, OfLeaf, OfOutput, SinkEnd}
 use Rattle.deck_form.specs.DominoDecks.{cells_of, deck_circuit}
 
@@ -20,8 +21,8 @@ cells_taken (end ∷ ends) = cells_taken ends
 abbrev pub new_end : DeckPlan → SinkEnd → SinkEnd
 new_end p (Fixed b) = Fixed b
 new_end p (OfLeaf leaf plus) = OfLeaf leaf plus
-new_end p (OfDynamic k) = OfDynamic (last_number p k)
-new_end p (OfOutput k) = OfOutput (last_number p k)
+new_end p (OfDynamic k) = OfDynamic (end_at (plan_cells p) k)
+new_end p (OfOutput k) = OfOutput (end_at (plan_cells p) k)
 
 -- the plan of a network with these trees, levels and ends
 abbrev pub plan_of : NetworkData → ℕ → List (Tree ℕ) → List ℕ → List SinkEnd → DeckPlan
@@ -31,4 +32,4 @@ plan_of network phases trees levels ends =
 -- the circuit of a network with the chains of this plan of it, and these signs and ends
 abbrev pub buffered_circuit : NetworkData → ℕ → List Bool → List SinkEnd → DeckPlan → CircuitData
 buffered_circuit network phases signs ends p =
-    deck_circuit WithKeeper network phases (new_cells p 0 p.cells) signs (map (new_end p) ends)
+    deck_circuit WithKeeper network phases (with_chains (plan_cells p) 0 p.cells) signs (map (new_end p) ends)
