@@ -30,6 +30,8 @@ use Rattle.dual_rail.specs.Forests.{IsEndOf, end_uses, is_end_from}
 use Rattle.clock_phase.specs.Levels.{clock_of, greatest}
 use Rattle.deck_form.specs.NamedDecks.{IsEndIn, ReadsBelow, names_complement}
 use Rattle.network.specs.NetworkData.{NetworkData}
+use Rattle.gate_decompose.specs.GateNodes.{AreGatesOf}
+use Rattle.gate_decompose.specs.GatesData.{GatesData}
 use Rattle.gate_decompose.specs.Sinks.{leaf_count, sink_signals}
 use Rattle.tree_map.specs.Plans.{IsTreeOf, cell_of, is_kept, roots}
 use Rattle.gate_decompose.specs.Items.{Among, Rises}
@@ -72,6 +74,14 @@ counted test (y ∷ xs) (suc k) x e t =
     let more = counted test xs k x e t in
     let sum = sum_by-cons (λ z. cond (test z) 1 0) y xs in
     omega (arith, sum, more)
+
+-- the gates of a network have a sink for each output and each latch
+pub sinks_of_network : (network : NetworkData) (gates : GatesData) → AreGatesOf network gates → length gates.sinks ≡ length network.outputs + length network.latches
+sinks_of_network network gates are =
+    let signals = length-append network.outputs (map (λ l. l.input) network.latches) in
+    let latches = length_map (λ l. l.input) network.latches in
+    let sinks = ap length are.sinks_are ∙ length_map _ (sink_signals network) in
+    omega (arith, signals, latches, sinks)
 
 -- an end that comes from a pair comes from a root
 module _ (network : NetworkData) (options : DeckOptions) (circuit : CircuitData) (is : IsPlannedDeck network options circuit) (order : AreInOrder is.forest.pairs) (leaves : HasLeaves is.forest)

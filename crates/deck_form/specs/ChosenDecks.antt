@@ -1,4 +1,4 @@
--- The circuit that synthesis gives of a network.
+-- The circuit of a network: of any signs and any plan, of signs as wanted and the chosen plan, and that of synthesis.
 use Rattle.std.specs.Prelude.{ℕ, ◌≡◌, Bool, List, map}
 use Rattle.deck.specs.CircuitData.{CircuitData}
 use Rattle.sp_network.specs.Tree.{Tree}
@@ -39,8 +39,8 @@ pub record IsPlannedDeck (network : NetworkData) (options : DeckOptions) (circui
   pub levels_are : AreLevels (leaf_count network) trees levels
   pub circuit_is : circuit ≡ deck_circuit options.style network options.phases (cells_of options.phases levels trees) signs (map (end_at_cell kept) forest.ends)
 
--- the circuit that synthesis gives of the network: of the chosen signs and the chosen plan
-pub record IsChosenDeck (network : NetworkData) (options : DeckOptions) (circuit : CircuitData) : Type 0 where
+-- a circuit of the network of signs that are as wanted and the chosen plan
+pub record IsDeckOfSigns (AreSigns : GatesData → List Bool → Type 0) (network : NetworkData) (options : DeckOptions) (circuit : CircuitData) : Type 0 where
   pub gates : GatesData
   pub signs : List Bool
   pub forest : ForestData
@@ -48,15 +48,23 @@ pub record IsChosenDeck (network : NetworkData) (options : DeckOptions) (circuit
   pub trees : List (Tree ℕ)
   pub levels : List ℕ
   pub are_gates : AreGatesOf network gates
-  pub are_chosen : AreChosen gates signs
+  pub are_chosen : AreSigns gates signs
   pub is_forest : IsForestOf gates signs forest
   pub is_chosen_plan : IsChosenPlan forest options.width options.height kept trees
   pub levels_are : AreLevels (leaf_count network) trees levels
   pub circuit_is : circuit ≡ deck_circuit options.style network options.phases (cells_of options.phases levels trees) signs (map (end_at_cell kept) forest.ends)
 
--- which is one of these
-abbrev pub planned : {network : NetworkData} {options : DeckOptions} {circuit : CircuitData}
-    → IsChosenDeck network options circuit → IsPlannedDeck network options circuit
+-- the circuit that synthesis gives of the network: of the chosen signs and the chosen plan
+abbrev pub IsChosenDeck : NetworkData → DeckOptions → CircuitData → Type 0
+IsChosenDeck network options circuit = IsDeckOfSigns AreChosen network options circuit
+
+-- that of these signs
+abbrev pub AreGiven : List Bool → GatesData → List Bool → Type 0
+AreGiven given gates signs = signs ≡ given
+
+-- a circuit of signs and the chosen plan is one of any signs and any plan
+abbrev pub planned : {AreSigns : GatesData → List Bool → Type 0} {network : NetworkData} {options : DeckOptions} {circuit : CircuitData}
+    → IsDeckOfSigns AreSigns network options circuit → IsPlannedDeck network options circuit
 planned is = record {
   gates = is.gates;
   signs = is.signs;
@@ -67,6 +75,24 @@ planned is = record {
   are_gates = is.are_gates;
   is_forest = is.is_forest;
   is_plan = is.is_chosen_plan.plan;
+  levels_are = is.levels_are;
+  circuit_is = is.circuit_is;
+}
+
+-- and one of signs of which more is known
+abbrev pub with_signs : {AreSigns AreOthers : GatesData → List Bool → Type 0} {network : NetworkData} {options : DeckOptions} {circuit : CircuitData}
+    → (is : IsDeckOfSigns AreSigns network options circuit) → AreOthers is.gates is.signs → IsDeckOfSigns AreOthers network options circuit
+with_signs is are = record {
+  gates = is.gates;
+  signs = is.signs;
+  forest = is.forest;
+  kept = is.kept;
+  trees = is.trees;
+  levels = is.levels;
+  are_gates = is.are_gates;
+  are_chosen = are;
+  is_forest = is.is_forest;
+  is_chosen_plan = is.is_chosen_plan;
   levels_are = is.levels_are;
   circuit_is = is.circuit_is;
 }

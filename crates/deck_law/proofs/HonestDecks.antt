@@ -49,13 +49,13 @@ module _ (c : CircuitData) (roles : Roles) (net : Net → ℕ) (s : Shape) (deck
     deck = deck;
     honest = λ w h.
         runs_are_honest (links_of c roles) net s h.steps (power_world c roles) w stands (power_start c roles net s deck)
-        (is_run c roles net s stands deck.ports h.steps w h.run) h.beyond;
+        (is_run c roles net s deck.ports h.steps w h.run) h.beyond;
     kept = λ step w w' whole risen h does.
         keeps_honest (links_of c roles) net s step w w' stands whole h
-        (step_is c roles net s stands deck.ports step w w' does (record { whole = whole; sources = (h.frame).sources; first = risen })).0;
+        (step_is c roles net s deck.ports step w w' does (record { whole = whole; sources = (h.frame).sources; first = risen })).0;
     started = λ steps w r at.
         reset_reaches (links_of c roles) net s steps (power_world c roles) w stands (power_start c roles net s deck)
-        (is_run c roles net s stands deck.ports steps w r) at;
+        (is_run c roles net s deck.ports steps w r) at;
     read = λ w whole h r.
         rest_is_value (links_of c roles) net s w stands whole h (record { place = r.place; risen = r.risen ∙ sym (deck.ports).clocks_are; rests = r.rests });
   }

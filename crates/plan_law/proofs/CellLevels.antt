@@ -8,8 +8,9 @@ use Rattle.dom_base.proofs.Lists.{AllByRecursion-append, AllByRecursion-weaker}
 use Rattle.sp_network.specs.Tree.{Tree, EachLeaf, Leaf, Series, Parallel}
 use Rattle.network.proofs.Lists.{map_same}
 use Rattle.clock_phase.specs.Levels.{AreLevels, cells_read, greatest}
-use Rattle.plan_law.specs.Laws.{LevelsAreThere, TreesReadBelow}
+use Rattle.plan_law.specs.Laws.{LevelsAreThere}
 use Rattle.plan_law.proofs.BuiltLists.{lists_same, values_there}
+use Rattle.clock_phase.specs.Plans.{ReadEarlierCells}
 
 -- the cells that a tree reads come before its own
 cells_before : (leaf_count k : ℕ) (tree : Tree ℕ) → EachLeaf (λ gate. gate < 2 * leaf_count + k) tree
@@ -24,7 +25,7 @@ cells_before leaf_count k (Series l r) low = AllByRecursion-append (λ cell. cel
 cells_before leaf_count k (Parallel l r) low = AllByRecursion-append (λ cell. cell < k) (cells_read leaf_count l) (cells_read leaf_count r)
     (cells_before leaf_count k l low.0) (cells_before leaf_count k r low.1)
 
-module _ (leaf_count : ℕ) (trees : List (Tree ℕ)) (below : TreesReadBelow leaf_count trees) where
+module _ (leaf_count : ℕ) (trees : List (Tree ℕ)) (below : ReadEarlierCells leaf_count trees) where
   -- the level of a tree, where each cell has one
   abbrev level_over : (ℕ → ℕ) → Option (Tree ℕ) → ℕ
   level_over level None = 0
@@ -67,7 +68,7 @@ levels_there = λ leaf_count trees below.
     (map found.0 (range_with_len 0 (length trees)), cell_levels leaf_count trees below found.0 found.1)
 
 -- and one level each
-module _ (leaf_count : ℕ) (trees : List (Tree ℕ)) (below : TreesReadBelow leaf_count trees) (a b : List ℕ)
+module _ (leaf_count : ℕ) (trees : List (Tree ℕ)) (below : ReadEarlierCells leaf_count trees) (a b : List ℕ)
     (is : AreLevels leaf_count trees a) (are : AreLevels leaf_count trees b) where
   level_at : (k : ℕ) → ((m : ℕ) → m < k → get_or a m 0 ≡ get_or b m 0) → get_or a k 0 ≡ get_or b k 0
   level_at k earlier = elim (slice_get_cases trees k).1 [

@@ -1,5 +1,5 @@
 -- Each network has the deck and the text that synthesis gives of it.
-use Rattle.std.proofs.Common.{◌≡◌, ◌⊎◌, inl, inr, ℕ, ◌+◌, ◌*◌, ◌<◌, Bool, List, [], ◌∷◌, map, take, refl, subst, ◌∙◌, arith}
+use Rattle.std.proofs.Common.{◌≡◌, ◌⊎◌, inl, inr, ℕ, ◌+◌, ◌*◌, ◌≤◌, ◌<◌, Bool, List, [], ◌∷◌, length, map, take, refl, sym, subst, ◌∙◌, arith}
 use Rattle.deck.specs.CircuitData.{CircuitData}
 use Rattle.deck.specs.Ports.{HasRoles, HasSomeRoles, leading_ports}
 use Rattle.deck.proofs.PortDecisions.{has_roles}
@@ -7,6 +7,7 @@ use Rattle.deck.proofs.PortLayout.{HasRoles-same}
 use Rattle.spice_text.specs.Text.{IsWritten, text_with}
 use Rattle.sp_network.specs.Tree.{Tree, EachLeaf}
 use Rattle.network.specs.NetworkData.{NetworkData}
+use Rattle.network.specs.Networks.{IsNetwork}
 use Rattle.gate_decompose.specs.GateNodes.{AreGatesOf, network_nodes, node_names, node_of, ref_of}
 use Rattle.gate_decompose.specs.GatesData.{GatesData}
 use Rattle.gate_decompose.specs.Sinks.{leaf_count, sink_signals}
@@ -20,17 +21,19 @@ use Rattle.dual_rail.proofs.ForestOrders.{forests_are_in_place}
 use Rattle.dual_rail.proofs.Zips.{all_zip_back}
 use Rattle.phase_assign.specs.Signs.{AreChosen}
 use Rattle.phase_assign.proofs.ChosenSigns.{chosen_settled, chosen_there}
-use Rattle.tree_map.specs.LeastPlans.{IsChosenPlan}
 use Rattle.tree_map.specs.Plans.{IsPlan, IsTreeOf, roots}
 use Rattle.tree_map.proofs.PlanThere.{chosen_plan_there}
 use Rattle.clock_phase.specs.Levels.{AreLevels}
-use Rattle.deck_form.specs.ChosenDecks.{IsChosenDeck, end_at_cell}
+use Rattle.deck_form.specs.ChosenDecks.{IsDeckOfSigns, end_at_cell}
+use Rattle.deck_form.specs.DeckTexts.{IsTextOfSigns}
 use Rattle.deck_form.specs.DeckOptions.{DeckOptions}
 use Rattle.deck_form.specs.DominoDecks.{cells_of, deck_circuit}
+use Rattle.deck_form.proofs.DeckForms.{sinks_of_network}
 use Rattle.deck_form.proofs.CellOrder.{root_of_cell, tree_reads}
-use Rattle.plan_law.specs.Laws.{ChosenDecksAreThere, GatesAreThere, SynthTextsAreThere, TextsAreThere, TreesReadBelow}
+use Rattle.plan_law.specs.Laws.{ChosenDecksAreThere, GatesAreThere, HaveSigns, SignedDecksAreThere, SynthTextsAreThere, TextsAreThere}
 use Rattle.plan_law.proofs.CellLevels.{levels_there}
 use Rattle.plan_law.proofs.ForestThere.{forests_there}
+use Rattle.clock_phase.specs.Plans.{ReadEarlierCells}
 
 pub gates_there : GatesAreThere
 gates_there = λ network order.
@@ -45,50 +48,12 @@ gates_there = λ network order.
 
 -- the trees of a plan read rails and cells before their own
 pub plan_reads : (forest : ForestData) (w h : ℕ) (kept : List Bool) (trees : List (Tree ℕ)) → IsForestInPlace forest → IsPlan forest w h kept trees
-    → TreesReadBelow forest.leaves trees
+    → ReadEarlierCells forest.leaves trees
 plan_reads forest w h kept trees is plan = λ k tree at.
     let found = all_zip_back (IsTreeOf forest kept) (roots kept) trees k tree plan.trees_are at in
     let root = root_of_cell kept k found.0 found.1 in
     subst (λ cell. EachLeaf (λ gate. gate < 2 * forest.leaves + cell) tree) root.0
     (tree_reads forest kept is.in_order is.has_leaves found.0 (omega (arith, root.2)) tree found.2)
-
--- the deck of these parts
-deck_of : (network : NetworkData) (options : DeckOptions) (gates : GatesData) (signs : List Bool) (forest : ForestData) (kept : List Bool)
-    (trees : List (Tree ℕ)) (levels : List ℕ) → AreGatesOf network gates → AreChosen gates signs → IsForestOf gates signs forest
-    → IsChosenPlan forest options.width options.height kept trees → AreLevels (leaf_count network) trees levels
-    → (circuit : CircuitData) × IsChosenDeck network options circuit
-deck_of network options gates signs forest kept trees levels are_gates are_chosen is_forest is_plan levels_are = (
-  deck_circuit options.style network options.phases (cells_of options.phases levels trees) signs (map (end_at_cell kept) forest.ends),
-  record {
-    gates = gates;
-    signs = signs;
-    forest = forest;
-    kept = kept;
-    trees = trees;
-    levels = levels;
-    are_gates = are_gates;
-    are_chosen = are_chosen;
-    is_forest = is_forest;
-    is_chosen_plan = is_plan;
-    levels_are = levels_are;
-    circuit_is = refl;
-  },
-)
-
-pub decks_there : ChosenDecksAreThere
-decks_there = λ network options is wide tall.
-    let order = networks_are_ordered network is in
-    let gates = gates_there network order in
-    let in_place = network_gates_are_in_place network gates.0 order gates.1 in
-    let ordered = gates_are_ordered gates.0 in_place in
-    let signs = chosen_there gates.0 ordered in
-    let forest = forests_there gates.0 signs.0 in_place (chosen_settled gates.0 ordered signs.0 signs.1).one_each in
-    let stands = forests_are_in_place gates.0 signs.0 forest.0 in_place forest.1 in
-    let plan = chosen_plan_there forest.0 options.width options.height wide tall stands.in_order in
-    let leaves : (forest.0).leaves ≡ leaf_count network = (forest.1).leaves_are ∙ (gates.1).leaves_are in
-    let levels = levels_there (leaf_count network) plan.1
-    (subst (λ n. TreesReadBelow n plan.1) leaves (plan_reads forest.0 options.width options.height plan.0 plan.1 stands (plan.2).plan)) in
-    deck_of network options gates.0 signs.0 forest.0 plan.0 plan.1 levels.0 gates.1 signs.1 forest.1 plan.2 levels.1
 
 pub written_there : TextsAreThere
 written_there = λ circuit. by circuit (has_roles (take circuit.ports circuit.nets))
@@ -114,8 +79,57 @@ written_there = λ circuit. by circuit (has_roles (take circuit.ports circuit.ne
       },
     )
 
+-- a network has a deck of signs that its gates have
+module _ {AreSigns : GatesData → List Bool → Type 0} (network : NetworkData) (options : DeckOptions) (is : IsNetwork network) (wide : 2 ≤ options.width) (tall : 2 ≤ options.height) where
+  pub decks_of_signs_there : HaveSigns AreSigns network → (circuit : CircuitData) × IsDeckOfSigns AreSigns network options circuit
+  decks_of_signs_there have =
+      let order = networks_are_ordered network is in
+      let gates = gates_there network order in
+      let in_place = network_gates_are_in_place network gates.0 order gates.1 in
+      let signs = have gates.0 gates.1 in
+      let forest = forests_there gates.0 signs.0 in_place signs.2 in
+      let stands = forests_are_in_place gates.0 signs.0 forest.0 in_place forest.1 in
+      let plan = chosen_plan_there forest.0 options.width options.height wide tall stands.in_order in
+      let leaves : (forest.0).leaves ≡ leaf_count network = (forest.1).leaves_are ∙ (gates.1).leaves_are in
+      let levels = levels_there (leaf_count network) plan.1
+      (subst (λ n. ReadEarlierCells n plan.1) leaves (plan_reads forest.0 options.width options.height plan.0 plan.1 stands (plan.2).plan)) in (
+        deck_circuit options.style network options.phases (cells_of options.phases levels.0 plan.1) signs.0 (map (end_at_cell plan.0) (forest.0).ends),
+        record {
+          gates = gates.0;
+          signs = signs.0;
+          forest = forest.0;
+          kept = plan.0;
+          trees = plan.1;
+          levels = levels.0;
+          are_gates = gates.1;
+          are_chosen = signs.1;
+          is_forest = forest.1;
+          is_chosen_plan = plan.2;
+          levels_are = levels.1;
+          circuit_is = refl;
+        },
+      )
+
+  -- and the text of that deck
+  pub texts_of_signs_there : HaveSigns AreSigns network → (text : List ℕ) × IsTextOfSigns AreSigns text network options
+  texts_of_signs_there have =
+      let deck = decks_of_signs_there have in
+      let text = written_there deck.0 in
+      (text.0, record { circuit = deck.0; is_chosen = deck.1; written = text.1 })
+
+pub signed_decks_there : SignedDecksAreThere
+signed_decks_there = λ network options signs is one wide tall.
+    decks_of_signs_there network options is wide tall (λ gates are. (signs, refl, one ∙ sym (sinks_of_network network gates are)))
+
+-- the gates of a network have chosen signs
+pub chosen_signs : (network : NetworkData) → IsNetwork network → HaveSigns AreChosen network
+chosen_signs network is gates are =
+    let ordered = gates_are_ordered gates (network_gates_are_in_place network gates (networks_are_ordered network is) are) in
+    let signs = chosen_there gates ordered in
+    (signs.0, signs.1, (chosen_settled gates ordered signs.0 signs.1).one_each)
+
+pub decks_there : ChosenDecksAreThere
+decks_there = λ network options is wide tall. decks_of_signs_there network options is wide tall (chosen_signs network is)
+
 pub texts_there : SynthTextsAreThere
-texts_there = λ network options is wide tall.
-    let deck = decks_there network options is wide tall in
-    let text = written_there deck.0 in
-    (text.0, record { circuit = deck.0; is_chosen = deck.1; written = text.1 })
+texts_there = λ network options is wide tall. texts_of_signs_there network options is wide tall (chosen_signs network is)

@@ -16,15 +16,17 @@ use Rattle.phase_assign.proofs.ChosenSigns.{chosen_signs_one}
 use Rattle.tree_map.specs.LeastPlans.{IsChosenPlan}
 use Rattle.tree_map.proofs.PlanOne.{chosen_plan_one}
 use Rattle.clock_phase.specs.Levels.{AreLevels}
-use Rattle.deck_form.specs.ChosenDecks.{IsChosenDeck, end_at_cell}
+use Rattle.gate_decompose.specs.GatesData.{GatesData}
+use Rattle.deck_form.specs.ChosenDecks.{IsDeckOfSigns, end_at_cell}
+use Rattle.deck_form.specs.DeckTexts.{IsTextOfSigns}
 use Rattle.deck_form.specs.DeckOptions.{DeckOptions}
 use Rattle.deck_form.specs.DominoDecks.{cells_of, deck_circuit}
-use Rattle.plan_law.specs.Laws.{TreesReadBelow}
-use Rattle.plan_law.specs.OneText.{ChosenDecksAreOne, SynthTextsAreOne, TextsAreOne}
+use Rattle.plan_law.specs.OneText.{ChosenDecksAreOne, HaveOneSigns, SignedDecksAreOne, SynthTextsAreOne, TextsAreOne}
 use Rattle.plan_law.proofs.CellLevels.{levels_one}
 use Rattle.plan_law.proofs.DecksThere.{plan_reads}
 use Rattle.plan_law.proofs.OneForest.{forest_one}
 use Rattle.plan_law.proofs.OneGates.{gates_one}
+use Rattle.clock_phase.specs.Plans.{ReadEarlierCells}
 
 -- a circuit is written as one text
 pub texts_one : TextsAreOne
@@ -38,25 +40,26 @@ texts_one = λ c a b x y. by c a b x y (pointwise nat_eq a b) refl
         x.without_roles no_roles ∙ sym (y.without_roles no_roles)
 
 -- decks of the same gates: signs, forest, plan and levels are one by one the same
-module _ (network : NetworkData) (is : IsNetwork network) (options : DeckOptions) where
-  same_levels : (a b : CircuitData) (x : IsChosenDeck network options a) (y : IsChosenDeck network options b)
+module _ {AreSigns : GatesData → List Bool → Type 0} (network : NetworkData) (is : IsNetwork network) (options : DeckOptions) where
+  same_levels : (a b : CircuitData) (x : IsDeckOfSigns AreSigns network options a) (y : IsDeckOfSigns AreSigns network options b)
       → x.gates ≡ y.gates → x.signs ≡ y.signs → x.forest ≡ y.forest → x.kept ≡ y.kept → x.trees ≡ y.trees → a ≡ b
   same_levels a b x y gates signs forest kept trees =
       let in_place = network_gates_are_in_place network y.gates (networks_are_ordered network is) y.are_gates in
       let stands = forests_are_in_place y.gates y.signs y.forest in_place y.is_forest in
       let leaves : (y.forest).leaves ≡ leaf_count network = (y.is_forest).leaves_are ∙ (y.are_gates).leaves_are in
-      let below = subst (λ n. TreesReadBelow n y.trees) leaves (plan_reads y.forest options.width options.height y.kept y.trees stands (y.is_chosen_plan).plan) in
+      let below = subst (λ n. ReadEarlierCells n y.trees) leaves (plan_reads y.forest options.width options.height y.kept y.trees stands (y.is_chosen_plan).plan) in
       let levels : x.levels ≡ y.levels =
       levels_one (leaf_count network) y.trees below x.levels y.levels (subst (λ ts. AreLevels (leaf_count network) ts x.levels) trees x.levels_are) y.levels_are in
       x.circuit_is
       ∙ (λ i. deck_circuit options.style network options.phases (cells_of options.phases (levels i) (trees i)) (signs i) (map (end_at_cell (kept i)) ((forest i).ends)))
       ∙ sym y.circuit_is
 
-  deck_one : (a b : CircuitData) → IsChosenDeck network options a → IsChosenDeck network options b → a ≡ b
-  deck_one a b x y =
+  -- a network has one deck of signs that are one list
+  pub decks_of_signs_one : HaveOneSigns AreSigns network → (a b : CircuitData) → IsDeckOfSigns AreSigns network options a → IsDeckOfSigns AreSigns network options b → a ≡ b
+  decks_of_signs_one one a b x y =
       let order = networks_are_ordered network is in
       let gates : x.gates ≡ y.gates = gates_one network order x.gates y.gates x.are_gates y.are_gates in
-      let signs : x.signs ≡ y.signs = chosen_signs_one y.gates x.signs y.signs (subst (λ g. AreChosen g x.signs) gates x.are_chosen) y.are_chosen in
+      let signs : x.signs ≡ y.signs = one y.gates x.signs y.signs y.are_gates (subst (λ g. AreSigns g x.signs) gates x.are_chosen) y.are_chosen in
       let forest : x.forest ≡ y.forest =
       forest_one y.gates y.signs x.forest y.forest (subst (λ g. IsForestOf g y.signs x.forest) gates (subst (λ s. IsForestOf x.gates s x.forest) signs x.is_forest)) y.is_forest in
       let in_place = network_gates_are_in_place network y.gates order y.are_gates in
@@ -65,10 +68,21 @@ module _ (network : NetworkData) (is : IsNetwork network) (options : DeckOptions
       (subst (λ f. IsChosenPlan f options.width options.height x.kept x.trees) forest x.is_chosen_plan) y.is_chosen_plan in
       same_levels a b x y gates signs forest plan.0 plan.1
 
+  -- and one text of it
+  pub texts_of_signs_one : HaveOneSigns AreSigns network → (a b : List ℕ) → IsTextOfSigns AreSigns a network options → IsTextOfSigns AreSigns b network options → a ≡ b
+  texts_of_signs_one one a b x y =
+      let same = decks_of_signs_one one x.circuit y.circuit x.is_chosen y.is_chosen in
+      texts_one y.circuit a b (subst (λ c. IsWritten c a) same x.written) y.written
+
+pub signed_decks_one : SignedDecksAreOne
+signed_decks_one = λ network options signs a b is. decks_of_signs_one network is options (λ gates x y are xs ys. xs ∙ sym ys) a b
+
+-- the chosen signs are one list
+pub chosen_one : (network : NetworkData) → HaveOneSigns AreChosen network
+chosen_one network gates a b are xs ys = chosen_signs_one gates a b xs ys
+
 pub decks_one : ChosenDecksAreOne
-decks_one = λ network options a b is x y. deck_one network is options a b x y
+decks_one = λ network options a b is. decks_of_signs_one network is options (chosen_one network) a b
 
 pub synth_texts_one : SynthTextsAreOne
-synth_texts_one = λ network options a b is x y.
-    let same = decks_one network options x.circuit y.circuit is x.is_chosen y.is_chosen in
-    texts_one y.circuit a b (subst (λ c. IsWritten c a) same x.written) y.written
+synth_texts_one = λ network options a b is. texts_of_signs_one network is options (chosen_one network) a b

@@ -19,37 +19,9 @@ use Rattle.dual_rail.specs.declared.forest.Pair.{Pair}
 use Rattle.dual_rail.specs.declared.forest.Pair.TheVariants.{And, Or}
 use Rattle.dual_rail.specs.ForestData.{ForestData}
 use Rattle.dual_rail.specs.Forests.{IsArm, IsEndOf, IsForestOf, IsPairOf, arm_uses, end_uses}
-use Rattle.dual_rail.proofs.TargetsOf.{asks_opposite}
+use Rattle.dual_rail.proofs.TargetsOf.{asks_one, asks_opposite}
 use Rattle.dual_rail.proofs.Zips.{get_some}
 use Rattle.plan_law.proofs.BuiltLists.{lists_same}
-
--- an operator isn't a Not
-not_gate : (nodes : List Node) (n m : ℕ) (a b c : Ref) → IsGateNode nodes n a b → n ≡ m → slice_get nodes m ≡ Some (not_node c) → ⊥
-not_gate nodes n m a b c (inl e) same f = let x : and_node a b ≡ not_node c = same_Some _ _ (sym e ∙ ap (slice_get nodes) same ∙ f) in absurd (cc)
-not_gate nodes n m a b c (inr e) same f = let x : or_node a b ≡ not_node c = same_Some _ _ (sym e ∙ ap (slice_get nodes) same ∙ f) in absurd (cc)
-
--- a reference with a sign asks for one thing
-asks_one : (nodes : List Node) {r q : Ref} {s t : Bool} {x y : Asked} → AsksFor nodes r s x → AsksFor nodes q t y → r ≡ q → s ≡ t → x ≡ y
-asks_one nodes (constant {b = b} {sign = s}) (constant {b = c} {sign = t}) same sign = let bit : b ≡ c = cc in ap₂ (λ u v. Value (signed u v)) sign bit
-asks_one nodes constant leaf same sign = absurd (cc)
-asks_one nodes constant (gate is) same sign = absurd (cc)
-asks_one nodes constant (under at more) same sign = absurd (cc)
-asks_one nodes leaf constant same sign = absurd (cc)
-asks_one nodes (leaf {k = k}) (leaf {k = m}) same sign = let number : k ≡ m = cc in ap₂ Literal number sign
-asks_one nodes leaf (gate is) same sign = absurd (cc)
-asks_one nodes leaf (under at more) same sign = absurd (cc)
-asks_one nodes (gate is) constant same sign = absurd (cc)
-asks_one nodes (gate is) leaf same sign = absurd (cc)
-asks_one nodes (gate {n = n} is) (gate {n = m} are) same sign = let number : n ≡ m = cc in ap₂ asked_pair number sign
-asks_one nodes (gate {n = n} {a = a} {b = b} is) (under {n = m} {a = c} at more) same sign = let number : n ≡ m = cc in absurd (not_gate nodes n m a b c is number at)
-asks_one nodes (under at more) constant same sign = absurd (cc)
-asks_one nodes (under at more) leaf same sign = absurd (cc)
-asks_one nodes (under {n = n} {a = c} at more) (gate {n = m} {a = a} {b = b} is) same sign = let number : m ≡ n = cc in absurd (not_gate nodes m n a b c is number at)
-asks_one nodes (under {n = n} {a = a} at more) (under {n = m} {a = b} at' more') same sign =
-    let number : n ≡ m = cc in
-    let node : not_node a ≡ not_node b = same_Some _ _ (sym at ∙ ap (slice_get nodes) number ∙ at') in
-    let part : a ≡ b = cc in
-    asks_one nodes more more' part (ap not sign)
 
 precedes_itself : (p : ℕ × Bool) → Precedes p p → ⊥
 precedes_itself p (inl a) = omega arith

@@ -1,11 +1,11 @@
 -- What each network has: gates, a forest under any signs, levels of the cells of any plan, the deck of the chosen signs and the chosen
 -- plan, and its text; so that a file is refused or has a text (Rabaey, Digital Integrated Circuits: domino logic; Puri, Bjorksten, Rosser 1996; Zhao, Sapatnekar 1998).
-use Rattle.std.specs.Prelude.{ℕ, ◌+◌, ◌*◌, ◌≤◌, ◌<◌, ◌≡◌, ◌⊎◌, Bool, List, length, Some, slice_get}
+use Rattle.std.specs.Prelude.{ℕ, ◌+◌, ◌≤◌, ◌≡◌, ◌⊎◌, Bool, List, length}
 use Rattle.blif_ast.specs.BlifFileData.{BlifFileData}
 use Rattle.blif_ast.specs.Good.{IsGoodFile}
 use Rattle.deck.specs.CircuitData.{CircuitData}
 use Rattle.spice_text.specs.Text.{IsWritten}
-use Rattle.sp_network.specs.Tree.{Tree, EachLeaf}
+use Rattle.sp_network.specs.Tree.{Tree}
 use Rattle.net_flatten.specs.Flattening.{IsNetworkOf}
 use Rattle.network.specs.NetworkData.{NetworkData}
 use Rattle.network.specs.Networks.{IsNetwork}
@@ -18,7 +18,8 @@ use Rattle.gate_decompose.specs.NetworkOrder.{IsOrderedNetwork}
 use Rattle.dual_rail.specs.ForestData.{ForestData}
 use Rattle.dual_rail.specs.Forests.{IsForestOf}
 use Rattle.clock_phase.specs.Levels.{AreLevels}
-use Rattle.deck_form.specs.ChosenDecks.{IsChosenDeck}
+use Rattle.clock_phase.specs.Plans.{ReadEarlierCells}
+use Rattle.deck_form.specs.ChosenDecks.{AreGiven, IsChosenDeck, IsDeckOfSigns}
 use Rattle.deck_form.specs.DeckOptions.{DeckOptions}
 use Rattle.deck_form.specs.DeckTexts.{IsSynthText}
 
@@ -32,17 +33,24 @@ ForestsAreThere =
     (gates : GatesData) (signs : List Bool) → AreInPlace gates → length signs ≡ length gates.sinks
     → (forest : ForestData) × IsForestOf gates signs forest
 
--- each tree reads only rails, of so many leaves, and cells before its own
-abbrev pub TreesReadBelow : ℕ → List (Tree ℕ) → Type 0
-TreesReadBelow leaf_count trees =
-    (k : ℕ) (tree : Tree ℕ) → slice_get trees k ≡ Some tree → EachLeaf (λ gate. gate < 2 * leaf_count + k) tree
-
--- the cells of such trees have levels
+-- the cells of trees that read only rails, of so many leaves, and cells before their own have levels
 abbrev pub LevelsAreThere : Type 0
 LevelsAreThere =
-    (leaf_count : ℕ) (trees : List (Tree ℕ)) → TreesReadBelow leaf_count trees → (levels : List ℕ) × AreLevels leaf_count trees levels
+    (leaf_count : ℕ) (trees : List (Tree ℕ)) → ReadEarlierCells leaf_count trees → (levels : List ℕ) × AreLevels leaf_count trees levels
 
--- a network has a deck of the chosen signs and the chosen plan, within any bounds of at least 2
+-- the gates of a network have signs that are as wanted, one for each sink
+abbrev pub HaveSigns : (GatesData → List Bool → Type 0) → NetworkData → Type 0
+HaveSigns AreSigns network =
+    (gates : GatesData) → AreGatesOf network gates → (signs : List Bool) × AreSigns gates signs × (length signs ≡ length gates.sinks)
+
+-- a network has a deck of any signs, one for each output and each latch, and the chosen plan, within any bounds of at least 2
+abbrev pub SignedDecksAreThere : Type 0
+SignedDecksAreThere =
+    (network : NetworkData) (options : DeckOptions) (signs : List Bool) → IsNetwork network
+    → length signs ≡ length network.outputs + length network.latches → 2 ≤ options.width → 2 ≤ options.height
+    → (circuit : CircuitData) × IsDeckOfSigns (AreGiven signs) network options circuit
+
+-- and one of the chosen signs
 abbrev pub ChosenDecksAreThere : Type 0
 ChosenDecksAreThere =
     (network : NetworkData) (options : DeckOptions) → IsNetwork network → 2 ≤ options.width → 2 ≤ options.height

@@ -5,11 +5,12 @@ ghost use Rattle.plan_law.specs.Laws.{
   ForestsAreThere,
   GatesAreThere,
   LevelsAreThere,
+  SignedDecksAreThere,
   SynthTextsAreThere,
   TextsAreThere,
 };
 ghost use Rattle.plan_law.specs.LeastDecks.{ChosenDecksAreLeast};
-ghost use Rattle.plan_law.specs.OneText.{ChosenDecksAreOne, SynthTextsAreOne, TextsAreOne};
+ghost use Rattle.plan_law.specs.OneText.{ChosenDecksAreOne, SignedDecksAreOne, SynthTextsAreOne, TextsAreOne};
 
 /// A network has gates, gates have a forest under any signs, and the cells of trees that read only
 /// cells before them have levels.
@@ -19,17 +20,19 @@ pub fn parts_are_there()
     ensures levels { LevelsAreThere }
 {}
 
-/// Each network has the deck of the chosen signs and the chosen plan, for a width and a height of at
-/// least 2, and the text that synthesis gives of it.
+/// Each network has a deck of any signs and the chosen plan, for a width and a height of at least 2, so
+/// that of the chosen signs, and the text that synthesis gives of it.
 pub fn decks_are_there()
+    ensures signed { SignedDecksAreThere }
     ensures decks { ChosenDecksAreThere }
     ensures written { TextsAreThere }
     ensures texts { SynthTextsAreThere }
 {}
 
-/// A network has one deck of the chosen signs and the chosen plan with the same options, and one text:
-/// what synthesis gives is decided by the network and the options.
+/// A network has one deck of the same signs and the chosen plan with the same options, so one of the
+/// chosen signs, and one text: what synthesis gives is decided by the network and the options.
 pub fn decks_are_one()
+    ensures signed { SignedDecksAreOne }
     ensures decks { ChosenDecksAreOne }
     ensures written { TextsAreOne }
     ensures texts { SynthTextsAreOne }

@@ -28,7 +28,8 @@ use Rattle.deck_form.specs.DominoDecks.{cells_of, deck_circuit, outs_of, phases_
 use Rattle.synth_flow.specs.MadeCircuits.{made_deck, sinks_of}
 use Rattle.synth_flow.specs.MadeDecks.{port_net}
 use Rattle.deck_form.specs.NamedDecks.{names_complement}
-use Rattle.synth_flow.specs.SinkParts.{HasCell, end_in, phase_of_sink}
+use Rattle.dual_rail.specs.Uses.{IsEndThere}
+use Rattle.synth_flow.specs.SinkParts.{end_in, phase_of_sink}
 use Rattle.synth_flow.proofs.MadeAsNamed.{data_rows, leaves_named, made_named}
 
 -- each plan with the clock of its level
@@ -43,7 +44,7 @@ cells_same f (p ∷ plans) (l ∷ levels) e =
     λ i. record { tree = tree_of p.tree; clock = clock i } ∷ rest i
 
 -- each end by the number of its cell
-ends_same : (kept : List Bool) (ends : List End) → AllByRecursion (HasCell (length kept)) ends
+ends_same : (kept : List Bool) (ends : List End) → AllByRecursion (IsEndThere (length kept)) ends
     → map (end_in (map (cell_of kept) (range_with_len 0 (length kept)))) ends ≡ map (end_at_cell kept) ends
 ends_same kept [] low = refl
 ends_same kept (e ∷ ends) low = ap₂ (λ a l. a ∷ l) (one e low.0) (ends_same kept ends low.1)
@@ -51,7 +52,7 @@ ends_same kept (e ∷ ends) low = ap₂ (λ a l. a ∷ l) (one e low.0) (ends_sa
     number : (place : ℕ) → place < length kept → slice_index_or (map (cell_of kept) (range_with_len 0 (length kept))) place 0 ≡ cell_of kept place
     number place lt = get_or-map-range_with_len (cell_of kept) 0 (length kept) place place 0 lt (omega arith)
 
-    one : (x : End) → HasCell (length kept) x → end_in (map (cell_of kept) (range_with_len 0 (length kept))) x ≡ end_at_cell kept x
+    one : (x : End) → IsEndThere (length kept) x → end_in (map (cell_of kept) (range_with_len 0 (length kept))) x ≡ end_at_cell kept x
     one (Const b) h = refl
     one (Literal rail) h = refl
     one (FromDynamic place) h = ap OfDynamic (number place h)
@@ -59,7 +60,7 @@ ends_same kept (e ∷ ends) low = ap₂ (λ a l. a ∷ l) (one e low.0) (ends_sa
 
 -- the circuit is the deck of these trees, levels, signs and ends
 pub made_is_deck : (network : NetworkData) (phases : ℕ) (signs : List Bool) (plans : List GatePlan) (levels : List ℕ) (ends : List End) (kept : List Bool)
-    → map (λ (p : GatePlan). p.clock) plans ≡ map (clock_of phases (greatest levels)) levels → All (HasCell (length kept)) ends
+    → map (λ (p : GatePlan). p.clock) plans ≡ map (clock_of phases (greatest levels)) levels → All (IsEndThere (length kept)) ends
     → ((k : ℕ) (p : GatePlan) → slice_get plans k ≡ Some p → EachLeaf (λ gate. gate < 2 * leaf_count network + k) (tree_of p.tree))
     → made_deck network phases signs plans ends (map (cell_of kept) (range_with_len 0 (length kept)))
     ≡ deck_circuit WithKeeper network phases (cells_of phases levels (plan_trees plans)) signs (map (end_at_cell kept) ends)
@@ -78,7 +79,7 @@ made_is_deck network phases signs plans levels ends kept clocks low earlier =
     let leaves : named_leaves plans ends (length pins + length starts) ≡ filter (names_complement (map cell_plan plans) (map (end_in numbers) ends)) (range_with_len 0 (leaf_count network))
     = ap (named_leaves plans ends) lc ∙ leaves_named plans ends numbers (leaf_count network) in
     let cells : map cell_plan plans ≡ cells_of phases levels (plan_trees plans) = cells_same (clock_of phases (greatest levels)) plans levels clocks in
-    let taken = ends_same kept ends (recursion_from_All (HasCell (length kept)) ends low) in
+    let taken = ends_same kept ends (recursion_from_All (IsEndThere (length kept)) ends low) in
     (λ i. with_devices (new_circuit (escaped network.name) (map phase_of_sink (zip (nets i) signs)) phases pins outs) (made_devices pins (sinks i) starts plans ends numbers))
     ∙ (λ i. with_devices (new_circuit (escaped network.name) (phases_of_sinks network signs) phases pins outs) (named i))
     ∙ (λ i. with_devices (new_circuit (escaped network.name) (phases_of_sinks network signs) phases pins outs) (named_devices WithKeeper pins outs starts (map cell_plan plans) (leaves i) (map (end_in numbers) ends)))

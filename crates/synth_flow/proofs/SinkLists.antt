@@ -1,6 +1,5 @@
 -- Lists of sinks and of cells, item by item.
-use Rattle.std.proofs.Common.{◌≡◌, ℕ, zero, suc, ◌+◌, ◌≤◌, ◌<◌, Bool, true, false, not, cond, List, [], ◌∷◌, ◌++◌, length, map, take, zip, get_or, count_by, Some, slice_get, refl, ap, ◌∙◌, arith, add-one}
-use Rattle.std.proofs.lemmas.List.Sums.{sum_by-cons}
+use Rattle.std.proofs.Common.{◌≡◌, ℕ, zero, suc, ◌+◌, ◌≤◌, ◌<◌, Bool, List, [], ◌∷◌, ◌++◌, length, map, take, zip, get_or, Some, slice_get, refl, ap, ◌∙◌, arith, add-one}
 use Rattle.dom_base.proofs.Lists.{map-push}
 use Rattle.std.proofs.lemmas.Option.{slice_get-get_or}
 use Rattle.synth_flow.specs.SinkParts.{phase_of_sink}
@@ -29,14 +28,3 @@ all_zipped (x ∷ xs) [] zero low = refl
 all_zipped (x ∷ xs) [] (suc k) low = refl
 all_zipped (x ∷ xs) (y ∷ ys) zero low = absurd (omega arith)
 all_zipped (x ∷ xs) (y ∷ ys) (suc k) low = ap (λ l. (x, y) ∷ l) (all_zipped xs ys k (omega arith))
-
--- how many roots stand before the next pair
-pub roots_more : (kept : List Bool) (k : ℕ) (d : Bool) → k < length kept → count_by not (take (k + 1) kept) ≡ count_by not (take k kept) + cond (get_or kept k d) 0 1
-roots_more kept k d low = ap (λ n. count_by not (take n kept)) (add-one k) ∙ by kept k low
-  where
-    by : (xs : List Bool) (i : ℕ) → i < length xs → count_by not (take (suc i) xs) ≡ count_by not (take i xs) + cond (get_or xs i d) 0 1
-    by [] i lt = absurd (omega arith)
-    by (true ∷ xs) zero lt = refl
-    by (false ∷ xs) zero lt = refl
-    by (x ∷ xs) (suc i) lt =
-        omega (arith, by xs i (omega arith), sum_by-cons (λ z. cond (not z) 1 0) x (take (suc i) xs), sum_by-cons (λ z. cond (not z) 1 0) x (take i xs))

@@ -9,7 +9,7 @@ use Rattle.std.proofs.lemmas.List.Elements.{All-weaker}
 use Rattle.dual_rail.specs.ForestOrder.{IsEndOfForest, IsForest}
 use Rattle.dual_rail.specs.declared.forest.End.{End}
 use Rattle.dual_rail.specs.declared.forest.End.TheVariants.{Const, Literal, FromDynamic, FromOutput}
-use Rattle.synth_flow.specs.SinkParts.{HasCell}
+use Rattle.dual_rail.specs.Uses.{IsEndThere}
 use Rattle.dual_rail.proofs.Zips.{all_zip_back, all_from}
 use Rattle.sp_network.specs.Tree.{Tree, EachLeaf, Leaf}
 use Rattle.sp_network.specs.TypedTree.{tree_of}
@@ -68,11 +68,11 @@ clocks_fit leaves phases trees levels plans some is same =
 pub ruleset synth_facts = (reads_earlier, few_trees, cheap_trees, plans_are, clocks_fit)
 
 -- ends that name pairs name cells
-pub ends_have_cells : (forest : ForestData) (n : ℕ) → n ≡ length forest.pairs → All (IsEndOfForest forest) forest.ends → All (HasCell n) forest.ends
+pub ends_have_cells : (forest : ForestData) (n : ℕ) → n ≡ length forest.pairs → All (IsEndOfForest forest) forest.ends → All (IsEndThere n) forest.ends
 ends_have_cells forest n same =
-    All-weaker (IsEndOfForest forest) (HasCell n) one forest.ends
+    All-weaker (IsEndOfForest forest) (IsEndThere n) one forest.ends
   where
-    one : (e : End) → IsEndOfForest forest e → HasCell n e
+    one : (e : End) → IsEndOfForest forest e → IsEndThere n e
     one (Const b) h = tt
     one (Literal rail) h = tt
     one (FromDynamic place) h = omega (arith, h, same)

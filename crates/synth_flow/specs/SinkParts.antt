@@ -1,5 +1,5 @@
 -- The sinks of a deck, as the code holds them.
-use Rattle.std.specs.Prelude.{ℕ, ◌<◌, Bool, List, slice_index_or}
+use Rattle.std.specs.Prelude.{ℕ, Bool, List, slice_index_or}
 use Rattle.deck.specs.declared.phase.Phase.{Phase}
 use Rattle.dual_rail.specs.declared.forest.End.{End}
 use Rattle.dual_rail.specs.declared.forest.End.TheVariants.{Const, Literal, FromDynamic, FromOutput}
@@ -8,13 +8,6 @@ use Rattle.deck_form.specs.DeckNets.{SinkEnd, Fixed, OfLeaf, OfDynamic, OfOutput
 -- the phase of a sink, by its net and its sign
 abbrev pub phase_of_sink : List ℕ × Bool → Phase
 phase_of_sink p = record { net = p.0; plus = p.1 }
-
--- a pair that an end names is one of so many
-abbrev pub HasCell : ℕ → End → Type 0
-HasCell pairs (Const b) = Unit {0}
-HasCell pairs (Literal rail) = Unit {0}
-HasCell pairs (FromDynamic place) = place < pairs
-HasCell pairs (FromOutput place) = place < pairs
 
 -- what a sink is taken from, where pair by pair the number of its cell is given
 abbrev pub end_in : List ℕ → End → SinkEnd

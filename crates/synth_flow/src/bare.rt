@@ -4,7 +4,7 @@ ghost use Rattle.gate_decompose.specs.Sinks.{leaf_count};
 ghost use Rattle.sp_network.specs.declared.plan.GatePlan.{GatePlan};
 ghost use Rattle.synth_flow.specs.BareDecks.{ArePlans};
 ghost use Rattle.synth_flow.specs.MadeCircuits.{made_deck};
-ghost use Rattle.synth_flow.specs.SinkParts.{HasCell};
+ghost use Rattle.dual_rail.specs.Uses.{IsEndThere};
 
 use crate::groups::push_deck;
 use crate::names::{escaped_name, out_names, pin_names};
@@ -47,7 +47,7 @@ pub fn deck_of(
     requires signs { length signs.now ≡ length network.now.outputs + length network.now.latches }
     requires plans { ArePlans (leaf_count network.now) plans.now }
     requires clocks_are { All (λ (p : GatePlan). (1 ≤ p.clock) × (p.clock ≤ clocks)) plans.now }
-    requires ends { All (HasCell (length cells.now)) ends.now }
+    requires ends { All (IsEndThere (length cells.now)) ends.now }
     requires one_end { length ends.now ≡ length network.now.outputs + length network.now.latches }
     ensures { IfOk result (λ c. c ≡ made_deck network.now clocks signs.now plans.now ends.now cells.now) }
 {

@@ -11,9 +11,8 @@ ghost use Rattle.synth_flow.specs.NamedComplements.{MarksAlso, is_plus_end};
 ghost use Rattle.deck_form.specs.NamedDecks.{reads};
 
 use crate::complements::{mark_ends, mark_gate};
-use crate::counts::AROUND_TREE;
 use dual_rail::{Arm, Forest};
-use tree_map::{arms_of, gate_of};
+use tree_map::{CELL_COST, gate_of};
 
 /// What is counted of a tree: its leaves, as far as a number of 32 bits goes, and the greatest level of the cells that
 /// it reads, or 0.
@@ -83,7 +82,7 @@ fn pair_count(
     ensures marks { (tree : Tree ℕ) → IsTreeOf forest.now kept.now place tree
         → MarksAlso marks.old marks.new (λ leaf. reads (2 * leaf + 1) tree) }
 {
-    let (left, right) = arms_of(forest.pairs[place]);
+    let (left, right) = forest.pairs[place].arms();
     let first = arm_count(forest, kept, cells, levels, marks, left);
     let second = arm_count(forest, kept, cells, levels, marks, right);
     first.with(second)
@@ -151,7 +150,7 @@ fn count_trees(
     'cells: for k in 0..places.len() {
         let count = pair_count(forest, kept, cells, levels, marks, places[k]);
         levels[k] = 1 + count.level;
-        sum += u64::from(count.leaves) + AROUND_TREE;
+        sum += u64::from(count.leaves) + CELL_COST as u64;
     }
     sum
 }

@@ -6,9 +6,9 @@ ghost use Rattle.tree_map.specs.MappedCover.{plan_trees};
 ghost use Rattle.tree_map.specs.Plans.{cost};
 ghost use Rattle.synth_flow.specs.MadeDecks.{AreGated, HasRoomForCells, cells_from};
 
-use deck::Circuit;
+use deck::{Circuit, reserve_nets};
 use dom_base::{NetName, OutOfMemory};
-use domino_cell::{CellNames, push_numbered_domino, reserve_nets};
+use domino_cell::{CellNames, push_numbered_domino};
 use sp_network::GatePlan;
 use std::alloc::Global;
 

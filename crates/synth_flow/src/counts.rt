@@ -8,9 +8,6 @@ use clock_phase::clock_of_level;
 use dom_base::OutOfMemory;
 use std::alloc::Global;
 
-/// What a cell has besides the leaves of its tree: precharge, keeper, foot and inverter.
-pub const AROUND_TREE: u64 = 5;
-
 /// How many signs are minus.
 pub fn minus_count(signs: &[bool]) -> u32
     requires { length signs.now < 2 ^ 32 }

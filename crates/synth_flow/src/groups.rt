@@ -6,7 +6,7 @@ ghost use Rattle.network.specs.declared.network.NetLatch.{NetLatch};
 ghost use Rattle.synth_flow.specs.BareDecks.{ArePlans, IsBareDeck, gate_nets, made_devices};
 ghost use Rattle.deck_form.specs.DeckNets.{complement_net, own_net};
 ghost use Rattle.synth_flow.specs.MadeDecks.{HasRoomForInverters, cells_from, inverters};
-ghost use Rattle.synth_flow.specs.SinkParts.{HasCell};
+ghost use Rattle.dual_rail.specs.Uses.{IsEndThere};
 
 use crate::cells::push_cells;
 use crate::complements::complements;
@@ -96,7 +96,7 @@ pub fn push_deck(
     requires few_sinks { length sinks.now ≤ 8192 }
     requires few_latches { length latches.now ≤ 8192 }
     requires plans { ArePlans (length pins.now + length latches.now) plans.now }
-    requires ends { All (HasCell (length cells.now)) ends.now }
+    requires ends { All (IsEndThere (length cells.now)) ends.now }
     requires one_end { length ends.now ≡ length sinks.now }
     ensures { OnOk result (circuit.new ≡ with_devices circuit.old
         (made_devices pins.now sinks.now (map (λ (l : NetLatch). l.init) latches.now) plans.now ends.now cells.now)) }

@@ -15,14 +15,12 @@ mod groups;
 mod inverters;
 mod latches;
 mod names;
-mod report;
 mod sinks;
 mod summaries;
 mod synthesis;
 
 pub use deck_form::{SynthOptions, decks_are_domino};
 pub use figure_laws::devices_are_counted;
-pub use figures::Summary;
-pub use report::append_summary;
+pub use figures::{Summary, append_summary};
 pub use summaries::summary;
-pub use synthesis::synth;
+pub use synthesis::{synth, synth_signs};

@@ -7,9 +7,8 @@ ghost use Rattle.deck.specs.PortNames.{IsByteName};
 ghost use Rattle.deck_form.specs.DeckNets.{complement_net, named_gate, own_net};
 ghost use Rattle.synth_flow.specs.MadeDecks.{port_net};
 
-use deck::esc;
+use deck::{copied, esc, numbered_name};
 use dom_base::{Name, NameBytes, NetName, OutOfMemory, append_to_name};
-use latch_bind::numbered_name;
 use std::alloc::Global;
 
 /// A net with the name of a signal: a front, and the escaped name.
@@ -53,13 +52,6 @@ pub fn out_names(
         outs.push(escaped_name(alloc, b"o_", &names[*signal as usize])?)?;
     }
     Ok(outs)
-}
-
-/// A copy of a name, by the allocator of its bytes.
-pub fn copied(name: &NetName) -> Result<NetName, OutOfMemory>
-    ensures { IfOk result (λ copy. copy ≡ name.now) }
-{
-    Ok(name.clone()?)
 }
 
 /// Copies of names.

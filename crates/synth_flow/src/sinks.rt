@@ -1,15 +1,14 @@
 //! The nets of sinks, and the nets that gate their inverters.
 ghost use Rattle.std.specs.Prelude.{◌≡◌, ◌≤◌, ◌<◌, ◌+◌, ◌^◌, ◌++◌, All, IfOk, length, map};
 ghost use Rattle.std.specs.List.{range_with_len, zip};
-ghost use Rattle.tree_map.specs.Plans.{cell_of};
 ghost use Rattle.deck_form.specs.DeckNets.{data_net, sink_gate};
-ghost use Rattle.synth_flow.specs.SinkParts.{HasCell, end_in, phase_of_sink};
+ghost use Rattle.dual_rail.specs.Uses.{IsEndThere};
+ghost use Rattle.synth_flow.specs.SinkParts.{end_in, phase_of_sink};
 
-use crate::names::{complement_name, copied, copied_names, own_name};
-use deck::Phase;
+use crate::names::{complement_name, copied_names, own_name};
+use deck::{Phase, copied, fixed_name, numbered_name};
 use dom_base::{NetName, OutOfMemory};
 use dual_rail::{End, Rail};
-use latch_bind::{joined_name, numbered_name};
 use std::alloc::Global;
 
 /// The nets of the sinks: the outputs, and the data of each of so many latches.
@@ -43,23 +42,6 @@ pub fn phases(alloc: Global, nets: &[NetName], signs: &[bool]) -> Result<Vec<Pha
     Ok(phases)
 }
 
-/// Pair by pair the number of the cell whose root it would be: how many roots stand before it. A pair
-/// that isn't kept in the tree above it is a root.
-pub fn cell_numbers(alloc: Global, kept: &[bool]) -> Result<Vec<u32>, OutOfMemory>
-    requires { length kept.now < 2 ^ 32 }
-    ensures { IfOk result (λ cells. cells.items ≡ map (cell_of kept.now) (range_with_len 0 (length kept.now))) }
-{
-    let mut cells = Vec::with_capacity(alloc, kept.len())?;
-    let mut next = 0;
-    'pairs: for place in 0..kept.len() {
-        cells.push(next)?;
-        if !kept[place] {
-            next += 1;
-        }
-    }
-    Ok(cells)
-}
-
 /// The net that gates the inverter of a sink: the supply of the other value, the opposite rail of a
 /// literal, or the dynamic net or the output of the pair's cell.
 fn sink_gate_name(
@@ -68,12 +50,12 @@ fn sink_gate_name(
     cells: &[u32],
     end: End,
 ) -> Result<NetName, OutOfMemory>
-    requires { HasCell (length cells.now) end }
+    requires { IsEndThere (length cells.now) end }
     ensures { IfOk result (λ gate. gate ≡ sink_gate pins.now (end_in cells.now end)) }
 {
     match end {
-        End::Const(false) => joined_name(alloc, b"vdd", b""),
-        End::Const(true) => joined_name(alloc, b"vss", b""),
+        End::Const(false) => fixed_name(alloc, b"vdd"),
+        End::Const(true) => fixed_name(alloc, b"vss"),
         End::Literal(Rail { leaf, plus: true }) => complement_name(alloc, leaf),
         End::Literal(Rail { leaf, plus: false }) => own_name(alloc, pins, leaf),
         End::FromDynamic(place) => numbered_name(alloc, b"d", cells[place as usize]),
@@ -88,7 +70,7 @@ pub fn sink_gate_names(
     cells: &[u32],
     ends: &[End],
 ) -> Result<Vec<NetName>, OutOfMemory>
-    requires { All (HasCell (length cells.now)) ends.now }
+    requires { All (IsEndThere (length cells.now)) ends.now }
     ensures { IfOk result (λ gates. gates.items ≡ map (sink_gate pins.now) (map (end_in cells.now) ends.now)) }
 {
     let mut gates = Vec::with_capacity(alloc, ends.len())?;

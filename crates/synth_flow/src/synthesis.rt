@@ -1,20 +1,80 @@
 //! The circuit of a network.
-ghost use Rattle.std.specs.Prelude.{◌≤◌, IfOk};
-ghost use Rattle.deck_form.specs.ChosenDecks.{IsChosenDeck};
+ghost use Rattle.std.specs.Prelude.{◌≤◌, ◌≡◌, ◌+◌, length, IfOk};
+ghost use Rattle.dual_rail.specs.Forests.{IsForestOf};
+ghost use Rattle.gate_decompose.specs.GateNodes.{AreGatesOf};
+ghost use Rattle.gate_decompose.specs.GatesData.{GatesData};
+ghost use Rattle.deck_form.specs.ChosenDecks.{AreGiven, IsChosenDeck, IsDeckOfSigns};
 ghost use Rattle.deck_form.specs.AskedOptions.{deck_options};
 
 use crate::bare::deck_of;
 use crate::clocked::clocked;
-use crate::sinks::cell_numbers;
 use deck::Circuit;
 use deck_form::SynthOptions;
 use dom_base::OutOfMemory;
-use dual_rail::rails;
+use dual_rail::{Forest, rails};
 use gate_decompose::decompose;
 use network::Network;
 use phase_assign::assign;
 use std::alloc::Global;
 use tree_map::{Cover, cover};
+
+/// The circuit of a network under signs, where this is the forest of its gates under them.
+fn deck_of_forest(
+    alloc: Global,
+    network: &Network,
+    signs: &[bool],
+    forest: &Forest,
+    options: SynthOptions,
+) -> Result<Circuit, OutOfMemory>
+    requires some_width { 2 ≤ options.bounds.w }
+    requires few_wide { options.bounds.w ≤ 8 }
+    requires some_height { 2 ≤ options.bounds.h }
+    requires few_high { options.bounds.h ≤ 6 }
+    requires some_phase { 1 ≤ options.phases }
+    requires few_phases { options.phases ≤ 4 }
+    requires forest { (gates : GatesData) × AreGatesOf network.now gates × IsForestOf gates signs.now forest.now }
+    ensures { IfOk result (λ circuit. (gates : GatesData) → AreGatesOf network.now gates → IsForestOf gates signs.now forest.now
+        → IsDeckOfSigns (λ g s. (g ≡ gates) × (s ≡ signs.now)) network.now (deck_options options) circuit) }
+{
+    let Cover { kept, cells, plans } = cover(alloc, forest, options.bounds)?;
+    drop(kept);
+    let plans = clocked(alloc, plans, forest.leaves, options.phases)?;
+    let circuit = deck_of(
+        alloc,
+        network,
+        options.phases,
+        signs,
+        plans.as_slice(),
+        forest.ends.as_slice(),
+        cells.as_slice(),
+    )?;
+    Ok(circuit)
+}
+
+/// The circuit of a network for signs, one for each output and each latch (true is plus): a domino deck
+/// of the chosen cover of the pairs that these signs need, by trees within the bounds and on so many
+/// clocks. The one error is out of memory.
+pub fn synth_signs(
+    alloc: Global,
+    network: &Network,
+    options: SynthOptions,
+    signs: &[bool],
+) -> Result<Circuit, OutOfMemory>
+    requires some_width { 2 ≤ options.bounds.w }
+    requires few_wide { options.bounds.w ≤ 8 }
+    requires some_height { 2 ≤ options.bounds.h }
+    requires few_high { options.bounds.h ≤ 6 }
+    requires some_phase { 1 ≤ options.phases }
+    requires few_phases { options.phases ≤ 4 }
+    requires one_each { length signs.now ≡ length network.now.outputs + length network.now.latches }
+    ensures { IfOk result (IsDeckOfSigns (AreGiven signs.now) network.now (deck_options options)) }
+{
+    let gates = decompose(alloc, network)?;
+    let forest = rails(alloc, &gates, signs)?;
+    drop(gates);
+    let circuit = deck_of_forest(alloc, network, signs, &forest, options)?;
+    Ok(circuit)
+}
 
 /// The circuit of a network: a domino deck of the chosen signs of its sinks and the chosen cover, by
 /// trees within the bounds and on so many clocks. The one error is out of memory.
@@ -35,17 +95,6 @@ pub fn synth(
     let signs = assign(alloc, &gates)?;
     let forest = rails(alloc, &gates, signs.as_slice())?;
     drop(gates);
-    let Cover { kept, plans } = cover(alloc, &forest, options.bounds)?;
-    let plans = clocked(alloc, plans, forest.leaves, options.phases)?;
-    let cells = cell_numbers(alloc, kept.as_slice())?;
-    let circuit = deck_of(
-        alloc,
-        network,
-        options.phases,
-        signs.as_slice(),
-        plans.as_slice(),
-        forest.ends.as_slice(),
-        cells.as_slice(),
-    )?;
+    let circuit = deck_of_forest(alloc, network, signs.as_slice(), &forest, options)?;
     Ok(circuit)
 }

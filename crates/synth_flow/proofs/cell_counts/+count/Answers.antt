@@ -66,8 +66,8 @@ pair_count-returns-clause-level t c tree is =
     let at = pair_at forest c.forest.inside.pairs.items c.args.place c.index.result.now c.index.result.now (ap (λ (f : ForestData). f.pairs) c.forest.view_is) c.requires.there c.index.ensures refl in
     let p = parts_of forest kept c.args.place c.index.result.now tree at is in
     both_levels forest.leaves c.args.levels.now tree p.0 p.1 _ _ _ p.4
-    (c.arm_count-first.ensures.level p.0 (subst (λ a. IsArmTree forest kept a p.0) (sym c.arms_of-left.ensures.left) p.2))
-    (c.arm_count-second.ensures.level p.1 (subst (λ a. IsArmTree forest kept a p.1) (sym c.arms_of-left.ensures.right) p.3)) c.with.ensures.level
+    (c.arm_count-first.ensures.level p.0 (subst (λ a. IsArmTree forest kept a p.0) (sym c.arms-left.ensures.left) p.2))
+    (c.arm_count-second.ensures.level p.1 (subst (λ a. IsArmTree forest kept a p.1) (sym c.arms-left.ensures.right) p.3)) c.with.ensures.level
 
 pub pair_count-returns-clause-marks : goal.pair_count-returns-clause-marks
 pair_count-returns-clause-marks t c tree is =
@@ -76,5 +76,5 @@ pair_count-returns-clause-marks t c tree is =
     let at = pair_at forest c.forest.inside.pairs.items c.args.place c.index.result.now c.index.result.now (ap (λ (f : ForestData). f.pairs) c.forest.view_is) c.requires.there c.index.ensures refl in
     let p = parts_of forest kept c.args.place c.index.result.now tree at is in
     marks_of_parts c.args.marks.now c.arm_count-first.new.marks c.arm_count-second.new.marks tree p.0 p.1 p.4 c.arm_count-first.auto.marks
-    (c.arm_count-first.ensures.marks p.0 (subst (λ a. IsArmTree forest kept a p.0) (sym c.arms_of-left.ensures.left) p.2))
-    (c.arm_count-second.ensures.marks p.1 (subst (λ a. IsArmTree forest kept a p.1) (sym c.arms_of-left.ensures.right) p.3))
+    (c.arm_count-first.ensures.marks p.0 (subst (λ a. IsArmTree forest kept a p.0) (sym c.arms-left.ensures.left) p.2))
+    (c.arm_count-second.ensures.marks p.1 (subst (λ a. IsArmTree forest kept a p.1) (sym c.arms-left.ensures.right) p.3))

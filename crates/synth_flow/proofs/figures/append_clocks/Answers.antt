@@ -2,7 +2,7 @@ use Rattle.std.proofs.Common.{◌+◌, ◌++◌, ◌∙◌, ap, sym, take, get_o
 use Rattle.std.specs.List.{enumerate_from, flat_map}
 use Rattle.synth_flow.specs.SummaryLines.{clock_line}
 use Rattle.synth_flow.proofs.FigureLoops.{clock_lines_next}
-use Rattle.synth_flow.proofs.report.append_clocks.Goals as goal
+use Rattle.synth_flow.proofs.figures.append_clocks.Goals as goal
 
 pub clocks-preserved : goal.clocks-preserved
 clocks-preserved c =
