@@ -4,7 +4,7 @@ use Rattle.command_words.specs.declared.command.Command.{Command as Read}
 use Rattle.command_words.specs.declared.command.Command.TheVariants as read
 
 abbrev pub asked_command : Read → Command
-asked_command (read.Synth file options) = Synth file.now options
+asked_command (read.Synth file options method) = Synth file.now options method
 asked_command (read.Flat file) = Flat file.now
 asked_command (read.Run file stim) = Run file.now stim.now
 asked_command (read.Sim deck stim options) = Sim deck.now stim.now options

@@ -7,15 +7,16 @@ use Rattle.trace_tool.specs.TraceData.{TraceOptionsData}
 use Rattle.deck_form.specs.declared.options.SynthOptions.{SynthOptions}
 use Rattle.command_words.specs.Given.{of_one, of_three, of_two, with_three, with_two}
 use Rattle.command_words.specs.NumberWords.{number_from}
-use Rattle.command_words.specs.SynthOptionWords.{AreGoodOptions, synth_option_names, synth_options}
+use Rattle.command_words.specs.SynthOptionWords.{AreGoodOptions, method_of, synth_flag_names, synth_option_names, synth_options}
 use Rattle.command_words.specs.TraceOptionWords.{order_of, order_option_names, seed_of, trace_flag_names, trace_option_names, trace_options}
+use Rattle.command_words.specs.declared.command.Method.{Method}
 use Rattle.command_words.specs.Written.{Written, is_same, plain_words, takes, written}
 
 -- what the program is asked for: the deck of a file, its network, the run of its network over a stimulus, the trace of a deck over a
 -- stimulus, whether a deck does what the network of a file does over a stimulus, the figures of the deck of a file, or those of a
 -- network that a seed and a size give
 pub data Command : Type 0 where
-  Synth : (file : List ℕ) → (options : SynthOptions) → Command
+  Synth : (file : List ℕ) → (options : SynthOptions) → (method : Method) → Command
   Flat : (file : List ℕ) → Command
   Run : (file stim : List ℕ) → Command
   Sim : (deck stim : List ℕ) → (options : TraceOptionsData) → Command
@@ -25,7 +26,7 @@ pub data Command : Type 0 where
 
 -- the files of a command, in order
 abbrev pub files_of : Command → List (List ℕ)
-files_of (Synth file options) = file ∷ []
+files_of (Synth file options method) = file ∷ []
 files_of (Flat file) = file ∷ []
 files_of (Run file stim) = file ∷ stim ∷ []
 files_of (Sim deck stim options) = deck ∷ stim ∷ []
@@ -40,7 +41,7 @@ pub record IsGoodSize (size : ℕ) : Type 0 where
 
 -- a command whose options of synthesis, and whose size, are within the ranges of their values
 abbrev pub HasGoodOptions : Command → Type 0
-HasGoodOptions (Synth file options) = AreGoodOptions options
+HasGoodOptions (Synth file options method) = AreGoodOptions options
 HasGoodOptions (Flat file) = Unit {0}
 HasGoodOptions (Run file stim) = Unit {0}
 HasGoodOptions (Sim deck stim options) = Unit {0}
@@ -53,8 +54,8 @@ abbrev pub taken : (valued flags : List (List ℕ)) → List Written → Option 
 taken valued flags words command = if list_all (takes valued flags) words then command else None
 
 abbrev pub synth_in : List Written → Option Command
-synth_in words = taken synth_option_names [] words
-    (of_one (λ file. option_map (Synth file) (synth_options words)) (plain_words words))
+synth_in words = taken synth_option_names synth_flag_names words
+    (of_one (λ file. with_two (Synth file) (synth_options words) (method_of words)) (plain_words words))
 
 abbrev pub flat_in : List Written → Option Command
 flat_in words = taken [] [] words (of_one (λ file. Some (Flat file)) (plain_words words))

@@ -1,9 +1,11 @@
 -- The options of synthesis on the command line, and what they give.
-use Rattle.std.specs.Prelude.{ℕ, ◌≤◌, List, [], ◌∷◌, Option, codes}
+use Rattle.std.specs.Prelude.{ℕ, ◌≤◌, List, [], ◌∷◌, Option, Some, codes}
 use Rattle.deck_form.specs.declared.options.SynthOptions.{SynthOptions}
 use Rattle.command_words.specs.Given.{given, with_three}
 use Rattle.command_words.specs.NumberWords.{number_from}
-use Rattle.command_words.specs.Written.{Written, values_of}
+use Rattle.command_words.specs.Written.{Written, flags_of, values_of}
+use Rattle.command_words.specs.declared.command.Method.{Method}
+use Rattle.command_words.specs.declared.command.Method.TheVariants.{Exact, Plain}
 
 abbrev pub synth_option_names : List (List ℕ)
 synth_option_names = codes "--width" ∷ codes "--height" ∷ codes "--phases" ∷ []
@@ -23,6 +25,13 @@ synth_options_with width height phases = record { bounds = record { w = width; h
 
 abbrev pub synth_options : List Written → Option SynthOptions
 synth_options words = with_three synth_options_with (width_of words) (height_of words) (phases_of words)
+
+abbrev pub synth_flag_names : List (List ℕ)
+synth_flag_names = codes "--exact" ∷ []
+
+-- the plain method where none is named
+abbrev pub method_of : List Written → Option Method
+method_of words = given (λ name. Some Exact) Plain (flags_of (codes "--exact") words)
 
 -- options within the ranges of their values
 pub record AreGoodOptions (options : SynthOptions) : Type 0 where

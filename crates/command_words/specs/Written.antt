@@ -26,12 +26,16 @@ with_value_of name (Plain word ∷ later) = Valued name word ∷ later
 with_value_of name (Flag other ∷ later) = Flag name ∷ Flag other ∷ later
 with_value_of name (Valued other value ∷ later) = Flag name ∷ Valued other value ∷ later
 
--- a word in front of what is written behind it; the value of `--name=value` stands behind the first `=`, and `--events` has none
+-- the options that have no value
+abbrev pub flag_names : List (List ℕ)
+flag_names = codes "--events" ∷ codes "--exact" ∷ []
+
+-- a word in front of what is written behind it; the value of `--name=value` stands behind the first `=`, and a flag has none
 abbrev pub in_front : List ℕ → List Written → List Written
 in_front word later =
     if not (is_dashed word) then Plain word ∷ later
     else (if list_any is_equals word then Valued (before_first is_equals word) (after_first is_equals word) ∷ later
-    else (if is_same word (codes "--events") then Flag word ∷ later else with_value_of word later))
+    else (if list_any (is_same word) flag_names then Flag word ∷ later else with_value_of word later))
 
 abbrev pub written : List (List ℕ) → List Written
 written [] = []

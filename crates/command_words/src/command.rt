@@ -2,12 +2,20 @@
 use deck_form::SynthOptions;
 use trace_tool::{Order, TraceOptions};
 
+/// How a deck is made: of the chosen signs of its sinks, or of those that need the fewest pairs of all.
+#[derive(Clone, Copy)]
+pub enum Method {
+    Plain,
+    Exact,
+}
+
 /// What the words of the command line ask for, with the names of the files. A size is 1 to 30,000.
 #[derive(Drop)]
 pub enum Command<'a> {
     Synth {
         file: &'a str,
         options: SynthOptions,
+        method: Method,
     },
     Flat {
         file: &'a str,

@@ -10,6 +10,6 @@ mod trace_options;
 mod values;
 mod words;
 
-pub use command::Command;
+pub use command::{Command, Method};
 pub use laws::{asked_is_in_range, asked_is_one};
 pub use words::command_of;

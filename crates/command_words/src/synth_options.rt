@@ -1,9 +1,11 @@
 //! The options of synthesis on the command line.
 ghost use Rattle.std.specs.Prelude.{◌≡◌, map};
 ghost use Rattle.std.specs.String.{string_bytes};
-ghost use Rattle.command_words.specs.SynthOptionWords.{synth_option_names, synth_options};
+ghost use Rattle.command_words.specs.SynthOptionWords.{method_of, synth_option_names, synth_options};
 ghost use Rattle.command_words.specs.Written.{written};
 
+use crate::command::Method;
+use crate::items::{Wanted, only_wanted};
 use crate::values::number_given;
 use deck_form::SynthOptions;
 use tree_map::Bounds;
@@ -23,4 +25,15 @@ pub fn synth_options_of(words: &[String]) -> Option<SynthOptions>
         },
         phases: phases as u8,
     })
+}
+
+/// The method that words ask for: the plain one where they name none.
+#[tactic(auto, using(crate::proofs::Given::given_rules))]
+pub fn method_of(words: &[String]) -> Option<Method>
+    ensures { result ≡ method_of (written (map string_bytes words.now)) }
+{
+    match only_wanted(words, Wanted::Flag("--exact"))? {
+        Some(_) => Some(Method::Exact),
+        None => Some(Method::Plain),
+    }
 }

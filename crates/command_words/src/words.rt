@@ -8,7 +8,7 @@ ghost use Rattle.command_words.specs.Written.{written};
 
 use crate::command::Command;
 use crate::items::{one_plain, takes_all, three_plain, two_plain};
-use crate::synth_options::synth_options_of;
+use crate::synth_options::{method_of, synth_options_of};
 use crate::trace_options::{order_of, seed_of, trace_options_of};
 use crate::values::number_from;
 use dom_base::OutOfMemory;
@@ -45,12 +45,17 @@ fn synth_of<'a>(words: &'a [String]) -> Option<Command<'a>>
     ensures { MatchOption result (synth_in (written (map string_bytes words.now)) ≡ None)
         (λ command. synth_in (written (map string_bytes words.now)) ≡ Some (asked_command command)) }
 {
-    if !takes_all(words, &["--width", "--height", "--phases"], &[]) {
+    if !takes_all(words, &["--width", "--height", "--phases"], &["--exact"]) {
         return None;
     }
     let file = one_plain(words)?;
     let options = synth_options_of(words)?;
-    Some(Command::Synth { file, options })
+    let method = method_of(words)?;
+    Some(Command::Synth {
+        file,
+        options,
+        method,
+    })
 }
 
 /// The command `flat FILE`.

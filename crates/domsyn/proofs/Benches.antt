@@ -1,5 +1,5 @@
 -- The outcome of `bench`: it is there, it is one, and it says that all is the same.
-use Rattle.std.proofs.Common.{◌≡◌, ◌∙◌, ◌++◌, ◌⊎◌, inl, inr, ℕ, List, Bool, ap, refl, sym, subst}
+use Rattle.std.proofs.Common.{◌≡◌, ◌∙◌, ◌++◌, ◌⊎◌, inl, inr, ℕ, List, ap, refl, sym, subst}
 use Rattle.std.specs.Prelude.{if◌then◌else◌}
 use Rattle.command_words.specs.Commands.{IsGoodSize}
 use Rattle.command_words.specs.SynthOptionWords.{AreGoodOptions}
@@ -34,6 +34,8 @@ use Rattle.trace_tool.proofs.NetworkTexts.{network_same, no_network_apart, text_
 use Rattle.verdict_law.proofs.RightVerdicts.{right_deck_is_accepted}
 use Rattle.domsyn.specs.Benches.{IsBenchOf, IsOwnVerdict, IsSameBench, IsWholeText, OfWholeDeck, bench_text, events_text, generated_text}
 use Rattle.domsyn.specs.Decks.{AreFigureLines}
+use Rattle.domsyn.specs.Endings.{ending_number, ending_of}
+use Rattle.domsyn.specs.declared.answer.Ending.{Ending}
 use Rattle.domsyn.specs.Outcomes.{IsBench, is_same_verdict}
 use Rattle.domsyn.proofs.OneSummary.{summaries_one}
 use Rattle.domsyn.proofs.OwnVerdicts.{own_verdict_of, own_verdict_one, own_verdict_same, own_verdict_there}
@@ -129,11 +131,11 @@ module _ (seed size : ℕ) (options : SynthOptions) where
         (stimulus_cycles seed network.inputs) why (right own.deck own.is_text) has (stimulus_reads seed network.inputs) own.holds
 
     -- the figures, the events and the verdict that all is the same
-    pub bench_made : (verdict : Verdict) (front text : List ℕ) (settled : Bool)
+    pub bench_made : (verdict : Verdict) (front text : List ℕ) (ending : Ending)
         → OfWholeDeck network options (λ deck. IsVerdictOf (generated_text seed size) deck (stimulus_text seed network.inputs) First 0 verdict)
-        → AreFigureLines network options front → text ≡ front ++ events_text verdict ++ verdict_line verdict → settled ≡ is_same_verdict verdict
-        → IsSameBench seed size options (if settled then 0 else 6) text
-    bench_made verdict front text settled own lines text_is settled_is =
+        → AreFigureLines network options front → text ≡ front ++ events_text verdict ++ verdict_line verdict → ending ≡ ending_of (is_same_verdict verdict)
+        → IsSameBench seed size options (ending_number ending) text
+    bench_made verdict front text ending own lines text_is ending_is =
         let v = own.holds in
         let is = text_network_kept (generated_text seed size) network has in
         let same =
@@ -158,5 +160,5 @@ module _ (seed size : ℕ) (options : SynthOptions) where
               text_is
               ∙ ap (λ (l : List ℕ). l ++ events_text verdict ++ verdict_line verdict) lines.text_is
               ∙ ap (λ (v : Verdict). summary_lines network.name lines.summary ++ events_text v ++ verdict_line v) same.1;
-          done = ap (λ (b : Bool). if b then 0 else 6) (settled_is ∙ ap is_same_verdict same.1);
+          done = ap ending_number (ending_is ∙ ap (λ (v : Verdict). ending_of (is_same_verdict v)) same.1);
         }

@@ -1,65 +1,162 @@
--- Which files were asked for, where a command has no text.
-use Rattle.std.proofs.Common.{◌≡◌, ◌≢◌, ◌≤◌, ℕ, Bool, true, false, List, [], ◌∷◌, Option, Some, length, inl, inr, ap, refl, sym, subst, arith}
-use Rattle.std.specs.List.{AllByRecursion}
+-- The files of a command that were fetched, and which were asked for.
+use Rattle.std.proofs.Common.{◌≡◌, ◌∙◌, ◌≢◌, ◌<◌, ◌+◌, ℕ, List, Bor, Vec, Global, [], ◌∷◌, ◌++◌, Option, None, Some, length, zero, suc, inl, inr, ap, refl, sym, subst, arith, append-nil, append_assoc, map, take, drop, slice_index_or}
+use Rattle.std.specs.Prelude.{get_or}
+use Rattle.std.proofs.Math.Seq.{drop-cons}
+use Rattle.std.proofs.lemmas.List.{map-append, take-append-drop, take_more}
 use Rattle.dom_io.specs.Asked.{Asking, HasAsked}
-use Rattle.dom_io.specs.Held.{file_limit}
-use Rattle.dom_io.proofs.AskedLemmas.{HasAsked-nothing, HasAsked-then}
+use Rattle.dom_io.proofs.AskedLemmas.{HasAsked-then}
+use Rattle.command_words.specs.Commands.{Command, files_of}
 use Rattle.domsyn.specs.declared.failure.Failure.{Failure}
 use Rattle.domsyn.specs.declared.failure.Failure.TheVariants as failure
 use Rattle.domsyn.specs.declared.refusal.Refusal.{Refusal}
-use Rattle.domsyn.specs.declared.refusal.Refusal.TheVariants.{TooLong, Blif, Flat, TooMany, Deck, Ports, NoNet, Stim}
-use Rattle.command_words.specs.Commands.{Command, files_of}
-use Rattle.domsyn.specs.Outcomes.{Files, IsFile}
-use Rattle.domsyn.specs.Networks.{IsNotRunFor}
-use Rattle.domsyn.specs.Refusals.{HasNoNetworkFor, refusal_of}
-use Rattle.domsyn.specs.Failures.{HasNoNetwork, IsFailureFor, IsUnfetched, IsUnrun, IsUntraced, ReadFile}
-use Rattle.domsyn.specs.Fetches.{AreAskedAt, AreAskedAtRefusal, AreAskedInOrder, AsksAt, IsAskedUpTo, IsReadable, all_given, was_given}
-use Rattle.trace_tool.specs.declared.fault.TraceFault.{TraceFault}
-use Rattle.trace_tool.specs.declared.fault.TraceFault.TheVariants as trace_fault
-use Rattle.trace_tool.specs.declared.options.ProbeWord.{ProbeWord}
-use Rattle.model_calls.specs.declared.fault.FlatFault.TheVariants as flat_fault
+use Rattle.domsyn.specs.declared.refusal.Refusal.TheVariants.{TooLong}
+use Rattle.domsyn.specs.Outcomes.{Files, IsFile, IsFirstTooLong, IsUnreadOf}
+use Rattle.domsyn.specs.Failures.{AreUnfetched, IsUnfetched}
+use Rattle.domsyn.specs.Fetches.{AreAskedAt, AreAskedAtRefusal, AreAskedInOrder, AreFiles, AsksAt, AsksOnce, IsAskedUpTo, IsFiles, all_given}
 
--- up to the first file, or to one after a file that can be read
-up_to_first : (files : Files) (file : List ℕ) (more : List (List ℕ)) (given : Bool) → IsAskedUpTo files (file ∷ more) ((file, given) ∷ []) file given
-up_to_first files file more given = record { before = []; after = more; names_are = refl; asked_are = refl; read = tt }
+-- the name behind a reference, and the bytes of a vector of them
+abbrev pub name_of : Bor (List ℕ) → List ℕ
+name_of name = name.now
 
-up_to_later : (files : Files) (file bytes : List ℕ) (names : List (List ℕ)) (asked : List Asking) (last : List ℕ) (given : Bool) → IsFile files file bytes → IsAskedUpTo files names asked last given
-    → IsAskedUpTo files (file ∷ names) ((file, true) ∷ asked) last given
-up_to_later files file bytes names asked last given is up =
-    record {
-      before = file ∷ up.before;
-      after = up.after;
-      names_are = ap (λ (l : List (List ℕ)). file ∷ l) up.names_are;
-      asked_are = ap (λ (l : List Asking). (file, true) ∷ l) up.asked_are;
-      read = ((bytes, is), up.read);
-    }
+abbrev pub bytes_of : Vec ℕ Global → List ℕ
+bytes_of v = v.items
 
--- up to the first file, where it has another name
-up_to_named : (files : Files) (file name : List ℕ) (more : List (List ℕ)) (given : Bool) → name ≡ file → IsAskedUpTo files (file ∷ more) ((file, given) ∷ []) name given
-up_to_named files file name more given same =
-    subst (λ (last : List ℕ). IsAskedUpTo files (file ∷ more) ((file, given) ∷ []) last given) (sym same) (up_to_first files file more given)
+-- names that are seen through something else, as the list's front, one and the rest
+module _ {X : Type 0} (f : X → List ℕ) (xs : List X) (i : ℕ) (d : X) (lt : i < length xs) where
+  pub one_more : map f (take (i + 1) xs) ≡ map f (take i xs) ++ (f (slice_index_or xs i d) ∷ [])
+  one_more = ap (map f) (take_more xs i d lt) ∙ map-append f (take i xs) (slice_index_or xs i d ∷ [])
 
--- the first file has no bytes
-first_asked : (files : Files) (file : List ℕ) (more : List (List ℕ)) (Rises : Type 0) (s : Failure) → IsUnfetched files file Rises s → AreAskedAt files (file ∷ more) ((file, was_given s) ∷ []) s
-first_asked files file more Rises (failure.Refused name why) is = inl (is.1, up_to_named files file name.now more true is.0)
-first_asked files file more Rises (failure.Unread name) is = up_to_named files file name.now more false is.0
-first_asked files file more Rises failure.Memory is = inr (file, (false, up_to_first files file more false))
+  pub names_split : map f xs ≡ map f (take i xs) ++ (f (slice_index_or xs i d) ∷ map f (drop (suc i) xs))
+  names_split =
+      ap (map f) (sym (take-append-drop i xs) ∙ ap (λ (l : List X). take i xs ++ l) (drop-cons xs i d lt))
+      ∙ map-append f (take i xs) (slice_index_or xs i d ∷ drop (suc i) xs)
 
--- the first file was given, and some of the others
-in_order_later : (files : Files) (file bytes : List ℕ) (names : List (List ℕ)) (asked : List Asking) → IsFile files file bytes → AreAskedInOrder files names asked
-    → AreAskedInOrder files (file ∷ names) ((file, true) ∷ asked)
-in_order_later files file bytes names asked is (inl none) =
-    inr (file, (true, subst (λ (l : List Asking). IsAskedUpTo files (file ∷ names) ((file, true) ∷ l) file true) (sym none) (up_to_first files file names true)))
-in_order_later files file bytes names asked is (inr up) = inr (up.0, (up.1.0, up_to_later files file bytes names asked up.0 up.1.0 is up.1.1))
+  pub more_split : map f xs ≡ map f (take (i + 1) xs) ++ map f (drop (suc i) xs)
+  more_split =
+      names_split
+      ∙ sym (append_assoc (map f (take i xs)) (f (slice_index_or xs i d) ∷ []) (map f (drop (suc i) xs)))
+      ∙ ap (λ (l : List (List ℕ)). l ++ map f (drop (suc i) xs)) (sym one_more)
 
--- the first file has bytes, and a later one may be asked for
-later_asked : (files : Files) (file bytes : List ℕ) (names : List (List ℕ)) (asked : List Asking) (s : Failure) → IsFile files file bytes → AreAskedAt files names asked s
-    → AreAskedAt files (file ∷ names) ((file, true) ∷ asked) s
-later_asked files file bytes names asked (failure.Refused name why) is (inl up) = inl (up.0, up_to_later files file bytes names asked name.now true is up.1)
-later_asked files file bytes names asked (failure.Refused name why) is (inr all) =
-    inr (all.0, record { asked_are = ap (λ (l : List Asking). (file, true) ∷ l) all.1.asked_are; read = ((bytes, is), all.1.read) })
-later_asked files file bytes names asked (failure.Unread name) is up = up_to_later files file bytes names asked name.now false is up
-later_asked files file bytes names asked failure.Memory is there = in_order_later files file bytes names asked is there
+-- as many as there are names
+pub files_count : (files : Files) (names bytes : List (List ℕ)) → AreFiles files names bytes → length bytes ≡ length names
+files_count files [] [] are = refl
+files_count files [] (file ∷ bytes) are = absurd are
+files_count files (name ∷ names) [] are = absurd are
+files_count files (name ∷ names) (file ∷ bytes) are = ap suc (files_count files names bytes are.1)
+
+-- whatever files are known
+pub files_untold : (files : Files) (names bytes : List (List ℕ)) → AreFiles files names bytes → AreFiles None names bytes
+files_untold files [] [] are = tt
+files_untold files [] (file ∷ bytes) are = absurd are
+files_untold files (name ∷ names) [] are = absurd are
+files_untold files (name ∷ names) (file ∷ bytes) are = (record { holds = tt; within = are.0.within }, files_untold files names bytes are.1)
+
+-- the file at a place
+pub file_at : (files : Files) (names bytes : List (List ℕ)) (i : ℕ) (d e : List ℕ) → AreFiles files names bytes → i < length bytes → IsFile files (get_or names i d) (get_or bytes i e)
+file_at files [] [] i d e are lt = absurd (omega (arith, lt))
+file_at files [] (file ∷ bytes) i d e are lt = absurd are
+file_at files (name ∷ names) [] i d e are lt = absurd are
+file_at files (name ∷ names) (file ∷ bytes) zero d e are lt = are.0
+file_at files (name ∷ names) (file ∷ bytes) (suc i) d e are lt = file_at files names bytes i d e are.1 (omega (arith, lt))
+
+-- those of a command are those of the same command
+pub files_moved : (files : Files) (command other : Command) (bytes : List (List ℕ)) → command ≡ other → AreFiles files (files_of command) bytes → AreFiles files (files_of other) bytes
+files_moved files command other bytes is are = subst (λ (k : Command). AreFiles files (files_of k) bytes) is are
+
+-- and a place among them is one among their bytes
+pub place_within : (command other : Command) (bytes : List (List ℕ)) (n i : ℕ) → command ≡ other → IsFiles command bytes → length bytes ≡ n → i < length (files_of other) → i < n
+place_within command other bytes n i is are count lt =
+    let same = files_count None (files_of command) bytes are in
+    let names = ap (λ (k : Command). length (files_of k)) is in
+    omega (arith, same, names, count, lt)
+
+-- a file more
+pub files_then : (files : Files) (names bytes : List (List ℕ)) (name file : List ℕ) → AreFiles files names bytes → IsFile files name file
+    → AreFiles files (names ++ (name ∷ [])) (bytes ++ (file ∷ []))
+files_then files [] [] name file are is = (is, tt)
+files_then files [] (b ∷ bytes) name file are is = absurd are
+files_then files (n ∷ names) [] name file are is = absurd are
+files_then files (n ∷ names) (b ∷ bytes) name file are is = (are.0, files_then files names bytes name file are.1 is)
+
+pub given_then : (files : Files) (names bytes : List (List ℕ)) (name file : List ℕ) → AreFiles files names bytes
+    → all_given (names ++ (name ∷ [])) (bytes ++ (file ∷ [])) ≡ all_given names bytes ++ ((name, Some (length file)) ∷ [])
+given_then files [] [] name file are = refl
+given_then files [] (b ∷ bytes) name file are = absurd are
+given_then files (n ∷ names) [] name file are = absurd are
+given_then files (n ∷ names) (b ∷ bytes) name file are = ap (λ (l : List Asking). (n, Some (length b)) ∷ l) (given_then files names bytes name file are.1)
+
+-- some files can be read, and of those behind them one has no bytes
+too_long_behind : (files : Files) (names bytes more : List (List ℕ)) (name : List ℕ) → AreFiles files names bytes → IsFirstTooLong files more name → IsFirstTooLong files (names ++ more) name
+too_long_behind files [] [] more name are is = is
+too_long_behind files [] (b ∷ bytes) more name are is = absurd are
+too_long_behind files (n ∷ names) [] more name are is = absurd are
+too_long_behind files (n ∷ names) (b ∷ bytes) more name are is = inr (b, are.0, too_long_behind files names bytes more name are.1 is)
+
+unread_behind : (files : Files) (names bytes more : List (List ℕ)) (name : List ℕ) → AreFiles files names bytes → IsUnreadOf files more name → IsUnreadOf files (names ++ more) name
+unread_behind files [] [] more name are is = is
+unread_behind files [] (b ∷ bytes) more name are is = absurd are
+unread_behind files (n ∷ names) [] more name are is = absurd are
+unread_behind files (n ∷ names) (b ∷ bytes) more name are is = inr (b, are.0, unread_behind files names bytes more name are.1 is)
+
+module _ (files : Files) (names bytes more : List (List ℕ)) (name : List ℕ) (are : AreFiles files names bytes) where
+  -- the file of a name has no bytes, where the shelf's count rises by this or a later fetch
+  pub unfetched_behind : (Rises RisesHere : Type 0) (s : Failure) → (RisesHere → Rises) → IsUnfetched files name RisesHere s → AreUnfetched files (names ++ (name ∷ more)) Rises s
+  unfetched_behind Rises RisesHere (failure.Refused file why) rises is =
+      (is.1, too_long_behind files names bytes (name ∷ more) file.now are (inl (is.0, is.2)))
+  unfetched_behind Rises RisesHere (failure.Unread file) rises is = (unread_behind files names bytes (name ∷ more) file.now are (inl is.0), rises is.1)
+  unfetched_behind Rises RisesHere failure.Memory rises is = tt
+
+  up_to : (last : List ℕ) (given : Option ℕ) → last ≡ name → IsAskedUpTo files (names ++ (name ∷ more)) (all_given names bytes ++ ((name, given) ∷ [])) last given
+  up_to last given same = record {
+    before = names;
+    bytes = bytes;
+    after = more;
+    names_are = ap (λ (n : List ℕ). names ++ (n ∷ more)) (sym same);
+    asked_are = ap (λ (n : List ℕ). all_given names bytes ++ ((n, given) ∷ [])) (sym same);
+    read = are;
+  }
+
+-- one file more was given, before some that were asked for in order
+in_order_later : (files : Files) (name file : List ℕ) (names : List (List ℕ)) (asked : List Asking) → IsFile files name file → AreAskedInOrder files names asked
+    → AreAskedInOrder files (name ∷ names) ((name, Some (length file)) ∷ asked)
+in_order_later files name file names asked is (inl none) =
+    inr (
+      name,
+      (
+        Some (length file),
+        record {
+          before = [];
+          bytes = [];
+          after = names;
+          names_are = refl;
+          asked_are = ap (λ (l : List Asking). (name, Some (length file)) ∷ l) none;
+          read = tt;
+        },
+      ),
+    )
+in_order_later files name file names asked is (inr up) =
+    let u = up.1.1 in
+    inr (
+      up.0,
+      (
+        up.1.0,
+        record {
+          before = name ∷ u.before;
+          bytes = file ∷ u.bytes;
+          after = u.after;
+          names_are = ap (λ (l : List (List ℕ)). name ∷ l) u.names_are;
+          asked_are = ap (λ (l : List Asking). (name, Some (length file)) ∷ l) u.asked_are;
+          read = (is, u.read);
+        },
+      ),
+    )
+
+-- some of the first were given
+given_in_order : (files : Files) (names bytes more : List (List ℕ)) → AreFiles files names bytes → AreAskedInOrder files (names ++ more) (all_given names bytes)
+given_in_order files [] [] more are = inl refl
+given_in_order files [] (b ∷ bytes) more are = absurd are
+given_in_order files (n ∷ names) [] more are = absurd are
+given_in_order files (n ∷ names) (b ∷ bytes) more are = in_order_later files n b (names ++ more) (all_given names bytes) are.0 (given_in_order files names bytes more are.1)
 
 -- a failure that isn't one of a fetch
 abbrev pub IsLater : Failure → Type 0
@@ -67,84 +164,51 @@ IsLater (failure.Refused file why) = why ≢ TooLong
 IsLater (failure.Unread file) = ⊥
 IsLater failure.Memory = Unit {0}
 
-none_asked : (files : Files) (s : Failure) → IsLater s → AreAskedAt files [] [] s
-none_asked files (failure.Refused file why) later = inr (later, record { asked_are = refl; read = tt })
-none_asked files (failure.Unread file) later = absurd later
-none_asked files failure.Memory later = inl refl
+module _ (files : Files) (a b : Option (List Asking)) (names bytes : List (List ℕ)) (are : AreFiles files names bytes) (has : HasAsked a b (all_given names bytes)) where
+  -- memory did not suffice behind some files
+  pub asks_forgotten : (more : List (List ℕ)) → AsksAt files (names ++ more) (HasAsked a b) failure.Memory
+  asks_forgotten more = (all_given names bytes, has, given_in_order files names bytes more are)
 
--- a command of no file more asks for nothing
-pub asks_none : (files : Files) (a : Option (List Asking)) (s : Failure) → IsLater s → AsksAt files [] (HasAsked a a) s
-asks_none files a s later = ([], HasAsked-nothing a, none_asked files s later)
+  -- the file of a name behind them has no bytes
+  pub asks_behind : (c : Option (List Asking)) (more : List (List ℕ)) (name : List ℕ) (Rises : Type 0) (s : Failure) → IsUnfetched files name Rises s → AsksOnce name (HasAsked b c) s
+      → AsksAt files (names ++ (name ∷ more)) (HasAsked a c) s
+  asks_behind c more name Rises (failure.Refused file why) is once =
+      let asked : List Asking = (name, Some once.0) ∷ [] in (
+        all_given names bytes ++ asked,
+        HasAsked-then a b c (all_given names bytes) asked has once.2,
+        inl (is.1, record { given = once.0; long = once.1; up_to = up_to files names bytes more name are file.now (Some once.0) is.0 }),
+      )
+  asks_behind c more name Rises (failure.Unread file) is once =
+      let asked : List Asking = (name, None) ∷ [] in
+      (all_given names bytes ++ asked, HasAsked-then a b c (all_given names bytes) asked has once, up_to files names bytes more name are file.now None is.0)
+  asks_behind c more name Rises failure.Memory is (inl none) =
+      let same = append-nil (all_given names bytes) in
+      (all_given names bytes, subst (HasAsked a c) same (HasAsked-then a b c (all_given names bytes) [] has none), given_in_order files names bytes (name ∷ more) are)
+  asks_behind c more name Rises failure.Memory is (inr once) =
+      let asked : List Asking = (name, None) ∷ [] in
+      (all_given names bytes ++ asked, HasAsked-then a b c (all_given names bytes) asked has once, inr (name, (None, up_to files names bytes more name are name None refl)))
 
--- the first of the files has no bytes
-pub asks_first : (files : Files) (a b : Option (List Asking)) (file : List ℕ) (more : List (List ℕ)) (Rises : Type 0) (s : Failure) → IsUnfetched files file Rises s
-    → HasAsked a b ((file, was_given s) ∷ []) → AsksAt files (file ∷ more) (HasAsked a b) s
-asks_first files a b file more Rises s is has = ((file, was_given s) ∷ [], has, first_asked files file more Rises s is)
+  -- a failure that isn't one of a fetch, where all were asked for
+  pub asks_whole : (s : Failure) → IsLater s → AsksAt files names (HasAsked a b) s
+  asks_whole (failure.Refused file why) later = (all_given names bytes, has, inr (later, record { bytes = bytes; asked_are = refl; read = are }))
+  asks_whole (failure.Unread file) later = absurd later
+  asks_whole failure.Memory later =
+      (all_given names bytes, has, subst (λ (l : List (List ℕ)). AreAskedInOrder files l (all_given names bytes)) (append-nil names) (given_in_order files names bytes [] are))
 
--- the first of the files was given, and then it is asked for the others
-pub asks_later : (files : Files) (a b c : Option (List Asking)) (file bytes : List ℕ) (names : List (List ℕ)) (s : Failure) → IsFile files file bytes
-    → HasAsked a b ((file, true) ∷ []) → AsksAt files names (HasAsked b c) s → AsksAt files (file ∷ names) (HasAsked a c) s
-asks_later files a b c file bytes names s is has later =
-    ((file, true) ∷ later.0, HasAsked-then a b c ((file, true) ∷ []) later.0 has later.1, later_asked files file bytes names later.0 s is later.2)
-
--- bytes without a network
-pub later_unmade : (name bytes : List ℕ) (s : Failure) → length bytes ≤ file_limit → HasNoNetwork name bytes s → IsLater s
-later_unmade name bytes (failure.Refused file why) within is = by why is.1
-  where
-    by : (why : Refusal) → HasNoNetworkFor bytes why → why ≢ TooLong
-    by TooLong long = absurd (omega (arith, within, long))
-    by (Blif line kind) r = λ e. cc
-    by (Flat line kind any) r = λ e. cc
-    by (TooMany limit count) r = λ e. cc
-    by (Deck line kind) r = λ e. cc
-    by (Ports place) r = λ e. cc
-    by (NoNet any) r = λ e. cc
-    by (Stim line kind) r = λ e. cc
-later_unmade name bytes (failure.Unread file) within is = is
-later_unmade name bytes failure.Memory within is = tt
-
--- bytes without a run
-pub later_unrun : (file stim : ReadFile) (s : Failure) → IsUnrun file stim s → IsLater s
-later_unrun file stim (failure.Refused name why) is = λ e. subst (IsNotRunFor file.bytes stim.bytes) e is.1
-later_unrun file stim (failure.Unread name) is = is
-later_unrun file stim failure.Memory is = tt
-
--- no fault of a simulation is that a file is too long
-never_too_long : (fault : TraceFault) → refusal_of fault ≡ Some TooLong → ⊥
-never_too_long (trace_fault.Blif line kind) e = cc
-never_too_long (trace_fault.Flat (flat_fault.At line kind name)) e = cc
-never_too_long (trace_fault.Flat (flat_fault.TooMany limit count)) e = cc
-never_too_long (trace_fault.Flat flat_fault.Memory) e = cc
-never_too_long (trace_fault.Deck line kind) e = cc
-never_too_long (trace_fault.Ports place) e = cc
-never_too_long (trace_fault.NoNet name) e = cc
-never_too_long (trace_fault.Stim line kind) e = cc
-never_too_long trace_fault.Memory e = cc
-
-pub later_untraced : (deck stim : ReadFile) (probes : List ProbeWord) (s : Failure) → IsUntraced deck stim probes s → IsLater s
-later_untraced deck stim probes (failure.Refused name why) is = λ e. never_too_long is.fault (subst (λ (why : Refusal). refusal_of is.fault ≡ Some why) e is.cause)
-later_untraced deck stim probes (failure.Unread name) is = is
-later_untraced deck stim probes failure.Memory is = tt
-
-pub later_uncompared : (file deck stim : List ℕ) (fault : TraceFault) (s : Failure) → IsFailureFor file deck stim fault s → IsLater s
-later_uncompared file deck stim fault (failure.Refused name why) is = λ e. never_too_long fault (subst (λ (why : Refusal). refusal_of fault ≡ Some why) e is.0)
-later_uncompared file deck stim fault (failure.Unread name) is = is
-later_uncompared file deck stim fault failure.Memory is = tt
+-- a file more was given
+pub asks_then : (files : Files) (a b c : Option (List Asking)) (names bytes : List (List ℕ)) (name file : List ℕ) → AreFiles files names bytes → HasAsked a b (all_given names bytes)
+    → HasAsked b c ((name, Some (length file)) ∷ []) → HasAsked a c (all_given (names ++ (name ∷ [])) (bytes ++ (file ∷ [])))
+asks_then files a b c names bytes name file are has more =
+    subst (HasAsked a c) (sym (given_then files names bytes name file are)) (HasAsked-then a b c (all_given names bytes) ((name, Some (length file)) ∷ []) has more)
 
 -- all that was asked for, whatever failed, is in order
-all_in_order : (files : Files) (names : List (List ℕ)) → AllByRecursion (IsReadable files) names → AreAskedInOrder files names (all_given names)
-all_in_order files [] all = inl refl
-all_in_order files (file ∷ names) all = in_order_later files file all.0.0 names (all_given names) all.0.1 (all_in_order files names all.1)
-
 refusal_in_order : (files : Files) (names : List (List ℕ)) (asked : List Asking) (file : List ℕ) (why : Refusal) → AreAskedAtRefusal files names asked file why → AreAskedInOrder files names asked
-refusal_in_order files names asked file why (inl up) = inr (file, (true, up.1))
-refusal_in_order files names asked file why (inr all) = subst (AreAskedInOrder files names) (sym all.1.asked_are) (all_in_order files names all.1.read)
+refusal_in_order files names asked file why (inl up) = inr (file, (Some up.1.given, up.1.up_to))
+refusal_in_order files names asked file why (inr all) =
+    subst (AreAskedInOrder files names) (sym all.1.asked_are)
+    (subst (λ (l : List (List ℕ)). AreAskedInOrder files l (all_given names all.1.bytes)) (append-nil names) (given_in_order files names all.1.bytes [] all.1.read))
 
 pub in_order_at : (files : Files) (names : List (List ℕ)) (asked : List Asking) (s : Failure) → AreAskedAt files names asked s → AreAskedInOrder files names asked
 in_order_at files names asked (failure.Refused file why) is = refusal_in_order files names asked file.now why is
-in_order_at files names asked (failure.Unread file) is = inr (file.now, (false, is))
+in_order_at files names asked (failure.Unread file) is = inr (file.now, (None, is))
 in_order_at files names asked failure.Memory is = is
-
--- a command that has a file isn't one that has none
-pub some_file : (command other : Command) (file : List ℕ) (more : List (List ℕ)) → command ≡ other → files_of other ≡ file ∷ more → files_of command ≡ [] → ⊥
-some_file command other file more is has none = let same = ap files_of is in cc

@@ -17,7 +17,7 @@ use Rattle.stim_text.specs.declared.fault.StimKind.{StimKind}
 use Rattle.stim_text.proofs.OneAnswer.{one_answer as stim_answer}
 use Rattle.trace_tool.proofs.NetworkTexts.{blif_fault_same}
 use Rattle.domsyn.specs.declared.refusal.Refusal.{Refusal}
-use Rattle.domsyn.specs.declared.refusal.Refusal.TheVariants.{TooLong, Blif, Flat, TooMany, Deck, Ports, NoNet, Stim}
+use Rattle.domsyn.specs.declared.refusal.Refusal.TheVariants.{TooLong, Blif, Flat, TooMany, TooManySinks, Deck, Ports, NoNet, Stim}
 use Rattle.domsyn.specs.Networks.{HasNetwork, IsNotRunFor, IsRunOf, IsRunText, IsStimRefused, run_lines}
 use Rattle.domsyn.specs.Refusals.{HasNoNetworkFor, IsHierarchyRefused}
 
@@ -42,6 +42,7 @@ network_or_cause bytes n TooLong x y = omega (arith, x.within, y)
 network_or_cause bytes n (Blif line kind) x y = x.accepted.no_fault line kind y.fault.fault
 network_or_cause bytes n (Flat line kind name) x y = not_refused bytes n (hierarchy.At kind line name) x y
 network_or_cause bytes n (TooMany limit count) x y = not_refused bytes n (hierarchy.TooMany limit count) x y
+network_or_cause bytes n (TooManySinks count) x y = y
 network_or_cause bytes n (Deck line kind) x y = y
 network_or_cause bytes n (Ports place) x y = y
 network_or_cause bytes n (NoNet name) x y = y
@@ -53,6 +54,7 @@ network_causes_alike bytes TooLong TooLong x y = refl
 network_causes_alike bytes TooLong (Blif line kind) x y = absurd (omega (arith, x, y.within))
 network_causes_alike bytes TooLong (Flat line kind name) x y = absurd (omega (arith, x, y.within))
 network_causes_alike bytes TooLong (TooMany limit count) x y = absurd (omega (arith, x, y.within))
+network_causes_alike bytes TooLong (TooManySinks count) x y = absurd y
 network_causes_alike bytes TooLong (Deck line kind) x y = absurd y
 network_causes_alike bytes TooLong (Ports place) x y = absurd y
 network_causes_alike bytes TooLong (NoNet net) x y = absurd y
@@ -61,6 +63,7 @@ network_causes_alike bytes (Blif line kind) TooLong x y = absurd (omega (arith, 
 network_causes_alike bytes (Blif line kind) (Blif other any) x y = let same = blif_fault_same bytes line other kind any x.fault y.fault in λ i. Blif (same.0 i) (same.1 i)
 network_causes_alike bytes (Blif line kind) (Flat other any name) x y = absurd (y.accepted.no_fault line kind x.fault.fault)
 network_causes_alike bytes (Blif line kind) (TooMany limit count) x y = absurd (y.accepted.no_fault line kind x.fault.fault)
+network_causes_alike bytes (Blif line kind) (TooManySinks sinks) x y = absurd y
 network_causes_alike bytes (Blif line kind) (Deck other any) x y = absurd y
 network_causes_alike bytes (Blif line kind) (Ports place) x y = absurd y
 network_causes_alike bytes (Blif line kind) (NoNet net) x y = absurd y
@@ -75,6 +78,7 @@ network_causes_alike bytes (Flat line kind name) (Flat other any word) x y =
     λ i. Flat (lines i) (kinds i) (names i)
 network_causes_alike bytes (Flat line kind name) (TooMany limit count) x y =
     let same = hierarchies_alike bytes (hierarchy.At kind line name) (hierarchy.TooMany limit count) x y in absurd cc
+network_causes_alike bytes (Flat line kind name) (TooManySinks sinks) x y = absurd y
 network_causes_alike bytes (Flat line kind name) (Deck other any) x y = absurd y
 network_causes_alike bytes (Flat line kind name) (Ports place) x y = absurd y
 network_causes_alike bytes (Flat line kind name) (NoNet net) x y = absurd y
@@ -88,10 +92,12 @@ network_causes_alike bytes (TooMany limit count) (TooMany most number) x y =
     let limits : limit ≡ most = cc in
     let counts : count ≡ number = cc in
     λ i. TooMany (limits i) (counts i)
+network_causes_alike bytes (TooMany limit count) (TooManySinks sinks) x y = absurd y
 network_causes_alike bytes (TooMany limit count) (Deck other any) x y = absurd y
 network_causes_alike bytes (TooMany limit count) (Ports place) x y = absurd y
 network_causes_alike bytes (TooMany limit count) (NoNet net) x y = absurd y
 network_causes_alike bytes (TooMany limit count) (Stim other any) x y = absurd y
+network_causes_alike bytes (TooManySinks count) b x y = absurd x
 network_causes_alike bytes (Deck line kind) b x y = absurd x
 network_causes_alike bytes (Ports place) b x y = absurd x
 network_causes_alike bytes (NoNet name) b x y = absurd x
@@ -121,6 +127,7 @@ cause_of bytes stim TooLong x = absurd x
 cause_of bytes stim (Blif line kind) x = inl x
 cause_of bytes stim (Flat line kind name) x = inl x
 cause_of bytes stim (TooMany limit count) x = inl x
+cause_of bytes stim (TooManySinks count) x = absurd x
 cause_of bytes stim (Deck line kind) x = absurd x
 cause_of bytes stim (Ports place) x = absurd x
 cause_of bytes stim (NoNet name) x = absurd x

@@ -8,17 +8,21 @@ use Rattle.net_flatten.specs.OneModel.{file_of}
 use Rattle.domsyn.specs.declared.refusal.Refusal.{Refusal}
 use Rattle.domsyn.specs.declared.refusal.Refusal.TheVariants.{TooLong}
 use Rattle.command_words.specs.Commands.{Command, Synth, Flat as flat, Run as run, Sim, Cosim, Report, Bench}
-use Rattle.plan_law.proofs.OneDeck.{synth_texts_one}
+use Rattle.command_words.specs.declared.command.Method.{Method}
+use Rattle.plan_law.proofs.OneDeck.{texts_of_signs_one}
 use Rattle.deck_form.specs.AskedOptions.{deck_options}
-use Rattle.deck_form.specs.DeckTexts.{IsSynthText}
+use Rattle.deck_form.specs.DeckTexts.{IsTextOfSigns}
 use Rattle.synth_flow.specs.Summaries.{IsSummaryOf}
 use Rattle.synth_flow.specs.SummaryLines.{summary_lines}
 use Rattle.deck_form.specs.declared.options.SynthOptions.{SynthOptions}
+use Rattle.domsyn.specs.Methods.{AreSignsOf, HasNoDeckFor}
+use Rattle.domsyn.proofs.Methods.{deck_causes_alike, deck_or_cause, method_one}
 use Rattle.domsyn.specs.Decks.{AreFiguresFor, IsDeckFor}
-use Rattle.domsyn.specs.Outcomes.{IsComparison, IsDeck, IsFile, IsFirstTooLong, IsFlat, HasNone, IsNoComparison, IsNoRun, IsNoTrace, IsOutcome, IsPrintedRun, IsFigureReport, IsTooLong, IsTrace, Outcome, Printed, Refused, is_same_verdict}
+use Rattle.domsyn.specs.Outcomes.{IsComparison, IsDeck, IsFile, IsFirstTooLong, IsFlat, HasNoDeck, HasNone, IsNoComparison, IsNoRun, IsNoTrace, IsOutcome, IsPrintedRun, IsFigureReport, IsTooLong, IsTrace, Outcome, Printed, Refused, is_same_verdict}
 use Rattle.domsyn.specs.Networks.{HasNetwork, IsNotRunFor, IsRunOf}
 use Rattle.domsyn.specs.Refusals.{HasNoNetworkFor, IsFaulty, about, refusal_of}
 use Rattle.domsyn.proofs.Benches.{bench_one}
+use Rattle.domsyn.proofs.KnownFiles.{Pairs}
 use Rattle.domsyn.proofs.OneSummary.{summaries_one}
 use Rattle.domsyn.proofs.NetworkCauses.{network_causes_alike, network_kept, network_or_cause, networks_alike, run_causes_alike, run_or_cause, runs_alike}
 use Rattle.trace_tool.specs.Refusals.{IsRefused}
@@ -34,9 +38,6 @@ use Rattle.trace_tool.specs.declared.options.ProbeWord.{ProbeWord}
 use Rattle.trace_tool.specs.declared.verdict.Verdict.{Verdict}
 use Rattle.trace_tool.proofs.OneAnswer.{answer_is_one}
 use Rattle.trace_tool.proofs.OneVerdictOrCause.{verdict_is_one}
-
-abbrev pub Pairs : Type 0
-Pairs = List (List ℕ × List ℕ)
 
 -- a file has one list of bytes
 pub bytes_alike : (known : Pairs) (name a b : List ℕ) → held known name ≡ Some a → held known name ≡ Some b → a ≡ b
@@ -182,20 +183,26 @@ flat_printed known file s s' t t' x y =
     let networks = networks_alike x.bytes x.network y.network x.has (subst (λ b. HasNetwork b y.network) same y.has) in
     printed_alike s s' t t' (x.done ∙ sym y.done) (x.text_is ∙ ap (λ n. printed (file_of n)) networks ∙ sym y.text_is)
 
--- the deck of a file
-synth_printed : (known : Pairs) (file : List ℕ) (options : SynthOptions) (s s' : ℕ) (t t' : List ℕ) → IsDeck (Some known) file options s t → IsDeck (Some known) file options s' t' → Printed s t ≡ Printed s' t'
-synth_printed known file options s s' t t' x y =
-    let same = bytes_alike known file y.bytes x.bytes y.is_file.holds x.is_file.holds in
-    let deck = subst (λ b. IsDeckFor b options t') same y.deck in
-    let networks = networks_alike x.bytes deck.network x.deck.network deck.has x.deck.has in
-    let text = subst (λ n. IsSynthText t' n (deck_options options)) networks deck.is_text in
-    printed_alike s s' t t' (x.done ∙ sym y.done)
-    (synth_texts_one x.deck.network (deck_options options) t t' (network_kept x.bytes x.deck.network x.deck.has) x.deck.is_text text)
+-- the deck of a file by a method
+module _ (known : Pairs) (file : List ℕ) (options : SynthOptions) (method : Method) where
+  synth_printed : (s s' : ℕ) (t t' : List ℕ) → IsDeck (Some known) file options method s t → IsDeck (Some known) file options method s' t' → Printed s t ≡ Printed s' t'
+  synth_printed s s' t t' x y =
+      let same = bytes_alike known file y.bytes x.bytes y.is_file.holds x.is_file.holds in
+      let deck = subst (λ b. IsDeckFor b options method t') same y.deck in
+      let networks = networks_alike x.bytes deck.network x.deck.network deck.has x.deck.has in
+      let text = subst (λ n. IsTextOfSigns (AreSignsOf method) t' n (deck_options options)) networks deck.is_text in
+      printed_alike s s' t t' (x.done ∙ sym y.done)
+      (texts_of_signs_one x.deck.network (network_kept x.bytes x.deck.network x.deck.has) (deck_options options) (method_one method x.deck.network) t t' x.deck.is_text text)
 
-synth_apart : (known : Pairs) (file f : List ℕ) (options : SynthOptions) (s : ℕ) (t : List ℕ) (w : Refusal) → IsDeck (Some known) file options s t → HasNone (Some known) file f w → ⊥
-synth_apart known file f options s t w x y =
-    let same = bytes_alike known file y.bytes x.bytes y.holds x.is_file.holds in
-    network_or_cause x.bytes x.deck.network w x.deck.has (subst (λ b. HasNoNetworkFor b w) same y.refused)
+  synth_apart : (f : List ℕ) (s : ℕ) (t : List ℕ) (w : Refusal) → IsDeck (Some known) file options method s t → HasNoDeck (Some known) file method f w → ⊥
+  synth_apart f s t w x y =
+      let same = bytes_alike known file y.bytes x.bytes y.holds x.is_file.holds in
+      deck_or_cause method x.bytes x.deck.network w x.deck.has x.deck.suited (subst (λ b. HasNoDeckFor method b w) same y.refused)
+
+  synth_refused : (f f' : List ℕ) (w w' : Refusal) → HasNoDeck (Some known) file method f w → HasNoDeck (Some known) file method f' w' → Refused f w ≡ Refused f' w'
+  synth_refused f f' w w' x y =
+      let same = bytes_alike known file y.bytes x.bytes y.holds x.holds in
+      refused_alike f f' w w' (x.name_is ∙ sym y.name_is) (deck_causes_alike method x.bytes w w' x.refused (subst (λ b. HasNoDeckFor method b w') same y.refused))
 
 -- the figures of the deck of a file
 report_printed : (known : Pairs) (file : List ℕ) (options : SynthOptions) (s s' : ℕ) (t t' : List ℕ) → IsFigureReport (Some known) file options s t → IsFigureReport (Some known) file options s' t' → Printed s t ≡ Printed s' t'
@@ -257,10 +264,10 @@ module _ (known : Pairs) (file stim : List ℕ) where
   run_apart f s t w x (inr y) = run_or_cause x.bytes x.stim_bytes t w x.run_is (not_run_here x.bytes x.stim_bytes f w x.is_file x.is_stim y)
 
 pub one_outcome : (known : List (List ℕ × List ℕ)) (command : Command) (a b : Outcome) → IsOutcome (Some known) command a → IsOutcome (Some known) command b → a ≡ b
-one_outcome known (Synth file o) (Printed s t) (Printed s' t') x y = synth_printed known file o s s' t t' x y
-one_outcome known (Synth file o) (Printed s t) (Refused f w) x y = absurd (synth_apart known file f o s t w x y)
-one_outcome known (Synth file o) (Refused f w) (Printed s t) x y = absurd (synth_apart known file f o s t w y x)
-one_outcome known (Synth file o) (Refused f w) (Refused f' w') x y = none_alike known file f f' w w' x y
+one_outcome known (Synth file o m) (Printed s t) (Printed s' t') x y = synth_printed known file o m s s' t t' x y
+one_outcome known (Synth file o m) (Printed s t) (Refused f w) x y = absurd (synth_apart known file o m f s t w x y)
+one_outcome known (Synth file o m) (Refused f w) (Printed s t) x y = absurd (synth_apart known file o m f s t w y x)
+one_outcome known (Synth file o m) (Refused f w) (Refused f' w') x y = synth_refused known file o m f f' w w' x y
 one_outcome known (flat file) (Printed s t) (Printed s' t') x y = flat_printed known file s s' t t' x y
 one_outcome known (flat file) (Printed s t) (Refused f w) x y = absurd (flat_apart known file f s t w x y)
 one_outcome known (flat file) (Refused f w) (Printed s t) x y = absurd (flat_apart known file f s t w y x)

@@ -13,7 +13,7 @@ use Rattle.network.specs.NetworkData.{NetworkData}
 use Rattle.network.specs.Networks.{IsNetwork}
 use Rattle.phase_assign.specs.Signs.{AreChosen}
 use Rattle.phase_assign.proofs.ChosenSigns.{chosen_signs_one}
-use Rattle.plan_law.specs.Laws.{TreesReadBelow}
+use Rattle.clock_phase.specs.Plans.{ReadEarlierCells}
 use Rattle.plan_law.proofs.CellLevels.{levels_one}
 use Rattle.plan_law.proofs.DecksThere.{plan_reads}
 use Rattle.plan_law.proofs.OneDeck.{decks_one}
@@ -44,7 +44,7 @@ module _ (network : NetworkData) (is : IsNetwork network) (options : SynthOption
       (subst (λ f. IsChosenPlan f options.bounds.w options.bounds.h x.kept x.trees) forest x.is_chosen_plan) y.is_chosen_plan in
       let trees : x.trees ≡ y.trees = plan.1 in
       let leaves : (y.forest).leaves ≡ leaf_count network = (y.is_forest).leaves_are ∙ (y.are_gates).leaves_are in
-      let below = subst (λ n. TreesReadBelow n y.trees) leaves (plan_reads y.forest options.bounds.w options.bounds.h y.kept y.trees stands (y.is_chosen_plan).plan) in
+      let below = subst (λ n. ReadEarlierCells n y.trees) leaves (plan_reads y.forest options.bounds.w options.bounds.h y.kept y.trees stands (y.is_chosen_plan).plan) in
       let levels : x.levels ≡ y.levels =
       levels_one (leaf_count network) y.trees below x.levels y.levels (subst (λ ts. AreLevels (leaf_count network) ts x.levels) trees x.levels_are) y.levels_are in
       λ i. record {

@@ -1,6 +1,5 @@
 -- Which files were asked for, by the status of a failure.
-use Rattle.std.proofs.Common.{◌≡◌, ◌≢◌, ◌⊎◌, ℕ, Bool, true, false, List, [], inl, inr, ap, subst, arith}
-use Rattle.std.specs.Prelude.{if◌then◌else◌}
+use Rattle.std.proofs.Common.{◌≡◌, ◌≢◌, ◌⊎◌, ℕ, List, [], inl, inr, ap, subst, arith}
 use Rattle.domsyn.specs.declared.failure.Failure.{Failure}
 use Rattle.domsyn.specs.declared.failure.Failure.TheVariants as failure
 use Rattle.domsyn.specs.declared.refusal.Refusal.{Refusal}
@@ -8,16 +7,20 @@ use Rattle.dom_io.specs.Asked.{Asking}
 use Rattle.command_words.specs.Commands.{Asks, Bench, Command, files_of}
 use Rattle.command_words.proofs.AskedOnce.{asks_one}
 use Rattle.deck_form.specs.declared.options.SynthOptions.{SynthOptions}
+use Rattle.domsyn.specs.Endings.{ending_number}
+use Rattle.domsyn.specs.declared.answer.Ending.{Ending}
+use Rattle.domsyn.specs.declared.answer.Ending.TheVariants.{Done, Differs}
 use Rattle.domsyn.specs.Failures.{IsFailureOf, IsReportedAt}
-use Rattle.domsyn.specs.Fetches.{AsksAll, AsksAt, AsksAtRefusal, AsksFirst, AsksUpTo, all_given}
+use Rattle.domsyn.specs.Fetches.{AsksAll, AsksAt, AsksAtRefusal, AsksEach, AsksFirst, AsksUpTo}
 use Rattle.domsyn.specs.Outcomes.{Files, Refused}
 use Rattle.domsyn.specs.Refusals.{refusal_line}
 use Rattle.domsyn.specs.Top.{HasOutcome, MeetsUnread, unread_line}
 use Rattle.domsyn.proofs.FetchedFiles.{in_order_at}
 
 -- the files of a command that the words ask for are those of each
-pub asks_all : (words : List (List ℕ)) (HasAsked : List Asking → Type 0) (command : Command) → Asks words command → HasAsked (all_given (files_of command)) → AsksAll words HasAsked
-asks_all words HasAsked command asks has other also = subst (λ (c : Command). HasAsked (all_given (files_of c))) (asks_one words command other asks also) has
+pub asks_all : (files : Files) (words : List (List ℕ)) (HasAsked : List Asking → Type 0) (command : Command) → Asks words command → AsksEach files (files_of command) HasAsked
+    → AsksAll files words HasAsked
+asks_all files words HasAsked command asks has other also = subst (λ (c : Command). AsksEach files (files_of c) HasAsked) (asks_one words command other asks also) has
 
 -- a bench has none
 pub bench_asks_none : (words : List (List ℕ)) (Untouched : Type 0) (command : Command) → Asks words command → (files_of command ≡ [] → Untouched)
@@ -56,7 +59,7 @@ failed_as Reports (failure.Unread file) known one three five = three known.0
 failed_as Reports failure.Memory known one three five = five known.0
 
 -- the status of a text isn't that of want of memory
-pub finished_known : (settled : Bool) (status : ℕ) → (status ≡ (if settled then 0 else 6)) ⊎ (status ≡ 4) → status ≡ 5 → ⊥
-finished_known true status (inl known) five = omega (arith, known, five)
-finished_known false status (inl known) five = omega (arith, known, five)
-finished_known settled status (inr four) five = omega (arith, four, five)
+pub finished_known : (ending : Ending) (status : ℕ) → (status ≡ ending_number ending) ⊎ (status ≡ 4) → status ≡ 5 → ⊥
+finished_known Done status (inl known) five = omega (arith, known, five)
+finished_known Differs status (inl known) five = omega (arith, known, five)
+finished_known ending status (inr four) five = omega (arith, four, five)

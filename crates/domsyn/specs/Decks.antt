@@ -2,18 +2,21 @@
 use Rattle.std.specs.Prelude.{ℕ, ◌≡◌, List}
 use Rattle.network.specs.NetworkData.{NetworkData}
 use Rattle.deck_form.specs.AskedOptions.{deck_options}
-use Rattle.deck_form.specs.DeckTexts.{IsSynthText}
+use Rattle.deck_form.specs.DeckTexts.{IsTextOfSigns}
 use Rattle.synth_flow.specs.Summaries.{IsSummaryOf}
 use Rattle.synth_flow.specs.SummaryData.{SummaryData}
 use Rattle.synth_flow.specs.SummaryLines.{summary_lines}
 use Rattle.deck_form.specs.declared.options.SynthOptions.{SynthOptions}
+use Rattle.command_words.specs.declared.command.Method.{Method}
+use Rattle.domsyn.specs.Methods.{AreSignsOf, IsSuited}
 use Rattle.domsyn.specs.Networks.{HasNetwork}
 
--- bytes with a network, and the text that synthesis gives of it, with options
-pub record IsDeckFor (bytes : List ℕ) (options : SynthOptions) (text : List ℕ) : Type 0 where
+-- bytes with a network, which suits the method, and the text that synthesis gives of it by the method, with options
+pub record IsDeckFor (bytes : List ℕ) (options : SynthOptions) (method : Method) (text : List ℕ) : Type 0 where
   pub network : NetworkData
   pub has : HasNetwork bytes network
-  pub is_text : IsSynthText text network (deck_options options)
+  pub suited : IsSuited method network
+  pub is_text : IsTextOfSigns (AreSignsOf method) text network (deck_options options)
 
 -- the text of the figures of the deck that synthesis gives of a network, with options
 pub record AreFigureLines (network : NetworkData) (options : SynthOptions) (text : List ℕ) : Type 0 where

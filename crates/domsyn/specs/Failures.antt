@@ -1,21 +1,19 @@
 -- Why a command has no text, and what is reported of it.
-use Rattle.std.specs.Prelude.{ℕ, ◌≡◌, ◌⊎◌, List, None, Some, length}
-use Rattle.command_words.specs.Commands.{Command}
+use Rattle.std.specs.Prelude.{ℕ, ◌≡◌, ◌⊎◌, List, [], None, Some, length}
+use Rattle.command_words.specs.Commands.{Command, Synth, Flat, Run, Sim, Cosim, Report, Bench}
 use Rattle.domsyn.specs.declared.failure.Failure.{Failure}
 use Rattle.domsyn.specs.declared.failure.Failure.TheVariants as failure
+use Rattle.domsyn.specs.declared.refusal.Refusal.{Refusal}
 use Rattle.domsyn.specs.declared.refusal.Refusal.TheVariants.{TooLong}
-use Rattle.domsyn.specs.Outcomes.{Files, IsFirstTooLong, IsOutcome, IsTooLong, IsUnread, IsUnreadOf, Refused}
-use Rattle.domsyn.specs.Networks.{IsNotRunFor}
-use Rattle.domsyn.specs.Refusals.{HasNoNetworkFor, IsFaulty, about, refusal_line, refusal_of}
+use Rattle.domsyn.specs.Outcomes.{Files, IsFirstTooLong, IsOutcome, IsTooLong, IsUnread, IsUnreadOf, Refused as RefusedFor}
+use Rattle.domsyn.specs.Refusals.{about, cause_of, refusal_line}
 use Rattle.domsyn.specs.Top.{line_of, unread_line}
-use Rattle.trace_tool.specs.Refusals.{IsRefused}
-use Rattle.trace_tool.specs.declared.fault.TraceFault.{TraceFault}
-use Rattle.trace_tool.specs.declared.options.ProbeWord.{ProbeWord}
+use Rattle.domsyn.specs.declared.fault.Fault.{Fault}
 
 -- why a command has no text over these files: a file is refused, or one can't be read, and the shelf's count rose;
 -- that it's out of memory has no cause
 abbrev pub IsFailureOf : Files → Command → Type 0 → Failure → Type 0
-IsFailureOf files command Rises (failure.Refused file why) = IsOutcome files command (Refused file.now why)
+IsFailureOf files command Rises (failure.Refused file why) = IsOutcome files command (RefusedFor file.now why)
 IsFailureOf files command Rises (failure.Unread file) = IsUnread files command file.now × Rises
 IsFailureOf files command Rises failure.Memory = Unit {0}
 
@@ -31,35 +29,32 @@ AreUnfetched files names Rises (failure.Refused file why) = (why ≡ TooLong) ×
 AreUnfetched files names Rises (failure.Unread file) = IsUnreadOf files names file.now × Rises
 AreUnfetched files names Rises failure.Memory = Unit {0}
 
--- why bytes of a file of this name have no network
-abbrev pub HasNoNetwork : List ℕ → List ℕ → Failure → Type 0
-HasNoNetwork name bytes (failure.Refused file why) = (file.now ≡ name) × HasNoNetworkFor bytes why
-HasNoNetwork name bytes (failure.Unread file) = ⊥
-HasNoNetwork name bytes failure.Memory = Unit {0}
+-- the file of a command that a cause is about
+abbrev pub about_of : Command → Refusal → List ℕ
+about_of (Synth file options method) why = about file file file why
+about_of (Flat file) why = about file file file why
+about_of (Run file stim) why = about file file stim why
+about_of (Sim deck stim options) why = about deck deck stim why
+about_of (Cosim file deck stim order seed) why = about file deck stim why
+about_of (Report file options) why = about file file file why
+about_of (Bench seed size options) why = []
 
--- a file that was read
-pub record ReadFile : Type 0 where
-  pub name : List ℕ
-  pub bytes : List ℕ
+-- why a command has no text over these files: the cause that is reported of a fault is its outcome; want of memory has no cause
+abbrev pub IsCommandFault : Files → Command → Fault → Type 0
+IsCommandFault files command fault =
+    (why : Refusal) → cause_of fault ≡ Some why → IsOutcome files command (RefusedFor (about_of command why) why)
 
--- what is reported of a fault of a simulation of a file, a deck and a stimulus: a cause, of the one that it is about
-abbrev pub IsFailureFor : (file deck stim : List ℕ) → TraceFault → Failure → Type 0
-IsFailureFor file deck stim fault (failure.Refused name why) = (refusal_of fault ≡ Some why) × (name.now ≡ about file deck stim why)
-IsFailureFor file deck stim fault (failure.Unread name) = ⊥
-IsFailureFor file deck stim fault failure.Memory = refusal_of fault ≡ None
+-- what is reported of a fault of a file, a deck and a stimulus of these names: a cause, of the one that it is about
+abbrev pub IsFailureNamed : (file deck stim : List ℕ) → Fault → Failure → Type 0
+IsFailureNamed file deck stim fault (failure.Refused name why) = (cause_of fault ≡ Some why) × (name.now ≡ about file deck stim why)
+IsFailureNamed file deck stim fault (failure.Unread name) = ⊥
+IsFailureNamed file deck stim fault failure.Memory = cause_of fault ≡ None
 
--- why a deck and a stimulus that were read have no trace with these probe words
-abbrev pub IsUntraced : (deck stim : ReadFile) → List ProbeWord → Failure → Type 0
-IsUntraced deck stim probes (failure.Refused name why) =
-    IsFaulty (IsRefused deck.bytes stim.bytes probes) deck.name deck.name stim.name name.now why
-IsUntraced deck stim probes (failure.Unread name) = ⊥
-IsUntraced deck stim probes failure.Memory = Unit {0}
-
--- why a file and a stimulus that were read have no run
-abbrev pub IsUnrun : (file stim : ReadFile) → Failure → Type 0
-IsUnrun file stim (failure.Refused name why) = (name.now ≡ about file.name file.name stim.name why) × IsNotRunFor file.bytes stim.bytes why
-IsUnrun file stim (failure.Unread name) = ⊥
-IsUnrun file stim failure.Memory = Unit {0}
+-- what is reported of a fault of a command: a cause, of the file of the command that it is about
+abbrev pub IsFailureFor : Command → Fault → Failure → Type 0
+IsFailureFor command fault (failure.Refused name why) = (cause_of fault ≡ Some why) × (name.now ≡ about_of command why)
+IsFailureFor command fault (failure.Unread name) = ⊥
+IsFailureFor command fault failure.Memory = cause_of fault ≡ None
 
 -- room for the line that reports a failure
 abbrev pub HasRoomForFailure : Failure → (ℕ → Type 0) → Type 0

@@ -4,22 +4,25 @@
 -- input stream and every order of net events.
 use Rattle.std.specs.Prelude.{ℕ, List}
 use Rattle.command_words.specs.Commands.{Asks, Command, Synth, Flat, Run, Sim, Cosim, Report, Bench}
+use Rattle.command_words.specs.declared.command.Method.{Method}
 use Rattle.deck_law.specs.Headline.{IsRightDeck}
 use Rattle.deck_form.specs.AskedOptions.{deck_options}
 use Rattle.deck_form.specs.declared.options.SynthOptions.{SynthOptions}
 use Rattle.domsyn.specs.Benches.{IsSameBench}
+use Rattle.domsyn.specs.Methods.{HasSignsOf}
 use Rattle.domsyn.specs.Outcomes.{Files, IsFile}
 
--- the text is a right deck of the file's bytes, with options
-pub record IsRightDeckOfFile (files : Files) (name : List ℕ) (options : SynthOptions) (text : List ℕ) : Type 0 where
+-- the text is a right deck of the file's bytes, with options; by exact signs its phases are signs of which no others need fewer pairs
+pub record IsRightDeckOfFile (files : Files) (name : List ℕ) (options : SynthOptions) (method : Method) (text : List ℕ) : Type 0 where
   pub bytes : List ℕ
   pub is_file : IsFile files name bytes
   pub is_right : IsRightDeck bytes (deck_options options) text
+  pub signs : HasSignsOf method bytes text
 
 -- a text that is put out for a command with a status: for `synth` it is a right deck of the file, with its options,
 -- and for `bench` it says that all is the same
 abbrev pub IsRightFor : Files → Command → ℕ → List ℕ → Type 0
-IsRightFor files (Synth file options) status text = IsRightDeckOfFile files file options text
+IsRightFor files (Synth file options method) status text = IsRightDeckOfFile files file options method text
 IsRightFor files (Flat file) status text = Unit {0}
 IsRightFor files (Run file stim) status text = Unit {0}
 IsRightFor files (Sim deck stim options) status text = Unit {0}
@@ -30,5 +33,5 @@ IsRightFor files (Bench seed size options) status text = IsSameBench seed size o
 -- where the words ask for the deck of a file with options, such a text is put out
 abbrev pub GivesRightDeck : Files → List (List ℕ) → (List ℕ → Type 0) → Type 0
 GivesRightDeck files words Puts =
-    (file : List ℕ) (options : SynthOptions) → Asks words (Synth file options)
-    → (text : List ℕ) × IsRightDeckOfFile files file options text × Puts text
+    (file : List ℕ) (options : SynthOptions) (method : Method) → Asks words (Synth file options method)
+    → (text : List ℕ) × IsRightDeckOfFile files file options method text × Puts text

@@ -1,13 +1,16 @@
 pub mod Benches
 pub mod Bits
 pub mod Decks
+pub mod Endings
 pub mod Failures
 pub mod Fetches
 pub mod Headline
 pub mod Laws
+pub mod Methods
 pub mod NetworkRuns
 pub mod Networks
 pub mod Outcomes
 pub mod OwnDecks
 pub mod Refusals
 pub mod Top
+pub mod Traced

@@ -3,7 +3,7 @@ use Rattle.std.specs.Prelude.{ℕ, ◌≡◌, ◌≤◌, Bool, List, None, lengt
 use Rattle.std.specs.List.{enumerate_from, flat_map, zip}
 use Rattle.dom_io.specs.Held.{file_limit}
 use Rattle.blif_ast.specs.BlifFileData.{BlifFileData}
-use Rattle.blif_ast.specs.Reading.{IsFileOf}
+use Rattle.blif_ast.specs.Reading.{IsBlifFaultAt, IsFileOf}
 use Rattle.net_flatten.specs.Flattening.{IsNetworkOf}
 use Rattle.network.specs.NetworkData.{NetworkData}
 use Rattle.net_run.specs.Runs.{Cycle, IsNetworkRun}
@@ -11,9 +11,12 @@ use Rattle.stim_text.specs.CycleLines.{cycle_line}
 use Rattle.stim_text.specs.CycleRowData.{CycleRowData}
 use Rattle.stim_text.specs.Stimuli.{IsStimFaultAt, IsStimulusOf}
 use Rattle.stim_text.specs.declared.fault.StimKind.{StimKind}
+use Rattle.trace_tool.specs.CosimRefusals.{HasFlatRefusal}
+use Rattle.trace_tool.specs.declared.fault.TraceFault.{TraceFault}
+use Rattle.trace_tool.specs.declared.fault.TraceFault.TheVariants as trace_fault
 use Rattle.domsyn.specs.Bits.{tri_of}
 use Rattle.domsyn.specs.declared.refusal.Refusal.{Refusal}
-use Rattle.domsyn.specs.declared.refusal.Refusal.TheVariants.{TooLong, Blif, Flat, TooMany, Deck, Ports, NoNet, Stim}
+use Rattle.domsyn.specs.declared.refusal.Refusal.TheVariants.{TooLong, Blif, Flat, TooMany, TooManySinks, Deck, Ports, NoNet, Stim}
 use Rattle.domsyn.specs.Refusals.{HasNoNetworkFor}
 
 -- no more bytes than a file may have, which are accepted, and the network of their file
@@ -58,7 +61,18 @@ IsNotRunFor bytes stim TooLong = ⊥
 IsNotRunFor bytes stim (Blif line kind) = HasNoNetworkFor bytes (Blif line kind)
 IsNotRunFor bytes stim (Flat line kind name) = HasNoNetworkFor bytes (Flat line kind name)
 IsNotRunFor bytes stim (TooMany limit count) = HasNoNetworkFor bytes (TooMany limit count)
+IsNotRunFor bytes stim (TooManySinks count) = ⊥
 IsNotRunFor bytes stim (Deck line kind) = ⊥
 IsNotRunFor bytes stim (Ports place) = ⊥
 IsNotRunFor bytes stim (NoNet name) = ⊥
 IsNotRunFor bytes stim (Stim line kind) = IsStimRefused bytes stim line kind
+
+-- bytes have no run over the stimulus of others, for this fault; out of memory comes for any
+abbrev pub IsRunRefused : (bytes stim : List ℕ) → TraceFault → Type 0
+IsRunRefused bytes stim (trace_fault.Blif line kind) = IsBlifFaultAt bytes line kind
+IsRunRefused bytes stim (trace_fault.Flat fault) = HasFlatRefusal bytes fault
+IsRunRefused bytes stim (trace_fault.Deck line kind) = ⊥
+IsRunRefused bytes stim (trace_fault.Ports place) = ⊥
+IsRunRefused bytes stim (trace_fault.NoNet name) = ⊥
+IsRunRefused bytes stim (trace_fault.Stim line kind) = IsStimRefused bytes stim line kind
+IsRunRefused bytes stim trace_fault.Memory = Unit {0}

@@ -10,6 +10,8 @@ use Rattle.command_words.specs.Commands.{Command, Synth, Flat, Run, Sim, Cosim, 
 use Rattle.deck_form.specs.declared.options.SynthOptions.{SynthOptions}
 use Rattle.synth_flow.specs.SummaryData.{SummaryData}
 use Rattle.domsyn.specs.Benches.{IsBenchOf, bench_text}
+use Rattle.command_words.specs.declared.command.Method.{Method}
+use Rattle.domsyn.specs.Methods.{HasNoDeckFor}
 use Rattle.domsyn.specs.Decks.{AreFiguresFor, IsDeckFor}
 use Rattle.domsyn.specs.Networks.{HasNetwork, IsNotRunFor, IsRunOf}
 use Rattle.domsyn.specs.Refusals.{HasNoNetworkFor, IsFaulty, about}
@@ -63,11 +65,11 @@ abbrev pub status_of : Outcome → ℕ
 status_of (Printed status text) = status
 status_of (Refused file why) = 1
 
--- the deck of a file, with options
-pub record IsDeck (files : Files) (file : List ℕ) (options : SynthOptions) (status : ℕ) (text : List ℕ) : Type 0 where
+-- the deck of a file by a method, with options
+pub record IsDeck (files : Files) (file : List ℕ) (options : SynthOptions) (method : Method) (status : ℕ) (text : List ℕ) : Type 0 where
   pub bytes : List ℕ
   pub is_file : IsFile files file bytes
-  pub deck : IsDeckFor bytes options text
+  pub deck : IsDeckFor bytes options method text
   pub done : status ≡ 0
 
 -- the network of a file as the text of one model
@@ -84,6 +86,13 @@ pub record HasNone (files : Files) (file name : List ℕ) (why : Refusal) : Type
   pub bytes : List ℕ
   pub holds : HasBytes files file bytes
   pub refused : HasNoNetworkFor bytes why
+  pub name_is : name ≡ file
+
+-- a file has no deck by a method for this cause
+pub record HasNoDeck (files : Files) (file : List ℕ) (method : Method) (name : List ℕ) (why : Refusal) : Type 0 where
+  pub bytes : List ℕ
+  pub holds : HasBytes files file bytes
+  pub refused : HasNoDeckFor method bytes why
   pub name_is : name ≡ file
 
 -- the trace of a deck over a stimulus; the status says whether each settling ended
@@ -174,8 +183,8 @@ IsRefusalOf files names Refuses name why = ((why ≡ TooLong) × IsFirstTooLong 
 
 -- the command has this outcome over these files
 abbrev pub IsOutcome : Files → Command → Outcome → Type 0
-IsOutcome files (Synth file options) (Printed status text) = IsDeck files file options status text
-IsOutcome files (Synth file options) (Refused name why) = HasNone files file name why
+IsOutcome files (Synth file options method) (Printed status text) = IsDeck files file options method status text
+IsOutcome files (Synth file options method) (Refused name why) = HasNoDeck files file method name why
 IsOutcome files (Flat file) (Printed status text) = IsFlat files file status text
 IsOutcome files (Flat file) (Refused name why) = HasNone files file name why
 IsOutcome files (Run file stim) (Printed status text) = IsPrintedRun files file stim status text

@@ -14,8 +14,10 @@ use Rattle.model_calls.specs.Kinds.{flat_kind_number, flat_kind_word, limit_word
 use Rattle.model_calls.specs.Refusal.{Refusal as Hierarchy}
 use Rattle.model_calls.specs.Refusal as hierarchy
 use Rattle.model_calls.specs.Refusals.{IsRefusal}
+use Rattle.domsyn.specs.declared.fault.Fault.{Fault}
+use Rattle.domsyn.specs.declared.fault.Fault.TheVariants as any_fault
 use Rattle.domsyn.specs.declared.refusal.Refusal.{Refusal}
-use Rattle.domsyn.specs.declared.refusal.Refusal.TheVariants.{TooLong, Blif, Flat, TooMany, Deck, Ports, NoNet, Stim}
+use Rattle.domsyn.specs.declared.refusal.Refusal.TheVariants.{TooLong, Blif, Flat, TooMany, TooManySinks, Deck, Ports, NoNet, Stim}
 use Rattle.stim_text.specs.Stimuli.{stim_kind_word}
 use Rattle.trace_tool.specs.declared.fault.TraceFault.{TraceFault}
 use Rattle.trace_tool.specs.declared.fault.TraceFault.TheVariants as trace_fault
@@ -38,6 +40,7 @@ HasNoNetworkFor bytes TooLong = file_limit < length bytes
 HasNoNetworkFor bytes (Blif line kind) = IsFaultyAt bytes line kind
 HasNoNetworkFor bytes (Flat line kind name) = IsHierarchyRefused bytes (hierarchy.At kind line name)
 HasNoNetworkFor bytes (TooMany limit count) = IsHierarchyRefused bytes (hierarchy.TooMany limit count)
+HasNoNetworkFor bytes (TooManySinks count) = ⊥
 HasNoNetworkFor bytes (Deck line kind) = ⊥
 HasNoNetworkFor bytes (Ports place) = ⊥
 HasNoNetworkFor bytes (NoNet name) = ⊥
@@ -59,6 +62,7 @@ about file deck stim TooLong = file
 about file deck stim (Blif line kind) = file
 about file deck stim (Flat line kind name) = file
 about file deck stim (TooMany limit count) = file
+about file deck stim (TooManySinks count) = file
 about file deck stim (Deck line kind) = deck
 about file deck stim (Ports place) = deck
 about file deck stim (NoNet name) = deck
@@ -76,6 +80,11 @@ refusal_of (trace_fault.NoNet name) = Some (NoNet name)
 refusal_of (trace_fault.Stim line kind) = Some (Stim line kind)
 refusal_of trace_fault.Memory = None
 
+-- and of a fault of any command
+abbrev pub cause_of : Fault → Option Refusal
+cause_of (any_fault.Traced fault) = refusal_of fault
+cause_of (any_fault.TooManySinks count) = Some (TooManySinks count)
+
 -- a file, a deck and a stimulus are refused for a fault, which is reported as this cause, of the one that the cause is about
 pub record IsFaulty (Refuses : TraceFault → Type 0) (file deck stim name : List ℕ) (why : Refusal) : Type 0 where
   pub fault : TraceFault
@@ -90,6 +99,7 @@ refusal_text (Blif line kind) =
     codes ":" ++ decimal line ++ codes ": blif " ++ decimal (blif_kind_number kind) ++ codes " " ++ blif_kind_word kind ++ codes "\n"
 refusal_text (Flat line kind name) = named_text line kind name
 refusal_text (TooMany limit count) = count_text limit count
+refusal_text (TooManySinks count) = codes ": too many sinks " ++ decimal count ++ codes "\n"
 refusal_text (Deck line kind) =
     codes ":" ++ decimal line ++ codes ": deck " ++ decimal (deck_kind_number kind) ++ codes " " ++ deck_kind_word kind ++ codes "\n"
 refusal_text (Ports place) = codes ": deck port " ++ decimal place ++ codes "\n"
@@ -102,6 +112,7 @@ subject file TooLong = file
 subject file (Blif line kind) = file
 subject file (Flat line kind name) = file
 subject file (TooMany limit count) = file
+subject file (TooManySinks count) = file
 subject file (Deck line kind) = file
 subject file (Ports place) = file
 subject file (NoNet name) = []

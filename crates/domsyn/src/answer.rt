@@ -1,9 +1,39 @@
 //! What a command gives.
+ghost use Rattle.std.specs.Prelude.{◌≡◌};
+ghost use Rattle.domsyn.specs.Endings.{ending_number, ending_of};
 
-/// A text to be put out, and whether it ends as it should: a simulation in which a settling doesn't end
-/// doesn't, nor a comparison that finds a difference.
+use crate::status::{DONE, UNSETTLED};
+
+/// How a command that gives a text ends: all is well, or a settling of a simulation doesn't end, or a comparison finds a
+/// difference.
+#[derive(Clone, Copy, Debug, PartialEq, Eq)]
+pub enum Ending {
+    Done,
+    Differs,
+}
+
+impl Ending {
+    /// The ending where all is well, or isn't.
+    pub fn of(well: bool) -> Ending
+        ensures { result ≡ ending_of well }
+    {
+        if well { Ending::Done } else { Ending::Differs }
+    }
+
+    /// The status that the program ends with, once the text is put out.
+    pub fn number(self) -> u8
+        ensures { result ≡ ending_number self }
+    {
+        match self {
+            Ending::Done => DONE,
+            Ending::Differs => UNSETTLED,
+        }
+    }
+}
+
+/// A text to be put out, and how the command ends then.
 #[derive(Drop)]
 pub struct Answer {
     pub text: Vec<u8>,
-    pub settled: bool,
+    pub ending: Ending,
 }

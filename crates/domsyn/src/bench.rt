@@ -1,13 +1,11 @@
 //! The command `bench SEED SIZE` with its options: the figures of the deck of a network that is generated, and how the deck does
 //! beside the network.
-ghost use Rattle.std.specs.Prelude.{◌≡◌, ◌⊎◌, ◌++◌, IfOk, IsErrOf, OnOk, if◌then◌else◌};
+ghost use Rattle.std.specs.Prelude.{◌≡◌, ◌⊎◌, ◌++◌, IfOk, IsErrOf, OnOk};
 ghost use Rattle.command_words.specs.Commands.{IsGoodSize};
 ghost use Rattle.command_words.specs.SynthOptionWords.{AreGoodOptions};
-ghost use Rattle.domsyn.specs.declared.failure.Failure.{Failure as Failed};
 ghost use Rattle.domsyn.specs.Benches.{IsSameBench, IsWholeText, OfWholeDeck, events_text};
-ghost use Rattle.domsyn.specs.declared.failure.Failure.TheVariants.{Memory as OutOf};
-ghost use Rattle.domsyn.specs.Outcomes.{IsBench};
-ghost use Rattle.trace_tool.specs.CosimRefusals.{HasNetworkOf, IsCosimRefused, IsUnflattened};
+ghost use Rattle.domsyn.specs.Endings.{ending_number};
+ghost use Rattle.trace_tool.specs.CosimRefusals.{IsCosimRefused};
 ghost use Rattle.net_gen.specs.Stimulus.{stimulus_text};
 ghost use Rattle.trace_tool.specs.VerdictLines.{verdict_line};
 ghost use Rattle.trace_tool.specs.Verdicts.{IsVerdictOf};
@@ -15,42 +13,20 @@ ghost use Rattle.trace_tool.specs.declared.options.Order.TheVariants.{First};
 ghost use Rattle.trace_tool.specs.declared.fault.TraceFault.{TraceFault as Fault};
 ghost use Rattle.trace_tool.specs.declared.fault.TraceFault.TheVariants.{Memory};
 
-use crate::answer::Answer;
+use crate::answer::{Answer, Ending};
 use crate::cosim::is_same;
-use crate::failure::Failure;
-use crate::figures::figure_lines;
-use crate::trace_failure::failure_of;
+use crate::report::figure_lines;
 use dom_base::{OutOfMemory, append, append_number};
-use net_flatten::{Network, flatten};
+use net_flatten::Network;
 use net_gen::{bench_stimulus, generate};
 use spice_text::write;
 use std::alloc::Global;
 use synth_flow::{SynthOptions, synth as deck_circuit};
-use trace_tool::{Order, TraceFault, Verdict, cosim};
+use trace_tool::{Order, TraceFault, Verdict, cosim, network_of_text};
 
-/// The outcome of `bench SEED SIZE` with options. The verdict is that all is the same, and the one failure is
-/// want of memory.
-pub fn bench<'a>(
-    alloc: Global,
-    seed: u64,
-    size: u32,
-    options: SynthOptions,
-) -> Result<Answer, Failure<'a>>
-    requires good_size { IsGoodSize size }
-    requires good_options { AreGoodOptions options }
-    ensures text { IfOk result (λ answer. IsBench seed size options (if answer.settled then 0 else 6) answer.text.items) }
-    ensures same { IfOk result (λ answer. IsSameBench seed size options (if answer.settled then 0 else 6) answer.text.items) }
-    ensures failed { (failure : Failed) → IsErrOf result failure → failure ≡ OutOf }
-{
-    match bench_of(alloc, seed, size, options) {
-        Ok(answer) => Ok(answer),
-        Err(fault) => Err(failure_of(fault, "", "", "")),
-    }
-}
-
-/// The figures of the deck of a network that is generated, the events and the verdict of the deck beside the
-/// network.
-fn bench_of(
+/// The figures of the deck of a network that is generated, with options, the events and the verdict of the deck beside the
+/// network. The verdict is that all is the same, and the one fault is want of memory.
+pub fn bench(
     alloc: Global,
     seed: u64,
     size: u32,
@@ -58,7 +34,7 @@ fn bench_of(
 ) -> Result<Answer, TraceFault>
     requires good_size { IsGoodSize size }
     requires good_options { AreGoodOptions options }
-    ensures same { IfOk result (λ answer. IsSameBench seed size options (if answer.settled then 0 else 6) answer.text.items) }
+    ensures same { IfOk result (λ answer. IsSameBench seed size options (ending_number answer.ending) answer.text.items) }
     ensures failed { (why : Fault) → IsErrOf result why → why ≡ Memory }
 {
     let blif = generate(alloc, seed, size)?;
@@ -66,18 +42,8 @@ fn bench_of(
     let mut text = figure_lines(alloc, &network, options)?;
     let verdict = own_verdict(alloc, seed, options, &network, &blif)?;
     append_verdict(alloc, &mut text, &verdict)?;
-    let settled = is_same(&verdict);
-    Ok(Answer { text, settled })
-}
-
-/// The network of a text of BLIF.
-fn network_of_text(alloc: Global, blif: &[u8]) -> Result<Network, TraceFault>
-    ensures network { IfOk result (HasNetworkOf blif.now) }
-    ensures refused { (why : Fault) → IsErrOf result why → IsUnflattened blif.now why }
-{
-    let file = blif_read::read(alloc, blif)?;
-    let network = flatten(alloc, &file)?;
-    Ok(network)
+    let ending = Ending::of(is_same(&verdict));
+    Ok(Answer { text, ending })
 }
 
 /// The verdict of the deck of a network, with options, beside the network's text over the four cycles of a seed.

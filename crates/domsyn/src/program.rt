@@ -17,7 +17,7 @@ ghost use Rattle.domsyn.specs.Refusals.{refusal_line};
 ghost use Rattle.domsyn.specs.Top.{HasOutcome, HasRoomFor, IsRefusalLine, IsText, MeetsUnread, Reports, line_of, unread_line};
 
 use crate::dispatch::outcome_of;
-use crate::report::{finish, report, report_failure, report_memory};
+use crate::ending::{finish, put_line, report_failure, report_memory};
 use crate::status::USAGE;
 use command_words::command_of;
 use dom_io::{Shelf, Sink};
@@ -56,7 +56,7 @@ pub fn top<S: Shelf, K: Sink, E: Sink>(
     // them where there is a text, up to the file that the line names where it can't be read or is too long, and else all, or some
     // of the first where memory did not suffice.
     ensures asked_all { result ≢ 1 → result ≢ 2 → result ≢ 3 → result ≢ 5
-        → AsksAll (map string_bytes words.now) (HasAsked (S.asked shelf.old) (S.asked shelf.new)) }
+        → AsksAll (S.files shelf.old) (map string_bytes words.now) (HasAsked (S.asked shelf.old) (S.asked shelf.new)) }
     ensures asked_first { result ≡ 5
         → AsksFirst (S.files shelf.old) (map string_bytes words.now) (HasAsked (S.asked shelf.old) (S.asked shelf.new)) }
 
@@ -111,7 +111,7 @@ pub fn top<S: Shelf, K: Sink, E: Sink>(
     let command = match command_of(alloc, words) {
         Ok(Some(command)) => command,
         Ok(None) => {
-            report(err, USAGE_LINE);
+            put_line(err, USAGE_LINE);
             return USAGE;
         }
         Err(_) => return report_memory(err),

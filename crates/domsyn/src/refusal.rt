@@ -32,6 +32,10 @@ pub enum Refusal {
         limit: Limit,
         count: u64,
     },
+    /// Its network has so many sinks, and exact signs aren't sought of so many.
+    TooManySinks {
+        count: u64,
+    },
     /// Its text, read as a deck, has this fault at this line, from 1.
     Deck {
         line: u64,
@@ -82,6 +86,7 @@ impl Refusal {
             }
             Refusal::Flat { line, kind, name } => put_named(text, *line, *kind, name.as_bytes()),
             Refusal::TooMany { limit, count } => put_count(text, *limit, *count),
+            Refusal::TooManySinks { count } => put_sinks(text, *count),
             Refusal::Deck { line, kind } => {
                 put_fault(text, *line, b": deck ", kind.number(), kind.word())
             }
@@ -136,6 +141,15 @@ fn put_count(text: &mut Vec<u8>, limit: Limit, count: u64) -> Result<(), OutOfMe
     append(text, b" TooMany ")?;
     append(text, limit.word().as_bytes())?;
     append(text, b" ")?;
+    append_number(text, count)?;
+    append(text, b"\n")
+}
+
+/// Appends how many sinks there are.
+fn put_sinks(text: &mut Vec<u8>, count: u64) -> Result<(), OutOfMemory>
+    ensures { OnOk result (text.new.items ≡ text.old.items ++ codes ": too many sinks " ++ decimal count ++ codes "\n") }
+{
+    append(text, b": too many sinks ")?;
     append_number(text, count)?;
     append(text, b"\n")
 }

@@ -1,120 +1,43 @@
-//! The end of a command: its text is put out, or a line says why there is none.
-ghost use Rattle.std.specs.Prelude.{ℕ, ◌≡◌, ◌≢◌, ◌++◌, ◌≤◌, ◌⊎◌, OnOk, OnErr, codes, if◌then◌else◌, length};
-ghost use Rattle.std.specs.Io.KnownBytes.{Appends};
-ghost use Rattle.dom_io.specs.Faults.{Rose};
-ghost use Rattle.dom_io.specs.Pieces.{AppendsPrefix};
-ghost use Rattle.domsyn.specs.Failures.{HasRoomForFailure, IsReportedAt};
-ghost use Rattle.domsyn.specs.Refusals.{refusal_line};
-ghost use Rattle.domsyn.specs.Top.{Reports, line_of};
+//! The command `report FILE` with its options: the figures of the deck of the network of a file.
+ghost use Rattle.std.specs.Prelude.{◌≡◌, ◌≤◌, IfOk, IsErrOf, length};
+ghost use Rattle.dom_io.specs.Held.{file_limit};
+ghost use Rattle.command_words.specs.SynthOptionWords.{AreGoodOptions};
+ghost use Rattle.domsyn.specs.Decks.{AreFigureLines, AreFiguresFor};
+ghost use Rattle.domsyn.specs.declared.answer.Ending.TheVariants.{Done};
+ghost use Rattle.trace_tool.specs.CosimRefusals.{IsUnflattened};
+ghost use Rattle.trace_tool.specs.declared.fault.TraceFault.{TraceFault as Fault};
 
-use crate::answer::Answer;
-use crate::failure::Failure;
-use crate::refusal::Refusal;
-use crate::status::{CANNOT_READ, CANNOT_WRITE, DONE, OUT_OF_MEMORY, REFUSED, UNSETTLED};
-use dom_io::{Sink, SinkFault, put_all};
+use crate::answer::{Answer, Ending};
+use dom_base::OutOfMemory;
+use net_flatten::Network;
 use std::alloc::Global;
+use synth_flow::{SynthOptions, append_summary, summary};
+use trace_tool::{TraceFault, network_of_text};
 
-/// Puts out a text, and gives the status.
-pub fn finish<K: Sink, E: Sink>(answer: &Answer, out: &mut K, err: &mut E) -> u8
-    requires out_room { K.has_room out.old (length answer.now.text.items) }
-    requires err_room { (status : ℕ) → E.has_room err.old (length (line_of status)) }
-    ensures known { (result ≡ (if answer.now.settled then 0 else 6)) ⊎ (result ≡ 4) }
-    ensures done { result ≢ 4 → Appends (K.taken out.old) (K.taken out.new) answer.now.text.items }
-    ensures part { result ≡ 4 → AppendsPrefix (K.taken out.old) (K.taken out.new) answer.now.text.items }
-    ensures cannot_write { result ≡ 4 → Rose (K.faults out.old) (K.faults out.new) }
-    ensures reported { Reports (E.taken err.old) (E.taken err.new) (E.faults err.old) (E.faults err.new) (line_of result) }
-    ensures quiet { result ≢ 4 → err.new ≡ err.old }
-    ensures out_later { K.faults out.old ≤ K.faults out.new }
-    ensures err_later { E.faults err.old ≤ E.faults err.new }
+/// The figures of the deck of the network of these bytes, which are those of a file, with options. The deck isn't made.
+pub fn report(alloc: Global, bytes: &[u8], options: SynthOptions) -> Result<Answer, TraceFault>
+    requires within { length bytes.now ≤ file_limit }
+    requires good_options { AreGoodOptions options }
+    ensures figures { IfOk result (λ answer. AreFiguresFor bytes.now options answer.text.items × (answer.ending ≡ Done)) }
+    ensures refused { (why : Fault) → IsErrOf result why → IsUnflattened bytes.now why }
 {
-    match put_all(out, &answer.text) {
-        Ok(()) => { if answer.settled { DONE } else { UNSETTLED } }
-        Err(_) => {
-            report(err, b"domsyn: cannot write\n");
-            CANNOT_WRITE
-        }
-    }
+    let network = network_of_text(alloc, bytes)?;
+    let text = figure_lines(alloc, &network, options)?;
+    let ending = Ending::Done;
+    Ok(Answer { text, ending })
 }
 
-/// Reports why there is no text, and gives the status.
-pub fn report_failure<E: Sink>(alloc: Global, failure: Failure, err: &mut E) -> u8
-    requires failure_room { HasRoomForFailure failure (E.has_room err.old) }
-    requires err_room { (status : ℕ) → E.has_room err.old (length (line_of status)) }
-    ensures reported { IsReportedAt failure.entry result
-        (Reports (E.taken err.old) (E.taken err.new) (E.faults err.old) (E.faults err.new)) }
-    ensures later { E.faults err.old ≤ E.faults err.new }
+/// The text of the figures of the deck of a network, with options.
+pub fn figure_lines(
+    alloc: Global,
+    network: &Network,
+    options: SynthOptions,
+) -> Result<Vec<u8>, OutOfMemory>
+    requires good_options { AreGoodOptions options }
+    ensures { IfOk result (λ text. AreFigureLines network.now options text.items) }
 {
-    match failure {
-        Failure::Refused { file, why } => report_refusal(alloc, file, &why, err),
-        Failure::Unread { file } => {
-            report_about(err, file, b": cannot read\n");
-            CANNOT_READ
-        }
-        Failure::Memory => report_memory(err),
-    }
-}
-
-/// Reports why a file is refused, or that memory did not suffice for it, and gives the status.
-fn report_refusal<E: Sink>(alloc: Global, file: &str, why: &Refusal, err: &mut E) -> u8
-    requires refusal_room { E.has_room err.old (length (refusal_line file.now why.now)) }
-    requires err_room { (status : ℕ) → E.has_room err.old (length (line_of status)) }
-    ensures reported { ((result ≡ 1)
-        × Reports (E.taken err.old) (E.taken err.new) (E.faults err.old) (E.faults err.new) (refusal_line file.now why.now))
-        ⊎ ((result ≡ 5) × Reports (E.taken err.old) (E.taken err.new) (E.faults err.old) (E.faults err.new) (line_of 5)) }
-    ensures later { E.faults err.old ≤ E.faults err.new }
-{
-    match why.text(alloc) {
-        Ok(text) => {
-            report_about(err, why.subject(file), &text);
-            REFUSED
-        }
-        Err(_) => report_memory(err),
-    }
-}
-
-/// Reports that memory did not suffice, and gives the status.
-pub fn report_memory<E: Sink>(err: &mut E) -> u8
-    requires { (status : ℕ) → E.has_room err.old (length (line_of status)) }
-    ensures status { result ≡ 5 }
-    ensures reported { Reports (E.taken err.old) (E.taken err.new) (E.faults err.old) (E.faults err.new) (line_of 5) }
-    ensures later { E.faults err.old ≤ E.faults err.new }
-{
-    report(err, b"domsyn: out of memory\n");
-    OUT_OF_MEMORY
-}
-
-/// Puts a line on the sink, whose failures change no status.
-pub fn report<E: Sink>(err: &mut E, line: &[u8])
-    requires { E.has_room err.old (length line.now) }
-    ensures reported { Reports (E.taken err.old) (E.taken err.new) (E.faults err.old) (E.faults err.new) line.now }
-    ensures later { E.faults err.old ≤ E.faults err.new }
-{
-    let _ = put_all(err, line);
-}
-
-/// Puts a line about a subject on the sink: `domsyn: `, the subject and what there is to say.
-fn report_about<E: Sink>(err: &mut E, subject: &str, what: &[u8])
-    requires { E.has_room err.old (length (codes "domsyn: " ++ subject.now ++ what.now)) }
-    ensures reported { Reports (E.taken err.old) (E.taken err.new) (E.faults err.old) (E.faults err.new)
-        (codes "domsyn: " ++ subject.now ++ what.now) }
-    ensures later { E.faults err.old ≤ E.faults err.new }
-{
-    let _ = put_about(err, subject, what);
-}
-
-#[tactic(auto, using(dom_io::proofs::PieceLemmas::put_twice))]
-fn put_about<E: Sink>(err: &mut E, subject: &str, what: &[u8]) -> Result<(), SinkFault>
-    requires { E.has_room err.old (length (codes "domsyn: " ++ subject.now ++ what.now)) }
-    ensures ok { OnOk result (Appends (E.taken err.old) (E.taken err.new) (codes "domsyn: " ++ subject.now ++ what.now)) }
-    ensures err { OnErr result (AppendsPrefix (E.taken err.old) (E.taken err.new) (codes "domsyn: " ++ subject.now ++ what.now)) }
-    ensures later { E.faults err.old ≤ E.faults err.new }
-    ensures failed { OnErr result (Rose (E.faults err.old) (E.faults err.new)) }
-{
-    if let Err(fault) = put_all(err, b"domsyn: ") {
-        return Err(fault);
-    }
-    if let Err(fault) = put_all(err, subject.as_bytes()) {
-        return Err(fault);
-    }
-    put_all(err, what)
+    let figures = summary(alloc, network, options)?;
+    let mut text = Vec::new(alloc);
+    append_summary(&mut text, &network.name, &figures)?;
+    Ok(text)
 }

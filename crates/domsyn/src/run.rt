@@ -1,86 +1,34 @@
 //! The command `run FILE STIM`: the run of the network of a file over a stimulus.
-ghost use Rattle.std.specs.Prelude.{◌≡◌, ◌≤◌, ◌++◌, ◌↔◌, ℕ, List, [], ◌∷◌, All, IfOk, IsErrOf, None, OnOk, length, map, true};
-ghost use Rattle.std.specs.Prelude.{if◌then◌else◌};
-ghost use Rattle.dom_io.specs.Asked.{HasAsked};
-ghost use Rattle.dom_io.specs.Faults.{Rose};
+ghost use Rattle.std.specs.Prelude.{◌≡◌, ◌≤◌, ◌++◌, All, IfOk, IsErrOf, None, OnOk, length, map};
 ghost use Rattle.dom_io.specs.Held.{file_limit};
-ghost use Rattle.command_words.specs.Commands.{Run};
-ghost use Rattle.domsyn.specs.declared.failure.Failure.{Failure as Failed};
 ghost use Rattle.domsyn.specs.Bits.{tri_of};
-ghost use Rattle.domsyn.specs.Failures.{IsFailureOf, IsUnrun};
-ghost use Rattle.domsyn.specs.Fetches.{AsksAt, all_given};
 ghost use Rattle.domsyn.specs.NetworkRuns.{PutsCycle};
-ghost use Rattle.domsyn.specs.Networks.{IsRunOf, IsRunText};
-ghost use Rattle.domsyn.specs.Outcomes.{IsOutcome, Printed};
+ghost use Rattle.domsyn.specs.Networks.{IsRunOf, IsRunRefused, IsRunText};
+ghost use Rattle.domsyn.specs.declared.answer.Ending.TheVariants.{Done};
+ghost use Rattle.trace_tool.specs.declared.fault.TraceFault.{TraceFault as Fault};
 
-use crate::answer::Answer;
-use crate::failure::Failure;
-use crate::fetch::fetch;
-use crate::file_network::network_of;
-use crate::refusal::Refusal;
+use crate::answer::{Answer, Ending};
 use dom_base::{OutOfMemory, Tri};
-use dom_io::Shelf;
 use net_flatten::Network;
 use net_run::Runner;
 use std::alloc::Global;
-use stim_text::{CycleRow, Pins, StimFault, read_stim, write_cycle};
+use stim_text::{CycleRow, Pins, read_stim, write_cycle};
+use trace_tool::{TraceFault, network_of_text};
 
 /// The most bytes of the line of a cycle besides those of its values.
 const AROUND: usize = 40;
 
-/// The outcome of `run FILE STIM` over the files of a shelf.
-pub fn run<'a, S: Shelf>(
-    alloc: Global,
-    shelf: &mut S,
-    file: &'a str,
-    stim: &'a str,
-) -> Result<Answer, Failure<'a>>
-    requires file_name { S.may_ask shelf.old file.now }
-    requires stim_name { S.may_ask shelf.old stim.now }
-    ensures text { IfOk result (λ answer.
-        IsOutcome (S.files shelf.old) (Run file.now stim.now) (Printed (if answer.settled then 0 else 6) answer.text.items)) }
-    ensures failed { (failure : Failed) → IsErrOf result failure
-        → IsFailureOf (S.files shelf.old) (Run file.now stim.now) (Rose (S.faults shelf.old) (S.faults shelf.new)) failure }
-    ensures asked { OnOk result (HasAsked (S.asked shelf.old) (S.asked shelf.new) (all_given (file.now ∷ stim.now ∷ []))) }
-    ensures asked_failed { (failure : Failed) → IsErrOf result failure → AsksAt (S.files shelf.old) (file.now ∷ stim.now ∷ [])
-        (HasAsked (S.asked shelf.old) (S.asked shelf.new)) failure }
-    ensures same_files { S.files shelf.new ≡ S.files shelf.old }
-    ensures same_names { (name : List ℕ) → S.may_ask shelf.new name ↔ S.may_ask shelf.old name }
-    ensures later { S.faults shelf.old ≤ S.faults shelf.new }
+/// The run of the network of these bytes, which are those of a file, over a stimulus.
+pub fn run(alloc: Global, bytes: &[u8], stim: &[u8]) -> Result<Answer, TraceFault>
+    requires within { length bytes.now ≤ file_limit }
+    ensures text { IfOk result (λ answer. IsRunOf bytes.now stim.now answer.text.items × (answer.ending ≡ Done)) }
+    ensures refused { (why : Fault) → IsErrOf result why → IsRunRefused bytes.now stim.now why }
 {
-    let bytes = fetch(alloc, shelf, file)?;
-    let stim_bytes = fetch(alloc, shelf, stim)?;
-    run_of(alloc, file, stim, bytes, stim_bytes)
-}
-
-/// The run of the network of these bytes of a file over those of a stimulus.
-fn run_of<'a>(
-    alloc: Global,
-    file: &'a str,
-    stim: &'a str,
-    bytes: Vec<u8>,
-    stim_bytes: Vec<u8>,
-) -> Result<Answer, Failure<'a>>
-    requires within { length bytes.items ≤ file_limit }
-    ensures text { IfOk result (λ answer. IsRunOf bytes.items stim_bytes.items answer.text.items × (answer.settled ≡ true)) }
-    ensures failed { (failure : Failed) → IsErrOf result failure
-        → IsUnrun (record { name = file.now; bytes = bytes.items }) (record { name = stim.now; bytes = stim_bytes.items }) failure }
-{
-    let network = network_of(alloc, file, bytes)?;
-    let cycles = match read_stim(alloc, &stim_bytes, network.inputs) {
-        Ok(cycles) => cycles,
-        Err(StimFault::At { line, kind }) => {
-            let why = Refusal::Stim { line, kind };
-            return Err(Failure::Refused { file: stim, why });
-        }
-        Err(StimFault::Memory) => return Err(Failure::Memory),
-    };
-    drop(stim_bytes);
+    let network = network_of_text(alloc, bytes)?;
+    let cycles = read_stim(alloc, stim, network.inputs)?;
     let text = run_text(alloc, &network, &cycles)?;
-    Ok(Answer {
-        text,
-        settled: true,
-    })
+    let ending = Ending::Done;
+    Ok(Answer { text, ending })
 }
 
 /// The lines of the run of a network over these cycles.

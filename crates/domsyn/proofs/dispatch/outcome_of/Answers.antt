@@ -1,115 +1,124 @@
-use Rattle.std.proofs.Common.{[], ap, refl, subst, sym}
-use Rattle.std.specs.Prelude.{OnOk}
-use Rattle.std.proofs.lemmas.Result.{IfOk-weaker}
+use Rattle.std.proofs.Common.{◌≡◌, ◌∙◌, List, [], ℕ, Vec, Global, All, inl, map, ap, refl, subst, sym}
+use Rattle.std.proofs.lemmas.Result.{err_from_is_err_and}
 use Rattle.dom_io.specs.Asked.{HasAsked}
 use Rattle.dom_io.specs.Faults.{Rose}
 use Rattle.dom_io.proofs.AskedLemmas.{HasAsked-nothing}
 use Rattle.command_words.specs.Asked.{asked_command}
-use Rattle.command_words.specs.Commands.{Command, files_of}
+use Rattle.command_words.specs.Commands.{files_of}
 use Rattle.domsyn.specs.declared.failure.Failure.TheVariants.{Memory}
-use Rattle.domsyn.specs.Fetches.{AsksAt, all_given}
-use Rattle.domsyn.proofs.CommandFailures.{bench_forgotten}
-use Rattle.domsyn.proofs.FetchedFiles.{asks_none, some_file}
+use Rattle.domsyn.specs.Failures.{AreUnfetched, IsFailureFor}
+use Rattle.domsyn.specs.Fetches.{AreFiles, AsksAt, all_given}
+use Rattle.domsyn.proofs.CommandFaults.{command_unfetched, fault_failed, later_fault}
+use Rattle.domsyn.proofs.FetchedFiles.{asks_whole, bytes_of, files_untold, name_of}
 use Rattle.domsyn.proofs.dispatch.outcome_of.Goals as goal
 
-pub returns-in-Bench-clause-failed : goal.returns-in-Bench-clause-failed
-returns-in-Bench-clause-failed g c failure is =
-    let Rises = Rose (g.S.Shelf.faults c.args.shelf.now) (g.S.Shelf.faults c.args.shelf.now) in
-    bench_forgotten (g.S.Shelf.files c.args.shelf.now) (asked_command c.args.command.now) _ _ _ Rises failure (ap asked_command c.in-Bench.is) (c.bench.ensures.failed failure is)
+pub fetch_all-requires : goal.fetch_all-requires
+fetch_all-requires g c =
+    let names = ap (map name_of) c.deref.ensures.value ∙ c.in_ok-names.ensures in
+    record { names = subst (λ (l : List (List ℕ)). All (g.S.Shelf.may_ask c.args.shelf.now) l) (sym names) c.requires.names }
 
-pub returns-in-Synth-clause-unfetched : goal.returns-in-Synth-clause-unfetched
-returns-in-Synth-clause-unfetched g c = λ none. absurd (some_file (asked_command c.args.command.now) _ _ _ (ap asked_command c.in-Synth.is) refl none)
-
-pub returns-in-Flat-clause-unfetched : goal.returns-in-Flat-clause-unfetched
-returns-in-Flat-clause-unfetched g c = λ none. absurd (some_file (asked_command c.args.command.now) _ _ _ (ap asked_command c.in-Flat.is) refl none)
-
-pub returns-in-Run-clause-unfetched : goal.returns-in-Run-clause-unfetched
-returns-in-Run-clause-unfetched g c = λ none. absurd (some_file (asked_command c.args.command.now) _ _ _ (ap asked_command c.in-Run.is) refl none)
-
-pub returns-in-Sim-clause-unfetched : goal.returns-in-Sim-clause-unfetched
-returns-in-Sim-clause-unfetched g c = λ none. absurd (some_file (asked_command c.args.command.now) _ _ _ (ap asked_command c.in-Sim.is) refl none)
-
-pub returns-in-Cosim-clause-unfetched : goal.returns-in-Cosim-clause-unfetched
-returns-in-Cosim-clause-unfetched g c = λ none. absurd (some_file (asked_command c.args.command.now) _ _ _ (ap asked_command c.in-Cosim.is) refl none)
-
-pub returns-in-Report-clause-unfetched : goal.returns-in-Report-clause-unfetched
-returns-in-Report-clause-unfetched g c = λ none. absurd (some_file (asked_command c.args.command.now) _ _ _ (ap asked_command c.in-Report.is) refl none)
-
-pub returns-in-Synth-clause-asked : goal.returns-in-Synth-clause-asked
-returns-in-Synth-clause-asked g c =
-    let HasAskedHere = HasAsked (g.S.Shelf.asked c.args.shelf.now) (g.S.Shelf.asked c.synth.new.shelf) in
-    subst (λ (k : Command). OnOk c.synth.result (HasAskedHere (all_given (files_of k)))) (sym (ap asked_command c.in-Synth.is)) c.synth.ensures.asked
-
-pub returns-in-Synth-clause-asked_failed : goal.returns-in-Synth-clause-asked_failed
-returns-in-Synth-clause-asked_failed g c failure is =
+pub returns-in_err-names-clause-asked_failed : goal.returns-in_err-names-clause-asked_failed
+returns-in_err-names-clause-asked_failed g c failure is =
+    let p = err_from_is_err_and c.from_residual.result c.from_residual.ensures.1 in
+    let a = p.1 in
+    let b = p.2 in
     let files = g.S.Shelf.files c.args.shelf.now in
-    let HasAskedHere = HasAsked (g.S.Shelf.asked c.args.shelf.now) (g.S.Shelf.asked c.synth.new.shelf) in
-    subst (λ (k : Command). AsksAt files (files_of k) HasAskedHere failure) (sym (ap asked_command c.in-Synth.is)) (c.synth.ensures.asked_failed failure is)
+    let asked = g.S.Shelf.asked c.args.shelf.now in
+    let memory : Memory ≡ failure = cc in
+    subst (AsksAt files (files_of (asked_command c.args.command.now)) (HasAsked asked asked)) memory ([], HasAsked-nothing asked, inl refl)
 
-pub returns-in-Flat-clause-asked : goal.returns-in-Flat-clause-asked
-returns-in-Flat-clause-asked g c =
-    let HasAskedHere = HasAsked (g.S.Shelf.asked c.args.shelf.now) (g.S.Shelf.asked c.flat.new.shelf) in
-    subst (λ (k : Command). OnOk c.flat.result (HasAskedHere (all_given (files_of k)))) (sym (ap asked_command c.in-Flat.is)) c.flat.ensures.asked
-
-pub returns-in-Flat-clause-asked_failed : goal.returns-in-Flat-clause-asked_failed
-returns-in-Flat-clause-asked_failed g c failure is =
+pub returns-in_err-files-clause-failed : goal.returns-in_err-files-clause-failed
+returns-in_err-files-clause-failed g c failure is =
+    let p = err_from_is_err_and c.from_residual-in_err-files.result c.from_residual-in_err-files.ensures.1 in
+    let a = p.1 in
+    let b = p.2 in
+    let names = ap (map name_of) c.deref.ensures.value ∙ c.in_ok-names.ensures in
     let files = g.S.Shelf.files c.args.shelf.now in
-    let HasAskedHere = HasAsked (g.S.Shelf.asked c.args.shelf.now) (g.S.Shelf.asked c.flat.new.shelf) in
-    subst (λ (k : Command). AsksAt files (files_of k) HasAskedHere failure) (sym (ap asked_command c.in-Flat.is)) (c.flat.ensures.asked_failed failure is)
+    let Rises = Rose (g.S.Shelf.faults c.args.shelf.now) (g.S.Shelf.faults c.fetch_all.new.shelf) in
+    command_unfetched files (asked_command c.args.command.now) Rises failure
+    (subst (λ (l : List (List ℕ)). AreUnfetched files l Rises failure) names (c.in_err-files.ensures.failed failure (cc)))
 
-pub returns-in-Run-clause-asked : goal.returns-in-Run-clause-asked
-returns-in-Run-clause-asked g c =
-    let HasAskedHere = HasAsked (g.S.Shelf.asked c.args.shelf.now) (g.S.Shelf.asked c.run.new.shelf) in
-    subst (λ (k : Command). OnOk c.run.result (HasAskedHere (all_given (files_of k)))) (sym (ap asked_command c.in-Run.is)) c.run.ensures.asked
-
-pub returns-in-Run-clause-asked_failed : goal.returns-in-Run-clause-asked_failed
-returns-in-Run-clause-asked_failed g c failure is =
+pub returns-in_err-files-clause-asked_failed : goal.returns-in_err-files-clause-asked_failed
+returns-in_err-files-clause-asked_failed g c failure is =
+    let p = err_from_is_err_and c.from_residual-in_err-files.result c.from_residual-in_err-files.ensures.1 in
+    let a = p.1 in
+    let b = p.2 in
+    let names = ap (map name_of) c.deref.ensures.value ∙ c.in_ok-names.ensures in
     let files = g.S.Shelf.files c.args.shelf.now in
-    let HasAskedHere = HasAsked (g.S.Shelf.asked c.args.shelf.now) (g.S.Shelf.asked c.run.new.shelf) in
-    subst (λ (k : Command). AsksAt files (files_of k) HasAskedHere failure) (sym (ap asked_command c.in-Run.is)) (c.run.ensures.asked_failed failure is)
+    let HasAskedHere = HasAsked (g.S.Shelf.asked c.args.shelf.now) (g.S.Shelf.asked c.fetch_all.new.shelf) in
+    subst (λ (l : List (List ℕ)). AsksAt files l HasAskedHere failure) names (c.in_err-files.ensures.asked_failed failure (cc))
 
-pub returns-in-Sim-clause-asked : goal.returns-in-Sim-clause-asked
-returns-in-Sim-clause-asked g c =
-    let HasAskedHere = HasAsked (g.S.Shelf.asked c.args.shelf.now) (g.S.Shelf.asked c.sim.new.shelf) in
-    subst (λ (k : Command). OnOk c.sim.result (HasAskedHere (all_given (files_of k)))) (sym (ap asked_command c.in-Sim.is)) c.sim.ensures.asked
+pub returns-in_err-files-clause-unfetched : goal.returns-in_err-files-clause-unfetched
+returns-in_err-files-clause-unfetched g c = λ none.
+    let names = ap (map name_of) c.deref.ensures.value ∙ c.in_ok-names.ensures in
+    c.in_err-files.ensures.unfetched (names ∙ none)
 
-pub returns-in-Sim-clause-asked_failed : goal.returns-in-Sim-clause-asked_failed
-returns-in-Sim-clause-asked_failed g c failure is =
+pub answer_of-requires-clause-given : goal.answer_of-requires-clause-given
+answer_of-requires-clause-given g c =
+    let names = ap (map name_of) c.deref.ensures.value ∙ c.in_ok-names.ensures in
     let files = g.S.Shelf.files c.args.shelf.now in
-    let HasAskedHere = HasAsked (g.S.Shelf.asked c.args.shelf.now) (g.S.Shelf.asked c.sim.new.shelf) in
-    subst (λ (k : Command). AsksAt files (files_of k) HasAskedHere failure) (sym (ap asked_command c.in-Sim.is)) (c.sim.ensures.asked_failed failure is)
+    files_untold files (files_of (asked_command c.args.command.now)) (map bytes_of c.deref-2.result.now)
+    (subst (λ (vs : List (Vec ℕ Global)). AreFiles files (files_of (asked_command c.args.command.now)) (map bytes_of vs)) (sym c.deref-2.ensures.value)
+    (subst (λ (l : List (List ℕ)). AreFiles files l (map bytes_of c.in_ok-files.files.items)) names c.in_ok-files.ensures.bytes))
 
-pub returns-in-Cosim-clause-asked : goal.returns-in-Cosim-clause-asked
-returns-in-Cosim-clause-asked g c =
-    let HasAskedHere = HasAsked (g.S.Shelf.asked c.args.shelf.now) (g.S.Shelf.asked c.cosim.new.shelf) in
-    subst (λ (k : Command). OnOk c.cosim.result (HasAskedHere (all_given (files_of k)))) (sym (ap asked_command c.in-Cosim.is)) c.cosim.ensures.asked
-
-pub returns-in-Cosim-clause-asked_failed : goal.returns-in-Cosim-clause-asked_failed
-returns-in-Cosim-clause-asked_failed g c failure is =
+pub returns-in-Ok-clause-text : goal.returns-in-Ok-clause-text
+returns-in-Ok-clause-text g c =
+    let names = ap (map name_of) c.deref.ensures.value ∙ c.in_ok-names.ensures in
     let files = g.S.Shelf.files c.args.shelf.now in
-    let HasAskedHere = HasAsked (g.S.Shelf.asked c.args.shelf.now) (g.S.Shelf.asked c.cosim.new.shelf) in
-    subst (λ (k : Command). AsksAt files (files_of k) HasAskedHere failure) (sym (ap asked_command c.in-Cosim.is)) (c.cosim.ensures.asked_failed failure is)
+    c.in-Ok.ensures.text files
+    (subst (λ (vs : List (Vec ℕ Global)). AreFiles files (files_of (asked_command c.args.command.now)) (map bytes_of vs)) (sym c.deref-2.ensures.value)
+    (subst (λ (l : List (List ℕ)). AreFiles files l (map bytes_of c.in_ok-files.files.items)) names c.in_ok-files.ensures.bytes))
 
-pub returns-in-Report-clause-asked : goal.returns-in-Report-clause-asked
-returns-in-Report-clause-asked g c =
-    let HasAskedHere = HasAsked (g.S.Shelf.asked c.args.shelf.now) (g.S.Shelf.asked c.figures.new.shelf) in
-    subst (λ (k : Command). OnOk c.figures.result (HasAskedHere (all_given (files_of k)))) (sym (ap asked_command c.in-Report.is)) c.figures.ensures.asked
-
-pub returns-in-Report-clause-asked_failed : goal.returns-in-Report-clause-asked_failed
-returns-in-Report-clause-asked_failed g c failure is =
+pub returns-in-Ok-clause-right : goal.returns-in-Ok-clause-right
+returns-in-Ok-clause-right g c =
+    let names = ap (map name_of) c.deref.ensures.value ∙ c.in_ok-names.ensures in
     let files = g.S.Shelf.files c.args.shelf.now in
-    let HasAskedHere = HasAsked (g.S.Shelf.asked c.args.shelf.now) (g.S.Shelf.asked c.figures.new.shelf) in
-    subst (λ (k : Command). AsksAt files (files_of k) HasAskedHere failure) (sym (ap asked_command c.in-Report.is)) (c.figures.ensures.asked_failed failure is)
+    c.in-Ok.ensures.right files
+    (subst (λ (vs : List (Vec ℕ Global)). AreFiles files (files_of (asked_command c.args.command.now)) (map bytes_of vs)) (sym c.deref-2.ensures.value)
+    (subst (λ (l : List (List ℕ)). AreFiles files l (map bytes_of c.in_ok-files.files.items)) names c.in_ok-files.ensures.bytes))
 
-pub returns-in-Bench-clause-asked : goal.returns-in-Bench-clause-asked
-returns-in-Bench-clause-asked g c =
-    let HasAskedHere = HasAsked (g.S.Shelf.asked c.args.shelf.now) (g.S.Shelf.asked c.args.shelf.now) in
-    let asks = subst (λ (k : Command). HasAskedHere (all_given (files_of k))) (sym (ap asked_command c.in-Bench.is)) (HasAsked-nothing (g.S.Shelf.asked c.args.shelf.now)) in
-    IfOk-weaker c.bench.result _ _ (λ answer is. asks) c.bench.ensures.text
-
-pub returns-in-Bench-clause-asked_failed : goal.returns-in-Bench-clause-asked_failed
-returns-in-Bench-clause-asked_failed g c failure is =
+pub returns-in-Ok-clause-asked : goal.returns-in-Ok-clause-asked
+returns-in-Ok-clause-asked g c =
+    let names = ap (map name_of) c.deref.ensures.value ∙ c.in_ok-names.ensures in
     let files = g.S.Shelf.files c.args.shelf.now in
-    let HasAskedHere = HasAsked (g.S.Shelf.asked c.args.shelf.now) (g.S.Shelf.asked c.args.shelf.now) in
-    subst (λ (k : Command). AsksAt files (files_of k) HasAskedHere failure) (sym (ap asked_command c.in-Bench.is))
-    (subst (AsksAt files [] HasAskedHere) (sym (c.bench.ensures.failed failure is)) (asks_none files (g.S.Shelf.asked c.args.shelf.now) Memory tt))
+    let bytes = map bytes_of c.in_ok-files.files.items in
+    let HasAskedHere = HasAsked (g.S.Shelf.asked c.args.shelf.now) (g.S.Shelf.asked c.fetch_all.new.shelf) in (
+      all_given (files_of (asked_command c.args.command.now)) bytes,
+      subst (λ (l : List (List ℕ)). HasAskedHere (all_given l bytes)) names c.in_ok-files.ensures.asked,
+      record { bytes = bytes; asked_are = refl; read = subst (λ (l : List (List ℕ)). AreFiles files l bytes) names c.in_ok-files.ensures.bytes },
+    )
+
+pub returns-in-Ok-clause-unfetched : goal.returns-in-Ok-clause-unfetched
+returns-in-Ok-clause-unfetched g c = λ none.
+    let names = ap (map name_of) c.deref.ensures.value ∙ c.in_ok-names.ensures in
+    c.in_ok-files.ensures.unfetched (names ∙ none)
+
+pub returns-clause-failed : goal.returns-clause-failed
+returns-clause-failed g c failure is =
+    let same : c.failure_of.result ≡ failure = cc in
+    let names = ap (map name_of) c.deref.ensures.value ∙ c.in_ok-names.ensures in
+    let files = g.S.Shelf.files c.args.shelf.now in
+    let Rises = Rose (g.S.Shelf.faults c.args.shelf.now) (g.S.Shelf.faults c.fetch_all.new.shelf) in
+    fault_failed files (asked_command c.args.command.now) Rises c.in-Err.fault failure
+    (c.in-Err.ensures.refused c.in-Err.fault refl files
+    (subst (λ (vs : List (Vec ℕ Global)). AreFiles files (files_of (asked_command c.args.command.now)) (map bytes_of vs)) (sym c.deref-2.ensures.value)
+    (subst (λ (l : List (List ℕ)). AreFiles files l (map bytes_of c.in_ok-files.files.items)) names c.in_ok-files.ensures.bytes)))
+    (subst (IsFailureFor (asked_command c.args.command.now) c.in-Err.fault) same c.failure_of.ensures)
+
+pub returns-clause-asked_failed : goal.returns-clause-asked_failed
+returns-clause-asked_failed g c failure is =
+    let same : c.failure_of.result ≡ failure = cc in
+    let names = ap (map name_of) c.deref.ensures.value ∙ c.in_ok-names.ensures in
+    let files = g.S.Shelf.files c.args.shelf.now in
+    let bytes = map bytes_of c.in_ok-files.files.items in
+    let before = g.S.Shelf.asked c.args.shelf.now in
+    let after = g.S.Shelf.asked c.fetch_all.new.shelf in
+    asks_whole files before after (files_of (asked_command c.args.command.now)) bytes
+    (subst (λ (l : List (List ℕ)). AreFiles files l bytes) names c.in_ok-files.ensures.bytes)
+    (subst (λ (l : List (List ℕ)). HasAsked before after (all_given l bytes)) names c.in_ok-files.ensures.asked) failure
+    (later_fault (asked_command c.args.command.now) c.in-Err.fault failure (subst (IsFailureFor (asked_command c.args.command.now) c.in-Err.fault) same c.failure_of.ensures))
+
+pub returns-clause-unfetched : goal.returns-clause-unfetched
+returns-clause-unfetched g c = λ none.
+    let names = ap (map name_of) c.deref.ensures.value ∙ c.in_ok-names.ensures in
+    c.in_ok-files.ensures.unfetched (names ∙ none)

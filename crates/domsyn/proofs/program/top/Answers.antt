@@ -15,8 +15,8 @@ use Rattle.domsyn.proofs.ReportedFailures.{failure_reported, reported_cause, rep
 use Rattle.domsyn.proofs.ReportedFetches.{asks_all, bench_asks_none, failed_as, finished_known, first_asks, refused_asks, unread_asks}
 use Rattle.domsyn.proofs.program.top.Goals as goal
 
-pub report-requires : goal.report-requires
-report-requires g c = c.requires.err_room 2
+pub put_line-requires : goal.put_line-requires
+put_line-requires g c = c.requires.err_room 2
 
 pub returns-in-Err-clause-usage : goal.returns-in-Err-clause-usage
 returns-in-Err-clause-usage g c = λ none. absurd (asks_some (map string_bytes c.args.words.now) c.in-Err.ensures.wanted none)
@@ -91,7 +91,7 @@ returns-in-Ok-clause-asked_all g c =
     let words = map string_bytes c.args.words.now in
     let asks = asks_found words c.in-Ok-Some.field-0 c.in-Ok-Some.command c.in-Ok-Some.field-0-is c.in-Ok-Some.ensures.command in
     let HasAskedHere = HasAsked (g.S.Shelf.asked c.args.shelf.now) (g.S.Shelf.asked c.outcome_of.new.shelf) in
-    λ one two three five. asks_all words HasAskedHere (asked_command c.in-Ok-Some.command) asks c.in-Ok.ensures.asked
+    λ one two three five. asks_all (g.S.Shelf.files c.args.shelf.now) words HasAskedHere (asked_command c.in-Ok-Some.command) asks c.in-Ok.ensures.asked
 
 pub returns-in-Ok-clause-bench_unfetched : goal.returns-in-Ok-clause-bench_unfetched
 returns-in-Ok-clause-bench_unfetched g c =
@@ -146,7 +146,7 @@ returns-in-Ok-None-clause-asked_all g c =
 
 pub returns-in-Ok-clause-asked_first : goal.returns-in-Ok-clause-asked_first
 returns-in-Ok-clause-asked_first g c =
-    λ five. absurd (finished_known c.in-Ok.answer.settled _ c.finish.ensures.known five)
+    λ five. absurd (finished_known c.in-Ok.answer.ending _ c.finish.ensures.known five)
 
 pub returns-in-Ok-clause-own : goal.returns-in-Ok-clause-own
 returns-in-Ok-clause-own g c =

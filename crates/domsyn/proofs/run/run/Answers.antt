@@ -1,95 +1,35 @@
-use Rattle.std.proofs.Common.{true, [], ◌∷◌, subst, arith}
-use Rattle.std.proofs.lemmas.Result.{err_from_is_err_and, IfOk-weaker}
-use Rattle.dom_io.specs.Faults.{Rose}
-use Rattle.domsyn.specs.Failures.{IsUnfetched}
-use Rattle.domsyn.specs.Outcomes.{Files, IsFile}
-use Rattle.domsyn.proofs.CommandFailures.{run_printed, run_stim_unfetched, run_unfetched, run_unmade}
-use Rattle.dom_io.proofs.AskedLemmas.{HasAsked-then}
-use Rattle.domsyn.proofs.FetchedFiles.{asks_first, asks_later, asks_none, later_unrun}
+use Rattle.std.proofs.Common.{◌≡◌, ℕ, refl, ap, subst}
+use Rattle.std.proofs.lemmas.Result.{err_from_is_err_and}
+use Rattle.network.specs.NetworkData.{NetworkData}
+use Rattle.stim_text.specs.Stimuli.{IsStimFaultAt, IsStimulusOf}
+use Rattle.trace_tool.specs.Refusals.{of_stim}
+use Rattle.domsyn.specs.Networks.{IsRunText}
+use Rattle.domsyn.proofs.CommandAnswers.{text_network}
+use Rattle.domsyn.proofs.CommandFaults.{network_unrun, stimulus_unrun}
 use Rattle.domsyn.proofs.run.run.Goals as goal
 
-pub returns-in_err-bytes-clause-failed : goal.returns-in_err-bytes-clause-failed
-returns-in_err-bytes-clause-failed g c failure is =
+pub returns-in_err-network-clause-refused : goal.returns-in_err-network-clause-refused
+returns-in_err-network-clause-refused c why is =
     let p = err_from_is_err_and c.from_residual.result c.from_residual.ensures.1 in
     let a = p.1 in
     let b = p.2 in
-    let Rises = Rose (g.S.Shelf.faults c.args.shelf.now) (g.S.Shelf.faults c.fetch.new.shelf) in
-    run_unfetched (g.S.Shelf.files c.args.shelf.now) c.args.file.now c.args.stim.now Rises failure (c.in_err-bytes.ensures.failed failure (cc))
+    network_unrun c.args.bytes.now c.args.stim.now why (c.in_err-network.ensures.refused why (cc))
 
-pub returns-in_err-stim_bytes-clause-failed : goal.returns-in_err-stim_bytes-clause-failed
-returns-in_err-stim_bytes-clause-failed g c failure is =
-    let p = err_from_is_err_and c.from_residual-in_err-stim_bytes.result c.from_residual-in_err-stim_bytes.ensures.1 in
+pub returns-in_err-cycles-clause-refused : goal.returns-in_err-cycles-clause-refused
+returns-in_err-cycles-clause-refused c why is =
+    let p = err_from_is_err_and c.from_residual-in_err-cycles.result c.from_residual-in_err-cycles.ensures.1 in
     let a = p.1 in
     let b = p.2 in
-    let files = g.S.Shelf.files c.args.shelf.now in
-    let Rises = Rose (g.S.Shelf.faults c.args.shelf.now) (g.S.Shelf.faults c.fetch-2.new.shelf) in
-    let RisesHere = Rose (g.S.Shelf.faults c.fetch.new.shelf) (g.S.Shelf.faults c.fetch-2.new.shelf) in
-    let later = c.in_ok-bytes.ensures.later in
-    let unfetched : IsUnfetched files c.args.stim.now RisesHere failure =
-    subst (λ (files : Files). IsUnfetched files c.args.stim.now RisesHere failure) c.in_ok-bytes.ensures.same_files (c.in_err-stim_bytes.ensures.failed failure (cc)) in
-    run_stim_unfetched files c.args.file.now c.args.stim.now c.in_ok-bytes.bytes.items Rises RisesHere failure
-    (λ rose. omega (arith, later, rose)) c.in_ok-bytes.ensures.bytes unfetched
+    let same : why ≡ of_stim c.in_err-cycles.field-0.0 = cc in
+    stimulus_unrun c.args.bytes.now c.args.stim.now c.in_ok-network.network c.in_err-cycles.field-0.0 why
+    (text_network c.args.bytes.now c.in_ok-network.network c.requires.within c.in_ok-network.ensures.network)
+    (λ line kind e.
+    subst (λ (width : ℕ). IsStimFaultAt width c.args.stim.now line kind) (ap (λ (n : NetworkData). n.inputs) c.network.view_is)
+    (c.in_err-cycles.ensures.fault line kind (let d = e in cc))) same
 
 pub returns-clause-text : goal.returns-clause-text
-returns-clause-text g c =
-    let files = g.S.Shelf.files c.args.shelf.now in
-    let is_stim = subst (λ (files : Files). IsFile files c.args.stim.now c.in_ok-stim_bytes.stim_bytes.items) c.in_ok-bytes.ensures.same_files c.in_ok-stim_bytes.ensures.bytes in
-    IfOk-weaker c.run_of.result _ _
-    (λ answer is.
-    run_printed files (record { name = c.args.file.now; bytes = c.in_ok-bytes.bytes.items }) (record { name = c.args.stim.now; bytes = c.in_ok-stim_bytes.stim_bytes.items })
-    answer.text.items answer.settled c.in_ok-bytes.ensures.bytes is_stim is)
-    c.run_of.ensures.text
-
-pub returns-clause-failed : goal.returns-clause-failed
-returns-clause-failed g c failure is =
-    let files = g.S.Shelf.files c.args.shelf.now in
-    let Rises = Rose (g.S.Shelf.faults c.args.shelf.now) (g.S.Shelf.faults c.fetch-2.new.shelf) in
-    let is_stim = subst (λ (files : Files). IsFile files c.args.stim.now c.in_ok-stim_bytes.stim_bytes.items) c.in_ok-bytes.ensures.same_files c.in_ok-stim_bytes.ensures.bytes in
-    run_unmade files (record { name = c.args.file.now; bytes = c.in_ok-bytes.bytes.items }) (record { name = c.args.stim.now; bytes = c.in_ok-stim_bytes.stim_bytes.items })
-    Rises failure c.in_ok-bytes.ensures.bytes is_stim (c.run_of.ensures.failed failure is)
-
-pub returns-in_err-bytes-clause-asked_failed : goal.returns-in_err-bytes-clause-asked_failed
-returns-in_err-bytes-clause-asked_failed g c failure is =
-    let p = err_from_is_err_and c.from_residual.result c.from_residual.ensures.1 in
-    let a = p.1 in
-    let b = p.2 in
-    let files = g.S.Shelf.files c.args.shelf.now in
-    let before = g.S.Shelf.asked c.args.shelf.now in
-    let after = g.S.Shelf.asked c.fetch.new.shelf in
-    let Rises = Rose (g.S.Shelf.faults c.args.shelf.now) (g.S.Shelf.faults c.fetch.new.shelf) in
-    asks_first files before after c.args.file.now (c.args.stim.now ∷ []) Rises failure (c.in_err-bytes.ensures.failed failure (cc)) (c.in_err-bytes.ensures.asked_failed failure (cc))
-
-pub returns-in_err-stim_bytes-clause-asked_failed : goal.returns-in_err-stim_bytes-clause-asked_failed
-returns-in_err-stim_bytes-clause-asked_failed g c failure is =
-    let p = err_from_is_err_and c.from_residual-in_err-stim_bytes.result c.from_residual-in_err-stim_bytes.ensures.1 in
-    let a = p.1 in
-    let b = p.2 in
-    let files = g.S.Shelf.files c.args.shelf.now in
-    let before = g.S.Shelf.asked c.args.shelf.now in
-    let middle = g.S.Shelf.asked c.fetch.new.shelf in
-    let after = g.S.Shelf.asked c.fetch-2.new.shelf in
-    let RisesHere = Rose (g.S.Shelf.faults c.fetch.new.shelf) (g.S.Shelf.faults c.fetch-2.new.shelf) in
-    let unfetched : IsUnfetched files c.args.stim.now RisesHere failure =
-    subst (λ (files : Files). IsUnfetched files c.args.stim.now RisesHere failure) c.in_ok-bytes.ensures.same_files (c.in_err-stim_bytes.ensures.failed failure (cc)) in
-    asks_later files before middle after c.args.file.now c.in_ok-bytes.bytes.items (c.args.stim.now ∷ []) failure c.in_ok-bytes.ensures.bytes c.in_ok-bytes.ensures.asked
-    (asks_first files middle after c.args.stim.now [] RisesHere failure unfetched (c.in_err-stim_bytes.ensures.asked_failed failure (cc)))
-
-pub returns-clause-asked : goal.returns-clause-asked
-returns-clause-asked g c =
-    let before = g.S.Shelf.asked c.args.shelf.now in
-    let middle = g.S.Shelf.asked c.fetch.new.shelf in
-    let after = g.S.Shelf.asked c.fetch-2.new.shelf in
-    let asked = HasAsked-then before middle after ((c.args.file.now, true) ∷ []) ((c.args.stim.now, true) ∷ []) c.in_ok-bytes.ensures.asked c.in_ok-stim_bytes.ensures.asked in
-    IfOk-weaker c.run_of.result _ _ (λ answer is. asked) c.run_of.ensures.text
-
-pub returns-clause-asked_failed : goal.returns-clause-asked_failed
-returns-clause-asked_failed g c failure is =
-    let files = g.S.Shelf.files c.args.shelf.now in
-    let before = g.S.Shelf.asked c.args.shelf.now in
-    let middle = g.S.Shelf.asked c.fetch.new.shelf in
-    let after = g.S.Shelf.asked c.fetch-2.new.shelf in
-    let is_stim : IsFile files c.args.stim.now c.in_ok-stim_bytes.stim_bytes.items =
-    subst (λ (files : Files). IsFile files c.args.stim.now c.in_ok-stim_bytes.stim_bytes.items) c.in_ok-bytes.ensures.same_files c.in_ok-stim_bytes.ensures.bytes in
-    let later = later_unrun (record { name = c.args.file.now; bytes = c.in_ok-bytes.bytes.items }) (record { name = c.args.stim.now; bytes = c.in_ok-stim_bytes.stim_bytes.items }) failure (c.run_of.ensures.failed failure is) in
-    asks_later files before middle after c.args.file.now c.in_ok-bytes.bytes.items (c.args.stim.now ∷ []) failure c.in_ok-bytes.ensures.bytes c.in_ok-bytes.ensures.asked
-    (asks_later files middle after after c.args.stim.now c.in_ok-stim_bytes.stim_bytes.items [] failure is_stim c.in_ok-stim_bytes.ensures.asked (asks_none files after failure later))
+returns-clause-text c =
+    let stimulus = subst (λ (width : ℕ). IsStimulusOf width c.args.stim.now c.in_ok-cycles.cycles.items) (ap (λ (n : NetworkData). n.inputs) c.network.view_is) c.in_ok-cycles.ensures.stimulus in
+    let text = subst (λ stream. IsRunText c.in_ok-network.network stream c.in_ok-text.text.items) c.deref.ensures.value c.in_ok-text.ensures in
+    let has = text_network c.args.bytes.now c.in_ok-network.network c.requires.within c.in_ok-network.ensures.network in
+    (record { network = c.in_ok-network.network; has = has; stream = c.in_ok-cycles.cycles.items; stimulus = stimulus; text_is = text }, refl)

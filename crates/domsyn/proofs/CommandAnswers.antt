@@ -1,0 +1,80 @@
+-- The text of a command, by the bytes of its files.
+use Rattle.std.proofs.Common.{◌≡◌, ◌≤◌, ◌∙◌, length, ℕ, Bool, true, false, List, ap, refl}
+use Rattle.std.specs.Prelude.{if◌then◌else◌}
+use Rattle.blif_ast.specs.Printed.{printed}
+use Rattle.dom_io.specs.Held.{file_limit}
+use Rattle.command_words.specs.declared.command.Method.{Method}
+use Rattle.network.specs.NetworkData.{NetworkData}
+use Rattle.net_flatten.specs.OneModel.{file_of}
+use Rattle.deck_form.specs.declared.options.SynthOptions.{SynthOptions}
+use Rattle.trace_tool.specs.CosimRefusals.{HasNetworkOf}
+use Rattle.trace_tool.specs.TraceData.{TraceOptionsData}
+use Rattle.trace_tool.specs.Traces.{IsTraceOf}
+use Rattle.trace_tool.specs.VerdictLines.{verdict_line}
+use Rattle.trace_tool.specs.Verdicts.{IsVerdictOf}
+use Rattle.trace_tool.specs.declared.options.Order.{Order}
+use Rattle.trace_tool.specs.declared.verdict.Verdict.{Verdict}
+use Rattle.domsyn.specs.declared.answer.Ending.{Ending}
+use Rattle.domsyn.specs.declared.answer.Ending.TheVariants.{Done}
+use Rattle.domsyn.specs.Decks.{AreFiguresFor, IsDeckFor}
+use Rattle.domsyn.specs.Endings.{ending_number, ending_of}
+use Rattle.domsyn.specs.Networks.{HasNetwork, IsRunOf}
+use Rattle.domsyn.specs.Outcomes.{Files, IsComparison, IsDeck, IsFigureReport, IsFile, IsFlat, IsPrintedRun, IsTrace, is_same_verdict}
+
+-- bytes of a file with a network
+pub text_network : (bytes : List ℕ) (n : NetworkData) → length bytes ≤ file_limit → HasNetworkOf bytes n → HasNetwork bytes n
+text_network bytes n within has = record { within = within; file = has.file; accepted = has.accepted; network_is = has.network_is }
+
+-- the number of an ending by whether all is well
+number_of : (well : Bool) → ending_number (ending_of well) ≡ (if well then 0 else 6)
+number_of true = refl
+number_of false = refl
+
+pub well_number : (ending : Ending) (well : Bool) → ending ≡ ending_of well → ending_number ending ≡ (if well then 0 else 6)
+well_number ending well is = ap ending_number is ∙ number_of well
+
+pub done_number : (ending : Ending) → ending ≡ Done → ending_number ending ≡ 0
+done_number ending is = ap ending_number is
+
+module _ (files : Files) (file bytes text : List ℕ) (ending : Ending) (is_file : IsFile files file bytes) where
+  pub synth_printed : (options : SynthOptions) (method : Method) → IsDeckFor bytes options method text × (ending ≡ Done) → IsDeck files file options method (ending_number ending) text
+  synth_printed options method made = record { bytes = bytes; is_file = is_file; deck = made.0; done = done_number ending made.1 }
+
+  pub flat_printed : (network : NetworkData) × HasNetwork bytes network × (text ≡ printed (file_of network)) × (ending ≡ Done) → IsFlat files file (ending_number ending) text
+  flat_printed made = record { bytes = bytes; is_file = is_file; network = made.0; has = made.1; text_is = made.2; done = done_number ending made.3 }
+
+  pub report_printed : (options : SynthOptions) → AreFiguresFor bytes options text × (ending ≡ Done) → IsFigureReport files file options (ending_number ending) text
+  report_printed options made = record { bytes = bytes; is_file = is_file; figures = made.0; done = done_number ending made.1 }
+
+  pub run_printed : (stim stim_bytes : List ℕ) → IsFile files stim stim_bytes → IsRunOf bytes stim_bytes text × (ending ≡ Done) → IsPrintedRun files file stim (ending_number ending) text
+  run_printed stim stim_bytes is_stim made =
+      record { bytes = bytes; stim_bytes = stim_bytes; is_file = is_file; is_stim = is_stim; run_is = made.0; done = done_number ending made.1 }
+
+  pub cosim_printed : (deck stim deck_bytes stim_bytes : List ℕ) (order : Order) (seed : ℕ) → IsFile files deck deck_bytes → IsFile files stim stim_bytes
+      → (verdict : Verdict) × IsVerdictOf bytes deck_bytes stim_bytes order seed verdict × (text ≡ verdict_line verdict) × (ending ≡ ending_of (is_same_verdict verdict))
+      → IsComparison files file deck stim order seed (ending_number ending) text
+  cosim_printed deck stim deck_bytes stim_bytes order seed is_deck is_stim made = record {
+    bytes = bytes;
+    deck_bytes = deck_bytes;
+    stim_bytes = stim_bytes;
+    verdict = made.0;
+    is_file = is_file;
+    is_deck = is_deck;
+    is_stim = is_stim;
+    is_verdict = made.1;
+    text_is = made.2;
+    status_is = well_number ending (is_same_verdict made.0) made.3;
+  }
+
+pub sim_printed : (files : Files) (deck stim deck_bytes stim_bytes text : List ℕ) (ending : Ending) (options : TraceOptionsData) → IsFile files deck deck_bytes → IsFile files stim stim_bytes
+    → (settled : Bool) × IsTraceOf deck_bytes stim_bytes options (record { text = text; settled = settled }) × (ending ≡ ending_of settled)
+    → IsTrace files deck stim options (ending_number ending) text
+sim_printed files deck stim deck_bytes stim_bytes text ending options is_deck is_stim made = record {
+  deck_bytes = deck_bytes;
+  stim_bytes = stim_bytes;
+  settled = made.0;
+  is_deck = is_deck;
+  is_stim = is_stim;
+  trace = made.1;
+  status_is = well_number ending made.0 made.2;
+}

@@ -1,0 +1,88 @@
+-- Signs by a method are there and are one list; bytes have a deck by a method, or none for one cause.
+use Rattle.std.proofs.Common.{◌≡◌, ◌∙◌, ◌≤◌, ◌<◌, ◌⊎◌, inl, inr, ℕ, Bool, true, false, List, length, nat_lt, refl, sym, ap, subst, arith}
+use Rattle.std.proofs.lemmas.Bool.{ltb-false, ltb-true}
+use Rattle.command_words.specs.declared.command.Method.{Method}
+use Rattle.command_words.specs.declared.command.Method.TheVariants.{Exact, Plain}
+use Rattle.network.specs.NetworkData.{NetworkData}
+use Rattle.network.specs.Networks.{IsNetwork}
+use Rattle.gate_decompose.proofs.GatesOrder.{gates_are_ordered, network_gates_are_in_place}
+use Rattle.gate_decompose.proofs.NetworkOrder.{networks_are_ordered}
+use Rattle.exact_phase.proofs.ExactSigns.{exact_one, exact_there}
+use Rattle.plan_law.specs.Laws.{HaveSigns}
+use Rattle.plan_law.specs.OneText.{HaveOneSigns}
+use Rattle.plan_law.proofs.DecksThere.{chosen_signs}
+use Rattle.plan_law.proofs.OneDeck.{chosen_one}
+use Rattle.trace_tool.specs.CosimRefusals.{IsUnflattened}
+use Rattle.domsyn.specs.declared.fault.Fault.{Fault}
+use Rattle.domsyn.specs.declared.fault.Fault.TheVariants as fault
+use Rattle.domsyn.specs.declared.refusal.Refusal.{Refusal}
+use Rattle.domsyn.specs.declared.refusal.Refusal.TheVariants.{TooManySinks}
+use Rattle.domsyn.specs.Methods.{AreSignsOf, HasNoDeckFor, HasTooManySinks, HaveTooManySinks, IsSuited, IsUndecked, IsUnsuited, most_exact_sinks, sink_count}
+use Rattle.domsyn.specs.Networks.{HasNetwork}
+use Rattle.domsyn.specs.Refusals.{HasNoNetworkFor}
+use Rattle.domsyn.proofs.NetworkCauses.{network_causes_alike, network_or_cause, networks_alike}
+
+pub method_one : (method : Method) (network : NetworkData) → HaveOneSigns (AreSignsOf method) network
+method_one Plain network = chosen_one network
+method_one Exact network = λ gates a b are x y. (exact_one gates a b x.0 y.0 x.1 y.1).0
+
+pub method_there : (method : Method) (network : NetworkData) → IsNetwork network → HaveSigns (AreSignsOf method) network
+method_there Plain network is = chosen_signs network is
+method_there Exact network is = λ gates are.
+    let ordered = gates_are_ordered gates (network_gates_are_in_place network gates (networks_are_ordered network is) are) in
+    let exact = exact_there gates ordered in
+    (exact.0, (exact.1, exact.2), exact.2.one_each)
+
+-- a network suits a method, or has too many sinks for it
+pub suited_or_not : (method : Method) (bytes : List ℕ) (network : NetworkData) → HasNetwork bytes network
+    → IsSuited method network ⊎ ((why : Refusal) × HasNoDeckFor method bytes why)
+suited_or_not Plain bytes network has = inl tt
+suited_or_not Exact bytes network has = by (nat_lt most_exact_sinks (sink_count network)) refl
+  where
+    by : (many : Bool) → nat_lt most_exact_sinks (sink_count network) ≡ many → IsSuited Exact network ⊎ ((why : Refusal) × HasNoDeckFor Exact bytes why)
+    by false e = inl (let few = ltb-false most_exact_sinks (sink_count network) e in omega (arith, few))
+    by true e =
+        inr (
+          TooManySinks (sink_count network),
+          inr (
+            sink_count network,
+            record {
+              network = network;
+              has = has;
+              sinks = record { count_is = refl; many = ltb-true most_exact_sinks (sink_count network) e };
+            },
+            refl,
+          ),
+        )
+
+-- bytes without a network have no deck by any method
+pub without_network : (method : Method) (bytes : List ℕ) (why : Refusal) → HasNoNetworkFor bytes why → HasNoDeckFor method bytes why
+without_network Plain bytes why is = is
+without_network Exact bytes why is = inl is
+
+not_many : (bytes : List ℕ) (network : NetworkData) (count : ℕ) → HasNetwork bytes network → IsSuited Exact network → HaveTooManySinks bytes count → ⊥
+not_many bytes network count has few many =
+    let same = ap sink_count (networks_alike bytes many.network network many.has has) in
+    omega (arith, few, many.sinks.many, many.sinks.count_is, same)
+
+-- bytes with a network that suits the method are refused for no cause
+pub deck_or_cause : (method : Method) (bytes : List ℕ) (network : NetworkData) (why : Refusal) → HasNetwork bytes network → IsSuited method network → HasNoDeckFor method bytes why → ⊥
+deck_or_cause Plain bytes network why has few refused = network_or_cause bytes network why has refused
+deck_or_cause Exact bytes network why has few (inl refused) = network_or_cause bytes network why has refused
+deck_or_cause Exact bytes network why has few (inr many) = not_many bytes network many.0 has few many.1
+
+-- the causes of bytes are one
+pub deck_causes_alike : (method : Method) (bytes : List ℕ) (a b : Refusal) → HasNoDeckFor method bytes a → HasNoDeckFor method bytes b → a ≡ b
+deck_causes_alike Plain bytes a b x y = network_causes_alike bytes a b x y
+deck_causes_alike Exact bytes a b (inl x) (inl y) = network_causes_alike bytes a b x y
+deck_causes_alike Exact bytes a b (inl x) (inr y) = absurd (network_or_cause bytes y.1.network a y.1.has x)
+deck_causes_alike Exact bytes a b (inr x) (inl y) = absurd (network_or_cause bytes x.1.network b x.1.has y)
+deck_causes_alike Exact bytes a b (inr x) (inr y) =
+    let counts = x.1.sinks.count_is ∙ ap sink_count (networks_alike bytes x.1.network y.1.network x.1.has y.1.has) ∙ sym y.1.sinks.count_is in
+    x.2 ∙ ap (λ (count : ℕ). TooManySinks count) counts ∙ sym y.2
+
+-- a network that doesn't suit the method is that of bytes without a deck
+pub unsuited_undecked : (method : Method) (bytes : List ℕ) (network : NetworkData) (why : Fault) → HasNetwork bytes network → IsUnsuited method network why → IsUndecked method bytes why
+unsuited_undecked method bytes network (fault.Traced why) has is = subst (IsUnflattened bytes) (sym is) tt
+unsuited_undecked Plain bytes network (fault.TooManySinks count) has is = is
+unsuited_undecked Exact bytes network (fault.TooManySinks count) has is = record { network = network; has = has; sinks = is }
