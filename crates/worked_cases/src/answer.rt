@@ -60,7 +60,7 @@ fn was_asked(shelf: &MemoryShelf, names: &[String], status: u64) -> bool {
     let mut right = asked.len() == names.len();
     for (index, (asking, name)) in asked.iter().zip(names.iter()).enumerate() {
         let given = status != 3 || index.saturating_add(1) < names.len();
-        right &= asking.0.as_str() == name.as_str() && asking.1 == given;
+        right &= asking.0.as_str() == name.as_str() && asking.1.is_some() == given;
     }
     right
 }
