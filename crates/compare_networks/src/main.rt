@@ -9,31 +9,15 @@ mod runs;
 mod same;
 mod shapes;
 mod tally;
-mod trouble;
 
 use cases::{compare_drawn, compare_faults, compare_shapes};
+use comparison::{Trouble, ended, printed};
 use std::alloc::Global;
-use std::io;
 use std::process::ExitCode;
 use tally::{ORDER, Tally};
-use trouble::Trouble;
-
-/// The status where a result differs.
-const DIFFERS: u8 = 1;
-
-/// The status where a text isn't read, memory doesn't suffice or a line isn't printed.
-const NOT_COMPARED: u8 = 2;
 
 /// How many hierarchies are generated.
 const HIERARCHIES: u64 = 4_000;
-
-/// Whether a line was printed.
-fn printed(line: io::Result<()>) -> Result<(), Trouble> {
-    match line {
-        Ok(()) => Ok(()),
-        Err(_) => Err(Trouble::NotPrinted),
-    }
-}
 
 /// Prints how many files were refused for each kind.
 fn print_refused(rt: &impl Print, tally: &Tally) -> Result<(), Trouble> {
@@ -63,9 +47,5 @@ fn all_alike(rt: &impl Print, alloc: Global) -> Result<bool, Trouble> {
 }
 
 fn main(rt: HostRuntime) -> ExitCode {
-    match all_alike(&rt, rt.alloc()) {
-        Ok(true) => ExitCode::from(0),
-        Ok(false) => ExitCode::from(DIFFERS),
-        Err(_) => ExitCode::from(NOT_COMPARED),
-    }
+    ended(all_alike(&rt, rt.alloc()))
 }

@@ -2,7 +2,7 @@
 ghost use Rattle.std.specs.Prelude.{◌≡◌, length};
 ghost use Rattle.net_run.specs.RunnerData.{RunsNetwork};
 
-use crate::trouble::Trouble;
+use comparison::Trouble;
 use net_flatten::Network;
 use net_run::Runner;
 use plain_networks::{PlainCycle, PlainNetwork, cycle, drawn_stream, start_state};

@@ -2,8 +2,8 @@
 ghost use Rattle.blif_ast.specs.Good.{IsGoodFile};
 ghost use Rattle.model_calls.specs.ModelCalls.{NothingRefuses};
 
-use crate::trouble::Trouble;
 use blif_ast::{BlifFile, print};
+use comparison::Trouble;
 use dom_base::Name;
 use net_flatten::{FlatKind, Limit, Network, sizes, to_file};
 use plain_hierarchies::{Counted, PlainFile, PlainRefusal, count_of, one_model, written};

@@ -4,20 +4,12 @@
 
 mod targets;
 mod traces;
-mod trouble;
 
+use comparison::{Trouble, ended, printed};
 use std::alloc::Global;
-use std::io;
 use std::process::ExitCode;
 use targets::{Outcome, targets};
 use traces::{Traced, traces};
-use trouble::Trouble;
-
-/// The status where a result differs.
-const DIFFERS: u8 = 1;
-
-/// The status where a circuit isn't read, memory doesn't suffice or a line isn't printed.
-const NOT_COMPARED: u8 = 2;
 
 /// How many circuits have their targets compared.
 const CIRCUITS: u64 = 800;
@@ -53,14 +45,6 @@ fn traces_are_alike(rt: &impl Print, alloc: Global) -> Result<bool, Trouble> {
     }
 }
 
-/// Whether a line was printed.
-fn printed(line: io::Result<()>) -> Result<(), Trouble> {
-    match line {
-        Ok(()) => Ok(()),
-        Err(_) => Err(Trouble::NotPrinted),
-    }
-}
-
 fn all_alike(rt: &impl Print, alloc: Global) -> Result<bool, Trouble> {
     let targets = targets_are_alike(rt, alloc)?;
     let traces = traces_are_alike(rt, alloc)?;
@@ -68,9 +52,5 @@ fn all_alike(rt: &impl Print, alloc: Global) -> Result<bool, Trouble> {
 }
 
 fn main(rt: HostRuntime) -> ExitCode {
-    match all_alike(&rt, rt.alloc()) {
-        Ok(true) => ExitCode::from(0),
-        Ok(false) => ExitCode::from(DIFFERS),
-        Err(_) => ExitCode::from(NOT_COMPARED),
-    }
+    ended(all_alike(&rt, rt.alloc()))
 }

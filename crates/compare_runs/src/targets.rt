@@ -2,7 +2,7 @@
 ghost use Rattle.std.specs.Prelude.{◌≡◌, length};
 ghost use Rattle.deck.specs.Roles.{AreRoles, ports_of};
 
-use crate::trouble::Trouble;
+use comparison::Trouble;
 use deck::{Circuit, Roles, roles};
 use dom_base::Tri;
 use plain_circuits::{Sample, Start, deck_text, drawn_values, sampled, target, value_of};
@@ -81,16 +81,12 @@ fn by_paths(alloc: Global, sample: &Sample, values: &[Tri]) -> Result<Next, Allo
 fn by_links(alloc: Global, circuit: &Circuit, roles: Roles, values: &[Tri]) -> Result<Next, Trouble>
     requires { AreRoles (ports_of circuit.now) roles }
 {
-    if roles.pins > 1_000_000
-        || values.len() != circuit.nets.as_slice().len()
-        || values.len() > 1_000_000
-    {
+    if values.len() != circuit.nets.as_slice().len() || values.len() > 1_000_000 {
         return Err(Trouble::Refused);
     }
     let mut links = Links::new(alloc, circuit, roles)?;
     let mut targets = Vec::new(alloc);
-    let sources = u32::from(roles.clocks) + 8 + roles.pins;
-    for net in sources..values.len() as u32 {
+    for net in links.sources()..values.len() as u32 {
         targets.push(links.target(values, net))?;
     }
     let at_rest = links.at_rest(values);

@@ -1,11 +1,11 @@
 //! The comparison of traces.
-use crate::trouble::Trouble;
+use comparison::Trouble;
 use plain_circuits::{
     Move, PlainOrder, Sample, Start, all_moves, append_pins, deck_text, played, report, sampled,
 };
 use plain_texts::Draws;
 use std::alloc::{AllocError, Global};
-use trace_tool::{Order, Trace, TraceOptions, sim};
+use trace_tool::{Order, Trace, TraceFault, TraceOptions, sim};
 
 /// What came of a comparison of traces: how many decks end unsettled in some order, where all are alike,
 /// else the first deck with a trace that differs.
@@ -125,11 +125,10 @@ fn simulated(
         probes: Vec::new(alloc),
         events,
     };
-    let trace = sim(
-        alloc,
-        case.deck.as_bytes(),
-        case.stimulus.as_bytes(),
-        &options,
-    )?;
-    Ok(trace)
+    let (deck, stimulus) = (case.deck.as_bytes(), case.stimulus.as_bytes());
+    match sim(alloc, deck, stimulus, &options) {
+        Ok(trace) => Ok(trace),
+        Err(TraceFault::Memory) => Err(Trouble::Memory),
+        Err(_) => Err(Trouble::Refused),
+    }
 }

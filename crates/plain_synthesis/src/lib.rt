@@ -23,5 +23,5 @@ pub use forest::{PlainArm, PlainEnd, PlainForest, PlainPair, end_value, forest_o
 pub use gates::{PlainGates, PlainNode, PlainRef, gates_of, node_values, ref_value};
 pub use pairs::{SignedNode, needed, needed_by_sets};
 pub use plans::{AllPlans, Entry, PlainBounds, all_plans, plan_cost, sums_by_plans};
-pub use signs::{all_plus, are_settled, chosen_signs, least_size, size};
+pub use signs::{all_plus, are_settled, chosen_signs, exact_signs, least_size, size};
 pub use synthesis::{PlainOptions, Synthesis, deck_of, synthesised};

@@ -69,29 +69,48 @@ pub fn chosen_signs(alloc: Global, gates: &PlainGates) -> Result<Vec<bool>, Allo
     Ok(signs)
 }
 
-/// The least number of needed pairs over all signs of few sinks.
-pub fn least_size(alloc: Global, gates: &PlainGates) -> Result<Option<usize>, AllocError> {
-    let sinks = gates.sinks.len();
-    if sinks > MOST_SINKS {
+/// All lists of so many signs: plus before minus, and the first sign counts first.
+fn all_signs(alloc: Global, sinks: usize) -> Result<Vec<Vec<bool>>, AllocError> {
+    let mut lists = Vec::new(alloc);
+    lists.push(Vec::new(alloc))?;
+    for _ in 0..sinks {
+        let mut longer = Vec::new(alloc);
+        for list in lists.iter() {
+            for sign in [true, false] {
+                let mut signs = Vec::new(alloc);
+                signs.extend_from_slice(list)?;
+                signs.push(sign)?;
+                longer.push(signs)?;
+            }
+        }
+        lists = longer;
+    }
+    Ok(lists)
+}
+
+/// Of all signs of few sinks the first that need the fewest pairs, and how many.
+pub fn exact_signs(
+    alloc: Global,
+    gates: &PlainGates,
+) -> Result<Option<(Vec<bool>, usize)>, AllocError> {
+    if gates.sinks.len() > MOST_SINKS {
         return Ok(None);
     }
-    let mut count = 1usize;
-    for _ in 0..sinks {
-        count = count.saturating_mul(2);
-    }
-    let mut least = None;
-    for number in 0..count {
-        let mut signs = Vec::new(alloc);
-        let mut rest = number;
-        for _ in 0..sinks {
-            signs.push(rest % 2 == 0)?;
-            rest /= 2;
+    let mut least: Option<(Vec<bool>, usize)> = None;
+    for signs in all_signs(alloc, gates.sinks.len())? {
+        let pairs = size(alloc, gates, &signs)?;
+        let fewer = match &least {
+            Some((_, fewest)) => pairs < *fewest,
+            None => true,
+        };
+        if fewer {
+            least = Some((signs, pairs));
         }
-        let found = size(alloc, gates, &signs)?;
-        least = Some(match least {
-            Some(before) => found.min(before),
-            None => found,
-        });
     }
     Ok(least)
+}
+
+/// The least number of needed pairs over all signs of few sinks.
+pub fn least_size(alloc: Global, gates: &PlainGates) -> Result<Option<usize>, AllocError> {
+    Ok(exact_signs(alloc, gates)?.map(|(_, pairs)| pairs))
 }

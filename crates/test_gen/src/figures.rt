@@ -1,5 +1,5 @@
 //! Figures of the decks of networks.
-use crate::logic::network_of;
+use comparison::network_of;
 use net_gen::generate;
 use std::alloc::Global;
 use std::process::Abort;
@@ -45,43 +45,46 @@ const COUNTER: &str =
 const AND_OF_FIVE: &str =
     ".model chain\n.inputs a b c d e\n.outputs f\n.names a b c d e f\n11111 1\n";
 
+/// Texts, with their figures.
+const FIGURES: &[(&str, &str)] = &[
+    (
+        AND,
+        "model and2\ninputs 2\noutputs 1\nlatches 0\npairs 1\nboth 0\nminus 0\ncells 1\nlevels 1\n\
+        cost 7\ndevices 9\nck1 1\n",
+    ),
+    (
+        NO_SINK,
+        "model e\ninputs 1\noutputs 0\nlatches 0\npairs 0\nboth 0\nminus 0\ncells 0\nlevels 0\n\
+        cost 0\ndevices 0\nck1 0\n",
+    ),
+    (
+        LITERALS,
+        "model w\ninputs 2\noutputs 2\nlatches 0\npairs 0\nboth 0\nminus 0\ncells 0\nlevels 0\n\
+        cost 0\ndevices 6\nck1 0\n",
+    ),
+    (
+        BOTH_SIGNS,
+        "model x\ninputs 3\noutputs 2\nlatches 0\npairs 6\nboth 1\nminus 0\ncells 3\nlevels 2\n\
+        cost 24\ndevices 34\nck1 3\n",
+    ),
+    (
+        MINUS,
+        "model m\ninputs 2\noutputs 2\nlatches 0\npairs 1\nboth 0\nminus 1\ncells 1\nlevels 1\n\
+        cost 7\ndevices 15\nck1 1\n",
+    ),
+    (
+        COUNTER,
+        "model cnt\ninputs 0\noutputs 2\nlatches 2\npairs 3\nboth 0\nminus 0\ncells 1\nlevels 1\n\
+        cost 9\ndevices 39\nck1 1\n",
+    ),
+];
+
 /// Figures of networks by hand, within width and height 4 on one clock: without cells, with a node that is
 /// needed in both signs, with a sink of the sign minus, with latches.
 #[test]
 fn figures_by_hand(rt: HostRuntime) -> Result<(), Fail> {
     let alloc = rt.alloc();
-    for (text, wanted) in [
-        (
-            AND,
-            "model and2\ninputs 2\noutputs 1\nlatches 0\npairs 1\nboth 0\nminus 0\ncells 1\nlevels 1\n\
-            cost 7\ndevices 9\nck1 1\n",
-        ),
-        (
-            NO_SINK,
-            "model e\ninputs 1\noutputs 0\nlatches 0\npairs 0\nboth 0\nminus 0\ncells 0\nlevels 0\n\
-            cost 0\ndevices 0\nck1 0\n",
-        ),
-        (
-            LITERALS,
-            "model w\ninputs 2\noutputs 2\nlatches 0\npairs 0\nboth 0\nminus 0\ncells 0\nlevels 0\n\
-            cost 0\ndevices 6\nck1 0\n",
-        ),
-        (
-            BOTH_SIGNS,
-            "model x\ninputs 3\noutputs 2\nlatches 0\npairs 6\nboth 1\nminus 0\ncells 3\nlevels 2\n\
-            cost 24\ndevices 34\nck1 3\n",
-        ),
-        (
-            MINUS,
-            "model m\ninputs 2\noutputs 2\nlatches 0\npairs 1\nboth 0\nminus 1\ncells 1\nlevels 1\n\
-            cost 7\ndevices 15\nck1 1\n",
-        ),
-        (
-            COUNTER,
-            "model cnt\ninputs 0\noutputs 2\nlatches 2\npairs 3\nboth 0\nminus 0\ncells 1\nlevels 1\n\
-            cost 9\ndevices 39\nck1 1\n",
-        ),
-    ] {
+    for (text, wanted) in FIGURES {
         let lines = figures(&rt, alloc, text.as_bytes(), BOUNDS, 1)?;
         assert!(rt; lines.as_slice() == wanted.as_bytes());
     }
@@ -101,40 +104,44 @@ fn figures_on_three_clocks(rt: HostRuntime) -> Result<(), Fail> {
     Ok(())
 }
 
+const NARROW: Bounds = Bounds { w: 2, h: 3 };
+
+/// Seeds, numbers of tables, bounds and clocks, with the figures.
+const GENERATED: &[(u64, u32, Bounds, u8, &str)] = &[
+    (
+        1,
+        1,
+        BOUNDS,
+        1,
+        "model gen\ninputs 16\noutputs 1\nlatches 0\npairs 3\nboth 0\nminus 0\ncells 1\nlevels 1\n\
+        cost 9\ndevices 13\nck1 1\n",
+    ),
+    (
+        5,
+        100,
+        BOUNDS,
+        1,
+        "model gen\ninputs 16\noutputs 16\nlatches 6\npairs 376\nboth 150\nminus 1\ncells 102\nlevels 9\n\
+        cost 988\ndevices 1126\nck1 102\n",
+    ),
+    (
+        5,
+        100,
+        NARROW,
+        4,
+        "model gen\ninputs 16\noutputs 16\nlatches 6\npairs 376\nboth 150\nminus 1\ncells 151\nlevels 13\n\
+        cost 1282\ndevices 1420\nck1 95\nck2 37\nck3 14\nck4 5\n",
+    ),
+];
+
 /// Figures of networks that are generated.
 #[test]
 fn figures_of_generated_networks(rt: HostRuntime) -> Result<(), Fail> {
     let alloc = rt.alloc();
-    let narrow = Bounds { w: 2, h: 3 };
-    for (seed, tables, bounds, phases, wanted) in [
-        (
-            1,
-            1,
-            BOUNDS,
-            1,
-            "model gen\ninputs 16\noutputs 1\nlatches 0\npairs 3\nboth 0\nminus 0\ncells 1\nlevels 1\n\
-            cost 9\ndevices 13\nck1 1\n",
-        ),
-        (
-            5,
-            100,
-            BOUNDS,
-            1,
-            "model gen\ninputs 16\noutputs 16\nlatches 6\npairs 376\nboth 150\nminus 1\ncells 102\nlevels 9\n\
-            cost 988\ndevices 1126\nck1 102\n",
-        ),
-        (
-            5,
-            100,
-            narrow,
-            4,
-            "model gen\ninputs 16\noutputs 16\nlatches 6\npairs 376\nboth 150\nminus 1\ncells 151\nlevels 13\n\
-            cost 1282\ndevices 1420\nck1 95\nck2 37\nck3 14\nck4 5\n",
-        ),
-    ] {
-        assert!(rt; 1 <= tables && tables <= 30_000);
-        let text = generate(alloc, seed, tables)?;
-        let lines = figures(&rt, alloc, text.as_slice(), bounds, phases)?;
+    for (seed, tables, bounds, phases, wanted) in GENERATED {
+        assert!(rt; 1 <= *tables && *tables <= 30_000);
+        let text = generate(alloc, *seed, *tables)?;
+        let lines = figures(&rt, alloc, text.as_slice(), *bounds, *phases)?;
         assert!(rt; lines.as_slice() == wanted.as_bytes());
     }
     Ok(())

@@ -6,6 +6,4 @@ mod figures;
 #[cfg(test)]
 mod generation;
 #[cfg(test)]
-mod logic;
-#[cfg(test)]
 mod stimuli;

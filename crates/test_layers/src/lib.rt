@@ -2,11 +2,17 @@
 #![tactic(auto)]
 
 #[cfg(test)]
+mod cards;
+#[cfg(test)]
+mod deep;
+#[cfg(test)]
 mod events;
 #[cfg(test)]
 mod names;
 #[cfg(test)]
 mod outside;
+#[cfg(test)]
+mod pending;
 #[cfg(test)]
 mod ports;
 #[cfg(test)]
@@ -21,5 +27,7 @@ mod stimuli;
 mod targets;
 #[cfg(test)]
 mod traces;
+#[cfg(test)]
+mod trees;
 #[cfg(test)]
 mod written_decks;

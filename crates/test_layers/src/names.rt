@@ -5,44 +5,49 @@ use std::alloc::{AllocError, Global};
 use std::hash::BuildHasher;
 use std::test::Fail;
 
+/// Words, and whether they are names of nets.
+const WORDS: &[(&str, bool)] = &[
+    ("a", true),
+    ("i_a+[0].~", true),
+    ("sixteen_bytes_at", true),
+    ("seventeen_bytes_a", true),
+    ("a_name_that_does_not_fit_into_the_room_of_a_name", true),
+    ("\u{e9}", true),
+    ("", false),
+    ("a b", false),
+    ("a\t", false),
+    ("iA", false),
+    ("a\u{7f}", false),
+    ("\u{0}", false),
+];
+
 #[test]
 fn names_of_words(rt: HostRuntime) -> Result<(), Fail> {
     let alloc = rt.alloc();
-    for (word, is_name) in [
-        ("a", true),
-        ("i_a+[0].~", true),
-        ("sixteen_bytes_at", true),
-        ("seventeen_bytes_a", true),
-        ("a_name_that_does_not_fit_into_the_room_of_a_name", true),
-        ("\u{e9}", true),
-        ("", false),
-        ("a b", false),
-        ("a\t", false),
-        ("iA", false),
-        ("a\u{7f}", false),
-        ("\u{0}", false),
-    ] {
+    for (word, is_name) in WORDS {
         let same = match NetName::from_word(alloc, word.as_bytes())? {
             Some(name) => name.as_bytes() == word.as_bytes(),
             None => false,
         };
-        assert!(rt; same == is_name, "at {word}");
+        assert!(rt; same == *is_name, "at {word}");
     }
     Ok(())
 }
 
+/// Names, with their escapes.
+const ESCAPES: &[(&[u8], &[u8])] = &[
+    (b"a7z", b"a7z"),
+    (b"A", b"_41"),
+    (b"\xc3\xa9", b"_c3_a9"),
+    (b"_\x00/:\xff", b"_5f_00_2f_3a_ff"),
+    (b"", b""),
+];
+
 #[test]
 fn escapes_of_names(rt: HostRuntime) -> Result<(), Fail> {
-    let names = [
-        (b"a7z".as_slice(), b"a7z".as_slice()),
-        (b"A".as_slice(), b"_41".as_slice()),
-        (b"\xc3\xa9".as_slice(), b"_c3_a9".as_slice()),
-        (b"_\x00/:\xff".as_slice(), b"_5f_00_2f_3a_ff".as_slice()),
-        (b"".as_slice(), b"".as_slice()),
-    ];
-    for (name, escape) in names {
+    for (name, escape) in ESCAPES {
         let text = esc(rt.alloc(), name)?;
-        assert!(rt; text.as_slice() == escape);
+        assert!(rt; text.as_slice() == *escape);
     }
     Ok(())
 }

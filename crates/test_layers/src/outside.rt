@@ -44,7 +44,7 @@ fn puts<K: Sink>(sink: &mut K, bytes: &[u8], want: Result<(), SinkFault>) -> boo
 }
 
 #[test]
-fn real(rt: HostRuntime) -> Result<(), Fail> {
+fn real_file(rt: HostRuntime) -> Result<(), Fail> {
     let alloc = rt.alloc();
     let path = "dom_io-written";
     let mut sink = StreamSink {
@@ -64,6 +64,11 @@ fn real(rt: HostRuntime) -> Result<(), Fail> {
     assert_eq!(rt; shelf.faults, 1);
     assert!(rt; gives(&mut shelf, alloc, ".", None), "a folder");
     assert_eq!(rt; shelf.faults, 2);
+    Ok(())
+}
+
+#[test]
+fn stuck_stream(rt: HostRuntime) {
     let mut stuck = StreamSink {
         stream: Stuck,
         faults: 0,
@@ -71,26 +76,33 @@ fn real(rt: HostRuntime) -> Result<(), Fail> {
     assert!(rt; puts(&mut stuck, b"", Ok(())));
     assert!(rt; puts(&mut stuck, b"a", Err(SinkFault::Failed)));
     assert_eq!(rt; stuck.faults, 1);
-    Ok(())
 }
 
-#[test]
-fn memory(rt: HostRuntime) -> Result<(), Fail> {
-    let alloc = rt.alloc();
+/// A shelf with two files of one name and an empty one, whose third call fails.
+fn shelf_of_three(alloc: Global) -> Result<MemoryShelf, Fail> {
     let mut files = Vec::new(alloc);
-    for (name, text) in [("a", "first"), ("a", "second"), ("b", "")] {
+    for (name, text) in FILES {
         files.push((
             String::from_str(alloc, name)?,
-            text.as_bytes().to_vec(alloc)?,
+            Vec::from_slice(alloc, text)?,
         ))?;
     }
-    let mut shelf = MemoryShelf {
+    Ok(MemoryShelf {
         files,
         fails: vec![in alloc; 3]?,
         asked: Some(Vec::new(alloc)),
         calls: 0,
         faults: 0,
-    };
+    })
+}
+
+/// The files of that shelf.
+const FILES: &[(&str, &[u8])] = &[("a", b"first"), ("a", b"second"), ("b", b"")];
+
+#[test]
+fn memory_shelf(rt: HostRuntime) -> Result<(), Fail> {
+    let alloc = rt.alloc();
+    let mut shelf = shelf_of_three(alloc)?;
     assert!(rt; gives(&mut shelf, alloc, "a", Some(b"first")));
     assert!(rt; gives(&mut shelf, alloc, "b", Some(b"")));
     assert!(rt; gives(&mut shelf, alloc, "a", None), "the third call");
@@ -101,7 +113,12 @@ fn memory(rt: HostRuntime) -> Result<(), Fail> {
     assert_eq!(rt; (shelf.calls, shelf.faults), (4, 2));
     let told = matches!(&shelf.asked, Some(asked) if asked.len() == 4);
     assert!(rt; told, "what it was asked for");
+    Ok(())
+}
 
+#[test]
+fn memory_sink(rt: HostRuntime) -> Result<(), Fail> {
+    let alloc = rt.alloc();
     let mut sink = MemorySink::new(alloc, 16, PLENTY, vec![in alloc; 2]?)?;
     let text = b"* domsyn deck 1\n* phase o_f +\n";
     assert!(rt; puts(&mut sink, text, Err(SinkFault::Failed)));
@@ -109,7 +126,12 @@ fn memory(rt: HostRuntime) -> Result<(), Fail> {
     assert!(rt; puts(&mut sink, b"+ i_a\n", Ok(())));
     assert!(rt; sink.taken.as_slice() == b"* domsyn deck 1\n+ i_a\n".as_slice());
     assert_eq!(rt; (sink.calls, sink.faults), (3, 1));
+    Ok(())
+}
 
+#[test]
+fn full_memory_sink(rt: HostRuntime) -> Result<(), Fail> {
+    let alloc = rt.alloc();
     let mut full = MemorySink::new(alloc, 3, 4, Vec::new(alloc))?;
     assert!(rt; puts(&mut full, b"abcdef", Err(SinkFault::Failed)));
     assert!(rt; full.taken.as_slice() == b"abcd".as_slice());

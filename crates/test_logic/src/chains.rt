@@ -1,5 +1,6 @@
 //! Long chains of tables.
-use crate::logic::{forest_of, gates_of};
+use crate::logic::forest_of;
+use comparison::gates_of;
 use dual_rail::{Arm, End, Pair, Rail, size};
 use gate_decompose::{Node, Ref};
 use std::alloc::{AllocError, Global};

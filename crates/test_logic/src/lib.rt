@@ -1,13 +1,21 @@
-//! Tests of the gates of networks and of their needed pairs, on networks that were worked by hand.
+//! Tests of the gates of networks, of their needed pairs, signs, covers and clocks, on networks that were worked by hand.
 #![tactic(auto)]
 
 #[cfg(test)]
 mod chains;
+#[cfg(test)]
+mod clocks;
+#[cfg(test)]
+mod cover_words;
+#[cfg(test)]
+mod covers;
 #[cfg(test)]
 mod forests;
 #[cfg(test)]
 mod gates;
 #[cfg(test)]
 mod logic;
+#[cfg(test)]
+mod signs;
 #[cfg(test)]
 mod words;

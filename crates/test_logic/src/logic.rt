@@ -1,24 +1,12 @@
-//! The logic of texts.
+//! The forests of gates.
 use crate::words::forest_words;
-use blif_read::{accepted_file_is_good, read};
+use comparison::gates_of;
 use dual_rail::{Forest, rails, size};
-use gate_decompose::{Gates, decompose};
-use net_flatten::{Network, flatten};
+use gate_decompose::Gates;
+use phase_assign::assign;
 use std::alloc::Global;
 use std::process::Abort;
 use std::test::Fail;
-
-fn network_of(alloc: Global, text: &str) -> Result<Network, Fail> {
-    let file = read(alloc, text.as_bytes())?;
-    accepted_file_is_good();
-    Ok(flatten(alloc, &file)?)
-}
-
-/// The gates of a text.
-pub fn gates_of(alloc: Global, text: &str) -> Result<Gates, Fail> {
-    let network = network_of(alloc, text)?;
-    Ok(decompose(alloc, &network)?)
-}
 
 /// The forest of gates under signs, one `+` or `-` for each sink.
 pub fn forest_of(
@@ -46,4 +34,12 @@ pub fn told_forest(
     let forest = forest_of(rt, alloc, gates, signs)?;
     assert_eq!(rt; size(&forest), pairs);
     Ok(forest_words(alloc, &forest)?)
+}
+
+/// The forest of a text under the chosen signs.
+pub fn chosen_forest(rt: &impl Abort, alloc: Global, text: &str) -> Result<Forest, Fail> {
+    let gates = gates_of(alloc, text)?;
+    let signs = assign(alloc, &gates)?;
+    assert!(rt; signs.len() == gates.sinks.len());
+    Ok(rails(alloc, &gates, &signs)?)
 }

@@ -1,8 +1,6 @@
-//! Files and decks that were worked by hand, and the texts of decks of one cell.
+//! Decks that were worked by hand.
 #![tactic(auto)]
 
-mod cell;
 mod texts;
 
-pub use cell::{cell_deck, deck_of};
-pub use texts::{AND, AND_DECK, CHARGES, RING};
+pub use texts::{AND_DECK, CHARGES, RING};

@@ -1,14 +1,6 @@
-//! Worked files and decks.
+//! Worked decks.
 
-/// A network of an And of two inputs.
-pub const AND: &[u8] = b".model and2\n\
-    .inputs a b\n\
-    .outputs f\n\
-    .names a b f\n\
-    11 1\n\
-    .end\n";
-
-/// Its deck.
+/// The deck of an And of two inputs.
 pub const AND_DECK: &[u8] = b"* domsyn deck 1\n\
     * phase o_f +\n\
     .subckt and2 vdd vss ck1 lm lmb ls lsb rs rsb\n\

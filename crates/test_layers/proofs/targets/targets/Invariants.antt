@@ -2,4 +2,4 @@ use Rattle.std.proofs.Common.{◌≡◌}
 use Rattle.test_layers.proofs.targets.targets.Given as goal
 
 abbrev pub invariant-loop-net : goal.invariant-loop-net
-invariant-loop-net g l = l.links ≡ l.initial.links
+invariant-loop-net l = l.links ≡ l.initial.links

@@ -1,4 +1,0 @@
-use Rattle.compare_gates.proofs.networks.network_of.Goals as goal
-
-pub flatten-requires : goal.flatten-requires
-flatten-requires c = record { good = c.accepted_file_is_good.ensures _ _ (c.in_ok-models.ensures.file) }

@@ -1,0 +1,70 @@
+//! Networks of generated ones, and their plain forms.
+use blif_ast::{Letter, Row};
+use comparison::{Trouble, network_of};
+use net_flatten::{NetTable, Network};
+use plain_hierarchies::{one_model, written};
+use plain_networks::{PlainLatch, PlainNetwork, PlainTable};
+use std::alloc::{AllocError, Global};
+
+/// The network of the text of a generated one. Its tables stand in order of level.
+pub fn flattened(alloc: Global, drawn: &PlainNetwork) -> Result<Network, Trouble> {
+    let mut file = one_model(alloc, drawn)?;
+    let text = written(alloc, &mut file)?;
+    network_of(alloc, text.as_bytes())
+}
+
+fn letters(alloc: Global, row: &Row) -> Result<Vec<u8>, AllocError> {
+    let mut letters = Vec::new(alloc);
+    for letter in row.letters.iter() {
+        letters.push(match letter {
+            Letter::Zero => b'0',
+            Letter::One => b'1',
+            Letter::Any => b'-',
+        })?;
+    }
+    Ok(letters)
+}
+
+/// Numbers as they index.
+fn indices(alloc: Global, numbers: &[u32]) -> Result<Vec<usize>, AllocError> {
+    let mut indices = Vec::new(alloc);
+    for number in numbers {
+        indices.push(*number as usize)?;
+    }
+    Ok(indices)
+}
+
+fn plain_table(alloc: Global, table: &NetTable) -> Result<PlainTable, AllocError> {
+    let mut rows = Vec::new(alloc);
+    for row in table.rows.iter() {
+        rows.push(letters(alloc, row)?)?;
+    }
+    Ok(PlainTable {
+        inputs: indices(alloc, &table.inputs)?,
+        on: table.on,
+        rows,
+    })
+}
+
+/// The plain form of a network, without names.
+pub fn plain_network(alloc: Global, network: &Network) -> Result<PlainNetwork, AllocError> {
+    let mut latches = Vec::new(alloc);
+    for latch in network.latches.iter() {
+        latches.push(PlainLatch {
+            input: latch.input as usize,
+            init: latch.init,
+        })?;
+    }
+    let mut tables = Vec::new(alloc);
+    for table in network.tables.iter() {
+        tables.push(plain_table(alloc, table)?)?;
+    }
+    Ok(PlainNetwork {
+        name: String::from_str(alloc, "m")?,
+        names: Vec::new(alloc),
+        inputs: network.inputs as usize,
+        outputs: indices(alloc, &network.outputs)?,
+        latches,
+        tables,
+    })
+}

@@ -1,4 +1,0 @@
-use Rattle.test_cover.proofs.logic.network_of.Goals as goal
-
-pub flatten-requires : goal.flatten-requires
-flatten-requires c = record { good = c.accepted_file_is_good.ensures _ _ (c.in_ok-file.ensures.file) }
