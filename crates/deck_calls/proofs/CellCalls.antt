@@ -14,13 +14,13 @@ use Rattle.deck.proofs.CircuitGrowth.{with_devices-grew, with_devices-devices, w
 use Rattle.deck.proofs.DeviceNumbers.{IsCircuit-with_devices}
 use Rattle.deck.specs.Subckts.{Call, SubcktPart, Called, Expansion, Size, passed_net, call_devices, part_devices, size_named, part_depth, depth_over}
 use Rattle.deck.specs.DecksWithCalls.{IsCallOver}
-use Rattle.deck_calls.specs.Cells.{supplies, group_cell, group_shape, same_cell_shape, shape_number, cell_name, cell_ports}
+use Rattle.spice_text.specs.Cells.{supplies, group_cell, group_shape, same_cell_shape, shape_number, cell_name, cell_ports}
 use Rattle.deck_calls.proofs.CellNames.{ports_apart}
 use Rattle.deck_calls.proofs.CellSubckts.{cell_expansion, cell_size, found_by_name}
 use Rattle.deck_calls.proofs.NumberedShapes.{numbered_back, is_found_by, numbers_few, port_count}
 use Rattle.std.proofs.lemmas.Option.{slice_get_within}
 use Rattle.deck_calls.proofs.PassedNets.{passed_devices}
-use Rattle.deck_calls.proofs.Shapes.{stands_at, shape_same}
+use Rattle.spice_text.proofs.Shapes.{stands_at, shape_same}
 
 -- the call of a group's cell
 abbrev pub call_of : List (List ℕ) → List (List Device) → ℕ × List Device → Call

@@ -17,14 +17,14 @@ use Rattle.deck.proofs.DeviceNumbers.{IsCircuit-ports, devices_in_range}
 use Rattle.deck.proofs.NetNumbers.{IsDistinct-take}
 use Rattle.deck.specs.Subckts.{Subckt, expansion, expansions, size, sizes, part_devices, part_depth}
 use Rattle.deck.specs.DecksWithCalls.{IsCallOver, AreSubckts}
-use Rattle.deck_calls.specs.Cells.{supplies, groups_from, group_cell, group_shape, same_cell_shape, shapes_of, cell_name, HasCells}
+use Rattle.spice_text.specs.Cells.{supplies, groups_from, group_cell, group_shape, same_cell_shape, shapes_of, cell_name, HasCells}
 use Rattle.deck_calls.proofs.CellCalls.{calls_of, IsCalled, is_cell, calls_expand, calls_over, calls_shallow, groups_called}
 use Rattle.deck_calls.proofs.CellSubckts.{cell_subckt, cells_expand, cells_sized}
-use Rattle.deck_calls.proofs.Counts.{size_counts}
-use Rattle.deck_calls.proofs.Groups.{groups_all, groups_count, groups_short, rises_far}
+use Rattle.subckt_expand.proofs.Counts.{size_counts}
+use Rattle.spice_text.proofs.Groups.{groups_all, groups_count, groups_short, rises_far}
 use Rattle.deck_calls.proofs.NumberedShapes.{numbered_back, numbers_few, numbers_fall, cells_over, IsCellShape}
 use Rattle.deck_calls.proofs.PassedNets.{all_at}
-use Rattle.deck_calls.proofs.Shapes.{all_inserted, all_stand, shape_own}
+use Rattle.spice_text.proofs.Shapes.{all_inserted, all_stand, shape_own}
 
 -- the groups of a circuit, and their shapes
 abbrev pub groups_in : CircuitData → List ℕ → List (List Device)

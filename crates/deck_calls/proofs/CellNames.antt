@@ -11,14 +11,8 @@ use Rattle.dom_base.proofs.Decimals.{decimal_is_net}
 use Rattle.dom_base.proofs.Lists.{AllByRecursion-every, AllByRecursion-map}
 use Rattle.dom_base.proofs.Names.{IsNetName-from_test}
 use Rattle.deck.specs.DeckText.{HasNoEquals}
-use Rattle.deck_calls.specs.Cells.{cell_port}
-
--- a front and a number
-pub numbered_name : (b : ℕ) (front : List ℕ) (n : ℕ) → is_net_name (b ∷ front) ≡ true → n < 2 ^ 64 → IsNetName ((b ∷ front) ++ decimal n)
-numbered_name b front n plain few = record {
-  some = λ e. cc;
-  good = All-append IsNetByte (b ∷ front) (decimal n) (IsNetName-from_test (b ∷ front) plain).good (decimal_is_net n few);
-}
+use Rattle.spice_text.proofs.CellPorts.{numbered_name}
+use Rattle.spice_text.specs.Cells.{cell_port}
 
 no_equals-decimal : (n : ℕ) → n < 2 ^ 64 → HasNoEquals (decimal n)
 no_equals-decimal n low =

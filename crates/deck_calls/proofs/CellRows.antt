@@ -16,8 +16,9 @@ use Rattle.spice_text.specs.Text.{deck_line, phase_line, plus_lines, eights, dev
 use Rattle.spice_text.proofs.DeviceRows.{all_cards, cards_plain}
 use Rattle.spice_text.proofs.ReadRows.{row_line, text_of_rows, IsPlainRow, Begins, plus_rows, words-row}
 use Rattle.spice_text.proofs.WrittenRows.{phase_row, opening_row, card_row, card_rows, ending_row, flat_map-rows, text_of_rows-append, plus_lines-rows}
-use Rattle.deck_calls.specs.Cells.{group_cell, shapes_of, shape_number, cell_name, cell_ports, cell_lines, call_line, call_lines, cell_text_with}
-use Rattle.deck_calls.proofs.CellNames.{numbered_name, ports_plain}
+use Rattle.spice_text.specs.Cells.{group_cell, shapes_of, shape_number, cell_name, cell_ports, cell_lines, call_line, call_lines, cell_text_with}
+use Rattle.spice_text.proofs.CellPorts.{numbered_name}
+use Rattle.deck_calls.proofs.CellNames.{ports_plain}
 use Rattle.deck_calls.proofs.NumberedShapes.{IsCellShape, port_count}
 
 -- the words of the first line

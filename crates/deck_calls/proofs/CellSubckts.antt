@@ -7,7 +7,7 @@ use Rattle.std.proofs.lemmas.List.{length-map}
 use Rattle.deck.specs.declared.device.Device.{Device}
 use Rattle.deck.specs.NamedDevices.{NamedDevice, named_device}
 use Rattle.deck.specs.Subckts.{Single, Subckt, Expansion, Size, part_devices, expansion, expansions, part_count, part_depth, size, sizes}
-use Rattle.deck_calls.specs.Cells.{cell_name, cell_ports}
+use Rattle.spice_text.specs.Cells.{cell_name, cell_ports}
 use Rattle.deck.proofs.NetNumbers.{same_name}
 use Rattle.deck_calls.proofs.CellNames.{numbers_apart}
 

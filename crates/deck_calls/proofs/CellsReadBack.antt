@@ -24,11 +24,12 @@ use Rattle.spice_text.proofs.ReadRows.{row_line, text_of_rows, IsPlainRow, IsNoE
 use Rattle.spice_text.proofs.WrittenRows.{phase_row, opening_row, card_rows, ending_row}
 use Rattle.deck.specs.Subckts.{Single, Called}
 use Rattle.deck.specs.DecksWithCalls.{IsCallCard, IsPartCard, AreSubcktCards, IsDeckWithCalls}
-use Rattle.deck_calls.specs.Cells.{group_cell, shape_number, cell_name, cell_ports, cell_text_with, HasCells, IsWrittenByCells}
+use Rattle.spice_text.specs.Cells.{group_cell, shape_number, cell_name, cell_ports, cell_text_with, HasCells, IsWrittenByCells}
 use Rattle.deck_calls.proofs.CellCalls.{call_of, IsCalled, number_low}
 use Rattle.deck_calls.proofs.CellCircuits.{groups_in, shapes_in, main_subckt, cells_above, AreCells, are_cells, are_subckts, main_expands, cell_nets_all}
 use Rattle.deck.proofs.WordTests.{no_equals_by_test}
-use Rattle.deck_calls.proofs.CellNames.{numbered_name, no_equals-numbered}
+use Rattle.spice_text.proofs.CellPorts.{numbered_name}
+use Rattle.deck_calls.proofs.CellNames.{no_equals-numbered}
 use Rattle.deck_calls.proofs.CellRows.{header_row, comment_rows, cell_rows, all_cell_rows, call_row, call_rows, rows_behind, rows_of_cards, cell_text-rows, cells_all, behind_all, cards_all, cards_of-front, cells_plain}
 use Rattle.deck_calls.proofs.CellSubckts.{cell_devices, cell_subckt}
 use Rattle.deck_calls.proofs.NumberedShapes.{numbers_few, name_no_equals, vdd_no_equals, vss_no_equals, IsCellShape}

@@ -7,7 +7,7 @@ use Rattle.dom_base.proofs.Lists.{length-none}
 use Rattle.deck.specs.NamedDevices.{NamedDevice, map_device}
 use Rattle.deck.specs.Subckts.{SubcktPart, Single, Called, Subckt, passed_net, call_devices, part_devices, expansion, expansions, sizes}
 use Rattle.deck_calls.specs.Frames.{ExpansionFrame, name_in, left_in, found_above, ExpansionSteps}
-use Rattle.deck_calls.proofs.Counts.{all_counted, part_counted}
+use Rattle.subckt_expand.proofs.Counts.{all_counted, part_counted}
 
 -- devices renamed by nothing, and twice
 map_same : (ds : List (NamedDevice (List ℕ))) → map (map_device (λ name. name)) ds ≡ ds

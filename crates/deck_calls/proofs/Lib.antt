@@ -6,10 +6,8 @@ pub mod CellRows
 pub mod CellSubckts
 pub mod CellsReadBack
 pub mod CleanCards
-pub mod Counts
 pub mod FaultPlaces
 pub mod Frames
-pub mod Groups
 pub mod NoFault
 pub mod NumberedShapes
 pub mod OldDecks
@@ -18,6 +16,5 @@ pub mod PartCards
 pub mod PassedNets
 pub mod Reading
 pub mod Refusals
-pub mod Shapes
 pub mod Standing
 pub mod WholeDecks

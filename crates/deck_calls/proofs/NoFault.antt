@@ -18,7 +18,7 @@ use Rattle.deck.specs.CardsWithCalls.{open_subckt, card_parts, unit_word}
 use Rattle.deck.specs.FaultsWithCalls.{called_size, open_count}
 use Rattle.deck.proofs.WordTests.{model_known, none_has_equals}
 use Rattle.spice_read.proofs.NoFault.{left, left_more, left_same}
-use Rattle.deck_calls.proofs.Counts.{sum_from}
+use Rattle.subckt_expand.proofs.Counts.{sum_from}
 use Rattle.deck_calls.proofs.CleanCards.{IsClean, HasNoControl, call_clean, device_clean, ending_clean, opening_clean, skipped_clean}
 use Rattle.deck_calls.proofs.PartCards.{call_is_part, call_length, call_part, device_part, of_call, of_device, of_ending, of_opening, skipped_adds, skipped_card}
 use Rattle.deck_calls.proofs.Standing.{NoneNamed, StandsBetween, StandsInside, between_skipped, closes, inside_more, opens}

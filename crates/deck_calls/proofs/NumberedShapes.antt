@@ -17,7 +17,7 @@ use Rattle.deck.specs.Nets.{ends, numbers_used}
 use Rattle.deck.proofs.DeviceNumbers.{numbers_used-ge}
 use Rattle.deck.specs.Subckts.{Single, Subckt, sizes}
 use Rattle.deck.specs.DecksWithCalls.{IsCallOver, IsSubcktOver, AreSubckts}
-use Rattle.deck_calls.specs.Cells.{cell_name, cell_port, cell_ports}
+use Rattle.spice_text.specs.Cells.{cell_name, cell_port, cell_ports}
 use Rattle.deck.proofs.WordTests.{no_equals_by_test}
 use Rattle.deck_calls.proofs.CellNames.{ports_apart, ports_no_equals, no_equals-numbered}
 use Rattle.deck_calls.proofs.CellSubckts.{cell_devices, cell_subckt, cell_is_sized}

@@ -16,7 +16,7 @@ use Rattle.deck.proofs.DeviceNumbers.{IsCircuit-with_devices}
 use Rattle.std.proofs.lemmas.List.{take_at}
 use Rattle.deck.specs.Subckts.{Call, SubcktPart, Single, Called, Subckt, Expansion, passed_net, call_devices, part_devices, expansion, expansions}
 use Rattle.deck.specs.DecksWithCalls.{IsPartCard, AreSubcktCards, IsDeckWithCalls}
-use Rattle.deck_calls.proofs.Counts.{size_counts}
+use Rattle.subckt_expand.proofs.Counts.{size_counts}
 
 -- a part whose nets, and whose name if it is a call, are names of nets
 IsPlainPart : SubcktPart → Type 0

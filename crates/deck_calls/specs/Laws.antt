@@ -7,7 +7,7 @@ use Rattle.deck.specs.DeckText as old
 use Rattle.deck.specs.Whole.{IsWhole}
 use Rattle.deck.specs.FaultsWithCalls.{IsFaultWithCalls, IsFaultWithCallsAt}
 use Rattle.deck.specs.DecksWithCalls.{IsDeckWithCalls}
-use Rattle.deck_calls.specs.Cells.{HasCells, IsWrittenByCells}
+use Rattle.spice_text.specs.Cells.{HasCells, IsWrittenByCells}
 use Rattle.deck.specs.Subckts.{Subckt, Size, Expansion, sizes, expansions}
 
 -- a text is the deck of at most one circuit

@@ -1,6 +1,14 @@
+pub mod ByCells
+pub mod CellPorts
+pub mod CellTexts
 pub mod DeviceRows
+pub mod GroupCells
+pub mod GroupLoops
+pub mod Groups
 pub mod Lines
+pub mod Places
 pub mod ReadBack
 pub mod ReadRows
+pub mod Shapes
 pub mod Whole
 pub mod WrittenRows

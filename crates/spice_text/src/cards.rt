@@ -59,7 +59,7 @@ fn put_card(
     Ok(())
 }
 
-fn net_name(nets: &[NetName], net: u32) -> &[u8]
+pub fn net_name(nets: &[NetName], net: u32) -> &[u8]
     requires { net < length nets.now }
     ensures { result.now ≡ net_name nets.now net }
 {

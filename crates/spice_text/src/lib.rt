@@ -5,11 +5,16 @@ ghost use Rattle.std.specs.Prelude.{IfOk};
 ghost use Rattle.deck.specs.DeckText.{IsDeckOf, IsGoodCircuit};
 ghost use Rattle.spice_text.specs.Text.{IsWritten};
 
+mod by_cells;
 mod cards;
+mod cells;
+mod group;
 mod laws;
 mod line;
 mod ports;
+mod shape;
 
+pub use by_cells::write_cells;
 use cards::{put_cards, put_phases};
 use deck::{Circuit, roles};
 use dom_base::{OutOfMemory, append, append_word};

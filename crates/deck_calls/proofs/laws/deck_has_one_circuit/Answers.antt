@@ -1,6 +1,6 @@
 use Rattle.deck.proofs.OneCircuit.{IsDeckWithCalls-unique}
 use Rattle.deck_calls.proofs.OneAnswer.{one_answer}
-use Rattle.deck_calls.proofs.Counts.{sizes_count}
+use Rattle.subckt_expand.proofs.Counts.{sizes_count}
 use Rattle.deck_calls.proofs.laws.deck_has_one_circuit.Goals as goal
 
 pub returns-clause-one : goal.returns-clause-one

@@ -1,5 +1,6 @@
 -- Shapes among the shapes of all groups: each stands at its number.
-use Rattle.std.proofs.Common.{◌≡◌, suc, Bool, true, false, if◌then◌else◌, ◌&&◌, ◌||◌, subst, nat_eq, List, [], ◌∷◌, ◌++◌, Some, slice_get, refl, ap, sym, ◌∙◌, arith}
+use Rattle.std.proofs.Common.{◌≡◌, suc, Bool, true, false, if◌then◌else◌, ◌&&◌, ◌||◌, subst, nat_eq, List, [], ◌∷◌, ◌++◌, Some, slice_get}
+use Rattle.std.proofs.Common.{refl, ap, sym, ◌∙◌, arith}
 use Rattle.std.specs.List.{AllByRecursion, list_any, position_or_len}
 use Rattle.std.specs.Cmp.Lexicographic.{pointwise, pointwise_decides, bytes_decides}
 use Rattle.std.proofs.lemmas.Bool.Decides.{Decides-eqb}
@@ -10,7 +11,7 @@ use Rattle.dom_base.proofs.Lists.{AllByRecursion-append}
 use Rattle.deck.specs.declared.device.Device.{Device}
 use Rattle.deck.specs.DeckText.{model_word}
 use Rattle.deck.proofs.DeckUnique.{model_word-injective}
-use Rattle.deck_calls.specs.Cells.{same_device, same_cell_shape}
+use Rattle.spice_text.specs.Cells.{same_device, same_cell_shape}
 
 module _ {X : Type 0} (eq : X → X → Bool) where
   -- a property of all that stand and of all that are inserted
@@ -28,10 +29,11 @@ module _ {X : Type 0} (eq : X → X → Bool) where
     where
       by : (b : Bool) → list_any (eq x) ks ≡ b → list_any (eq x) (if b then ks else ks ++ x ∷ []) ≡ true
       by true e = e
-      by false e = list_any-append (eq x) ks (x ∷ []) ∙ ap (λ b. list_any (eq x) ks || b) (ap (λ b. b || false) own) ∙ or_true (list_any (eq x) ks)
+      by false e = list_any-append (eq x) ks (x ∷ []) ∙ ap (λ b. list_any (eq x) ks || b) (ap (λ b. b || false) own)
+          ∙ or_true (list_any (eq x) ks)
 
   -- what stands stays
-  key_stays : (test : X → Bool) (ks : List X) (x : X) → list_any test ks ≡ true → list_any test (insert_key eq ks x) ≡ true
+  pub key_stays : (test : X → Bool) (ks : List X) (x : X) → list_any test ks ≡ true → list_any test (insert_key eq ks x) ≡ true
   key_stays test ks x h = by (list_any (eq x) ks)
     where
       by : (b : Bool) → list_any test (if b then ks else ks ++ x ∷ []) ≡ true
@@ -45,14 +47,20 @@ module _ {X : Type 0} (eq : X → X → Bool) where
   -- each that is inserted stands
   pub all_stand : ((x : X) → eq x x ≡ true) → (ks xs : List X) → AllByRecursion (λ x. list_any (eq x) (insert_all eq ks xs) ≡ true) xs
   all_stand own ks [] = tt
-  all_stand own ks (x ∷ xs) = (keys_stay (eq x) (insert_key eq ks x) xs (inserted_stands x ks (own x)), all_stand own (insert_key eq ks x) xs)
+  all_stand own ks (x ∷ xs) = (
+    keys_stay (eq x) (insert_key eq ks x) xs (inserted_stands x ks (own x)),
+    all_stand own (insert_key eq ks x)
+        xs,
+  )
 
   -- what stands is found at its number
-  pub stands_at : ((x y : X) → eq x y ≡ true → x ≡ y) → (x : X) (ks : List X) → list_any (eq x) ks ≡ true → slice_get ks (position_or_len (eq x) ks) ≡ Some x
+  pub stands_at : ((x y : X) → eq x y ≡ true → x ≡ y) → (x : X) (ks : List X) → list_any (eq x) ks ≡ true
+      → slice_get ks (position_or_len (eq x) ks) ≡ Some x
   stands_at same x [] h = absurd (let never : false ≡ true = h in cc)
   stands_at same x (k ∷ ks) h = by (eq x k) refl (λ rest. stands_at same x ks rest)
     where
-      by : (b : Bool) → eq x k ≡ b → (list_any (eq x) ks ≡ true → slice_get ks (position_or_len (eq x) ks) ≡ Some x) → slice_get (k ∷ ks) (position_or_len (eq x) (k ∷ ks)) ≡ Some x
+      by : (b : Bool) → eq x k ≡ b → (list_any (eq x) ks ≡ true → slice_get ks (position_or_len (eq x) ks) ≡ Some x)
+          → slice_get (k ∷ ks) (position_or_len (eq x) (k ∷ ks)) ≡ Some x
       by true e behind =
           let zero_is : position_or_len (eq x) (k ∷ ks) ≡ 0 = rw e refl in
           ap (slice_get (k ∷ ks)) zero_is ∙ ap Some (sym (same x k e))
@@ -74,7 +82,13 @@ device_decides a b = (
       let source = (Decides-eqb a.source b.source).0 sources.1 in
       λ i. record { kind = kind i; drain = drain i; gate = gate i; source = source i }),
   (λ e.
-      let own : same_device a a ≡ true = rw ((bytes_decides (model_word a.kind) (model_word a.kind)).1 refl, (Decides-eqb a.drain a.drain).1 refl, (Decides-eqb a.gate a.gate).1 refl, (Decides-eqb a.source a.source).1 refl) refl in
+      let own : same_device a a ≡ true = rw (
+        (bytes_decides (model_word a.kind) (model_word a.kind)).1 refl,
+        (Decides-eqb a.drain a.drain).1
+            refl,
+        (Decides-eqb a.gate a.gate).1 refl,
+        (Decides-eqb a.source a.source).1 refl,
+      ) refl in
       subst (λ d. same_device a d ≡ true) e own),
 )
 
