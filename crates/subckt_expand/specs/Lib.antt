@@ -1,0 +1,5 @@
+pub mod Definitions
+pub mod Frames
+pub mod Live
+pub mod StandsFor
+pub mod Units
