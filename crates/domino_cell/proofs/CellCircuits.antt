@@ -1,15 +1,19 @@
 -- Circuits to which the devices of a cell are appended part by part.
-use Rattle.std.proofs.Common.{◌≡◌, ℕ, List, [], ◌∷◌, ◌++◌, refl, sym, subst, ap, ◌∙◌, ◌≤◌, arith, length, length-append}
+use Rattle.std.proofs.Common.{◌≡◌, ℕ, List, [], ◌∷◌, ◌++◌, refl, sym, subst, ap, ◌∙◌, ◌+◌, ◌≤◌, arith, length, length-append, map}
+use Rattle.std.proofs.lemmas.List.{length-map}
 use Rattle.dom_base.specs.declared.kind.Kind.{Kind}
-use Rattle.dom_base.specs.declared.kind.Kind.TheVariants.{N as nch, P as pch, Keep}
+use Rattle.dom_base.specs.declared.kind.Kind.TheVariants.{N as nch, P as pch}
 use Rattle.deck.specs.CircuitData.{CircuitData}
 use Rattle.deck.specs.CircuitGrowth.{Grew}
 use Rattle.deck.specs.NamedDevices.{NamedDevice, with_devices}
+use Rattle.deck.specs.NumberedDevices.{numbered_device}
 use Rattle.deck.specs.Pushes.{pushed}
-use Rattle.deck.proofs.CircuitGrowth.{Grew-trans, pushed-grew}
-use Rattle.sp_network.specs.Tree.{Tree}
-use Rattle.domino_cell.specs.Cell.{CellNets, cell, dynamic_stage, inverter}
+use Rattle.deck.proofs.CircuitGrowth.{Grew-trans, pushed-grew, with_devices-devices}
+use Rattle.sp_network.specs.Tree.{Tree, inner_count}
+use Rattle.domino_cell.specs.Cell.{CellNets, inverter}
 use Rattle.domino_cell.specs.Spelling.{spell}
+use Rattle.domino_cell.specs.declared.style.Style.{Style}
+use Rattle.domino_cell.specs.StyledCells.{behind_precharge, styled_cell}
 
 pub with_devices-append : (c : CircuitData) (xs ys : List (NamedDevice (List ℕ))) → with_devices c (xs ++ ys) ≡ with_devices (with_devices c xs) ys
 with_devices-append c [] ys = refl
@@ -24,17 +28,28 @@ Grew-pushed old between new kind d g s grew more =
 pub Grew-longer : {old new : CircuitData} → Grew old new → length old.devices ≤ length new.devices
 Grew-longer {old} grew = omega (arith, ap length grew.devices, length-append old.devices grew.more_devices)
 
+-- how many devices a circuit has after more were appended
+pub count_with : (c : CircuitData) (ds : List (NamedDevice (List ℕ))) → length (with_devices c ds).devices ≡ length c.devices + length ds
+count_with c ds =
+    let f = numbered_device (with_devices c ds).nets in
+    ap length (with_devices-devices c ds) ∙ length-append c.devices (map f ds) ∙ ap (λ n. length c.devices + n) (length-map ds f)
+
 -- the devices of a cell, appended part by part
-pub cell_devices_pushed : (old a b c d new : CircuitData) (nets : CellNets (List ℕ)) (tree : Tree (List ℕ))
-    → a ≡ pushed old pch nets.dynamic nets.clock nets.vdd → b ≡ pushed a Keep nets.dynamic nets.output nets.vdd
+pub cell_devices_pushed : (style : Style) (old a b c d new : CircuitData) (nets : CellNets (List ℕ)) (tree : Tree (List ℕ))
+    → a ≡ pushed old pch nets.dynamic nets.clock nets.vdd → b ≡ with_devices a (behind_precharge style nets (inner_count tree))
     → c ≡ with_devices b (spell nch nets.inner tree nets.dynamic nets.foot 0) → d ≡ pushed c nch nets.foot nets.clock nets.vss
-    → new ≡ with_devices d (inverter nets.vdd nets.vss nets.dynamic nets.output) → new ≡ with_devices old (cell nets tree)
-cell_devices_pushed old a b c d new nets tree one two three four five =
+    → new ≡ with_devices d (inverter nets.vdd nets.vss nets.dynamic nets.output) → new ≡ with_devices old (styled_cell style nets tree)
+cell_devices_pushed style old a b c d new nets tree one two three four five =
     let inv : List (NamedDevice (List ℕ)) = inverter nets.vdd nets.vss nets.dynamic nets.output in
     let spelled : List (NamedDevice (List ℕ)) = spell nch nets.inner tree nets.dynamic nets.foot 0 in
     let foot : NamedDevice (List ℕ) = record { kind = nch; drain = nets.foot; gate = nets.clock; source = nets.vss } in
-    let kept : CircuitData = pushed (pushed old pch nets.dynamic nets.clock nets.vdd) Keep nets.dynamic nets.output nets.vdd in
-    let b_is : b ≡ kept = two ∙ ap (λ x. pushed x Keep nets.dynamic nets.output nets.vdd) one in
+    let first : NamedDevice (List ℕ) = record { kind = pch; drain = nets.dynamic; gate = nets.clock; source = nets.vdd } in
+    let behind : List (NamedDevice (List ℕ)) = behind_precharge style nets (inner_count tree) in
+    let kept : CircuitData = with_devices old (first ∷ behind) in
+    let b_is : b ≡ kept = two ∙ ap (λ x. with_devices x behind) one in
     let c_is : c ≡ with_devices kept spelled = three ∙ ap (λ x. with_devices x spelled) b_is in
     let d_is : d ≡ with_devices kept (spelled ++ foot ∷ []) = four ∙ ap (λ x. pushed x nch nets.foot nets.clock nets.vss) c_is ∙ sym (with_devices-append kept spelled (foot ∷ [])) in
-    five ∙ ap (λ x. with_devices x inv) d_is ∙ sym (with_devices-append old (dynamic_stage nets tree) inv)
+    five
+    ∙ ap (λ x. with_devices x inv) d_is
+    ∙ sym (with_devices-append kept (spelled ++ foot ∷ []) inv)
+    ∙ sym (with_devices-append old (first ∷ behind) ((spelled ++ foot ∷ []) ++ inv))

@@ -1,9 +1,9 @@
 -- Paths in a circuit that holds a domino cell.
-use Rattle.std.proofs.Common.{◌≡◌, ℕ, zero, suc, ◌+◌, ◌<◌, Bool, true, false, cond, eqb, List, [], ◌∷◌, map, refl, sym, ap, subst, ◌∙◌, inl, inr, arith}
+use Rattle.std.proofs.Common.{◌≡◌, ℕ, zero, suc, ◌+◌, ◌<◌, Bool, true, false, cond, eqb, List, [], ◌∷◌, ◌++◌, map, refl, sym, ap, subst, ◌∙◌, inl, inr, arith}
 use Rattle.std.specs.Prelude.{◌⊎◌, ◌↔◌, All, Contains}
 use Rattle.std.specs.List.{AllByRecursion}
 use Rattle.std.proofs.lemmas.Bool.Decides.{eqb_tells}
-use Rattle.std.proofs.lemmas.List.{append-nil}
+use Rattle.std.proofs.lemmas.List.{map-append}
 use Rattle.std.proofs.lemmas.List.Elements.{All-from_recursion, recursion_from_All}
 use Rattle.dom_base.specs.Conduction.{conduction}
 use Rattle.dom_base.specs.declared.kind.Kind.{Kind}
@@ -13,70 +13,48 @@ use Rattle.deck.specs.declared.device.Device.{Device}
 use Rattle.deck.specs.Paths.{Ends}
 use Rattle.deck.specs.Switches.{value_of}
 use Rattle.deck.specs.NamedDevices.{NamedDevice, device_of}
-use Rattle.domino_cell.specs.Cell.{CellNets, IsCell, IsStageNet, cell, dynamic_stage, inverter}
-use Rattle.domino_cell.specs.Stage.{Spot, Top, Inside, IsSpot, Branch, stage, IsStage}
-use Rattle.domino_cell.specs.Tapped.{IsTapped}
-use Rattle.sp_network.specs.Tree.{Tree, Leaf, Series, inner_count, joins, tree_conduction}
+use Rattle.domino_cell.specs.Cell.{CellNets, IsStageNet, inverter}
+use Rattle.domino_cell.specs.HeldCells.{IsCell}
+use Rattle.domino_cell.specs.declared.style.Style.{Style}
+use Rattle.domino_cell.specs.StyledCells.{behind_precharge, pull_down_cards, styled_cell, styled_stage}
+use Rattle.domino_cell.specs.Stage.{Spot, Top, Inside, IsSpot, Branch}
+use Rattle.domino_cell.specs.Tapped.{IsTapped, Tap, tap_branch, ways}
+use Rattle.sp_network.specs.Tree.{Tree, inner_count, joins, tree_conduction}
 use Rattle.domino_cell.specs.Spelling.{spell}
-use Rattle.dom_base.proofs.Lists.{AllByRecursion-append, AllByRecursion-both, AllByRecursion-contains, AllByRecursion-left, AllByRecursion-map, AllByRecursion-weaker}
+use Rattle.dom_base.proofs.Lists.{AllByRecursion-append, AllByRecursion-both, AllByRecursion-contains, AllByRecursion-left, AllByRecursion-map, AllByRecursion-right, AllByRecursion-weaker}
 use Rattle.deck.specs.Reach.{Reach}
 use Rattle.deck.proofs.Reach.{Reach-kept}
-use Rattle.domino_cell.proofs.Spellings.{spell-same}
+use Rattle.domino_cell.proofs.CellTaps.{Contains-turned, behind_to_vdd, cell_spots, cell_taps, pull_down, tapped-cell, taps_at_spots, taps_to_vdd, to_vdd}
 use Rattle.domino_cell.proofs.Stages.{goes, through}
-use Rattle.domino_cell.proofs.Untapped.{as_tapped}
 use Rattle.domino_cell.specs.Steps.{IsStep, IsStrongStep}
 use Rattle.sp_network.specs.Known.{IsTest}
 use Rattle.sp_network.proofs.TreeTests.{joins-conduction}
 use Rattle.domino_cell.specs.TreeColours.{IsIn, IsOutside, Paints, painting}
 use Rattle.domino_cell.proofs.Trees.{and_true, Paints-painting, Reach-spell, spell-ends, spell-kind}
 
--- the nets of the dynamic stage of a cell as spots: the foot net is the first inner net
-abbrev pub cell_spots : CellNets ℕ → Spot → ℕ
-cell_spots nets Top = nets.dynamic
-cell_spots nets (Inside i zero) = nets.foot
-cell_spots nets (Inside i (suc j)) = nets.inner j
+module _ (style : Style) (devices : List Device) (is_source : ℕ → Bool) (nets : CellNets ℕ) (tree : Tree ℕ) (is : IsCell style devices is_source nets tree) where
+  abbrev branches : List Branch
+  branches = pull_down nets tree ∷ []
 
--- its branches: the precharge, the keeper, and the tree in series with the foot
-abbrev pub cell_branches : CellNets ℕ → Tree ℕ → List Branch
-cell_branches nets tree =
-    record { kind = pch; tree = Leaf nets.clock; supply = nets.vdd }
-    ∷ record { kind = Keep; tree = Leaf nets.output; supply = nets.vdd }
-    ∷ record { kind = nch; tree = Series tree (Leaf nets.clock); supply = nets.vss }
-    ∷ []
+  abbrev taps : List Tap
+  taps = cell_taps style nets (inner_count tree)
 
--- the dynamic stage of a cell is the stage of these branches
-pub stage-cell : (nets : CellNets ℕ) (tree : Tree ℕ) → stage (cell_spots nets) 0 (cell_branches nets tree) ≡ dynamic_stage nets tree
-stage-cell nets tree =
-    rw (append-nil, spell-same nch (λ j. cell_spots nets (Inside 2 j)) nets.inner tree nets.dynamic nets.foot 1 0 (λ j lt. ap (cell_spots nets) (same j))) refl
-  where
-    same : (j : ℕ) → Inside 2 (1 + j) ≡ Inside 2 (suc (0 + j))
-    same j = ap (Inside 2) (omega arith)
-
-module _ (devices : List Device) (is_source : ℕ → Bool) (nets : CellNets ℕ) (tree : Tree ℕ) (is : IsCell devices is_source nets tree) where
-  -- the tree of the cell takes inner nets in its third branch alone
-  IsSpot-cell : (i j : ℕ) → IsSpot (cell_branches nets tree) (Inside i j) → (i ≡ 2) × (j < 1 + inner_count tree)
-  IsSpot-cell zero j (b, e, lt) = let z : record { kind = pch; tree = Leaf nets.clock; supply = nets.vdd } ≡ b = cc in absurd (none (inner_count b.tree) (ap (λ b. inner_count b.tree) z) lt)
-    where
-      none : (n : ℕ) → 0 ≡ n → j < n → ⊥
-      none n p q = omega arith
-  IsSpot-cell (suc zero) j (b, e, lt) = let z : record { kind = Keep; tree = Leaf nets.output; supply = nets.vdd } ≡ b = cc in absurd (none (inner_count b.tree) (ap (λ b. inner_count b.tree) z) lt)
-    where
-      none : (n : ℕ) → 0 ≡ n → j < n → ⊥
-      none n p q = omega arith
-  IsSpot-cell (suc (suc zero)) j (b, e, lt) =
-      let z : record { kind = nch; tree = Series tree (Leaf nets.clock); supply = nets.vss } ≡ b = cc in
+  -- the inner nets of the branch are those of the tree and the foot net
+  IsSpot-cell : (i j : ℕ) → IsSpot branches (Inside i j) → (i ≡ 0) × (j < 1 + inner_count tree)
+  IsSpot-cell zero j (b, e, lt) =
+      let z : pull_down nets tree ≡ b = cc in
       (refl, some (inner_count tree) (inner_count b.tree) (ap (λ b. inner_count b.tree) z) lt)
     where
       some : (n m : ℕ) → 1 + (n + 0) ≡ m → j < m → j < 1 + n
       some n m p q = omega arith
-  IsSpot-cell (suc (suc (suc i))) j (b, e, lt) = absurd (cc)
+  IsSpot-cell (suc i) j (b, e, lt) = absurd (cc)
 
-  spot_net : (a : Spot) → IsSpot (cell_branches nets tree) a → IsStageNet nets tree (cell_spots nets a)
+  spot_net : (a : Spot) → IsSpot branches a → IsStageNet nets tree (cell_spots nets a)
   spot_net Top h = inl refl
   spot_net (Inside i zero) h = inr (inl refl)
   spot_net (Inside i (suc j)) h = let k = IsSpot-cell i (suc j) h in inr (inr (j, omega arith, refl))
 
-  spots_apart : (a b : Spot) → IsSpot (cell_branches nets tree) a → IsSpot (cell_branches nets tree) b → cell_spots nets a ≡ cell_spots nets b → a ≡ b
+  spots_apart : (a b : Spot) → IsSpot branches a → IsSpot branches b → cell_spots nets a ≡ cell_spots nets b → a ≡ b
   spots_apart Top Top ha hb e = refl
   spots_apart Top (Inside i zero) ha hb e = absurd (is.foot_apart e)
   spots_apart Top (Inside i (suc j)) ha hb e = let k = IsSpot-cell i (suc j) hb in absurd ((is.inner_apart j (omega arith)).0 (sym e))
@@ -91,22 +69,49 @@ module _ (devices : List Device) (is_source : ℕ → Bool) (nets : CellNets ℕ
       let r : j ≡ m = is.inners_apart j m (omega arith) (omega arith) e in
       rw (p.0, q.0, r) refl
 
-  -- the dynamic stage of a cell is a stage of the circuit
-  pub IsStage-cell : IsStage devices is_source (cell_spots nets) (cell_branches nets tree)
-  IsStage-cell =
+  -- the cards of the dynamic stage stand
+  stage_there : AllByRecursion (λ c. Contains devices (device_of c)) (styled_stage style nets tree)
+  stage_there =
+      let There = λ (c : NamedDevice ℕ). Contains devices (device_of c) in
+      let inv = inverter nets.vdd nets.vss nets.dynamic nets.output in
+      let all : AllByRecursion There (to_vdd style nets tree ++ (pull_down_cards nets tree ++ inv)) = recursion_from_All There (styled_cell style nets tree) is.there in
+      let front = AllByRecursion-left There (to_vdd style nets tree) (pull_down_cards nets tree ++ inv) all in
+      let back = AllByRecursion-left There (pull_down_cards nets tree) inv (AllByRecursion-right There (to_vdd style nets tree) (pull_down_cards nets tree ++ inv) all) in
+      AllByRecursion-append There (to_vdd style nets tree) (pull_down_cards nets tree) front back
+
+  -- its devices: those towards vdd, and those towards ground
+  stage_devices : map device_of (styled_stage style nets tree) ≡ map device_of (to_vdd style nets tree) ++ map device_of (pull_down_cards nets tree)
+  stage_devices = map-append device_of (to_vdd style nets tree) (pull_down_cards nets tree)
+
+  -- the dynamic stage of a cell is a stage of the circuit with these taps
+  IsTapped-cell : IsTapped devices is_source (cell_spots nets) branches taps
+  IsTapped-cell =
       record {
         apart = spots_apart;
         free = λ a h. is.free (cell_spots nets a) (spot_net a h);
-        supplies = All-from_recursion (λ b. is_source b.supply ≡ true) (cell_branches nets tree) (is.vdd_is, (is.vdd_is, (is.vss_is, tt)));
-        there =
-            subst (All (λ c. Contains devices (device_of c))) (sym (stage-cell nets tree))
-            (All-from_recursion (λ c. Contains devices (device_of c)) (dynamic_stage nets tree) (AllByRecursion-left (λ c. Contains devices (device_of c)) (dynamic_stage nets tree) (inverter nets.vdd nets.vss nets.dynamic nets.output) (recursion_from_All (λ c. Contains devices (device_of c)) (cell nets tree) is.there)));
-        alone = λ d a h c e. subst (λ cs. Contains (map device_of cs) d) (sym (stage-cell nets tree)) (is.alone d (cell_spots nets a) c (spot_net a h) e);
+        spots = All-from_recursion (λ t. IsSpot branches t.spot) taps (taps_at_spots style nets tree);
+        supplies = All-from_recursion (λ b. is_source b.supply ≡ true) (ways branches taps) (is.vss_is, to_sources);
+        there = subst (All There) (sym (tapped-cell style nets tree)) (All-from_recursion There (pull_down_cards nets tree ++ to_vdd style nets tree) turned);
+        alone = λ d a h c e.
+            subst (λ cs. Contains (map device_of cs) d) (sym (tapped-cell style nets tree))
+            (subst (λ ds. Contains ds d) (sym (map-append device_of (pull_down_cards nets tree) (to_vdd style nets tree)))
+            (Contains-turned (map device_of (to_vdd style nets tree)) (map device_of (pull_down_cards nets tree)) d
+            (subst (λ ds. Contains ds d) stage_devices (is.alone d (cell_spots nets a) c (spot_net a h) e))));
       }
+    where
+      There : NamedDevice ℕ → Type 0
+      There c = Contains devices (device_of c)
 
-  -- and it has no taps
-  IsTapped-cell : IsTapped devices is_source (cell_spots nets) (cell_branches nets tree) []
-  IsTapped-cell = as_tapped devices is_source (cell_spots nets) (cell_branches nets tree) IsStage-cell
+      to_sources : AllByRecursion (λ b. is_source b.supply ≡ true) (map tap_branch taps)
+      to_sources =
+          AllByRecursion-map (λ b. is_source b.supply ≡ true) tap_branch taps
+          (AllByRecursion-weaker (λ t. t.supply ≡ nets.vdd) (λ t. is_source t.supply ≡ true) (λ t e. rw e is.vdd_is) taps (taps_to_vdd style nets (inner_count tree)))
+
+      turned : AllByRecursion There (pull_down_cards nets tree ++ to_vdd style nets tree)
+      turned =
+          AllByRecursion-append There (pull_down_cards nets tree) (to_vdd style nets tree)
+          (AllByRecursion-right There (to_vdd style nets tree) (pull_down_cards nets tree) stage_there)
+          (AllByRecursion-left There (to_vdd style nets tree) (pull_down_cards nets tree) stage_there)
 
   module _ (values : List Tri) (test : Tri → Bool) (t : IsTest test) where
     -- a path from the dynamic net to ground, by devices that all pass the test, goes through the clock and the tree
@@ -114,22 +119,25 @@ module _ (devices : List Device) (is_source : ℕ → Bool) (nets : CellNets ℕ
         → ((d : Device) → Q d → test (conduction d.kind (value_of values d.gate)) ≡ true) → Reach Q is_source nets.dynamic nets.vss
         → (test (value_of values nets.clock) ≡ true) × (test (tree_conduction nch (value_of values) tree) ≡ true)
     ground_through Q of pass r =
-        let w = through devices is_source (cell_spots nets) (cell_branches nets tree) [] IsTapped-cell Q (λ kind gate. test (conduction kind (value_of values gate))) of pass nets.vss r is.vss_is in
-        AllByRecursion-contains
-        (λ b. nets.vss ≡ b.supply → joins (λ gate. test (conduction b.kind (value_of values gate))) b.tree ≡ true
-        → (test (value_of values nets.clock) ≡ true) × (test (tree_conduction nch (value_of values) tree) ≡ true))
-        (cell_branches nets tree) w.branch (
-          (λ e h. absurd (is.supplies (sym e))),
-          (
-            (λ e h. absurd (is.supplies (sym e))),
-            (
-              (λ e h. let k = and_true (joins (λ gate. test (value_of values gate)) tree) (test (value_of values nets.clock)) h in
-                  (k.1, joins-conduction test t nch (value_of values) tree ∙ k.0)),
-              tt,
-            ),
-          ),
-        )
-        w.among w.ends w.conducts
+        let w = through devices is_source (cell_spots nets) branches taps IsTapped-cell Q (λ kind gate. test (conduction kind (value_of values gate))) of pass nets.vss r is.vss_is in
+        AllByRecursion-contains Leads (ways branches taps) w.branch (pulls, none) w.among w.ends w.conducts
+      where
+        -- where the branch leads to ground and conducts, the clock and the tree do
+        Leads : Branch → Type 0
+        Leads b =
+            nets.vss ≡ b.supply → joins (λ gate. test (conduction b.kind (value_of values gate))) b.tree ≡ true
+            → (test (value_of values nets.clock) ≡ true) × (test (tree_conduction nch (value_of values) tree) ≡ true)
+
+        pulls : Leads (pull_down nets tree)
+        pulls e h =
+            let k = and_true (joins (λ gate. test (value_of values gate)) tree) (test (value_of values nets.clock)) h in
+            (k.1, joins-conduction test t nch (value_of values) tree ∙ k.0)
+
+        none : AllByRecursion Leads (map tap_branch taps)
+        none =
+            AllByRecursion-map Leads tap_branch taps
+            (AllByRecursion-weaker (λ t. t.supply ≡ nets.vdd) (λ t. Leads (tap_branch t)) (λ t e z h. absurd (is.supplies (sym (z ∙ e)))) taps
+            (taps_to_vdd style nets (inner_count tree)))
 
     pub reaches_ground : Reach (IsStep devices test values) is_source nets.dynamic nets.vss
         → (test (value_of values nets.clock) ≡ true) × (test (tree_conduction nch (value_of values) tree) ≡ true)
@@ -153,8 +161,7 @@ module _ (devices : List Device) (is_source : ℕ → Bool) (nets : CellNets ℕ
         to : (test (value_of values nets.clock) ≡ true) × (test (tree_conduction nch (value_of values) tree) ≡ true)
             → Reach (IsStrongStep devices test values) is_source nets.dynamic nets.vss
         to h =
-            goes devices is_source (cell_spots nets) (cell_branches nets tree) [] IsTapped-cell (IsStrongStep devices test values) g 2
-            (record { kind = nch; tree = Series tree (Leaf nets.clock); supply = nets.vss }) refl
+            goes devices is_source (cell_spots nets) branches taps IsTapped-cell (IsStrongStep devices test values) g 0 (pull_down nets tree) refl
             (λ d c k o. record { of = c; pass = o; strong = λ z. no_keeper (sym k ∙ z) })
             (both_true (joins (λ gate. test (value_of values gate)) tree) (test (value_of values nets.clock)) (sym same ∙ h.1) h.0)
           where
@@ -225,7 +232,7 @@ module _ (devices : List Device) (is_source : ℕ → Bool) (nets : CellNets ℕ
         none : joins g tree ≡ false → ⊥
         none h =
             elim (Reach-kept Lit (λ y. Unit {0})
-            (λ d a b q e lit. AllByRecursion-contains Steps (map device_of (dynamic_stage nets tree)) d each
+            (λ d a b q e lit. AllByRecursion-contains Steps (map device_of (styled_stage style nets tree)) d each
             (is.alone d a (of d q) lit.0 (elim e [ inl z ↦ inl z.0 | inr z ↦ inr z.0 ])) a b q e lit)
             (inl refl, p.kept nets.dynamic dynamic_outside ∙ first-dynamic) r) [
               | inl lit ↦ clash (colour nets.foot) lit.1 (p.kept nets.foot foot_outside ∙ first-foot)
@@ -261,15 +268,21 @@ module _ (devices : List Device) (is_source : ℕ → Bool) (nets : CellNets ℕ
                 (AllByRecursion-both (λ c. In c.drain × In c.source) (λ c. (c.kind ≡ nch) × IsSame c) cards (spell-ends nch nets.inner tree nets.dynamic nets.foot 0)
                 (AllByRecursion-both (λ c. c.kind ≡ nch) IsSame cards (spell-kind nch nets.inner tree nets.dynamic nets.foot 0) p.painted))
 
-            each : AllByRecursion Steps (map device_of (dynamic_stage nets tree))
+            of_rest : AllByRecursion (λ c. Steps (device_of c)) (behind_precharge style nets (inner_count tree))
+            of_rest =
+                AllByRecursion-weaker (λ c. c.source ≡ nets.vdd) (λ c. Steps (device_of c)) (λ c e. steps_supply (device_of c) (rw e is.vdd_is))
+                (behind_precharge style nets (inner_count tree)) (behind_to_vdd style nets (inner_count tree))
+
+            of_pull_down : AllByRecursion (λ c. Steps (device_of c)) (pull_down_cards nets tree)
+            of_pull_down =
+                AllByRecursion-append (λ c. Steps (device_of c)) cards (record { kind = nch; drain = nets.foot; gate = nets.clock; source = nets.vss } ∷ []) of_tree
+                (steps_supply (record { kind = nch; drain = nets.foot; gate = nets.clock; source = nets.vss }) is.vss_is, tt)
+
+            each : AllByRecursion Steps (map device_of (styled_stage style nets tree))
             each =
-                AllByRecursion-map Steps device_of (dynamic_stage nets tree) (
+                AllByRecursion-map Steps device_of (styled_stage style nets tree) (
                   steps_supply (record { kind = pch; drain = nets.dynamic; gate = nets.clock; source = nets.vdd }) is.vdd_is,
-                  (
-                    steps_supply (record { kind = Keep; drain = nets.dynamic; gate = nets.output; source = nets.vdd }) is.vdd_is,
-                    AllByRecursion-append (λ c. Steps (device_of c)) cards (record { kind = nch; drain = nets.foot; gate = nets.clock; source = nets.vss } ∷ []) of_tree
-                        (steps_supply (record { kind = nch; drain = nets.foot; gate = nets.clock; source = nets.vss }) is.vss_is, tt),
-                  ),
+                  AllByRecursion-append (λ c. Steps (device_of c)) (behind_precharge style nets (inner_count tree)) (pull_down_cards nets tree) of_rest of_pull_down,
                 )
 
         by : (v : Bool) → joins g tree ≡ v → test (tree_conduction nch (value_of values) tree) ≡ true
@@ -295,7 +308,7 @@ module _ (devices : List Device) (is_source : ℕ → Bool) (nets : CellNets ℕ
         there : AllByRecursion (λ c. Contains devices (device_of c)) cards
         there =
             AllByRecursion-left (λ c. Contains devices (device_of c)) cards (record { kind = nch; drain = nets.foot; gate = nets.clock; source = nets.vss } ∷ [])
-            (AllByRecursion-left (λ c. Contains devices (device_of c)) (dynamic_stage nets tree) (inverter nets.vdd nets.vss nets.dynamic nets.output) (recursion_from_All (λ c. Contains devices (device_of c)) (cell nets tree) is.there)).1.1
+            (AllByRecursion-right (λ c. Contains devices (device_of c)) (to_vdd style nets tree) (pull_down_cards nets tree) stage_there)
 
         to : test (tree_conduction nch (value_of values) tree) ≡ true → Reach (IsStrongStep devices test values) is_source nets.dynamic nets.foot
         to h =

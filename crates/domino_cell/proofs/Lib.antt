@@ -2,7 +2,9 @@ pub mod AppendedNets
 pub mod CellCircuits
 pub mod CellLaws
 pub mod CellNetNames
+pub mod CellTaps
 pub mod Cells
+pub mod InnerPrecharges
 pub mod NamedCells
 pub mod NetsAt
 pub mod Paths
@@ -12,5 +14,6 @@ pub mod PushedTrees
 pub mod SmallestCell
 pub mod Spellings
 pub mod Stages
+pub mod StyledCells
 pub mod Trees
 pub mod Untapped

@@ -14,7 +14,9 @@ use Rattle.deck.specs.Nets.{net_number}
 use Rattle.deck.specs.Sources.{is_source}
 use Rattle.deck.specs.NamedDevices.{NamedDevice, device_of, map_device, with_devices}
 use Rattle.domino_cell.specs.NamedCell.{HasCellNames, IsBuilt, IsNumberedCell}
-use Rattle.domino_cell.specs.Cell.{CellNets, IsCell, IsStageNet, cell, dynamic_stage, inverter, map_nets}
+use Rattle.domino_cell.specs.HeldCells.{IsCell}
+use Rattle.domino_cell.specs.declared.style.Style.TheVariants.{Keeper as WithKeeper}
+use Rattle.domino_cell.specs.Cell.{CellNets, IsStageNet, cell, dynamic_stage, inverter, map_nets}
 use Rattle.sp_network.specs.Tree.{Tree, Leaf, Series, Parallel, inner_count, map_tree}
 use Rattle.domino_cell.specs.Spelling.{spell}
 use Rattle.dom_base.proofs.Lists.{AllByRecursion-contains, AllByRecursion-left, AllByRecursion-right, AllByRecursion-weaker, Contains-first, Contains-later}
@@ -241,7 +243,7 @@ module _ (ports : List (List ℕ)) (e : CircuitData) (nets : CellNets (List ℕ)
       ]
 
   -- a cell that is built by names stands in the circuit
-  pub IsCell-named : IsCell e.devices (is_source e) image_nets image_tree
+  pub IsCell-named : IsCell WithKeeper e.devices (is_source e) image_nets image_tree
   IsCell-named = record {
     vdd_is = is_source-port e (net_number e.nets nets.vdd) nets.vdd (port_below nets.vdd names.vdd_port) have.vdd names.vdd_in;
     vss_is = is_source-port e (net_number e.nets nets.vss) nets.vss (port_below nets.vss names.vss_port) have.vss names.vss_in;

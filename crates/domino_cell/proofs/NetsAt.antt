@@ -4,13 +4,26 @@ use Rattle.std.specs.Prelude.{◌⊎◌, slice_index_or, slice_set, replicate}
 use Rattle.deck.specs.CircuitData.{CircuitData}
 use Rattle.deck.specs.CircuitGrowth.{Grew}
 use Rattle.deck.specs.Nets.{net_name}
-use Rattle.deck.proofs.NetsAt.{slice_get-grew}
+use Rattle.deck.proofs.NetsAt.{StandsAt-grew, slice_get-grew}
+use Rattle.domino_cell.specs.HeldNames.{StandInCircuit}
 use Rattle.domino_cell.specs.NetsAt.{AreNumbersAt}
+use Rattle.domino_cell.specs.declared.names.CellNetsAt.{CellNetsAt}
 
 -- they stand there once a circuit grew
 pub AreNumbersAt-grew : (old new : CircuitData) (names : List (List ℕ)) (numbers : List (Option ℕ)) → Grew old new
     → AreNumbersAt old.nets names numbers → AreNumbersAt new.nets names numbers
 AreNumbersAt-grew old new names numbers grew are = record { at = λ gate n held. slice_get-grew old new n (net_name names gate) grew (are.at gate n held) }
+
+-- and so do the nets of a cell
+pub StandInCircuit-grew : (old new : CircuitData) (at : CellNetsAt) → Grew old new → StandInCircuit old.nets at → StandInCircuit new.nets at
+StandInCircuit-grew old new at grew are = record {
+  vdd = StandsAt-grew old new at.vdd.number at.vdd.name.now grew are.vdd;
+  vss = StandsAt-grew old new at.vss.number at.vss.name.now grew are.vss;
+  clock = StandsAt-grew old new at.clock.number at.clock.name.now grew are.clock;
+  dynamic = StandsAt-grew old new at.dynamic.number at.dynamic.name.now grew are.dynamic;
+  output = StandsAt-grew old new at.output.number at.output.name.now grew are.output;
+  foot = StandsAt-grew old new at.foot.number at.foot.name.now grew are.foot;
+}
 
 -- what a list has at a place after one of its places was set
 set_cases : {X : Type 0} (xs : List X) (i j : ℕ) (a d : X)

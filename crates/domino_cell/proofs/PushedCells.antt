@@ -20,19 +20,21 @@ use Rattle.deck.proofs.CircuitGrowth.{with_devices-numbered}
 use Rattle.deck.proofs.NetNumbers.{same_number}
 use Rattle.sp_network.specs.Tree.{Tree, inner_count, leaves, map_tree}
 use Rattle.sp_network.proofs.TreeImages.{inner_count-map_tree, tree_conduction-map_tree}
-use Rattle.domino_cell.specs.Cell.{CellNets, IsStageNet, cell, dynamic_stage, inverter, map_nets}
+use Rattle.domino_cell.specs.Cell.{CellNets, IsStageNet, inverter, map_nets}
 use Rattle.domino_cell.specs.HeldNames.{AreNamesOfCell, held_nets}
 use Rattle.domino_cell.specs.NamedTrees.{inner_net, named_tree}
 use Rattle.domino_cell.specs.PushedNames.{HasRoomForCell, IsNewNet, IsPort, inner_front, numbered_cell}
 use Rattle.domino_cell.specs.PushedPaths.{HoldsCell, JoinsWhereOne, MayJoinWhereNotZero}
 use Rattle.domino_cell.specs.Spelling.{spell}
+use Rattle.domino_cell.specs.declared.style.Style.{Style}
+use Rattle.domino_cell.specs.StyledCells.{behind_precharge, pull_down_cards, styled_cell, styled_stage}
 use Rattle.domino_cell.specs.declared.names.CellNames.{CellNames}
 use Rattle.domino_cell.proofs.AppendedNets.{HasNumber-old, HasNumber-port, behind_no_source, devices_behind, new_behind, old_below, old_in_range, port_is_source}
 use Rattle.domino_cell.proofs.CellLaws.{joins_foot_where_one, may_join_foot_where_not_zero}
 use Rattle.domino_cell.proofs.CellNetNames.{first_apart, supplies_apart}
 use Rattle.domino_cell.proofs.NamedCells.{each_there, spell-inner}
 use Rattle.domino_cell.proofs.PushedTrees.{inner_count-below}
-use Rattle.domino_cell.proofs.Spellings.{cell-map_tree}
+use Rattle.domino_cell.proofs.StyledCells.{styled_cell-map_tree, styled_cell-parts}
 
 -- the devices of a list stand in it, behind others
 pub each_behind : (front : List Device) (xs : List (NamedDevice ℕ)) → AllByRecursion (λ d. Contains (front ++ map device_of xs) (device_of d)) xs
@@ -50,10 +52,10 @@ pub record AreCellNames (nets : CellNets (List ℕ)) (tree : Tree (List ℕ)) : 
   pub inners_apart : (i j : ℕ) → i < inner_count tree → j < inner_count tree → nets.inner i ≡ nets.inner j → i ≡ j
   pub driven_apart : (name : List ℕ) → IsStageNet nets tree name → nets.output ≢ name
 
-module _ (c : CircuitData) (nets : CellNets (List ℕ)) (tree : Tree (List ℕ)) (circuit : IsCircuit c.ports c.nets c.devices) (room : HasRoomForCell c nets)
+module _ (style : Style) (c : CircuitData) (nets : CellNets (List ℕ)) (tree : Tree (List ℕ)) (circuit : IsCircuit c.ports c.nets c.devices) (room : HasRoomForCell c nets)
     (names : AreCellNames nets tree) where
   abbrev cards : List (NamedDevice (List ℕ))
-  cards = cell nets tree
+  cards = styled_cell style nets tree
 
   abbrev e : CircuitData
   e = with_devices c cards
@@ -73,8 +75,8 @@ module _ (c : CircuitData) (nets : CellNets (List ℕ)) (tree : Tree (List ℕ))
   stage_new name (inr (inr (j, lt, z))) = subst (IsNewNet c) (sym z) (room.inner j)
 
   -- the devices: the old ones, and then those of the cell by the numbers of its nets
-  devices_are : e.devices ≡ c.devices ++ map device_of (cell image_nets image_tree)
-  devices_are = devices_behind c cards circuit ∙ ap (λ cs. c.devices ++ map device_of cs) (cell-map_tree number nets tree)
+  devices_are : e.devices ≡ c.devices ++ map device_of (styled_cell style image_nets image_tree)
+  devices_are = devices_behind c cards circuit ∙ ap (λ cs. c.devices ++ map device_of cs) (styled_cell-map_tree number style nets tree)
 
   -- each net of the cell has a number
   record HasNumbers : Type 0 where
@@ -89,13 +91,16 @@ module _ (c : CircuitData) (nets : CellNets (List ℕ)) (tree : Tree (List ℕ))
       let spelled = spell nch nets.inner tree nets.dynamic nets.foot 0 in
       let foot_device : NamedDevice (List ℕ) = record { kind = nch; drain = nets.foot; gate = nets.clock; source = nets.vss } in
       let inv = inverter nets.vdd nets.vss nets.dynamic nets.output in
+      let first : NamedDevice (List ℕ) = record { kind = pch; drain = nets.dynamic; gate = nets.clock; source = nets.vdd } in
       let stand = with_devices-numbered c cards in
-      let of_stage = AllByRecursion-left P (spelled ++ foot_device ∷ []) inv stand.1.1 in
+      let of_rest = AllByRecursion-right P (first ∷ behind_precharge style nets (inner_count tree)) (pull_down_cards nets tree ++ inv) stand in
+      let of_stage = AllByRecursion-left P (spelled ++ foot_device ∷ []) inv of_rest in
+      let of_inverter = AllByRecursion-right P (spelled ++ foot_device ∷ []) inv of_rest in
       let of_tree = AllByRecursion-left P spelled (foot_device ∷ []) of_stage in
       let of_foot = AllByRecursion-right P spelled (foot_device ∷ []) of_stage in
       record {
         dynamic = stand.0.0;
-        output = stand.1.0.1;
+        output = of_inverter.0.0;
         foot = of_foot.0.0;
         inner = λ j lt.
             spell-inner (HasNumber e.nets) nch nets.inner tree nets.dynamic nets.foot 0 j
@@ -151,16 +156,17 @@ module _ (c : CircuitData) (nets : CellNets (List ℕ)) (tree : Tree (List ℕ))
   inverter_away = (driver_away pch image_nets.dynamic nets.vdd room.vdd, (driver_away nch image_nets.dynamic nets.vss room.vss, tt))
 
   abbrev stage_devices : List Device
-  stage_devices = map device_of (dynamic_stage image_nets image_tree)
+  stage_devices = map device_of (styled_stage style image_nets image_tree)
 
   abbrev driver_devices : List Device
   driver_devices = map device_of (inverter image_nets.vdd image_nets.vss image_nets.dynamic image_nets.output)
 
   parts_are : e.devices ≡ c.devices ++ (stage_devices ++ driver_devices)
   parts_are =
+      let inv = inverter image_nets.vdd image_nets.vss image_nets.dynamic image_nets.output in
       devices_are
-      ∙ ap (λ ds. c.devices ++ ds)
-      (map-append device_of (dynamic_stage image_nets image_tree) (inverter image_nets.vdd image_nets.vss image_nets.dynamic image_nets.output))
+      ∙ ap (λ cs. c.devices ++ map device_of cs) (styled_cell-parts style image_nets image_tree)
+      ∙ ap (λ ds. c.devices ++ ds) (map-append device_of (styled_stage style image_nets image_tree) inv)
 
   alone : (d : Device) (n : ℕ) → Contains e.devices d → IsStageNet image_nets image_tree n → (d.drain ≡ n) ⊎ (d.source ≡ n) → Contains stage_devices d
   unfolding IsAway
@@ -174,7 +180,7 @@ module _ (c : CircuitData) (nets : CellNets (List ℕ)) (tree : Tree (List ℕ))
       ]
 
   -- the cell stands in the circuit
-  pub HoldsCell-pushed : HoldsCell e nets tree
+  pub HoldsCell-pushed : HoldsCell style e nets tree
   HoldsCell-pushed = record {
     vdd_is = port_is_source c cards circuit nets.vdd room.vdd names.vdd_in;
     vss_is = port_is_source c cards circuit nets.vss room.vss names.vss_in;
@@ -191,22 +197,24 @@ module _ (c : CircuitData) (nets : CellNets (List ℕ)) (tree : Tree (List ℕ))
         let b = below_count j lt' in
         names.inners_apart i j a b (same_number e.nets (nets.inner i) (nets.inner j) (have.inner i a) (have.inner j b) z);
     there =
-        subst (λ ds. All (λ d. Contains ds (device_of d)) (cell image_nets image_tree)) (sym devices_are)
-        (All-from_recursion (λ d. Contains (c.devices ++ map device_of (cell image_nets image_tree)) (device_of d)) (cell image_nets image_tree)
-        (each_behind c.devices (cell image_nets image_tree)));
+        let cell = styled_cell style image_nets image_tree in
+        subst (λ ds. All (λ d. Contains ds (device_of d)) cell) (sym devices_are)
+        (All-from_recursion (λ d. Contains (c.devices ++ map device_of cell) (device_of d)) cell (each_behind c.devices cell));
     alone = alone;
   }
 
 -- in a circuit that holds a cell its tree joins the dynamic net to the foot net
-pub JoinsWhereOne-cell : (c : CircuitData) (nets : CellNets (List ℕ)) (tree : Tree (List ℕ)) → HoldsCell c nets tree → JoinsWhereOne c nets.dynamic nets.foot tree
-JoinsWhereOne-cell c nets tree is values =
+pub JoinsWhereOne-cell : (style : Style) (c : CircuitData) (nets : CellNets (List ℕ)) (tree : Tree (List ℕ)) → HoldsCell style c nets tree
+    → JoinsWhereOne c nets.dynamic nets.foot tree
+JoinsWhereOne-cell style c nets tree is values =
     rw (tree_conduction-map_tree nch (value_of values) (net_number c.nets) tree) at
-    (joins_foot_where_one c.devices (is_source c) values (map_nets (net_number c.nets) nets) (map_tree (net_number c.nets) tree) is)
+    (joins_foot_where_one style c.devices (is_source c) values (map_nets (net_number c.nets) nets) (map_tree (net_number c.nets) tree) is)
 
-pub MayJoinWhereNotZero-cell : (c : CircuitData) (nets : CellNets (List ℕ)) (tree : Tree (List ℕ)) → HoldsCell c nets tree → MayJoinWhereNotZero c nets.dynamic nets.foot tree
-MayJoinWhereNotZero-cell c nets tree is values =
+pub MayJoinWhereNotZero-cell : (style : Style) (c : CircuitData) (nets : CellNets (List ℕ)) (tree : Tree (List ℕ)) → HoldsCell style c nets tree
+    → MayJoinWhereNotZero c nets.dynamic nets.foot tree
+MayJoinWhereNotZero-cell style c nets tree is values =
     rw (tree_conduction-map_tree nch (value_of values) (net_number c.nets) tree) at
-    (may_join_foot_where_not_zero c.devices (is_source c) values (map_nets (net_number c.nets) nets) (map_tree (net_number c.nets) tree) is)
+    (may_join_foot_where_not_zero style c.devices (is_source c) values (map_nets (net_number c.nets) nets) (map_tree (net_number c.nets) tree) is)
 
 -- the nets of cell k have the names that they should
 pub AreCellNames-numbered : (clock k : ℕ) (tree : Tree (List ℕ)) → inner_count tree ≤ 2 ^ 24 → AreCellNames (numbered_cell clock k) tree
@@ -227,13 +235,14 @@ AreCellNames-numbered clock k tree few = record {
     driven name (inr (inr (j, lt, same))) z = first_apart 122 116 (decimal k) _ (λ y. omega arith) (z ∙ same)
 
 -- a circuit to which the devices of cell k were appended holds the cell
-pub HoldsCell-numbered : (old new : CircuitData) (clock k : ℕ) (gates : List (List ℕ)) (tree : Tree ℕ)
+pub HoldsCell-numbered : (style : Style) (old new : CircuitData) (clock k : ℕ) (gates : List (List ℕ)) (tree : Tree ℕ)
     → IsCircuit old.ports old.nets old.devices → HasRoomForCell old (numbered_cell clock k) → leaves tree ≤ 2 ^ 24
-    → new ≡ with_devices old (cell (numbered_cell clock k) (named_tree gates tree)) → HoldsCell new (numbered_cell clock k) (named_tree gates tree)
-HoldsCell-numbered old new clock k gates tree circuit room few is =
+    → new ≡ with_devices old (styled_cell style (numbered_cell clock k) (named_tree gates tree))
+    → HoldsCell style new (numbered_cell clock k) (named_tree gates tree)
+HoldsCell-numbered style old new clock k gates tree circuit room few is =
     let few_inner : inner_count (named_tree gates tree) ≤ 2 ^ 24 = omega (arith, few, inner_count-below tree, inner_count-map_tree (net_name gates) tree) in
-    subst (λ (c : CircuitData). HoldsCell c (numbered_cell clock k) (named_tree gates tree)) (sym is)
-    (HoldsCell-pushed old (numbered_cell clock k) (named_tree gates tree) circuit room (AreCellNames-numbered clock k (named_tree gates tree) few_inner))
+    subst (λ (c : CircuitData). HoldsCell style c (numbered_cell clock k) (named_tree gates tree)) (sym is)
+    (HoldsCell-pushed style old (numbered_cell clock k) (named_tree gates tree) circuit room (AreCellNames-numbered clock k (named_tree gates tree) few_inner))
 
 -- the names that are held for cell k are those of its nets
 pub held_nets_are : (clock k : ℕ) (names : CellNames) → AreNamesOfCell clock k names → held_nets names ≡ numbered_cell clock k

@@ -1,8 +1,7 @@
 -- Domino cells: precharge, keeper, pull-down tree, foot and inverter (Rabaey, Digital Integrated Circuits: dynamic logic).
-use Rattle.std.specs.Prelude.{◌≡◌, ◌≢◌, ℕ, ◌<◌, Bool, true, false, List, [], ◌∷◌, ◌++◌, ◌⊎◌, map, All, Contains}
+use Rattle.std.specs.Prelude.{◌≡◌, ℕ, ◌<◌, List, [], ◌∷◌, ◌++◌, ◌⊎◌}
 use Rattle.dom_base.specs.declared.kind.Kind.TheVariants.{N as nch, P as pch, Keep}
-use Rattle.deck.specs.declared.device.Device.{Device}
-use Rattle.deck.specs.NamedDevices.{NamedDevice, device_of}
+use Rattle.deck.specs.NamedDevices.{NamedDevice}
 use Rattle.sp_network.specs.Tree.{Tree, inner_count}
 use Rattle.domino_cell.specs.Spelling.{spell}
 
@@ -52,19 +51,3 @@ cell nets tree = dynamic_stage nets tree ++ inverter nets.vdd nets.vss nets.dyna
 -- n is the dynamic net, the foot net or an inner net of the tree
 abbrev pub IsStageNet : {Net : Type 0} → CellNets Net → Tree Net → Net → Type 0
 IsStageNet nets tree n = (n ≡ nets.dynamic) ⊎ ((n ≡ nets.foot) ⊎ ((j : ℕ) × (j < inner_count tree) × (n ≡ nets.inner j)))
-
--- the cell stands in the circuit, and no device but its own ends at a net of its dynamic stage
-pub record IsCell (devices : List Device) (is_source : ℕ → Bool) (nets : CellNets ℕ) (tree : Tree ℕ) : Type 0 where
-  pub vdd_is : is_source nets.vdd ≡ true
-  pub vss_is : is_source nets.vss ≡ true
-  pub supplies : nets.vdd ≢ nets.vss
-  -- the dynamic net, the foot net and the inner nets are no sources, and no two of them are one
-  pub free : (n : ℕ) → IsStageNet nets tree n → is_source n ≡ false
-  pub foot_apart : nets.dynamic ≢ nets.foot
-  pub inner_apart : (j : ℕ) → j < inner_count tree → (nets.inner j ≢ nets.dynamic) × (nets.inner j ≢ nets.foot)
-  pub inners_apart : (i j : ℕ) → i < inner_count tree → j < inner_count tree → nets.inner i ≡ nets.inner j → i ≡ j
-  -- the cell's devices are there
-  pub there : All (λ c. Contains devices (device_of c)) (cell nets tree)
-  -- a device that ends at one of these nets is one of the dynamic stage
-  pub alone : (d : Device) (n : ℕ) → Contains devices d → IsStageNet nets tree n → (d.drain ≡ n) ⊎ (d.source ≡ n)
-      → Contains (map device_of (dynamic_stage nets tree)) d

@@ -8,13 +8,15 @@ use Rattle.deck.specs.declared.device.Device.{Device}
 use Rattle.deck.specs.Paths.{DefiniteStrong, Possible, PossibleStrong}
 use Rattle.deck.specs.Switches.{value_of}
 use Rattle.sp_network.specs.Tree.{Tree, tree_conduction}
-use Rattle.domino_cell.specs.Cell.{CellNets, IsCell}
+use Rattle.domino_cell.specs.Cell.{CellNets}
+use Rattle.domino_cell.specs.HeldCells.{IsCell}
+use Rattle.domino_cell.specs.declared.style.Style.{Style}
 
--- the statement holds of each circuit that holds a cell, at all values of its nets
+-- the statement holds of each circuit that holds a cell of either style, at all values of its nets
 abbrev pub InEachCell : (List Device → (ℕ → Bool) → List Tri → CellNets ℕ → Tree ℕ → Type 0) → Type 0
 InEachCell Holds =
-    (devices : List Device) (is_source : ℕ → Bool) (values : List Tri) (nets : CellNets ℕ) (tree : Tree ℕ)
-    → IsCell devices is_source nets tree → Holds devices is_source values nets tree
+    (style : Style) (devices : List Device) (is_source : ℕ → Bool) (values : List Tri) (nets : CellNets ℕ) (tree : Tree ℕ)
+    → IsCell style devices is_source nets tree → Holds devices is_source values nets tree
 
 -- the dynamic net of a cell is surely joined to ground exactly where the clock and the tree are One
 abbrev pub PullsDownWhereOne : Type 0

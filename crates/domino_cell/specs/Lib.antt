@@ -1,5 +1,6 @@
 pub mod Cell
 pub mod CellNames
+pub mod HeldCells
 pub mod HeldNames
 pub mod Laws
 pub mod NamedCell
@@ -10,7 +11,6 @@ pub mod PushedPaths
 pub mod Spelling
 pub mod Stage
 pub mod Steps
-pub mod Style
 pub mod StyledCells
 pub mod Tapped
 pub mod TreeColours

@@ -11,15 +11,17 @@ use Rattle.deck.specs.Sources.{is_source}
 use Rattle.deck.specs.Switches.{value_of}
 use Rattle.sp_network.specs.Known.{IsKnown}
 use Rattle.sp_network.specs.Tree.{Tree, EachLeaf, map_tree, tree_conduction}
-use Rattle.domino_cell.specs.Cell.{CellNets, IsCell, map_nets}
+use Rattle.domino_cell.specs.Cell.{CellNets, map_nets}
+use Rattle.domino_cell.specs.HeldCells.{IsCell}
+use Rattle.domino_cell.specs.declared.style.Style.{Style}
 
 -- the value of a net by its name
 abbrev pub named_value : CircuitData → List Tri → List ℕ → Tri
 named_value c values name = value_of values (net_number c.nets name)
 
--- the cell of these nets stands in the circuit
-abbrev pub HoldsCell : CircuitData → CellNets (List ℕ) → Tree (List ℕ) → Type 0
-HoldsCell c nets tree = IsCell c.devices (is_source c) (map_nets (net_number c.nets) nets) (map_tree (net_number c.nets) tree)
+-- the cell of these nets and this style stands in the circuit
+abbrev pub HoldsCell : Style → CircuitData → CellNets (List ℕ) → Tree (List ℕ) → Type 0
+HoldsCell style c nets tree = IsCell style c.devices (is_source c) (map_nets (net_number c.nets) nets) (map_tree (net_number c.nets) tree)
 
 -- at all values of the nets there is a definite strong path between the two nets exactly where the tree is One
 abbrev pub JoinsWhereOne : CircuitData → List ℕ → List ℕ → Tree (List ℕ) → Type 0

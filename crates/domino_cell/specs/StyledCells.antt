@@ -4,7 +4,8 @@ use Rattle.dom_base.specs.declared.kind.Kind.TheVariants.{N as nch, P as pch, Ke
 use Rattle.deck.specs.NamedDevices.{NamedDevice}
 use Rattle.domino_cell.specs.Cell.{CellNets, inverter}
 use Rattle.domino_cell.specs.Spelling.{spell}
-use Rattle.domino_cell.specs.Style.{Style, WithKeeper, WithPrecharge}
+use Rattle.domino_cell.specs.declared.style.Style.{Style}
+use Rattle.domino_cell.specs.declared.style.Style.TheVariants.{Keeper as WithKeeper, Precharge as WithPrecharge}
 use Rattle.sp_network.specs.Tree.{Tree, inner_count}
 
 -- the precharge devices of so many inner nets from number j on
@@ -23,8 +24,23 @@ pull_down_cards nets tree =
     spell nch nets.inner tree nets.dynamic nets.foot 0
     ++ record { kind = nch; drain = nets.foot; gate = nets.clock; source = nets.vss } ∷ []
 
+-- the dynamic stage of a cell of a style: the precharge and what follows it, the tree and the foot
+abbrev pub styled_stage : {Net : Type 0} → Style → CellNets Net → Tree Net → List (NamedDevice Net)
+styled_stage style nets tree =
+    (record { kind = pch; drain = nets.dynamic; gate = nets.clock; source = nets.vdd } ∷ behind_precharge style nets (inner_count tree))
+    ++ pull_down_cards nets tree
+
 -- a cell of a style: the precharge and what follows it, the tree, the foot, and the inverter
 abbrev pub styled_cell : {Net : Type 0} → Style → CellNets Net → Tree Net → List (NamedDevice Net)
 styled_cell style nets tree =
     (record { kind = pch; drain = nets.dynamic; gate = nets.clock; source = nets.vdd } ∷ behind_precharge style nets (inner_count tree))
     ++ (pull_down_cards nets tree ++ inverter nets.vdd nets.vss nets.dynamic nets.output)
+
+-- how many devices follow the precharge of a cell with so many inner nets
+abbrev pub behind_count : Style → ℕ → ℕ
+behind_count WithKeeper n = 1
+behind_count WithPrecharge n = n
+
+-- how many devices a cell has beside those of its tree: these, the precharge, the foot and the two of the inverter
+abbrev pub around_tree : {Net : Type 0} → Style → Tree Net → ℕ
+around_tree style tree = behind_count style (inner_count tree) + 4

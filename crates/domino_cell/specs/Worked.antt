@@ -3,7 +3,9 @@ use Rattle.std.specs.Prelude.{◌≡◌, ℕ, [], ◌∷◌, ◌++◌, map, nat_
 use Rattle.dom_base.specs.declared.kind.Kind.TheVariants.{N as nch}
 use Rattle.deck.specs.Worked.{and_devices}
 use Rattle.deck.specs.NamedDevices.{device_of}
-use Rattle.domino_cell.specs.Cell.{CellNets, IsCell, cell, inverter}
+use Rattle.domino_cell.specs.Cell.{CellNets, cell, inverter}
+use Rattle.domino_cell.specs.HeldCells.{IsCell}
+use Rattle.domino_cell.specs.declared.style.Style.TheVariants.{Keeper as WithKeeper}
 use Rattle.sp_network.specs.Tree.{Tree, Leaf, Series}
 use Rattle.domino_cell.specs.Spelling.{spell}
 
@@ -21,7 +23,7 @@ AndIsSpelled = map device_of (cell and_nets and_tree ++ inverter 0 1 12 11) ≡ 
 
 -- and it holds the cell as the laws of paths in a cell want it; the ports but o_f are the sources
 abbrev pub AndHoldsCell : Type 0
-AndHoldsCell = IsCell and_devices (λ n. nat_lt n 11) and_nets and_tree
+AndHoldsCell = IsCell WithKeeper and_devices (λ n. nat_lt n 11) and_nets and_tree
 
 -- three leaves in series from d to f by the inner nets t 0 and t 1: the outer series takes t 0
 abbrev pub ThreeInSeries : Type 0

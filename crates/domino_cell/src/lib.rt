@@ -7,7 +7,9 @@ mod inverter;
 mod laws;
 mod names;
 mod numbers;
+mod precharge;
 mod push;
+mod style;
 mod tree;
 mod worked;
 
@@ -16,3 +18,4 @@ pub use laws::{cell_pulls_down, tree_joins_foot};
 pub use names::CellNames;
 pub use numbers::{number_of, set_number};
 pub use push::{push_domino, push_numbered_domino, push_static};
+pub use style::Style;

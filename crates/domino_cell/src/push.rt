@@ -6,24 +6,26 @@ ghost use Rattle.deck.specs.NamedDevices.{with_devices};
 ghost use Rattle.deck.specs.Nets.{IsCircuit};
 ghost use Rattle.sp_network.specs.Tree.{EachLeaf, dual, leaves};
 ghost use Rattle.sp_network.specs.TypedTree.{tree_of};
-ghost use Rattle.domino_cell.specs.Cell.{cell};
 ghost use Rattle.domino_cell.specs.HeldNames.{AreNamesOfCell, AreNamesOfGate, held_nets};
 ghost use Rattle.domino_cell.specs.NamedTrees.{named_tree};
 ghost use Rattle.domino_cell.specs.NetsAt.{AreNumbersAt};
 ghost use Rattle.domino_cell.specs.PushedNames.{HasRoomForCell, HasRoomForGate, numbered_cell, static_gate};
 ghost use Rattle.domino_cell.specs.PushedPaths.{HoldsCell, IsDrivenByTree, JoinsWhereOne, MayJoinWhereNotZero};
+ghost use Rattle.domino_cell.specs.StyledCells.{around_tree, styled_cell};
 
+use crate::Style;
 use crate::inverter::push_inverter;
 use crate::names::{CellNames, GateNames};
 use crate::numbers::keep_number;
+use crate::precharge::push_behind_precharge;
 use crate::tree::TreeNames;
 use deck::{Circuit, NetAt, push_held};
 use dom_base::{Kind, NetName, OutOfMemory, ToVdd, ToVss};
 use sp_network::{GatePlan, Sp};
 use std::alloc::Global;
 
-/// Appends the devices of domino cell `k`, on the clock of its plan: precharge, keeper, tree, foot
-/// and inverter. Gate by gate `names` has the net that gates it. Between the dynamic net `dK` and the
+/// Appends the devices of domino cell `k` of this style, on the clock of its plan: precharge, keeper or the precharge
+/// of each inner net, tree, foot and inverter. Gate by gate `names` has the net that gates it. Between the dynamic net `dK` and the
 /// foot net `fK` there is then, at all values of the nets, a definite strong path exactly where the
 /// tree conducts, and a possible one exactly where it may. The one error is out of memory, and it
 /// leaves the circuit as it was.
@@ -34,13 +36,14 @@ pub fn push_domino(
     plan: &GatePlan,
     names: &[NetName],
     k: u32,
+    style: Style,
 ) -> Result<(), OutOfMemory>
     requires nets { HasRoomForCell circuit.old (numbered_cell plan.now.clock k) }
     requires gates { EachLeaf (λ gate. gate < length names.now) (tree_of plan.now.tree) }
-    requires room { length circuit.old.devices + leaves (tree_of plan.now.tree) + 5 ≤ most_devices }
+    requires room { length circuit.old.devices + leaves (tree_of plan.now.tree) + around_tree style (tree_of plan.now.tree) ≤ most_devices }
     ensures devices { OnOk result (circuit.new
-        ≡ with_devices circuit.old (cell (numbered_cell plan.now.clock k) (named_tree names.now (tree_of plan.now.tree)))) }
-    ensures holds { OnOk result (HoldsCell circuit.new (numbered_cell plan.now.clock k) (named_tree names.now (tree_of plan.now.tree))) }
+        ≡ with_devices circuit.old (styled_cell style (numbered_cell plan.now.clock k) (named_tree names.now (tree_of plan.now.tree)))) }
+    ensures holds { OnOk result (HoldsCell style circuit.new (numbered_cell plan.now.clock k) (named_tree names.now (tree_of plan.now.tree))) }
     ensures definite { OnOk result (JoinsWhereOne circuit.new
         (numbered_cell plan.now.clock k).dynamic (numbered_cell plan.now.clock k).foot (named_tree names.now (tree_of plan.now.tree))) }
     ensures possible { OnOk result (MayJoinWhereNotZero circuit.new
@@ -55,6 +58,7 @@ pub fn push_domino(
         plan,
         names,
         k,
+        style,
         0,
         &nets,
         numbers.as_mut_slice(),
@@ -71,22 +75,23 @@ pub fn push_numbered_domino(
     plan: &GatePlan,
     names: &[NetName],
     k: u32,
+    style: Style,
     gate: usize,
     nets: &CellNames,
     numbers: &mut [Option<u32>],
 ) -> Result<(), OutOfMemory>
     requires named { AreNamesOfCell plan.now.clock k nets.now }
     requires gates { EachLeaf (λ gate. gate < length names.now) (tree_of plan.now.tree) }
-    requires room { length circuit.old.devices + leaves (tree_of plan.now.tree) + 5 ≤ most_devices }
+    requires room { length circuit.old.devices + leaves (tree_of plan.now.tree) + around_tree style (tree_of plan.now.tree) ≤ most_devices }
     requires numbers { AreNumbersAt circuit.old.nets names.now numbers.old }
     ensures devices { OnOk result (circuit.new
-        ≡ with_devices circuit.old (cell (numbered_cell plan.now.clock k) (named_tree names.now (tree_of plan.now.tree)))) }
+        ≡ with_devices circuit.old (styled_cell style (numbered_cell plan.now.clock k) (named_tree names.now (tree_of plan.now.tree)))) }
     ensures numbers { OnOk result (AreNumbersAt circuit.new.nets names.now numbers.new) }
     ensures refused { OnErr result (circuit.new ≡ circuit.old) }
     ensures whole { IsCircuit circuit.old.ports circuit.old.nets circuit.old.devices }
 {
     let before = circuit.device_count();
-    match push_cell(alloc, circuit, plan, names, gate, nets, numbers) {
+    match push_cell(alloc, circuit, plan, names, style, gate, nets, numbers) {
         Ok(()) => Ok(()),
         Err(failed) => {
             circuit.cut(before);
@@ -101,15 +106,16 @@ fn push_cell(
     circuit: &mut Circuit,
     plan: &GatePlan,
     names: &[NetName],
+    style: Style,
     gate: usize,
     nets: &CellNames,
     numbers: &mut [Option<u32>],
 ) -> Result<(), OutOfMemory>
     requires gates { EachLeaf (λ gate. gate < length names.now) (tree_of plan.now.tree) }
-    requires room { length circuit.old.devices + leaves (tree_of plan.now.tree) + 5 ≤ most_devices }
+    requires room { length circuit.old.devices + leaves (tree_of plan.now.tree) + around_tree style (tree_of plan.now.tree) ≤ most_devices }
     requires numbers { AreNumbersAt circuit.old.nets names.now numbers.old }
     ensures devices { OnOk result (circuit.new
-        ≡ with_devices circuit.old (cell (held_nets nets.now) (named_tree names.now (tree_of plan.now.tree)))) }
+        ≡ with_devices circuit.old (styled_cell style (held_nets nets.now) (named_tree names.now (tree_of plan.now.tree)))) }
     ensures numbers { OnOk result (AreNumbersAt circuit.new.nets names.now numbers.new) }
     ensures grew { Grew circuit.old circuit.new }
 {
@@ -120,8 +126,11 @@ fn push_cell(
     let cell = nets.nets_at(circuit, plan.clock);
     let precharge = push_held(circuit, Kind::P, cell.dynamic, cell.clock, cell.vdd)?;
     let dynamic = cell.dynamic.at(precharge.drain);
-    let keeper = push_held(circuit, Kind::Keep, dynamic, cell.output, cell.vdd)?;
-    let output = cell.output.at(keeper.gate);
+    let held = push_behind_precharge(alloc, circuit, style, &plan.tree, nets, cell, dynamic)?;
+    let output = NetAt {
+        name: &nets.output,
+        number: held,
+    };
     let (_, number) = tree.push(alloc, circuit, &plan.tree, dynamic, cell.foot, 0, numbers)?;
     let foot = cell.foot.at(number);
     push_held(circuit, Kind::N, foot, cell.clock, cell.vss)?;

@@ -93,3 +93,15 @@ impl<'a> TreeNames<'a> {
         }
     }
 }
+
+/// The number of inner nets of a tree. It takes no memory.
+pub fn inner_nets<S: Polarity>(tree: &Sp<S>) -> u32
+    requires { inner_count (tree_of tree.now) < 2 ^ 32 }
+    ensures { result ≡ inner_count (tree_of tree.now) }
+{
+    match tree {
+        Sp::Leaf { .. } => 0,
+        Sp::Series(left, right) => 1 + inner_nets(left) + inner_nets(right),
+        Sp::Parallel(left, right) => inner_nets(left) + inner_nets(right),
+    }
+}

@@ -8,7 +8,8 @@ use Rattle.dual_rail.specs.declared.forest.Pair.{Pair}
 use Rattle.dual_rail.specs.declared.forest.Pair.TheVariants.{And, Or}
 use Rattle.dual_rail.specs.ForestData.{ForestData}
 use Rattle.dual_rail.specs.ForestOrder.{AreInOrder}
-use Rattle.domino_cell.specs.Style.{Style, WithKeeper, WithPrecharge}
+use Rattle.domino_cell.specs.declared.style.Style.{Style}
+use Rattle.domino_cell.specs.declared.style.Style.TheVariants.{Keeper as WithKeeper, Precharge as WithPrecharge}
 use Rattle.compound_plan.proofs.OrdinaryCosts.{kept_total, ordinary_cost, series_at}
 use Rattle.compound_plan.proofs.Totals.{total, total_shift}
 use Rattle.cover_plan.specs.Covers.{Costs, ordinary_costs}

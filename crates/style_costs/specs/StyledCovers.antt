@@ -1,7 +1,7 @@
 -- The chosen plan of a forest in a style: the ties over its costs (Zhao, Sapatnekar 1998).
 use Rattle.std.specs.Prelude.{Bool, List, ℕ, ◌↔◌}
 use Rattle.sp_network.specs.Tree.{Tree}
-use Rattle.domino_cell.specs.Style.{Style}
+use Rattle.domino_cell.specs.declared.style.Style.{Style}
 use Rattle.dual_rail.specs.ForestData.{ForestData}
 use Rattle.dual_rail.specs.ForestOrder.{AreInOrder}
 use Rattle.style_costs.specs.Styles.{IsLeastPlanIn, costs_of}

@@ -11,7 +11,7 @@ pub returns-clause-holds : goal.returns-clause-holds
 returns-clause-holds c =
     let few : leaves (tree_of c.args.plan.now.tree) ≤ 2 ^ 24 = omega (arith, c.requires.room) in
     on_ok_weaker c.push_numbered_domino.result
-    (λ made. HoldsCell-numbered c.args.circuit.now c.push_numbered_domino.new.circuit c.args.plan.now.clock c.args.k c.args.names.now (tree_of c.args.plan.now.tree)
+    (λ made. HoldsCell-numbered c.args.style c.args.circuit.now c.push_numbered_domino.new.circuit c.args.plan.now.clock c.args.k c.args.names.now (tree_of c.args.plan.now.tree)
     c.push_numbered_domino.ensures.whole c.requires.nets few made)
     c.push_numbered_domino.ensures.devices
 
@@ -19,8 +19,8 @@ pub returns-clause-definite : goal.returns-clause-definite
 returns-clause-definite c =
     let few : leaves (tree_of c.args.plan.now.tree) ≤ 2 ^ 24 = omega (arith, c.requires.room) in
     on_ok_weaker c.push_numbered_domino.result
-    (λ made. JoinsWhereOne-cell c.push_numbered_domino.new.circuit (numbered_cell c.args.plan.now.clock c.args.k) (named_tree c.args.names.now (tree_of c.args.plan.now.tree))
-    (HoldsCell-numbered c.args.circuit.now c.push_numbered_domino.new.circuit c.args.plan.now.clock c.args.k c.args.names.now (tree_of c.args.plan.now.tree)
+    (λ made. JoinsWhereOne-cell c.args.style c.push_numbered_domino.new.circuit (numbered_cell c.args.plan.now.clock c.args.k) (named_tree c.args.names.now (tree_of c.args.plan.now.tree))
+    (HoldsCell-numbered c.args.style c.args.circuit.now c.push_numbered_domino.new.circuit c.args.plan.now.clock c.args.k c.args.names.now (tree_of c.args.plan.now.tree)
     c.push_numbered_domino.ensures.whole c.requires.nets few made))
     c.push_numbered_domino.ensures.devices
 
@@ -28,7 +28,7 @@ pub returns-clause-possible : goal.returns-clause-possible
 returns-clause-possible c =
     let few : leaves (tree_of c.args.plan.now.tree) ≤ 2 ^ 24 = omega (arith, c.requires.room) in
     on_ok_weaker c.push_numbered_domino.result
-    (λ made. MayJoinWhereNotZero-cell c.push_numbered_domino.new.circuit (numbered_cell c.args.plan.now.clock c.args.k) (named_tree c.args.names.now (tree_of c.args.plan.now.tree))
-    (HoldsCell-numbered c.args.circuit.now c.push_numbered_domino.new.circuit c.args.plan.now.clock c.args.k c.args.names.now (tree_of c.args.plan.now.tree)
+    (λ made. MayJoinWhereNotZero-cell c.args.style c.push_numbered_domino.new.circuit (numbered_cell c.args.plan.now.clock c.args.k) (named_tree c.args.names.now (tree_of c.args.plan.now.tree))
+    (HoldsCell-numbered c.args.style c.args.circuit.now c.push_numbered_domino.new.circuit c.args.plan.now.clock c.args.k c.args.names.now (tree_of c.args.plan.now.tree)
     c.push_numbered_domino.ensures.whole c.requires.nets few made))
     c.push_numbered_domino.ensures.devices
