@@ -1,0 +1,14 @@
+pub mod Begun
+pub mod Examined
+pub mod Final
+pub mod Joins
+pub mod Listing
+pub mod LiveLinks
+pub mod OnlyLive
+pub mod PartTrees
+pub mod Popped
+pub mod Runs
+pub mod Settled
+pub mod Steps
+pub mod Stuck
+pub mod Taken

@@ -1,0 +1,11 @@
+//! The reduction of links to one: whether links are a series-parallel network between two nets, its
+//! width and height, and the order in which a tree spells its links.
+#![tactic(auto)]
+
+mod part;
+mod reduce;
+mod reduction;
+mod stacks;
+
+pub use part::Ends;
+pub use reduce::{Shape, shape_of};
