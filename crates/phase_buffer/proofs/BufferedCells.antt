@@ -17,7 +17,7 @@ module _ {Cell : Type 0} (deck : Cells Cell) where
   abbrev pub IsNewAt : ℕ → Cell → Type 0
   IsNewAt k c = slice_get (with_chains deck 0 deck.cells) k ≡ Some c
 
-  chain-length : (at clock n : ℕ) → length (chain deck at clock n) ≡ n
+  pub chain-length : (at clock n : ℕ) → length (chain deck at clock n) ≡ n
   chain-length at clock zero = refl
   chain-length at clock (suc n) = ap (λ m. suc m) (chain-length (at + 1) (clock + 1) n)
 

@@ -1,5 +1,5 @@
 -- The circuit of a planned deck's plan with chains of buffers is a buffered deck of the network.
-use Rattle.domino_cell.specs.Style.{WithKeeper}
+use Rattle.domino_cell.specs.declared.style.Style.TheVariants.{Keeper as WithKeeper}
 use Rattle.std.specs.Prelude.{List, map, ℕ, ◌≡◌, ◌≤◌}
 use Rattle.std.proofs.Common.{refl, subst, sym}
 use Rattle.deck.specs.CircuitData.{CircuitData}
@@ -12,7 +12,7 @@ use Rattle.deck_form.specs.ChosenDecks.{IsPlannedDeck, end_at_cell}
 use Rattle.deck_form.specs.DeckNets.{CellPlan, SinkEnd, named_devices}
 use Rattle.deck_form.specs.DominoDecks.{cells_of, complements_of, outs_of, phases_of_sinks, pins_of, starts_of}
 use Rattle.deck_form.specs.NamedDecks.{IsNamedDeck}
-use Rattle.deck_form.specs.AskedOptions.{deck_options}
+use Rattle.deck_form.specs.AskedOptions.{keeper_options}
 use Rattle.deck_form.specs.declared.options.SynthOptions.{SynthOptions}
 use Rattle.deck_form.proofs.DeckForms.{named_cards}
 use Rattle.phase_buffer.specs.Laws.{MayBeBuffered}
@@ -30,7 +30,7 @@ use Rattle.skew_law.proofs.PlannedShapes.{leaves_are, planned_deck, planned_may_
 -- the shape is that of a planned deck but for its chains of buffers
 pub record HasBufferedShape (network : NetworkData) (options : SynthOptions) (circuit : CircuitData) : Type 0 where
   pub plain : CircuitData
-  pub planned : IsPlannedDeck network (deck_options options) plain
+  pub planned : IsPlannedDeck network (keeper_options options) plain
   pub named : IsNamedDeck WithKeeper circuit
   pub clocks_are : named.clocks ≡ options.phases
   pub pins_are : named.pins ≡ pins_of network
@@ -41,7 +41,7 @@ pub record HasBufferedShape (network : NetworkData) (options : SynthOptions) (ci
       (complements_of network (cells_of options.phases planned.levels planned.trees) (map (end_at_cell planned.kept) planned.forest.ends))
       (map (end_at_cell planned.kept) planned.forest.ends))
 
-module _ (network : NetworkData) (options : SynthOptions) (plain : CircuitData) (planned : IsPlannedDeck network (deck_options options) plain) (net_is : IsNetwork network)
+module _ (network : NetworkData) (options : SynthOptions) (plain : CircuitData) (planned : IsPlannedDeck network (keeper_options options) plain) (net_is : IsNetwork network)
     (some : 1 ≤ options.phases) (few : options.phases ≤ 4) where
   abbrev d : IsNamedDeck WithKeeper plain
   d = planned_deck network options plain planned net_is some few

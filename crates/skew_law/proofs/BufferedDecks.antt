@@ -1,5 +1,5 @@
 -- Buffered decks of a network are right where their clocks overlap and where all fall together.
-use Rattle.domino_cell.specs.Style.{WithKeeper}
+use Rattle.domino_cell.specs.declared.style.Style.TheVariants.{Keeper as WithKeeper}
 use Rattle.std.proofs.Common.{ap, ap₂, arith, inl, inr, length, length-drop, drop, take, refl, subst, sym, ◌++◌, ◌∙◌, ◌≡◌, ◌≤◌}
 use Rattle.std.proofs.Math.Seq.{take-append_seam}
 use Rattle.blif_read.proofs.AcceptedIsGoodModels.{accepted_file}
@@ -18,7 +18,7 @@ use Rattle.domino_law.specs.DominoDeck.{AreRunsOf, IsLooseDominoDeck}
 use Rattle.domino_law.specs.Shape.{IsShape, MayOverlap, Shape, overlapping}
 use Rattle.domino_law.proofs.DominoDecks.{domino_deck_overlaps}
 use Rattle.deck_form.specs.NamedDecks.{IsNamedDeck}
-use Rattle.deck_form.specs.AskedOptions.{deck_options}
+use Rattle.deck_form.specs.AskedOptions.{keeper_options}
 use Rattle.deck_form.specs.declared.options.SynthOptions.{SynthOptions}
 use Rattle.deck_form.proofs.DeckForms.{length_map}
 use Rattle.deck_law.specs.Headline.{IsRightInEveryRun, input_ports, output_ports, roles_of}
@@ -73,7 +73,7 @@ module _ (network : NetworkData) (options : SynthOptions) (circuit : CircuitData
   runs : RunsAsNetwork network (overlapping s)
   runs =
       subst (RunsAsNetwork network) (sym is.shape_is)
-      (as_network network s₀ (buffered s₀) (buffered_runs_alike s₀ may) (planned_runs network (deck_options options) is.plain is.planned d₀.complements net_is))
+      (as_network network s₀ (buffered s₀) (buffered_runs_alike s₀ may) (planned_runs network (keeper_options options) is.plain is.planned d₀.complements net_is))
 
   starts_count : length is.named.starts ≡ length network.latches
   starts_count = ap length is.starts_are ∙ length_map (λ (l : NetLatch). l.init) network.latches

@@ -1,5 +1,5 @@
 -- The plan of a deck with chains of buffers has the shape with chains of buffers.
-use Rattle.domino_cell.specs.Style.{WithKeeper}
+use Rattle.domino_cell.specs.declared.style.Style.TheVariants.{Keeper as WithKeeper}
 use Rattle.std.specs.Prelude.{Some, drop, if◌then◌else◌, nat_eq, nat_lt, slice_get, take, ◌*◌, ◌/◌, ◌==◌, ◌%◌, ◌||◌}
 use Rattle.std.specs.List.{zip}
 use Rattle.std.proofs.Common.{Bool, List, None, [], ap, ap₂, arith, false, length, length-drop, map, refl, suc, sym, true, zero, ℕ, ◌++◌, ◌+◌, ◌-◌, ◌∙◌, ◌∷◌, ◌≡◌, ◌≤◌}
@@ -12,7 +12,7 @@ use Rattle.clock_phase.specs.Levels.{cells_read, greatest}
 use Rattle.deck_form.specs.DeckNets.{CellPlan, Fixed, OfDynamic, OfLeaf, OfOutput, SinkEnd}
 use Rattle.port_runs.specs.Environment.{Overlapping}
 use Rattle.domino_law.specs.Nets.{FromDynamic, FromOutput}
-use Rattle.domino_law.specs.Shape.{DominoCell, Latch, Shape, WithKeeper, overlapping}
+use Rattle.domino_law.specs.Shape.{DominoCell, Latch, Shape, overlapping}
 use Rattle.deck_law.specs.NetNames.{cell_shape, deck_shape, end_gate, gate_of, latch_shape, leaf_signal, rail_of}
 use Rattle.phase_buffer.specs.Buffers.{buffered, ended, ended_latch, is_of, reads, shape_cells, sinks, taken, takes}
 use Rattle.phase_buffer.specs.BufferedPlans.{DeckPlan, is_among, new_gate, plan_cells}

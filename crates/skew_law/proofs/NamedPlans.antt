@@ -1,5 +1,5 @@
 -- The circuit of a plan with chains of buffers is a deck by names.
-use Rattle.domino_cell.specs.Style.{WithKeeper}
+use Rattle.domino_cell.specs.declared.style.Style.TheVariants.{Keeper as WithKeeper}
 use Rattle.std.specs.Prelude.{Some, filter, nat_lt, slice_get, ◌*◌, ◌==◌, ◌||◌, option_map}
 use Rattle.std.specs.List.{AllByRecursion, list_any, range_with_len}
 use Rattle.std.proofs.Common.{Bool, List, [], ap₂, arith, false, length, map, refl, subst, suc, sym, true, zero, ℕ, ◌+◌, ◌-◌, ◌<◌, ◌∙◌, ◌∷◌, ◌≡◌, ◌≤◌, ap}

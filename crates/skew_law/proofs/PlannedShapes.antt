@@ -1,5 +1,5 @@
 -- The shape of a planned deck may be buffered.
-use Rattle.domino_cell.specs.Style.{WithKeeper}
+use Rattle.domino_cell.specs.declared.style.Style.TheVariants.{Keeper as WithKeeper}
 use Rattle.std.specs.Prelude.{Contains, Some, slice_get, ◌==◌, ◌%◌, ◌/◌}
 use Rattle.std.specs.List.{range_with_len}
 use Rattle.std.proofs.Common.{Bool, List, [], arith, false, length, nat_lt, refl, subst, true, ℕ, ◌*◌, ◌++◌, ◌+◌, ◌-◌, ◌∙◌, ◌≡◌, ◌≤◌}
@@ -20,7 +20,7 @@ use Rattle.deck_form.specs.ChosenDecks.{IsPlannedDeck}
 use Rattle.deck_form.specs.DeckNets.{CellPlan}
 use Rattle.deck_form.specs.DominoDecks.{IsDominoDeck, cells_of, pins_of, starts_of}
 use Rattle.deck_form.specs.NamedDecks.{IsNamedDeck}
-use Rattle.deck_form.specs.AskedOptions.{deck_options}
+use Rattle.deck_form.specs.AskedOptions.{keeper_options}
 use Rattle.deck_form.specs.declared.options.SynthOptions.{SynthOptions}
 use Rattle.deck_form.proofs.ClockOrder.{clocks_rise}
 use Rattle.deck_form.proofs.DeckForms.{domino_decks_are_loose, length_map, planned_decks_are_domino}
@@ -46,13 +46,13 @@ each_read leaves (Parallel l r) = (
       (λ g h e. Contains-append_right (cells_read leaves l) (cells_read leaves r) (g - 2 * leaves) (h e)) r (each_read leaves r),
 )
 
-module _ (network : NetworkData) (options : SynthOptions) (plain : CircuitData) (planned : IsPlannedDeck network (deck_options options) plain) (net_is : IsNetwork network)
+module _ (network : NetworkData) (options : SynthOptions) (plain : CircuitData) (planned : IsPlannedDeck network (keeper_options options) plain) (net_is : IsNetwork network)
     (some : 1 ≤ options.phases) (few : options.phases ≤ 4) where
-  abbrev pub domino : IsDominoDeck network (deck_options options) plain
-  domino = planned_decks_are_domino network (deck_options options) plain planned (networks_are_ordered network net_is) some few
+  abbrev pub domino : IsDominoDeck network (keeper_options options) plain
+  domino = planned_decks_are_domino network (keeper_options options) plain planned (networks_are_ordered network net_is) some few
 
   abbrev pub planned_deck : IsNamedDeck WithKeeper plain
-  planned_deck = domino_decks_are_loose network (deck_options options) plain domino
+  planned_deck = domino_decks_are_loose network (keeper_options options) plain domino
 
   abbrev pub planned_shape : Shape
   planned_shape = the_shape planned_deck
@@ -87,7 +87,7 @@ module _ (network : NetworkData) (options : SynthOptions) (plain : CircuitData) 
       by g p at false z read =
           rw z (λ d f.
           let m = get_of_map (cell_shape (length (pins_of network)) (length (pins_of network) + length (starts_of network))) cells (g - 2 * (length (pins_of network) + length (starts_of network))) d f in
-          let le = clocks_rise network (deck_options options) plain domino k (g - 2 * (length (pins_of network) + length (starts_of network))) p m.0 at m.1
+          let le = clocks_rise network (keeper_options options) plain domino k (g - 2 * (length (pins_of network) + length (starts_of network))) p m.0 at m.1
           (subst (λ l. Contains (cells_read l p.tree) (g - 2 * (length (pins_of network) + length (starts_of network)))) leaves_are (read z)) in
           subst (λ (x : DominoCell). x.clock ≤ p.clock - 1) m.2 (less (m.0).clock p.clock le))
         where

@@ -1,5 +1,5 @@
 -- A worked deck: one cell of two inputs on the first of two clocks, whose buffer a sink takes.
-use Rattle.domino_cell.specs.Style.{WithKeeper}
+use Rattle.domino_cell.specs.declared.style.Style.TheVariants.{Keeper as WithKeeper}
 use Rattle.std.specs.Prelude.{List, [], codes, drop, length, map, ℕ, ◌++◌, ◌∷◌, ◌≡◌}
 use Rattle.std.proofs.Common.{refl}
 use Rattle.dom_base.specs.declared.kind.Kind.{Kind}

@@ -9,7 +9,7 @@ use Rattle.net_flatten.specs.Flattening.{IsNetworkOf}
 use Rattle.network.specs.NetworkData.{NetworkData}
 use Rattle.port_runs.specs.Environment.{Overlapping, Together}
 use Rattle.deck_form.specs.ChosenDecks.{IsPlannedDeck, end_at_cell}
-use Rattle.deck_form.specs.AskedOptions.{deck_options}
+use Rattle.deck_form.specs.AskedOptions.{keeper_options}
 use Rattle.deck_form.specs.declared.options.SynthOptions.{SynthOptions}
 use Rattle.deck_law.specs.Headline.{IsRightInEveryRun, input_ports, output_ports, roles_of}
 use Rattle.skew_law.specs.BufferedPlans.{buffered_circuit, plan_of}
@@ -19,7 +19,7 @@ use Rattle.skew_law.specs.BufferedPlans.{buffered_circuit, plan_of}
 pub record IsBufferedDeck (network : NetworkData) (options : SynthOptions) (circuit : CircuitData) : Type 0 where
   -- the circuit without buffers
   pub plain : CircuitData
-  pub planned : IsPlannedDeck network (deck_options options) plain
+  pub planned : IsPlannedDeck network (keeper_options options) plain
   pub circuit_is : circuit ≡ buffered_circuit network options.phases planned.signs (map (end_at_cell planned.kept) planned.forest.ends)
       (plan_of network options.phases planned.trees planned.levels (map (end_at_cell planned.kept) planned.forest.ends))
 

@@ -1,5 +1,5 @@
 -- The circuit of a network's plan with chains of buffers (Harris and Horowitz, Skew-tolerant domino circuits).
-use Rattle.domino_cell.specs.Style.{WithKeeper}
+use Rattle.domino_cell.specs.declared.style.Style.TheVariants.{Keeper as WithKeeper}
 use Rattle.std.specs.Prelude.{Bool, List, [], map, ℕ, ◌∷◌}
 use Rattle.deck.specs.CircuitData.{CircuitData}
 use Rattle.sp_network.specs.Tree.{Tree}

@@ -8,7 +8,7 @@ use Rattle.deck.specs.Nets.{IsCircuit}
 use Rattle.net_flatten.specs.Flattening.{IsNetworkOf}
 use Rattle.network.specs.NetworkData.{NetworkData}
 use Rattle.network.specs.Networks.{IsNetwork}
-use Rattle.domino_cell.specs.Style.{WithKeeper}
+use Rattle.domino_cell.specs.declared.style.Style.TheVariants.{Keeper as WithKeeper}
 use Rattle.port_runs.specs.Environment.{Overlapping, Together}
 use Rattle.deck_form.specs.declared.options.SynthOptions.{SynthOptions}
 use Rattle.deck_law.specs.Headline.{IsRightInEveryRun, roles_of}
