@@ -12,7 +12,7 @@ use Rattle.deck.specs.CircuitData.{CircuitData}
 use Rattle.deck.specs.NamedDevices.{NamedDevice, named_device, with_devices}
 use Rattle.deck.specs.Nets.{with_net}
 use Rattle.deck.specs.Pushes.{pushed}
-use Rattle.deck_calls.specs.Cells.{PlacesRise, group_cell, groups_from, supplies}
+use Rattle.spice_text.specs.Cells.{PlacesRise, group_cell, groups_from, supplies}
 use Rattle.deck_calls.proofs.CellCircuits.{all_numbered, key_length}
 use Rattle.deck.specs.DeckText.{bare_circuit}
 use Rattle.domino_cell.specs.Cell.{CellNets, inverter}
@@ -20,7 +20,8 @@ use Rattle.domino_cell.specs.PushedNames.{numbered_cell}
 use Rattle.domino_cell.specs.Spelling.{spell}
 use Rattle.domino_cell.proofs.Spellings.{length-spell}
 use Rattle.dom_base.specs.declared.kind.Kind.TheVariants.{N as nch, P as pch}
-use Rattle.domino_law.specs.Shape.{Style, WithKeeper, WithPrecharge}
+use Rattle.domino_cell.specs.declared.style.Style.{Style}
+use Rattle.domino_cell.specs.declared.style.Style.TheVariants.{Keeper as WithKeeper, Precharge as WithPrecharge}
 use Rattle.sp_network.specs.Tree.{Tree, inner_count, leaves, map_tree}
 use Rattle.sp_network.proofs.TreeImages.{leaves-map_tree}
 use Rattle.domino_cell.proofs.PushedTrees.{inner_count-below}

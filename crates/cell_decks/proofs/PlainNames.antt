@@ -16,7 +16,8 @@ use Rattle.deck.proofs.WordTests.{no_equals_by_test}
 use Rattle.domino_cell.specs.Cell.{CellNets, inverter}
 use Rattle.domino_cell.specs.PushedNames.{inner_front, numbered_cell}
 use Rattle.domino_cell.specs.Spelling.{spell}
-use Rattle.domino_law.specs.Shape.{Style, WithKeeper, WithPrecharge}
+use Rattle.domino_cell.specs.declared.style.Style.{Style}
+use Rattle.domino_cell.specs.declared.style.Style.TheVariants.{Keeper as WithKeeper, Precharge as WithPrecharge}
 use Rattle.sp_network.specs.Tree.{EachLeaf, Leaf, Parallel, Series, Tree, inner_count, map_tree}
 use Rattle.deck_form.specs.DeckNets.{CellPlan, SinkEnd, Fixed, OfDynamic, OfLeaf, OfOutput, complement_net, named_complement, named_gate, named_latch, named_reset, named_sink, own_net, rail_net, sink_gate, named_cell}
 use Rattle.domino_cell.specs.StyledCells.{behind_precharge, inner_precharges, pull_down_cards, styled_cell}

@@ -17,7 +17,7 @@ use Rattle.deck.specs.NumberedDevices.{numbered_device}
 use Rattle.deck.specs.Ports.{leading_ports}
 use Rattle.deck.specs.Pushes.{new_circuit}
 use Rattle.deck.proofs.CircuitGrowth.{with_devices-devices, with_devices-grew}
-use Rattle.deck_calls.specs.Cells.{HasCells, PlacesRise, group_cell, groups_from}
+use Rattle.spice_text.specs.Cells.{HasCells, PlacesRise, group_cell, groups_from}
 use Rattle.deck_law.proofs.GoodDecks.{leading_good, out_good, pin_good, ports_good}
 use Rattle.network.specs.NetworkData.{NetworkData}
 use Rattle.deck_form.specs.ChosenDecks.{end_at_cell, IsPlannedDeck}

@@ -5,8 +5,8 @@ use Rattle.deck.specs.CircuitData.{CircuitData}
 use Rattle.deck.specs.NamedDevices.{NamedDevice}
 use Rattle.deck.specs.Whole.{IsWhole}
 use Rattle.deck.specs.DecksWithCalls.{IsDeckWithCalls}
-use Rattle.deck_calls.specs.Cells.{HasCells, IsWrittenByCells}
-use Rattle.domino_law.specs.Shape.{Style}
+use Rattle.spice_text.specs.Cells.{HasCells, IsWrittenByCells}
+use Rattle.domino_cell.specs.declared.style.Style.{Style}
 use Rattle.network.specs.NetworkData.{NetworkData}
 use Rattle.deck_form.specs.ChosenDecks.{end_at_cell, IsPlannedDeck}
 use Rattle.deck_form.specs.DeckNets.{CellPlan, SinkEnd, named_complement, named_latch, named_sink, sink_nets, named_cell}

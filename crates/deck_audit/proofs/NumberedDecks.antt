@@ -23,7 +23,8 @@ use Rattle.domino_cell.specs.Tapped.{Tap}
 use Rattle.domino_law.specs.Branches.{HasBranches, dynamic, dynamic_taps, master, slave, static_branches}
 use Rattle.domino_law.specs.LooseDeck.{IsNet, IsSourceNet, IsSpotOf}
 use Rattle.domino_law.specs.Nets.{At, Clock, Complement, Dynamic, Gate, High, Lm, Lmb, Ls, Lsb, Master, Net, Next, Output, Part, Pin, Rs, Rsb, Sink, Slave, Vdd, Vss, gate_net, own, left_side, CellSide}
-use Rattle.domino_law.specs.Shape.{DominoCell, IsCellAt, IsLatchAt, Latch, Shape, WithKeeper, DynamicStage, dynamic_nets, gate_tree, left_stage}
+use Rattle.domino_law.specs.Shape.{DominoCell, IsCellAt, IsLatchAt, Latch, Shape, DynamicStage, dynamic_nets, gate_tree, left_stage}
+use Rattle.domino_cell.specs.declared.style.Style.TheVariants.{Keeper as WithKeeper}
 use Rattle.domino_law.specs.Spelled.{deck_devices}
 use Rattle.domino_law.proofs.DeckLists.{StagePart, deck_parts, part_devices, parts_devices}
 use Rattle.domino_law.proofs.SpelledDecks.{listed}

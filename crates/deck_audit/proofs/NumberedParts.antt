@@ -20,7 +20,8 @@ use Rattle.domino_cell.specs.Tapped.{tapped}
 use Rattle.port_runs.specs.Periods.{vdd_port, vss_port}
 use Rattle.domino_law.specs.Branches.{dynamic, numbered}
 use Rattle.domino_law.specs.Nets.{At, Clock, Dynamic, Net, Output, Vdd, Vss, gate_net, left_side}
-use Rattle.domino_law.specs.Shape.{DominoCell, IsCellAt, Shape, WithKeeper, left_stage}
+use Rattle.domino_law.specs.Shape.{DominoCell, IsCellAt, Shape, left_stage}
+use Rattle.domino_cell.specs.declared.style.Style.TheVariants.{Keeper as WithKeeper}
 use Rattle.sp_reduction.specs.Networks.{Link, mids}
 use Rattle.deck_audit.specs.Numbered.{IsCellAs, IsNumbered}
 use Rattle.deck_audit.specs.Reading.{IsOneOf, part_cards}

@@ -12,7 +12,8 @@ use Rattle.domino_cell.specs.Spelling.{spell}
 use Rattle.domino_cell.specs.Stage.{Inside, Top}
 use Rattle.domino_law.proofs.SimpleCells.{AreSimple, simple_gate}
 use Rattle.domino_law.specs.Nets.{At, Clock, Complement, DeckSignal, Dynamic, Gate, Master, Net, Next, Output, Sink, Slave, Vdd, Vss, gate_net, own, left_side}
-use Rattle.domino_law.specs.Shape.{DominoCell, IsCellAt, IsLatchAt, IsOutputAt, Latch, Shape, WithKeeper}
+use Rattle.domino_law.specs.Shape.{DominoCell, IsCellAt, IsLatchAt, IsOutputAt, Latch, Shape}
+use Rattle.domino_cell.specs.declared.style.Style.TheVariants.{Keeper as WithKeeper}
 use Rattle.domino_law.specs.Spelled.{cell_cards, complement_cards, latch_cards, next_cards, one_cell, one_latch, output_cards, reset_card, shape_cards, static_cards}
 use Rattle.deck_audit.proofs.Blocks.{block_offset, blocks, blocks_all}
 use Rattle.deck_audit.proofs.Offsets.{Offset, offset_behind, offset_front, offset_whole}

@@ -16,7 +16,8 @@ use Rattle.domino_law.specs.DominoDeck.{IsLooseDominoDeck}
 use Rattle.domino_law.specs.LooseDeck.{IsNet, IsSourceNet}
 use Rattle.domino_law.proofs.SimpleCells.{AreSimple}
 use Rattle.domino_law.specs.Nets.{At, DeckSignal, Gate, High, Net, Part, Sink, Vdd, Vss}
-use Rattle.domino_law.specs.Shape.{IsOutputAt, Shape, WithKeeper}
+use Rattle.domino_law.specs.Shape.{IsOutputAt, Shape}
+use Rattle.domino_cell.specs.declared.style.Style.TheVariants.{Keeper as WithKeeper}
 use Rattle.domino_law.specs.Spelled.{deck_devices, shape_cards}
 use Rattle.deck_audit.specs.AuditedDeck.{with_cards}
 use Rattle.deck_audit.specs.Audits.{IsOrder}

@@ -11,7 +11,8 @@ use Rattle.domino_law.specs.Branches.{numbered}
 use Rattle.domino_law.specs.LooseDeck.{IsSourceNet}
 use Rattle.domino_law.specs.Nets.{At, Clock, Complement, DeckSignal, Dynamic, Gate, Master, Net, Next, Output, Sink, Slave, gate_net, own, left_side}
 use Rattle.domino_law.specs.Settings.{port_number}
-use Rattle.domino_law.specs.Shape.{DominoCell, HasComplement, IsCellAt, IsLatchAt, IsOutputAt, IsShape, Latch, Shape, WithKeeper}
+use Rattle.domino_law.specs.Shape.{DominoCell, HasComplement, IsCellAt, IsLatchAt, IsOutputAt, IsShape, Latch, Shape}
+use Rattle.domino_cell.specs.declared.style.Style.TheVariants.{Keeper as WithKeeper}
 use Rattle.sp_reduction.specs.Networks.{Link, mids}
 use Rattle.deck_audit.specs.AuditedDeck.{IsExchangedDeck}
 use Rattle.deck_audit.specs.Rules.{HasFront, HasTree, KeepsRules}

@@ -13,7 +13,8 @@ use Rattle.domino_law.specs.Branches.{HasBranches}
 use Rattle.domino_law.specs.LooseDeck.{IsNet, IsSourceNet}
 use Rattle.domino_law.specs.Nets.{At, Gate, Net, Part, Sink}
 use Rattle.domino_law.specs.Settings.{port_number}
-use Rattle.domino_law.specs.Shape.{IsOutputAt, IsShape, Shape, WithKeeper}
+use Rattle.domino_law.specs.Shape.{IsOutputAt, IsShape, Shape}
+use Rattle.domino_cell.specs.declared.style.Style.TheVariants.{Keeper as WithKeeper}
 use Rattle.domino_law.specs.Spelled.{deck_devices}
 use Rattle.deck_audit.specs.AuditedDeck.{IsExchangedDeck}
 

@@ -1,5 +1,5 @@
 -- The options of the domino deck of a network.
-use Rattle.domino_cell.specs.Style.{Style}
+use Rattle.domino_cell.specs.declared.style.Style.{Style}
 use Rattle.std.specs.Prelude.{ℕ}
 
 -- trees within this width and height, on so many clocks, in cells of this style

@@ -1,5 +1,5 @@
 -- Domino decks of a network: what a circuit of synthesis looks like within its bounds and clocks.
-use Rattle.domino_cell.specs.Style.{Style}
+use Rattle.domino_cell.specs.declared.style.Style.{Style}
 use Rattle.std.specs.Prelude.{ℕ, ◌≤◌, ◌≡◌, Bool, true, false, List, [], ◌++◌, length, map, filter, slice_index_or, All, codes}
 use Rattle.std.specs.List.{AllZip, range_with_len, zip}
 use Rattle.deck.specs.declared.phase.Phase.{Phase}

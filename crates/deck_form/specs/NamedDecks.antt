@@ -1,5 +1,5 @@
 -- Loose domino decks: decks of domino cells over any ports in order, as the laws of domino circuits speak of them.
-use Rattle.domino_cell.specs.Style.{Style}
+use Rattle.domino_cell.specs.declared.style.Style.{Style}
 use Rattle.std.specs.Prelude.{ℕ, ◌+◌, ◌*◌, ◌≤◌, ◌<◌, ◌≡◌, ◌==◌, Bool, true, false, ◌||◌, ◌&&◌, List, ◌++◌, length, Some, slice_get, AllPairs, Contains, All}
 use Rattle.std.specs.List.{list_any}
 use Rattle.deck.specs.CircuitData.{CircuitData}

@@ -5,5 +5,6 @@
 mod laws;
 mod options;
 
+pub use domino_cell::Style;
 pub use laws::decks_are_domino;
 pub use options::SynthOptions;

@@ -8,7 +8,8 @@ use Rattle.sp_network.specs.Tree.{Leaf, map_tree}
 use Rattle.domino_cell.specs.Cell.{inverter, map_nets}
 use Rattle.domino_cell.specs.Stage.{Top}
 use Rattle.domino_law.specs.Nets.{At, Complement, Gate, Net, Next, Sink, Vdd, Vss, gate_net, left_side, own}
-use Rattle.domino_law.specs.Shape.{DominoCell, Shape, gate_tree, left_stage, Style}
+use Rattle.domino_law.specs.Shape.{DominoCell, Shape, gate_tree, left_stage}
+use Rattle.domino_cell.specs.declared.style.Style.{Style}
 use Rattle.domino_law.proofs.SimpleCells.{simple_gate}
 use Rattle.network.proofs.Lists.{get_of_map}
 use Rattle.domino_law.specs.Spelled.{net_cell, one_latch}

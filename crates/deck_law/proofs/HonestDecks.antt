@@ -9,7 +9,7 @@ use Rattle.deck.specs.PortLayout.{first_output}
 use Rattle.deck.specs.Switches.{value_of}
 use Rattle.deck.specs.declared.role.Roles.{Roles}
 use Rattle.deck.proofs.DeckCircuits.{IsDeckOf-circuit}
-use Rattle.domino_cell.specs.Style.{Style}
+use Rattle.domino_cell.specs.declared.style.Style.{Style}
 use Rattle.switch_model.specs.LinksData.{links_of}
 use Rattle.network.specs.declared.network.NetLatch.{NetLatch}
 use Rattle.network.specs.NetworkData.{NetworkData}

@@ -17,7 +17,8 @@ use Rattle.domino_cell.specs.Stage.{Inside, Top}
 use Rattle.domino_law.specs.LooseDeck.{IsNet, IsSourceNet}
 use Rattle.domino_law.specs.Nets.{At, Clock, Complement, Dynamic, Gate, Lm, Lmb, Ls, Lsb, Master, Net, Next, Output, Pin, Rs, Rsb, DeckSignal, Sink, Slave, Vdd, Vss, left_side}
 use Rattle.domino_law.specs.Settings.{port_number}
-use Rattle.domino_law.specs.Shape.{DominoCell, HasComplement, IsCellAt, IsLatchAt, IsOutputAt, Latch, DynamicStage, Style}
+use Rattle.domino_law.specs.Shape.{DominoCell, HasComplement, IsCellAt, IsLatchAt, IsOutputAt, Latch, DynamicStage}
+use Rattle.domino_cell.specs.declared.style.Style.{Style}
 use Rattle.deck_form.specs.DeckNets.{CellPlan, named_cell, named_latch}
 use Rattle.deck_form.specs.NamedDecks.{IsNamedDeck}
 use Rattle.deck_law.specs.NetNames.{cell_shape, end_gate, gate_of, latch_shape, leaf_signal}

@@ -14,7 +14,8 @@ use Rattle.switch_model.specs.LinksData.{links_of}
 use Rattle.domino_law.specs.LooseDeck.{IsNet, IsSourceNet}
 use Rattle.domino_law.specs.Nets.{At, Clock, Gate, Lm, Lmb, Ls, Lsb, Net, Part, Pin, Rs, Rsb, DeckSignal, Vdd, Vss, Sink}
 use Rattle.domino_law.specs.Settings.{HasPorts, port_number}
-use Rattle.domino_law.specs.Shape.{DominoCell, HasComplement, IsCellAt, IsGate, IsLeafOf, IsShape, IsSignal, Latch, IsOutputAt, DynamicStage, Style}
+use Rattle.domino_law.specs.Shape.{DominoCell, HasComplement, IsCellAt, IsGate, IsLeafOf, IsShape, IsSignal, Latch, IsOutputAt, DynamicStage}
+use Rattle.domino_cell.specs.declared.style.Style.{Style}
 use Rattle.domino_law.specs.Spelled.{IsSpelledDeck}
 use Rattle.deck_form.specs.DeckNets.{SinkEnd, Fixed, OfDynamic, OfLeaf, OfOutput, CellPlan}
 use Rattle.deck_form.specs.NamedDecks.{IsEndIn, IsNamedDeck, is_plus_literal, names_complement, reads}

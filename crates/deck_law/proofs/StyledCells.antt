@@ -10,7 +10,9 @@ use Rattle.domino_cell.specs.Cell.{CellNets, cell, inverter, map_nets}
 use Rattle.domino_cell.specs.Spelling.{spell}
 use Rattle.domino_cell.proofs.Spellings.{spell-map_tree}
 use Rattle.domino_law.specs.Nets.{Net, gate_net, left_side}
-use Rattle.domino_law.specs.Shape.{DominoCell, Style, WithKeeper, WithPrecharge, left_stage}
+use Rattle.domino_law.specs.Shape.{DominoCell, left_stage}
+use Rattle.domino_cell.specs.declared.style.Style.{Style}
+use Rattle.domino_cell.specs.declared.style.Style.TheVariants.{Keeper as WithKeeper, Precharge as WithPrecharge}
 use Rattle.domino_law.specs.Spelled as law
 use Rattle.sp_network.specs.Tree.{Tree, inner_count, map_tree}
 use Rattle.sp_network.proofs.TreeImages.{inner_count-map_tree}

@@ -8,7 +8,7 @@ use Rattle.deck.specs.Nets.{IsCircuit}
 use Rattle.deck.specs.Switches.{value_of}
 use Rattle.deck.specs.declared.role.Roles.{Roles}
 use Rattle.domino_cell.specs.Stage.{Top}
-use Rattle.domino_cell.specs.Style.{Style}
+use Rattle.domino_cell.specs.declared.style.Style.{Style}
 use Rattle.switch_model.specs.LinksData.{links_of}
 use Rattle.network.specs.NetworkData.{NetworkData}
 use Rattle.network.specs.Networks.{IsNetwork}

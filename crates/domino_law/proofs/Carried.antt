@@ -15,7 +15,8 @@ use Rattle.domino_law.specs.Honest.{AtCapture, IsDynamicSpot, IsHonestFrame, IsM
 use Rattle.domino_law.specs.LooseDeck.{HoldsDeck, IsPart}
 use Rattle.domino_law.specs.Nets.{At, Clock, Complement, Dynamic, FromLatch, FromPin, Gate, Master, Net, Next, Output, Part, Pin, DeckSignal, Sink, Slave, Vdd, Vss, gate_net, own, CellSide, left_side}
 use Rattle.domino_law.specs.Runs.{ChangesSources}
-use Rattle.domino_law.specs.Shape.{DominoCell, HasComplement, IsCellAt, IsGate, IsLatchAt, IsSignal, Latch, Shape, MayOverlap, WithKeeper, DynamicStage, IsLeafOf, IsSideAt, dynamic_nets, gate_tree, left_stage}
+use Rattle.domino_law.specs.Shape.{DominoCell, HasComplement, IsCellAt, IsGate, IsLatchAt, IsSignal, Latch, Shape, MayOverlap, DynamicStage, IsLeafOf, IsSideAt, dynamic_nets, gate_tree, left_stage}
+use Rattle.domino_cell.specs.declared.style.Style.TheVariants.{Keeper as WithKeeper}
 use Rattle.domino_law.proofs.Cells.{spot_pulled}
 use Rattle.domino_law.proofs.DeckParts.{dynamic_is, leaf_is_gate, part-free, spot-free, zero_or_one, AreKnownGates, previous_overlaps, up_of}
 use Rattle.domino_law.proofs.Leaves.{EachLeaf-weaker}

@@ -10,7 +10,9 @@ use Rattle.domino_cell.specs.Spelling.{spell}
 use Rattle.domino_cell.proofs.Spellings.{length-spell}
 use Rattle.domino_law.specs.CellCards.{CellsHaveCards}
 use Rattle.domino_law.specs.Nets.{CellSide, Gate, Net, Output, gate_net, left_side, right_side}
-use Rattle.domino_law.specs.Shape.{DominoCell, DynamicStage, Style, WithKeeper, WithPrecharge, dynamic_nets, left_stage, right_stage}
+use Rattle.domino_law.specs.Shape.{DominoCell, DynamicStage, dynamic_nets, left_stage, right_stage}
+use Rattle.domino_cell.specs.declared.style.Style.{Style}
+use Rattle.domino_cell.specs.declared.style.Style.TheVariants.{Keeper as WithKeeper, Precharge as WithPrecharge}
 use Rattle.domino_law.specs.Spelled.{net_cell, one_cell, right_cards, side_cards, static_cards}
 
 inner_many : (nets : CellNets Net) (j n : ℕ) → length (inner_precharges nets j n) ≡ n

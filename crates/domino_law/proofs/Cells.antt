@@ -21,7 +21,9 @@ use Rattle.stage_law.proofs.CellTargets as cell
 use Rattle.domino_law.specs.Branches.{dynamic, dynamic_taps, numbered}
 use Rattle.domino_law.specs.Honest.{IsDynamicSpot, cell_conduction}
 use Rattle.domino_law.specs.Nets.{At, Clock, Net, Output, Vdd, Vss, gate_net, CellSide}
-use Rattle.domino_law.specs.Shape.{DynamicStage, Style, WithKeeper, WithPrecharge}
+use Rattle.domino_law.specs.Shape.{DynamicStage}
+use Rattle.domino_cell.specs.declared.style.Style.{Style}
+use Rattle.domino_cell.specs.declared.style.Style.TheVariants.{Keeper as WithKeeper, Precharge as WithPrecharge}
 use Rattle.domino_law.proofs.Leaves.{EachLeaf-map, tree_rises}
 use Rattle.domino_law.proofs.Parts.{evaluates, keeper_holds, precharges, pulled_conducts, pulls}
 

@@ -28,7 +28,9 @@ use Rattle.domino_law.specs.Honest.{IsHonest}
 use Rattle.domino_law.specs.Joins.{IsContest, IsOverpowered}
 use Rattle.domino_law.specs.LooseDeck.{HoldsDeck, IsSourceNet, IsSpotOf}
 use Rattle.domino_law.specs.Nets.{At, Clock, Complement, Dynamic, Ls, Lsb, Master, Net, Next, Output, Part, Sink, Slave, Vdd, Vss, gate_net, own, CellSide}
-use Rattle.domino_law.specs.Shape.{Shape, Style, WithKeeper, WithPrecharge, DynamicStage, IsSideAt, dynamic_nets, gate_tree}
+use Rattle.domino_law.specs.Shape.{Shape, DynamicStage, IsSideAt, dynamic_nets, gate_tree}
+use Rattle.domino_cell.specs.declared.style.Style.{Style}
+use Rattle.domino_cell.specs.declared.style.Style.TheVariants.{Keeper as WithKeeper, Precharge as WithPrecharge}
 use Rattle.domino_law.proofs.DynamicDevices.{dynamic_devices, untap_as}
 use Rattle.domino_law.proofs.Ways.{other_ways}
 use Rattle.domino_law.proofs.DeckParts.{clock-known, dynamic_is, gate-known, known_tree, output-known, part-free, zero_or_one}

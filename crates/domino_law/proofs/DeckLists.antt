@@ -9,7 +9,8 @@ use Rattle.domino_cell.specs.Stage.{Branch, Inside, Top}
 use Rattle.domino_cell.specs.Tapped.{Tap, tapped}
 use Rattle.domino_law.specs.Branches.{dynamic, dynamic_taps, master, slave, static_branches}
 use Rattle.domino_law.specs.Nets.{At, Complement, Dynamic, Gate, Lm, Lmb, Ls, Lsb, Master, Net, Next, Output, Part, Rs, Rsb, DeckSignal, Sink, Slave, Vdd, Vss, CellSide, Right, left_side, own, right_side}
-use Rattle.domino_law.specs.Shape.{DominoCell, DynamicStage, Latch, Shape, Style, dynamic_nets, gate_tree, left_stage, side_of}
+use Rattle.domino_law.specs.Shape.{DominoCell, DynamicStage, Latch, Shape, dynamic_nets, gate_tree, left_stage, side_of}
+use Rattle.domino_cell.specs.declared.style.Style.{Style}
 
 -- a part with its branches
 pub record StagePart : Type 0 where

@@ -20,7 +20,9 @@ use Rattle.domino_law.specs.Branches.{HasBranches, dynamic, dynamic_taps, master
 use Rattle.domino_law.specs.Honest.{IsDynamicSpot, IsHonest, IsHonestFrame, cell_conduction, HasPreviousFallen, gate_value, static_value}
 use Rattle.domino_law.specs.LooseDeck.{HoldsDeck, IsPart, IsSpotOf}
 use Rattle.domino_law.specs.Nets.{At, Clock, Complement, Dynamic, FromDynamic, FromLatch, FromOutput, FromPin, Gate, High, Low, Master, Minus, Net, Next, Output, Part, Pin, Plus, DeckSignal, Sink, Slave, Vdd, Vss, gate_net, own, CellSide, Left, Right, Side, left_side}
-use Rattle.domino_law.specs.Shape.{DominoCell, HasComplement, IsCellAt, IsGate, IsLatchAt, IsLeafOf, IsOutputAt, IsSignal, Latch, Shape, Style, WithKeeper, WithPrecharge, IsOfClocks, MayOverlap, DynamicStage, IsSideAt, dynamic_nets, gate_tree, right_stage, side_of}
+use Rattle.domino_law.specs.Shape.{DominoCell, HasComplement, IsCellAt, IsGate, IsLatchAt, IsLeafOf, IsOutputAt, IsSignal, Latch, Shape, IsOfClocks, MayOverlap, DynamicStage, IsSideAt, dynamic_nets, gate_tree, right_stage, side_of}
+use Rattle.domino_cell.specs.declared.style.Style.{Style}
+use Rattle.domino_cell.specs.declared.style.Style.TheVariants.{Keeper as WithKeeper, Precharge as WithPrecharge}
 use Rattle.domino_law.proofs.Leaves.{EachLeaf-weaker, EachLeaf-both, EachLeaf-where}
 use Rattle.domino_law.proofs.Places.{bit-known, clock_known, slave_known, IsClockAt, clock_at}
 use Rattle.domino_law.specs.Places.{ClockState, AfterFall, IsStateAt, Raised}

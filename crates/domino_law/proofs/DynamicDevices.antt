@@ -17,7 +17,9 @@ use Rattle.domino_cell.specs.Tapped.{Tap, tap_card, tapped}
 use Rattle.domino_law.specs.Branches.{dynamic, dynamic_taps, keepers, numbered, static_branches}
 use Rattle.domino_law.specs.Honest.{IsDynamicSpot}
 use Rattle.domino_law.specs.Nets.{At, Clock, Net, Output, Vdd, Vss, gate_net, CellSide}
-use Rattle.domino_law.specs.Shape.{DynamicStage, Style, WithKeeper, WithPrecharge}
+use Rattle.domino_law.specs.Shape.{DynamicStage}
+use Rattle.domino_cell.specs.declared.style.Style.{Style}
+use Rattle.domino_cell.specs.declared.style.Style.TheVariants.{Keeper as WithKeeper, Precharge as WithPrecharge}
 use Rattle.domino_law.proofs.Statics.{IsSeries}
 
 pub untap : (at : Spot → ℕ) (bs : List Branch) (d : Device) → Contains (map device_of (tapped at bs [])) d → Contains (map device_of (stage at 0 bs)) d

@@ -24,7 +24,9 @@ use Rattle.domino_law.specs.Honest.{IsDynamicSpot}
 use Rattle.domino_law.specs.Nets.{At, Clock, Dynamic, Net, Output, Vdd, Vss, gate_net, CellSide, Gate, left_side}
 use Rattle.domino_law.specs.Periods.{IsDeckClock}
 use Rattle.domino_law.specs.Settings.{HasPorts}
-use Rattle.domino_law.specs.Shape.{DynamicStage, Shape, Style, WithKeeper, WithPrecharge, dynamic_nets}
+use Rattle.domino_law.specs.Shape.{DynamicStage, Shape, dynamic_nets}
+use Rattle.domino_cell.specs.declared.style.Style.{Style}
+use Rattle.domino_cell.specs.declared.style.Style.TheVariants.{Keeper as WithKeeper, Precharge as WithPrecharge}
 use Rattle.domino_law.proofs.DeckParts.{dynamic_is}
 use Rattle.domino_law.proofs.Statics.{left_is}
 

@@ -16,7 +16,9 @@ use Rattle.domino_law.specs.Honest.{IsDynamicSpot, IsHonest, cell_conduction, Ha
 use Rattle.domino_law.specs.LooseDeck.{HoldsDeck}
 use Rattle.domino_law.specs.Nets.{At, Clock, Complement, Dynamic, FromDynamic, FromOutput, Gate, High, Low, Minus, Net, Output, Plus, Vdd, Vss, gate_net, own, CellSide, left_side}
 use Rattle.domino_law.specs.Places.{ClockState, AfterFall}
-use Rattle.domino_law.specs.Shape.{DominoCell, IsCellAt, IsLeafOf, Shape, IsOfClocks, MayOverlap, Style, WithKeeper, WithPrecharge, DynamicStage, IsSideAt, dynamic_nets, left_stage}
+use Rattle.domino_law.specs.Shape.{DominoCell, IsCellAt, IsLeafOf, Shape, IsOfClocks, MayOverlap, DynamicStage, IsSideAt, dynamic_nets, left_stage}
+use Rattle.domino_cell.specs.declared.style.Style.{Style}
+use Rattle.domino_cell.specs.declared.style.Style.TheVariants.{Keeper as WithKeeper, Precharge as WithPrecharge}
 use Rattle.domino_law.proofs.Cells.{spot_falls, spot_precharges, spot_pulled}
 use Rattle.domino_law.proofs.DeckParts.{clock-known, clocks_at, complement_is, dynamic_is, known_leaves, output_is, output_low, own-known, spots_held, zero_or_one, leaf_not_fallen, near_leaves, opposite-known, opposite_twice, previous_overlaps, up_of, series-known, are_simple, dynamic-known}
 use Rattle.domino_law.proofs.FrameEvents.{inverted, inverter_stays, leaf_stays}

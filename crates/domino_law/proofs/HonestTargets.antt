@@ -15,7 +15,8 @@ use Rattle.domino_law.specs.Honest.{IsHonest, IsHonestFrame, cell_conduction, Ha
 use Rattle.domino_law.specs.Laws.{CapturedAtTargets, HonestIsKnown, IsDriven, IsCellOrSink}
 use Rattle.domino_law.specs.LooseDeck.{HoldsDeck, IsPart}
 use Rattle.domino_law.specs.Nets.{At, Clock, Complement, Dynamic, FromLatch, FromOutput, Master, Net, Next, Output, Part, Plus, Sink, Slave, Vdd, Vss, CellSide, left_side}
-use Rattle.domino_law.specs.Shape.{Shape, DominoCell, IsCellAt, WithKeeper, left_stage, DynamicStage, IsSideAt, dynamic_nets, gate_tree}
+use Rattle.domino_law.specs.Shape.{Shape, DominoCell, IsCellAt, left_stage, DynamicStage, IsSideAt, dynamic_nets, gate_tree}
+use Rattle.domino_cell.specs.declared.style.Style.TheVariants.{Keeper as WithKeeper}
 use Rattle.domino_law.proofs.Cells.{spot_holds}
 use Rattle.domino_law.proofs.DeckParts.{AreKnownGates, dynamic-known, dynamic_is, gate-known, known_leaves, known_tree, next_is, output_is, output_low, sink_is, spots_held, clock-known, previous_overlaps, up_of, series-known, value-known, are_simple}
 use Rattle.domino_law.proofs.Parts.{evaluates, keeper_holds, precharges, static_target}

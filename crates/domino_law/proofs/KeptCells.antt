@@ -31,7 +31,8 @@ use Rattle.stage_law.proofs.Between.{Reach-reverse}
 use Rattle.stage_law.proofs.GateCards.{spell-gates}
 use Rattle.domino_law.specs.Branches.{dynamic, numbered}
 use Rattle.domino_law.specs.Nets.{At, CellSide, Clock, Net, Output, Vdd, Vss, gate_net, Gate}
-use Rattle.domino_law.specs.Shape.{DynamicStage, WithKeeper}
+use Rattle.domino_law.specs.Shape.{DynamicStage}
+use Rattle.domino_cell.specs.declared.style.Style.TheVariants.{Keeper as WithKeeper}
 use Rattle.domino_law.proofs.Leaves.{EachLeaf-map}
 
 -- a path of devices that aren't off, with its list

@@ -22,7 +22,9 @@ use Rattle.domino_cell.specs.Tapped.{IsTapped, Tap, tap_branch, tap_card, tapped
 use Rattle.domino_law.specs.Branches.{HasBranches, clocked, dynamic, dynamic_taps, numbered, reset_branch, static_branches}
 use Rattle.domino_law.specs.LooseDeck.{IsNet, IsSourceNet, IsSpotOf}
 use Rattle.domino_law.specs.Nets.{At, Clock, Complement, Dynamic, Lm, Lmb, Ls, Lsb, Master, Net, Next, Output, Part, Sink, Slave, Vdd, Vss, gate_net, own, CellSide}
-use Rattle.domino_law.specs.Shape.{DynamicStage, Shape, Style, WithKeeper, WithPrecharge, dynamic_nets, gate_tree}
+use Rattle.domino_law.specs.Shape.{DynamicStage, Shape, dynamic_nets, gate_tree}
+use Rattle.domino_cell.specs.declared.style.Style.{Style}
+use Rattle.domino_cell.specs.declared.style.Style.TheVariants.{Keeper as WithKeeper, Precharge as WithPrecharge}
 use Rattle.domino_law.specs.Spelled.{IsSpelledDeck, SpelledIsLoose}
 use Rattle.domino_law.proofs.Statics.{IsSeries, dual_inner, dynamic_series, gate_series, side_unique}
 use Rattle.domino_law.proofs.Ways.{other_ways}

@@ -16,7 +16,8 @@ use Rattle.domino_law.specs.Honest.{IsHonest, HasPreviousFallen, IsHeldCell, cel
 use Rattle.domino_law.specs.LooseDeck.{HoldsDeck, IsSpotOf}
 use Rattle.domino_law.specs.Nets.{At, Clock, Complement, Dynamic, FromDynamic, FromLatch, FromOutput, FromPin, Gate, High, Low, Minus, Net, Next, Output, Part, Pin, Plus, DeckSignal, Sink, Vdd, Vss, gate_net, own, CellSide, left_side, right_side}
 use Rattle.domino_law.specs.OwnRun.{bit_at, cell_bits, gate_bit, signal_bit, sink_bit, own_bit, cell_bit}
-use Rattle.domino_law.specs.Shape.{DominoCell, HasComplement, IsCellAt, IsGate, IsLatchAt, IsLeafOf, IsOutputAt, IsSignal, Latch, Shape, IsOfClocks, IsOfLastClock, MayOverlap, WithKeeper, DynamicStage, IsSideAt, dynamic_nets, left_stage}
+use Rattle.domino_law.specs.Shape.{DominoCell, HasComplement, IsCellAt, IsGate, IsLatchAt, IsLeafOf, IsOutputAt, IsSignal, Latch, Shape, IsOfClocks, IsOfLastClock, MayOverlap, DynamicStage, IsSideAt, dynamic_nets, left_stage}
+use Rattle.domino_cell.specs.declared.style.Style.TheVariants.{Keeper as WithKeeper}
 use Rattle.domino_law.proofs.DeckParts.{AreKnownGates, gate-known, opposite_twice, dynamic_is, known_leaves, known_tree, leaf_not_fallen, near_leaves, cell_value-known, are_simple}
 use Rattle.domino_law.proofs.Leaves.{EachLeaf-weaker, tree_bit}
 use Rattle.domino_law.proofs.Rests.{rest_complement, rest_dynamic, rest_next, rest_output, rest_sink}

@@ -24,7 +24,9 @@ use Rattle.port_runs.specs.Environment.{bit}
 use Rattle.domino_law.specs.Branches.{clocked, dynamic, dynamic_taps, numbered, reset_branch, static_branches}
 use Rattle.domino_law.specs.Honest.{cell_conduction, static_value}
 use Rattle.domino_law.specs.Nets.{At, Clock, Lm, Lmb, Ls, Lsb, Net, Output, Rs, Rsb, Vdd, Vss, gate_net, CellSide}
-use Rattle.domino_law.specs.Shape.{DynamicStage, Style, WithKeeper}
+use Rattle.domino_law.specs.Shape.{DynamicStage}
+use Rattle.domino_cell.specs.declared.style.Style.{Style}
+use Rattle.domino_cell.specs.declared.style.Style.TheVariants.{Keeper as WithKeeper}
 use Rattle.domino_law.proofs.Statics.{both-right_zero, pull_down, pull_up}
 use Rattle.domino_law.proofs.Ways.{other_ways, pre_branch}
 

@@ -14,7 +14,8 @@ use Rattle.domino_law.specs.Branches.{static_branches}
 use Rattle.domino_law.specs.Honest.{IsDynamicSpot, IsHonest, IsHonestFrame, HoldsTargets, cell_conduction, HasPreviousFallen, gate_value, static_value}
 use Rattle.domino_law.specs.LooseDeck.{HoldsDeck, IsPart, IsSpotOf}
 use Rattle.domino_law.specs.Nets.{At, Clock, Complement, Dynamic, Gate, Net, Next, Output, Part, DeckSignal, Sink, Vdd, Vss, own, CellSide}
-use Rattle.domino_law.specs.Shape.{DominoCell, HasComplement, IsCellAt, IsLatchAt, IsOutputAt, Latch, Shape, Style, DynamicStage, IsSideAt, dynamic_nets, gate_tree}
+use Rattle.domino_law.specs.Shape.{DominoCell, HasComplement, IsCellAt, IsLatchAt, IsOutputAt, Latch, Shape, DynamicStage, IsSideAt, dynamic_nets, gate_tree}
+use Rattle.domino_cell.specs.declared.style.Style.{Style}
 use Rattle.domino_law.proofs.Cells.{spot_precharges}
 use Rattle.domino_law.proofs.DeckParts.{AreKnownGates, complement_is, dynamic_is, gate-known, known_tree, next_is, output_is, own-known, part-free, sink_is, spot-free, spot_is, zero_or_one, value-known, cell_value-known}
 use Rattle.domino_law.proofs.Parts.{evaluates, pulled_conducts, static_target}

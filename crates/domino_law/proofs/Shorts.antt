@@ -29,7 +29,9 @@ use Rattle.domino_law.specs.Honest.{IsHonestFrame, IsMasterAt, static_value}
 use Rattle.domino_law.specs.LooseDeck.{HoldsDeck}
 use Rattle.domino_law.specs.Nets.{At, Clock, Complement, Dynamic, Lm, Lmb, Ls, Lsb, Master, Net, Next, Output, Part, Plus, Rs, Rsb, Sink, Slave, Vdd, Vss, own, CellSide}
 use Rattle.domino_law.specs.Places.{ls_at, rs_at, ClockState}
-use Rattle.domino_law.specs.Shape.{IsLatchAt, Latch, Shape, Style, WithKeeper, WithPrecharge, DynamicStage, IsSideAt, dynamic_nets, gate_tree}
+use Rattle.domino_law.specs.Shape.{IsLatchAt, Latch, Shape, DynamicStage, IsSideAt, dynamic_nets, gate_tree}
+use Rattle.domino_cell.specs.declared.style.Style.{Style}
+use Rattle.domino_cell.specs.declared.style.Style.TheVariants.{Keeper as WithKeeper, Precharge as WithPrecharge}
 use Rattle.domino_law.proofs.DeckParts.{AreKnownGates, clock-known, complement_is, dynamic_is, master_is, next_is, opposite-known, output_is, sink_is, slave_is, cell_value-known, value-known}
 use Rattle.domino_law.proofs.DynamicDevices.{untap}
 use Rattle.domino_law.proofs.Places.{bit-known}

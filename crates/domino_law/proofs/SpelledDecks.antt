@@ -9,7 +9,8 @@ use Rattle.domino_cell.specs.Stage.{Branch}
 use Rattle.domino_cell.specs.Tapped.{Tap}
 use Rattle.domino_law.specs.Branches.{HasBranches, master, slave}
 use Rattle.domino_law.specs.Nets.{Complement, Dynamic, Gate, Master, Net, Next, Output, Part, DeckSignal, Sink, Slave, own, Left, Right, Side, left_side, right_side}
-use Rattle.domino_law.specs.Shape.{DominoCell, DynamicStage, HasComplement, IsCellAt, IsLatchAt, IsOutputAt, Latch, Shape, Style, dynamic_nets, gate_tree, left_stage, side_of}
+use Rattle.domino_law.specs.Shape.{DominoCell, DynamicStage, HasComplement, IsCellAt, IsLatchAt, IsOutputAt, Latch, Shape, dynamic_nets, gate_tree, left_stage, side_of}
+use Rattle.domino_cell.specs.declared.style.Style.{Style}
 use Rattle.domino_law.proofs.DeckLists.{StagePart, cell_parts, complement_parts, deck_parts, group_parts, latch_parts, next_parts, output_parts, right_parts, side_part, static_part}
 use Rattle.domino_law.proofs.Statics.{left_is}
 

@@ -18,7 +18,9 @@ use Rattle.stage_law.specs.Precharged.{taps_from}
 use Rattle.domino_cell.specs.Tapped.{tap_card}
 use Rattle.domino_law.specs.Branches.{clocked, dynamic, dynamic_taps, keepers, master, numbered, reset_branch, slave, static_branches}
 use Rattle.domino_law.specs.Nets.{At, Clock, Complement, Dynamic, Gate, Ls, Lsb, Master, Net, Next, Output, DeckSignal, Sink, Slave, Vdd, Vss, gate_net, own, CellSide, Part, Right, left_side, right_side}
-use Rattle.domino_law.specs.Shape.{DominoCell, DynamicStage, Latch, Shape, Style, WithKeeper, WithPrecharge, dynamic_nets, gate_tree, left_stage, side_of}
+use Rattle.domino_law.specs.Shape.{DominoCell, DynamicStage, Latch, Shape, dynamic_nets, gate_tree, left_stage, side_of}
+use Rattle.domino_cell.specs.declared.style.Style.{Style}
+use Rattle.domino_cell.specs.declared.style.Style.TheVariants.{Keeper as WithKeeper, Precharge as WithPrecharge}
 use Rattle.domino_law.specs.Spelled.{NamedIsSpelled, cell_cards, complement_cards, shape_cards, named_circuit, deck_devices, latch_cards, net_cell, next_cards, one_cell, one_latch, output_cards, right_cards, side_cards, static_cards}
 use Rattle.domino_law.proofs.DeckLists.{LatchIsSpelled, StagePart, cell_parts, complement_parts, deck_parts, group_parts, latch_devices, latch_parts, next_parts, output_parts, part_devices, parts_devices, right_parts, side_part, static_part}
 

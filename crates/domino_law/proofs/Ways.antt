@@ -13,7 +13,9 @@ use Rattle.domino_cell.specs.Tapped.{Tap, tap_branch, tap_card, tapped, ways}
 use Rattle.stage_law.proofs.GateCards.{stage-card_gates}
 use Rattle.domino_law.specs.Branches.{dynamic_taps, keepers, numbered}
 use Rattle.domino_law.specs.Nets.{At, Clock, Net, Output, Vdd, CellSide}
-use Rattle.domino_law.specs.Shape.{DynamicStage, Style, WithKeeper, WithPrecharge}
+use Rattle.domino_law.specs.Shape.{DynamicStage}
+use Rattle.domino_cell.specs.declared.style.Style.{Style}
+use Rattle.domino_cell.specs.declared.style.Style.TheVariants.{Keeper as WithKeeper, Precharge as WithPrecharge}
 
 abbrev pub pre_branch : (Net → ℕ) → DynamicStage → Branch
 pre_branch net c = record { kind = pch; tree = Leaf (net (Clock c.clock)); supply = net Vdd }

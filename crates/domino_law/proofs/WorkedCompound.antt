@@ -11,7 +11,8 @@ use Rattle.domino_law.specs.LooseDeck.{IsNet, IsSourceNet}
 use Rattle.domino_law.specs.Nets.{At, CellSide, Clock, Complement, Dynamic, FromDynamic, FromPin, Left, Lm, Lmb, Ls, Lsb, Master, Net, Next, Output, Part, Pin, Plus, Right, Rs, Rsb, Side, Sink, Slave, Vdd, Vss, left_side, right_side}
 use Rattle.domino_law.specs.OwnRun.{bit_at}
 use Rattle.domino_law.specs.Places.{AreSources}
-use Rattle.domino_law.specs.Shape.{DynamicStage, IsLatchAt, IsLeafOf, IsShape, IsSideAt, Latch, WithKeeper, WithPrecharge, dynamic_nets, gate_tree, left_stage, side_of}
+use Rattle.domino_law.specs.Shape.{DynamicStage, IsLatchAt, IsLeafOf, IsShape, IsSideAt, Latch, dynamic_nets, gate_tree, left_stage, side_of}
+use Rattle.domino_cell.specs.declared.style.Style.TheVariants.{Keeper as WithKeeper, Precharge as WithPrecharge}
 use Rattle.domino_law.specs.WorkedCompound.{OrHasPower, OrIsDeck, OrRuns, or_cell, or_net, or_power, or_shape}
 use Rattle.domino_law.proofs.PowerStates.{unknown-at}
 use Rattle.domino_law.proofs.WorkedDecks.{only_first}

@@ -13,7 +13,8 @@ use Rattle.domino_law.specs.LooseDeck.{IsNet, IsSourceNet}
 use Rattle.domino_law.specs.Nets.{At, Clock, Complement, Dynamic, FromDynamic, FromLatch, FromPin, Lm, Lmb, Ls, Lsb, Master, Minus, Net, Next, Output, Part, Pin, Rs, Rsb, Sink, Slave, Vdd, Vss, CellSide, Left, Right, Side, left_side}
 use Rattle.domino_law.specs.OwnRun.{bit_at}
 use Rattle.domino_law.specs.Places.{AreSources}
-use Rattle.domino_law.specs.Shape.{HasComplement, IsShape, IsSignal, Latch, DynamicStage, IsSideAt, WithKeeper, WithPrecharge, dynamic_nets, gate_tree, left_stage, side_of}
+use Rattle.domino_law.specs.Shape.{HasComplement, IsShape, IsSignal, Latch, DynamicStage, IsSideAt, dynamic_nets, gate_tree, left_stage, side_of}
+use Rattle.domino_cell.specs.declared.style.Style.TheVariants.{Keeper as WithKeeper, Precharge as WithPrecharge}
 use Rattle.domino_law.specs.WorkedDeck.{ToggleHasPower, ToggleIsDeck, ToggleRuns, toggle_cell, toggle_net, toggle_power, toggle_shape}
 use Rattle.domino_law.proofs.PowerStates.{unknown-at}
 

@@ -7,7 +7,9 @@ use Rattle.domino_cell.specs.Stage.{Branch, Top}
 use Rattle.stage_law.specs.Precharged.{inner_taps}
 use Rattle.domino_cell.specs.Tapped.{Tap}
 use Rattle.domino_law.specs.Nets.{At, CellSide, Clock, Complement, Dynamic, Gate, Lm, Lmb, Ls, Lsb, Master, Net, Next, Output, Part, Rs, Rsb, Sink, Slave, Vdd, Vss, gate_net, own}
-use Rattle.domino_law.specs.Shape.{DominoCell, DynamicStage, HasComplement, IsCellAt, IsLatchAt, IsOutputAt, IsSideAt, Latch, Shape, Style, WithKeeper, WithPrecharge, dynamic_nets, gate_tree}
+use Rattle.domino_law.specs.Shape.{DominoCell, DynamicStage, HasComplement, IsCellAt, IsLatchAt, IsOutputAt, IsSideAt, Latch, Shape, dynamic_nets, gate_tree}
+use Rattle.domino_cell.specs.declared.style.Style.{Style}
+use Rattle.domino_cell.specs.declared.style.Style.TheVariants.{Keeper as WithKeeper, Precharge as WithPrecharge}
 
 -- a static gate of nets: the dual tree to the high supply and the tree to the low one; that of one net is an inverter
 abbrev pub static_branches : (Net → ℕ) → Tree Net → List Branch

@@ -13,7 +13,9 @@ use Rattle.sp_network.specs.Tree.{inner_count, tree_conduction, Tree}
 use Rattle.domino_cell.specs.Stage.{Inside, Spot, Top}
 use Rattle.port_runs.specs.Environment.{Capture, Captured, Evaluation, Launch, Launched, Pins, Place, Precharge, Released, Reset, bit}
 use Rattle.domino_law.specs.Nets.{At, Clock, Complement, Dynamic, Gate, Master, Net, Next, Output, DeckSignal, Sink, Slave, Vss, gate_net, own, CellSide, left_side}
-use Rattle.domino_law.specs.Shape.{DominoCell, HasComplement, IsCellAt, IsLatchAt, IsOutputAt, Latch, Shape, Style, WithKeeper, WithPrecharge, DynamicStage, IsSideAt, dynamic_nets, gate_tree, left_stage}
+use Rattle.domino_law.specs.Shape.{DominoCell, HasComplement, IsCellAt, IsLatchAt, IsOutputAt, Latch, Shape, DynamicStage, IsSideAt, dynamic_nets, gate_tree, left_stage}
+use Rattle.domino_cell.specs.declared.style.Style.{Style}
+use Rattle.domino_cell.specs.declared.style.Style.TheVariants.{Keeper as WithKeeper, Precharge as WithPrecharge}
 use Rattle.domino_law.specs.OwnRun.{own_bit}
 use Rattle.domino_law.specs.Places.{AfterFall, AreClocksAt, AreSourcesBy, ClockState}
 

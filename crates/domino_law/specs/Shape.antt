@@ -1,5 +1,6 @@
 -- What a loose domino deck consists of.
-pub use Rattle.domino_cell.specs.Style.{Style, WithKeeper, WithPrecharge}
+use Rattle.domino_cell.specs.declared.style.Style.{Style}
+use Rattle.domino_cell.specs.declared.style.Style.TheVariants.{Keeper as WithKeeper, Precharge as WithPrecharge}
 use Rattle.std.specs.Prelude.{Bool, Contains, List, Some, slice_get, ℕ, ◌+◌, ◌<◌, ◌≡◌, ◌⊎◌, None, Option}
 use Rattle.port_runs.specs.Environment.{Clocking, Overlapping}
 use Rattle.sp_network.specs.Tree.{EachLeaf, Tree, Leaf, Series}

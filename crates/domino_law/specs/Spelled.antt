@@ -13,7 +13,8 @@ use Rattle.domino_cell.specs.Spelling.{spell}
 use Rattle.switch_model.specs.LinksData.{LinksData}
 use Rattle.domino_law.specs.LooseDeck.{IsLooseDeck, IsNet, IsSourceNet}
 use Rattle.domino_law.specs.Nets.{At, CellSide, Clock, Complement, Dynamic, Gate, Lm, Lmb, Ls, Lsb, Master, Net, Next, Output, Part, Rs, Rsb, DeckSignal, Sink, Slave, Vdd, Vss, Right, gate_net, left_side, own, right_side}
-use Rattle.domino_law.specs.Shape.{DominoCell, DynamicStage, IsShape, Latch, Shape, Style, dynamic_nets, gate_tree, left_stage, side_of}
+use Rattle.domino_law.specs.Shape.{DominoCell, DynamicStage, IsShape, Latch, Shape, dynamic_nets, gate_tree, left_stage, side_of}
+use Rattle.domino_cell.specs.declared.style.Style.{Style}
 
 -- the nets of a side of a cell
 abbrev pub net_cell : CellSide → DynamicStage → CellNets Net

@@ -10,7 +10,8 @@ use Rattle.port_runs.specs.Environment.{Reset, Together, World, none_fallen}
 use Rattle.domino_law.specs.Nets.{At, Clock, Complement, Dynamic, FromDynamic, FromPin, Left, Lm, Lmb, Ls, Lsb, Master, Net, Next, Output, Pin, Plus, Right, Rs, Rsb, Side, Sink, Slave, Vdd, Vss}
 use Rattle.domino_law.specs.OwnRun.{outputs_of}
 use Rattle.domino_law.specs.Runs.{IsPower}
-use Rattle.domino_law.specs.Shape.{DominoCell, Shape, WithPrecharge}
+use Rattle.domino_law.specs.Shape.{DominoCell, Shape}
+use Rattle.domino_cell.specs.declared.style.Style.TheVariants.{Precharge as WithPrecharge}
 use Rattle.domino_law.specs.Spelled.{IsSpelledDeck}
 
 abbrev pub or_cell : DominoCell

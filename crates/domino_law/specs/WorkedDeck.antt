@@ -10,7 +10,8 @@ use Rattle.port_runs.specs.Environment.{Reset, Together, World, none_fallen}
 use Rattle.domino_law.specs.Nets.{At, Clock, Complement, Dynamic, FromDynamic, FromLatch, FromPin, Lm, Lmb, Ls, Lsb, Master, Minus, Net, Next, Output, Pin, Plus, Rs, Rsb, Sink, Slave, Vdd, Vss}
 use Rattle.domino_law.specs.OwnRun.{outputs_of, state_after}
 use Rattle.domino_law.specs.Runs.{IsPower}
-use Rattle.domino_law.specs.Shape.{DominoCell, Shape, WithPrecharge}
+use Rattle.domino_law.specs.Shape.{DominoCell, Shape}
+use Rattle.domino_cell.specs.declared.style.Style.TheVariants.{Precharge as WithPrecharge}
 use Rattle.domino_law.specs.Spelled.{IsSpelledDeck}
 
 -- the cell is the exclusive or of the pin and the state

@@ -9,7 +9,7 @@ ghost use Rattle.plan_law.specs.Laws.{
   SynthTextsAreThere,
   TextsAreThere,
 };
-ghost use Rattle.plan_law.specs.LeastDecks.{ChosenDecksAreLeast};
+ghost use Rattle.plan_law.specs.LeastDecks.{ChosenDecksAreLeast, SignedDecksHaveLeastCovers};
 ghost use Rattle.plan_law.specs.OneText.{ChosenDecksAreOne, SignedDecksAreOne, SynthTextsAreOne, TextsAreOne};
 
 /// A network has gates, gates have a forest under any signs, and the cells of trees that read only
@@ -44,8 +44,9 @@ pub fn files_have_texts()
     ensures { FilesHaveTexts }
 {}
 
-/// The signs of the deck that synthesis gives of a network are settled and need no more pairs than all plus; its cells are the trees
-/// of a plan of least cost, and have exactly as many devices as that plan costs.
+/// The cells of a deck of any signs and the chosen plan are the trees of a plan of least cost in its style, and have exactly as many
+/// devices as that plan costs; the chosen signs are settled and need no more pairs than all plus.
 pub fn chosen_decks_are_least()
-    ensures { ChosenDecksAreLeast }
+    ensures signed { SignedDecksHaveLeastCovers }
+    ensures chosen { ChosenDecksAreLeast }
 {}

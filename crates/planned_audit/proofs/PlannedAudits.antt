@@ -10,14 +10,14 @@ use Rattle.deck.specs.Nets.{IsCircuit}
 use Rattle.deck.specs.declared.role.Roles.{Roles}
 use Rattle.sp_network.specs.Tree.{Tree, height, width}
 use Rattle.sp_network.proofs.TreeImages.{height-map_tree, width-map_tree}
-use Rattle.domino_cell.specs.Style.{WithKeeper}
+use Rattle.domino_cell.specs.declared.style.Style.TheVariants.{Keeper as WithKeeper}
 use Rattle.switch_model.specs.LinksData.{links_of}
 use Rattle.domino_law.specs.DominoDeck.{IsLooseDominoDeck}
 use Rattle.domino_law.specs.Nets.{DeckSignal, Net}
 use Rattle.domino_law.specs.Shape.{Shape}
 use Rattle.clock_phase.specs.Levels.{clock_of, greatest}
 use Rattle.gate_decompose.proofs.NetworkOrder.{networks_are_ordered}
-use Rattle.deck_form.specs.AskedOptions.{deck_options}
+use Rattle.deck_form.specs.AskedOptions.{keeper_options}
 use Rattle.deck_form.specs.DeckNets.{CellPlan}
 use Rattle.deck_form.specs.NamedDecks.{IsNamedDeck}
 use Rattle.deck_form.proofs.DeckForms.{domino_decks_are_loose, planned_decks_are_domino}
@@ -103,4 +103,4 @@ planned_decks_get_yes network options deck is net_is some few ok c order r =
     with_numbers c (roles_of_planned network options.phases) order (length-map (zip is.trees is.levels) (plan options.phases is.levels) ∙ length_zip is.trees is.levels is.levels_are.one_each)
     (greatest_map (plan options.phases is.levels) (λ (c : CellPlan). width c.tree) (λ p. width p.0) (λ p. refl) (zip is.trees is.levels) ∙ greatest_zip width is.trees is.levels is.levels_are.one_each)
     (greatest_map (plan options.phases is.levels) (λ (c : CellPlan). height c.tree) (λ p. height p.0) (λ p. refl) (zip is.trees is.levels) ∙ greatest_zip height is.trees is.levels is.levels_are.one_each)
-    (named_decks_get_yes deck (domino_decks_are_loose network (deck_options options) deck (planned_decks_are_domino network (deck_options options) deck is (networks_are_ordered network net_is) some few)) ok c order r)
+    (named_decks_get_yes deck (domino_decks_are_loose network (keeper_options options) deck (planned_decks_are_domino network (keeper_options options) deck is (networks_are_ordered network net_is) some few)) ok c order r)

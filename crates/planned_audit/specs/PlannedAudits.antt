@@ -7,10 +7,10 @@ use Rattle.deck.specs.PortLayout.{first_output}
 use Rattle.deck.specs.declared.device.Device.{Device}
 use Rattle.deck.specs.declared.role.Roles.{Roles}
 use Rattle.sp_network.specs.Tree.{height, width}
-use Rattle.domino_cell.specs.Style.{WithKeeper}
+use Rattle.domino_cell.specs.declared.style.Style.TheVariants.{Keeper as WithKeeper}
 use Rattle.network.specs.NetworkData.{NetworkData}
 use Rattle.network.specs.Networks.{IsNetwork}
-use Rattle.deck_form.specs.AskedOptions.{deck_options}
+use Rattle.deck_form.specs.AskedOptions.{keeper_options}
 use Rattle.deck_form.specs.ChosenDecks.{IsPlannedDeck}
 use Rattle.deck_form.specs.DominoDecks.{outs_of, pins_of}
 use Rattle.deck_form.specs.NamedDecks.{IsNamedDeck}
@@ -47,7 +47,7 @@ roles_of_planned network phases = record { clocks = phases; pins = length (pins_
 
 abbrev pub PlannedDecksGetYes : Type 0
 PlannedDecksGetYes =
-    (network : NetworkData) (options : SynthOptions) (deck : CircuitData) (is : IsPlannedDeck network (deck_options options) deck)
+    (network : NetworkData) (options : SynthOptions) (deck : CircuitData) (is : IsPlannedDeck network (keeper_options options) deck)
     → IsNetwork network → 1 ≤ options.phases → options.phases ≤ 4 → IsCircuit deck.ports deck.nets deck.devices
     → (c : CircuitData) (order : List ℕ) → IsReordered (roles_of_planned network options.phases) deck c order
     → IsYes c (roles_of_planned network options.phases) order (length is.trees) (greatest_of width is.trees) (greatest_of height is.trees)

@@ -1,5 +1,5 @@
 -- The ports of a deck, and the nets that gate its cells.
-use Rattle.domino_cell.specs.Style.{WithKeeper}
+use Rattle.domino_cell.specs.declared.style.Style.{Style}
 use Rattle.std.proofs.Common.{◌≡◌, ℕ, ◌+◌, ◌-◌, ◌*◌, ◌/◌, ◌%◌, ◌≤◌, ◌<◌, ◌^◌, Bool, true, false, cond, List, [], ◌∷◌, ◌++◌, length, map, take, refl, sym, ap, ◌∙◌, subst, arith, Some, slice_get, append_assoc, nat_lt, zero-add, flat_map}
 use Rattle.std.specs.Prelude.{◌==◌, codes, slice_index_or}
 use Rattle.std.specs.Fmt.{decimal}
@@ -20,7 +20,7 @@ use Rattle.sp_network.specs.Tree.{Tree, Leaf, Series, Parallel, EachLeaf, map_tr
 use Rattle.sp_network.specs.TypedTree.{tree_of}
 use Rattle.sp_network.specs.declared.plan.GatePlan.{GatePlan}
 use Rattle.clock_phase.proofs.Greatest.{each_leaf_weaker}
-use Rattle.domino_cell.specs.Cell.{cell}
+use Rattle.domino_cell.specs.StyledCells.{styled_cell}
 use Rattle.domino_cell.specs.NamedTrees.{named_tree}
 use Rattle.domino_cell.specs.PushedNames.{IsPort, numbered_cell}
 use Rattle.synth_flow.specs.BareDecks.{cell_plan, gate_nets}
@@ -124,11 +124,11 @@ same_tree names pins lc (Series l r) h = λ i. Series (same_tree names pins lc l
 same_tree names pins lc (Parallel l r) h = λ i. Parallel (same_tree names pins lc l h.0 i) (same_tree names pins lc r h.1 i)
 
 -- the cells by the nets of their gates
-pub cells_are : (names pins : List (List ℕ)) (lc k : ℕ) (plans : List GatePlan) → AllByRecursion (λ (p : GatePlan). EachLeaf (λ gate. net_name names gate ≡ named_gate pins lc gate) (tree_of p.tree)) plans
-    → cells_from names k plans ≡ flat_map (named_cell WithKeeper pins lc) (enumerate_from k (map cell_plan plans))
-cells_are names pins lc k [] h = refl
-cells_are names pins lc k (p ∷ plans) h =
-    λ i. cell (numbered_cell p.clock k) (same_tree names pins lc (tree_of p.tree) h.0 i) ++ cells_are names pins lc (k + 1) plans h.1 i
+pub cells_are : (style : Style) (names pins : List (List ℕ)) (lc k : ℕ) (plans : List GatePlan) → AllByRecursion (λ (p : GatePlan). EachLeaf (λ gate. net_name names gate ≡ named_gate pins lc gate) (tree_of p.tree)) plans
+    → cells_from style names k plans ≡ flat_map (named_cell style pins lc) (enumerate_from k (map cell_plan plans))
+cells_are style names pins lc k [] h = refl
+cells_are style names pins lc k (p ∷ plans) h =
+    λ i. styled_cell style (numbered_cell p.clock k) (same_tree names pins lc (tree_of p.tree) h.0 i) ++ cells_are style names pins lc (k + 1) plans h.1 i
 
 -- the gates of plans have their nets
 pub gates_are : (pins : List (List ℕ)) (lc : ℕ) (plans : List GatePlan) → ((k : ℕ) (p : GatePlan) → slice_get plans k ≡ Some p → EachLeaf (λ gate. gate < 2 * lc + k) (tree_of p.tree))

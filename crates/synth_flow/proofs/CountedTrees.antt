@@ -1,7 +1,7 @@
 -- What is counted of the trees of a cover: of a tree by its parts, and of one cell after the other.
 use Rattle.std.specs.List.{range_with_len}
 use Rattle.std.specs.Prelude.{not}
-use Rattle.std.proofs.Common.{◌≡◌, ℕ, ◌+◌, ◌*◌, ◌≤◌, ◌<◌, ◌⊎◌, inl, inr, Bool, true, false, List, length, Some, slice_get, get_or, max, min, refl, sym, ap, subst, ◌∙◌, arith}
+use Rattle.std.proofs.Common.{◌≡◌, ℕ, ◌+◌, ◌*◌, ◌≤◌, ◌<◌, ◌⊎◌, inl, inr, Bool, true, false, List, length, Some, slice_get, get_or, max, refl, sym, ap, subst, ◌∙◌, arith}
 use Rattle.std.proofs.lemmas.List.FromFn.{length-range_with_len}
 use Rattle.std.proofs.lemmas.Option.{same_Some, slice_get-get_or}
 use Rattle.clock_phase.proofs.Greatest.{level_of_both}
@@ -11,7 +11,7 @@ use Rattle.dual_rail.specs.declared.forest.Arm.{Arm}
 use Rattle.dual_rail.specs.declared.forest.Arm.TheVariants.{Pair as pair_arm}
 use Rattle.dual_rail.specs.declared.forest.Pair.{Pair}
 use Rattle.dual_rail.specs.declared.forest.Pair.TheVariants.{And, Or}
-use Rattle.sp_network.specs.Tree.{Tree, Leaf, Series, Parallel, leaves}
+use Rattle.sp_network.specs.Tree.{Tree, Leaf, Series, Parallel}
 use Rattle.tree_map.specs.Plans.{IsArmTree, literal, cut, series, parallel, IsTreeOf, is_kept, roots}
 use Rattle.dual_rail.proofs.Zips.{all_zip_get}
 use Rattle.synth_flow.specs.CellCounts.{AreTreesOf, greatest_read}
@@ -44,12 +44,7 @@ module _ (forest : ForestData) (kept : List Bool) where
   tree_at_kept (series {place = q} {a = a} {b = b} c at l r) place e k = let here : q ≡ place = cc in (a, b, ap (slice_get forest.pairs) (sym here) ∙ at, l, r)
   tree_at_kept (parallel {place = q} {a = a} {b = b} c at l r) place e k = let here : q ≡ place = cc in (a, b, ap (slice_get forest.pairs) (sym here) ∙ at, l, r)
 
--- leaves, levels and marks of a tree by those of its parts
-pub both_leaves : (tree l r : Tree ℕ) (a b n : ℕ) → IsJoined tree l r → a ≡ min (leaves l) 4294967295 → b ≡ min (leaves r) 4294967295 → n ≡ min (a + b) 4294967295
-    → n ≡ min (leaves tree) 4294967295
-both_leaves tree l r a b n (inl is) x y z = omega (arith, ap leaves is, x, y, z)
-both_leaves tree l r a b n (inr is) x y z = omega (arith, ap leaves is, x, y, z)
-
+-- levels and marks of a tree by those of its parts
 pub both_levels : (leaf_count : ℕ) (levels : List ℕ) (tree l r : Tree ℕ) (a b n : ℕ) → IsJoined tree l r → a ≡ greatest_read leaf_count levels l → b ≡ greatest_read leaf_count levels r
     → n ≡ max a b → n ≡ greatest_read leaf_count levels tree
 both_levels leaf_count levels tree l r a b n (inl is) x y z = level_of_both leaf_count (λ cell. get_or levels cell 0) l r a b n x y z ∙ ap (greatest_read leaf_count levels) (sym is)

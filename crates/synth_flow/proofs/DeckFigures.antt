@@ -1,5 +1,5 @@
 -- The figures of a deck by its parts are those of the circuit.
-use Rattle.domino_cell.specs.Style.{WithKeeper}
+use Rattle.domino_cell.specs.declared.style.Style.{Style}
 use Rattle.std.proofs.Common.{◌≡◌, ℕ, ◌+◌, ◌*◌, ◌==◌, ◌||◌, Bool, List, [], ◌∷◌, ◌++◌, length, map, filter, zip, flat_map, refl, sym, ap, ap₂, ◌∙◌, arith, length-append}
 use Rattle.std.specs.List.{count_by, enumerate_from, list_any, range_with_len}
 use Rattle.std.specs.Prelude.{codes, cond, not}
@@ -26,7 +26,7 @@ use Rattle.network.specs.declared.network.NetLatch.{NetLatch}
 use Rattle.phase_assign.specs.Signs.{AreChosen}
 use Rattle.sp_network.specs.Tree.{Tree}
 use Rattle.tree_map.specs.LeastPlans.{IsChosenPlan}
-use Rattle.tree_map.specs.Plans.{cost}
+use Rattle.style_costs.specs.Styles.{cost_in}
 use Rattle.synth_flow.specs.CellCounts.{is_read_in}
 use Rattle.deck_form.specs.ChosenDecks.{IsChosenDeck, end_at_cell}
 use Rattle.deck_form.specs.DeckNets.{CellPlan, SinkEnd, named_cell, named_complement, named_sink, sink_nets}
@@ -40,7 +40,7 @@ use Rattle.synth_flow.specs.SummaryParts.{figures_by, levels_at_clock}
 use Rattle.deck_form.specs.declared.options.SynthOptions.{SynthOptions}
 use Rattle.deck_form.proofs.CellDevices.{cells_count, clocks_stay, trees_stay}
 use Rattle.synth_flow.proofs.LeafMarks.{filter_same}
-use Rattle.synth_flow.proofs.LoopItems.{count_with}
+use Rattle.domino_cell.proofs.CellCircuits.{count_with}
 
 -- parts of so many devices each
 parts_count : {X : Type 0} (part : X → List (NamedDevice (List ℕ))) (n : ℕ) → ((x : X) → length (part x) ≡ n) → (xs : List X) → length (flat_map part xs) ≡ n * length xs
@@ -51,7 +51,7 @@ latch_count : (p : ℕ × Bool) → length (named_latch p) ≡ 9
 latch_count (j, start) = refl
 
 -- the devices of a deck
-module _ (network : NetworkData) (phases : ℕ) (trees : List (Tree ℕ)) (levels : List ℕ) (signs : List Bool) (ends : List SinkEnd)
+module _ (style : Style) (network : NetworkData) (phases : ℕ) (trees : List (Tree ℕ)) (levels : List ℕ) (signs : List Bool) (ends : List SinkEnd)
     (one_level : length levels ≡ length trees) (one_end : length ends ≡ length network.outputs + length network.latches) where
   abbrev pins : List (List ℕ)
   pins = pins_of network
@@ -87,10 +87,10 @@ module _ (network : NetworkData) (phases : ℕ) (trees : List (Tree ℕ)) (level
   sinks_count : length (zip (sink_nets outs starts) ends) ≡ length network.outputs + length network.latches
   sinks_count = omega (arith, length-zip (sink_nets outs starts) ends, nets_count, one_end)
 
-  pub deck_count : length (deck_circuit WithKeeper network phases (cells_of phases levels trees) signs ends).devices
-      ≡ cost trees + 2 * length complements + 9 * length network.latches + 2 * (length network.outputs + length network.latches)
+  pub deck_count : length (deck_circuit style network phases (cells_of phases levels trees) signs ends).devices
+      ≡ cost_in style trees + 2 * length complements + 9 * length network.latches + 2 * (length network.outputs + length network.latches)
   deck_count =
-      let a = flat_map (named_cell WithKeeper pins lc) (enumerate_from 0 cells) in
+      let a = flat_map (named_cell style pins lc) (enumerate_from 0 cells) in
       let b = flat_map (named_complement pins) complements in
       let c = flat_map named_latch (enumerate_from 0 starts) in
       let d = flat_map (named_sink pins) (zip (sink_nets outs starts) ends) in
@@ -100,8 +100,8 @@ module _ (network : NetworkData) (phases : ℕ) (trees : List (Tree ℕ)) (level
         length-append (a ++ b ++ c) d,
         length-append (a ++ b) c,
         length-append a b,
-        cells_count pins lc 0 cells,
-        ap cost (trees_stay (clock_of phases (greatest levels)) trees levels one_level),
+        cells_count style pins lc 0 cells,
+        ap (cost_in style) (trees_stay (clock_of phases (greatest levels)) trees levels one_level),
         parts_count (named_complement pins) 2 (λ leaf. refl) complements,
         parts_count named_latch 9 latch_count (enumerate_from 0 starts),
         length-enumerate_from 0 starts,
@@ -120,7 +120,7 @@ ends_count network gates signs kept forest are is =
 pub devices_counted : DevicesAreCounted
 devices_counted network options circuit is =
     ap (λ (c : CircuitData). length c.devices) is.circuit_is
-    ∙ deck_count network options.phases is.trees is.levels is.signs (map (end_at_cell is.kept) is.forest.ends) is.levels_are.one_each
+    ∙ deck_count options.style network options.phases is.trees is.levels is.signs (map (end_at_cell is.kept) is.forest.ends) is.levels_are.one_each
     (ends_count network is.gates is.signs is.kept is.forest is.are_gates is.is_forest)
 
 -- the complements that are named
@@ -170,11 +170,11 @@ module _ (phases : ℕ) (trees : List (Tree ℕ)) (levels : List ℕ) (one_level
 pub figures_are : (network : NetworkData) (options : SynthOptions) (gates : GatesData) (signs : List Bool) (forest : ForestData) (kept : List Bool) (trees : List (Tree ℕ)) (levels named : List ℕ) (both : ℕ)
     → AreGatesOf network gates → AreChosen gates signs → IsForestOf gates signs forest → IsChosenPlan forest options.bounds.w options.bounds.h kept trees → AreLevels (leaf_count network) trees levels
     → named ≡ filter (λ leaf. is_read_in trees leaf || list_any (is_plus_end leaf) forest.ends) (range_with_len 0 (leaf_count network))
-    → both ≡ length (both_nodes forest.origin (length gates.nodes)) → IsSummaryOf network options (figures_by network options.phases signs forest levels (cost trees) named both)
+    → both ≡ length (both_nodes forest.origin (length gates.nodes)) → IsSummaryOf network options (figures_by network options.phases signs forest levels (cost_in options.style trees) named both)
 figures_are network options gates signs forest kept trees levels named both are chosen is plan levels_are named_are both_is = (circuit, deck, same)
   where
     circuit : CircuitData
-    circuit = deck_circuit WithKeeper network options.phases (cells_of options.phases levels trees) signs (map (end_at_cell kept) forest.ends)
+    circuit = deck_circuit options.style network options.phases (cells_of options.phases levels trees) signs (map (end_at_cell kept) forest.ends)
 
     deck : IsChosenDeck network (deck_options options) circuit
     deck = record {
@@ -192,14 +192,14 @@ figures_are network options gates signs forest kept trees levels named both are 
       circuit_is = refl;
     }
 
-    devices : cost trees + 2 * length named + 9 * length network.latches + 2 * (length network.outputs + length network.latches)
+    devices : cost_in options.style trees + 2 * length named + 9 * length network.latches + 2 * (length network.outputs + length network.latches)
         ≡ length circuit.devices
     devices =
-        ap (λ (l : List ℕ). cost trees + 2 * length l + 9 * length network.latches + 2 * (length network.outputs + length network.latches))
+        ap (λ (l : List ℕ). cost_in options.style trees + 2 * length l + 9 * length network.latches + 2 * (length network.outputs + length network.latches))
         (named_are ∙ complements_same options.phases trees levels levels_are.one_each network kept forest.ends)
         ∙ sym (devices_counted network options circuit deck)
 
-    same : figures_by network options.phases signs forest levels (cost trees) named both ≡ figures deck
+    same : figures_by network options.phases signs forest levels (cost_in options.style trees) named both ≡ figures deck
     same =
         let clock_list = clocks_same options.phases trees levels levels_are.one_each in
         λ i. record {
@@ -211,7 +211,7 @@ figures_are network options gates signs forest kept trees levels named both are 
           minus = count_by not signs;
           cells = levels_are.one_each i;
           levels = greatest levels;
-          cost = cost trees;
+          cost = cost_in options.style trees;
           devices = devices i;
           clocks = clock_list i;
         }

@@ -18,7 +18,8 @@ use Rattle.gate_decompose.specs.Items.{Among, Rises}
 use Rattle.sp_network.specs.Tree.{Tree, Leaf, Series, Parallel, EachLeaf, inner_count}
 use Rattle.sp_network.specs.TypedTree.{tree_of}
 use Rattle.sp_network.specs.declared.plan.GatePlan.{GatePlan}
-use Rattle.domino_cell.specs.Cell.{cell, dynamic_stage, inverter}
+use Rattle.domino_cell.specs.declared.style.Style.{Style}
+use Rattle.domino_cell.specs.StyledCells.{styled_cell}
 use Rattle.domino_cell.specs.NamedTrees.{named_tree}
 use Rattle.domino_cell.specs.PushedNames.{numbered_cell}
 use Rattle.domino_cell.specs.Spelling.{spell}
@@ -26,7 +27,7 @@ use Rattle.domino_cell.proofs.NamedCells.{is_source-inside}
 use Rattle.latch_bind.specs.Latches.{named_latch}
 use Rattle.synth_flow.specs.MadeDecks.{EndsApart, cells_from, inverters, latches_from}
 use Rattle.deck_form.specs.NameParts.{number_of}
-use Rattle.synth_flow.proofs.CellNets.{tree_names}
+use Rattle.synth_flow.proofs.CellNets.{cell_cards, tree_names}
 use Rattle.deck_form.proofs.NameParts.{HasNames, bare_number_is, none_named}
 
 -- a property of the two ends of a device
@@ -55,9 +56,9 @@ pub record HoldsOfCells (P : List ℕ → Type 0) : Type 0 where
   pub z : (rest : List ℕ) → P (122 ∷ rest)
   pub v : (rest : List ℕ) → P (118 ∷ rest)
 
-pub cells_end : (P : List ℕ → Type 0) → HoldsOfCells P → (names : List (List ℕ)) (k : ℕ) (plans : List GatePlan) → AllByRecursion (HasEnds P) (cells_from names k plans)
-cells_end P h names k [] = tt
-cells_end P h names k (p ∷ plans) =
+pub cells_end : (P : List ℕ → Type 0) → HoldsOfCells P → (style : Style) (names : List (List ℕ)) (k : ℕ) (plans : List GatePlan) → AllByRecursion (HasEnds P) (cells_from style names k plans)
+cells_end P h style names k [] = tt
+cells_end P h style names k (p ∷ plans) =
     let nets = numbered_cell p.clock k in
     let tree = named_tree names (tree_of p.tree) in
     let d : P nets.dynamic = h.d (decimal k) in
@@ -65,19 +66,17 @@ cells_end P h names k (p ∷ plans) =
     let z : P nets.output = h.z (decimal k) in
     let vdd : P nets.vdd = h.v (100 ∷ 100 ∷ []) in
     let vss : P nets.vss = h.v (115 ∷ 115 ∷ []) in
-    let foot : NamedDevice (List ℕ) = record { kind = nch; drain = nets.foot; gate = nets.clock; source = nets.vss } in
-    let spelled = spell nch nets.inner tree nets.dynamic nets.foot 0 in
-    let of_tree = tree_ends P nch nets.inner tree nets.dynamic nets.foot 0 d f (λ j. h.t (decimal k ++ codes "_" ++ decimal j)) in
-    let stage = AllByRecursion-append (HasEnds P) spelled (foot ∷ []) of_tree ((f, vss), tt) in
-    AllByRecursion-append (HasEnds P) (cell nets tree) (cells_from names (k + 1) plans)
-    (AllByRecursion-append (HasEnds P) (dynamic_stage nets tree) (inverter nets.vdd nets.vss nets.dynamic nets.output) ((d, vdd), ((d, vdd), stage)) ((z, vdd), ((z, vss), tt)))
-    (cells_end P h names (k + 1) plans)
+    let inner : (j : ℕ) → P (nets.inner j) = λ j. h.t (decimal k ++ codes "_" ++ decimal j) in
+    let of_tree = tree_ends P nch nets.inner tree nets.dynamic nets.foot 0 d f inner in
+    AllByRecursion-append (HasEnds P) (styled_cell style nets tree) (cells_from style names (k + 1) plans)
+    (cell_cards (HasEnds P) style nets tree (d, vdd) (d, vdd) (λ j. (inner j, vdd)) of_tree (f, vss) ((z, vdd), ((z, vss), tt)))
+    (cells_end P h style names (k + 1) plans)
 
 -- and of all their names, where it also holds of the nets of clocks and of gates
-pub cells_named : (P : List ℕ → Type 0) → HoldsOfCells P → ((rest : List ℕ) → P (codes "ck" ++ rest)) → (names : List (List ℕ)) (k : ℕ) (plans : List GatePlan)
-    → AllByRecursion (λ (p : GatePlan). EachLeaf P (named_tree names (tree_of p.tree))) plans → AllByRecursion (HasNames P) (cells_from names k plans)
-cells_named P h ck names k [] all = tt
-cells_named P h ck names k (p ∷ plans) all =
+pub cells_named : (P : List ℕ → Type 0) → HoldsOfCells P → ((rest : List ℕ) → P (codes "ck" ++ rest)) → (style : Style) (names : List (List ℕ)) (k : ℕ) (plans : List GatePlan)
+    → AllByRecursion (λ (p : GatePlan). EachLeaf P (named_tree names (tree_of p.tree))) plans → AllByRecursion (HasNames P) (cells_from style names k plans)
+cells_named P h ck style names k [] all = tt
+cells_named P h ck style names k (p ∷ plans) all =
     let nets = numbered_cell p.clock k in
     let tree = named_tree names (tree_of p.tree) in
     let d : P nets.dynamic = h.d (decimal k) in
@@ -86,13 +85,11 @@ cells_named P h ck names k (p ∷ plans) all =
     let clock : P nets.clock = ck (decimal p.clock) in
     let vdd : P nets.vdd = h.v (100 ∷ 100 ∷ []) in
     let vss : P nets.vss = h.v (115 ∷ 115 ∷ []) in
-    let foot : NamedDevice (List ℕ) = record { kind = nch; drain = nets.foot; gate = nets.clock; source = nets.vss } in
-    let spelled = spell nch nets.inner tree nets.dynamic nets.foot 0 in
-    let of_tree = tree_names P nch nets.inner tree nets.dynamic nets.foot 0 d f (λ j. h.t (decimal k ++ codes "_" ++ decimal j)) all.0 in
-    let stage = AllByRecursion-append (HasNames P) spelled (foot ∷ []) of_tree ((f, clock, vss), tt) in
-    AllByRecursion-append (HasNames P) (cell nets tree) (cells_from names (k + 1) plans)
-    (AllByRecursion-append (HasNames P) (dynamic_stage nets tree) (inverter nets.vdd nets.vss nets.dynamic nets.output) ((d, clock, vdd), ((d, z, vdd), stage)) ((z, d, vdd), ((z, d, vss), tt)))
-    (cells_named P h ck names (k + 1) plans all.1)
+    let inner : (j : ℕ) → P (nets.inner j) = λ j. h.t (decimal k ++ codes "_" ++ decimal j) in
+    let of_tree = tree_names P nch nets.inner tree nets.dynamic nets.foot 0 d f inner all.0 in
+    AllByRecursion-append (HasNames P) (styled_cell style nets tree) (cells_from style names (k + 1) plans)
+    (cell_cards (HasNames P) style nets tree (d, clock, vdd) (d, z, vdd) (λ j. (inner j, clock, vdd)) of_tree (f, clock, vss) ((z, d, vdd), ((z, d, vss), tt)))
+    (cells_named P h ck style names (k + 1) plans all.1)
 
 -- inverters end at their outputs and the supplies, and name their gates
 pub inverters_end : (P : List ℕ → Type 0) → ((rest : List ℕ) → P (118 ∷ rest)) → (gates outs : List (List ℕ)) → AllByRecursion P outs → AllByRecursion (HasEnds P) (inverters gates outs)

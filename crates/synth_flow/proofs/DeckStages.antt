@@ -25,6 +25,7 @@ use Rattle.std.proofs.lemmas.Option.{slice_get_within}
 use Rattle.clock_phase.proofs.Greatest.{each_leaf_weaker}
 use Rattle.synth_flow.specs.BareDecks.{gate_nets}
 use Rattle.deck_form.specs.DeckNets.{complement_net, data_net, named_gate, own_net}
+use Rattle.domino_cell.specs.declared.style.Style.{Style}
 use Rattle.synth_flow.specs.MadeDecks.{EndsApart, HasRoomForInverters, IsBeforeLatch, cells_from, inverters, latches_from}
 use Rattle.deck_form.specs.NameParts.{leading_letter, rest_of}
 use Rattle.synth_flow.proofs.BareDecks.{gate_has, gate_net, own_has, is_port, outs_have, pins_have, ports_have}
@@ -96,11 +97,11 @@ module _ (name : List ℕ) (phases : List Phase) (clocks : ℕ) (pins outs : Lis
   is_complement n small no_such = no_such refl (bare_rest_is 99 n small)
 
   -- the complements of rising leaves find room behind any cells
-  pub room_for_complements : (names : List (List ℕ)) (plans : List GatePlan) (c : CircuitData) (leaves : List ℕ) → c ≡ with_devices bare (cells_from names 0 plans)
+  pub room_for_complements : (style : Style) (names : List (List ℕ)) (plans : List GatePlan) (c : CircuitData) (leaves : List ℕ) → c ≡ with_devices bare (cells_from style names 0 plans)
       → Rises (λ x y. x < y) leaves → AllByRecursion (λ n. n < 2 ^ 64) leaves → HasRoomForInverters c (map complement_net leaves)
-  room_for_complements names plans c leaves is rises small = record {
+  room_for_complements style names plans c leaves is rises small = record {
     bare = bare;
-    named = cells_from names 0 plans;
+    named = cells_from style names 0 plans;
     circuit_is = is;
     empty = refl;
     bare_is = bare_is;
@@ -110,11 +111,11 @@ module _ (name : List ℕ) (phases : List Phase) (clocks : ℕ) (pins outs : Lis
         (AllByRecursion-map (λ out. is_source bare (net_number bare.nets out) ≡ false) complement_net leaves
         (AllByRecursion-weaker (λ n. n < 2 ^ 64) (λ n. is_source bare (net_number bare.nets (complement_net n)) ≡ false)
         (λ n low. new_no_source bare IsNoComplement (complement_net n) (omega arith) (is_complement n low) plain_ports) leaves small));
-    none_ends = All-from_recursion (λ out. All (EndsApart out) (cells_from names 0 plans)) (map complement_net leaves)
-        (AllByRecursion-map (λ out. All (EndsApart out) (cells_from names 0 plans)) complement_net leaves
-        (AllByRecursion-weaker (λ n. n < 2 ^ 64) (λ n. All (EndsApart (complement_net n)) (cells_from names 0 plans))
-        (λ n low. All-from_recursion (EndsApart (complement_net n)) (cells_from names 0 plans)
-        (ends_apart IsNoComplement (complement_net n) (is_complement n low) (cells_from names 0 plans) (cells_end IsNoComplement plain_cells names 0 plans))) leaves small));
+    none_ends = All-from_recursion (λ out. All (EndsApart out) (cells_from style names 0 plans)) (map complement_net leaves)
+        (AllByRecursion-map (λ out. All (EndsApart out) (cells_from style names 0 plans)) complement_net leaves
+        (AllByRecursion-weaker (λ n. n < 2 ^ 64) (λ n. All (EndsApart (complement_net n)) (cells_from style names 0 plans))
+        (λ n low. All-from_recursion (EndsApart (complement_net n)) (cells_from style names 0 plans)
+        (ends_apart IsNoComplement (complement_net n) (is_complement n low) (cells_from style names 0 plans) (cells_end IsNoComplement plain_cells style names 0 plans))) leaves small));
     apart = numbered_apart 99 leaves rises small;
   }
 
@@ -145,14 +146,14 @@ module _ (name : List ℕ) (phases : List Phase) (clocks : ℕ) (pins outs : Lis
       r : (rest : List ℕ) → IsBeforeLatch 0 (114 ∷ rest)
       r rest = other 0 114 rest (λ e. omega (arith, e)) (λ e. omega (arith, e))
 
-  pub latches_are_new : (names : List (List ℕ)) (plans : List GatePlan) (gates opposite : List (List ℕ)) (c : CircuitData)
-      → c ≡ with_devices (with_devices bare (cells_from names 0 plans)) (inverters gates opposite)
+  pub latches_are_new : (style : Style) (names : List (List ℕ)) (plans : List GatePlan) (gates opposite : List (List ℕ)) (c : CircuitData)
+      → c ≡ with_devices (with_devices bare (cells_from style names 0 plans)) (inverters gates opposite)
       → AllByRecursion (λ (p : GatePlan). EachLeaf (IsBeforeLatch 0) (named_tree names (tree_of p.tree))) plans
       → AllByRecursion (IsBeforeLatch 0) gates → AllByRecursion (IsBeforeLatch 0) opposite → All (IsBeforeLatch 0) c.nets
-  latches_are_new names plans gates opposite c is trees gates_are opposite_are =
-      let cells = cells_from names 0 plans in
+  latches_are_new style names plans gates opposite c is trees gates_are opposite_are =
+      let cells = cells_from style names 0 plans in
       let ck : (rest : List ℕ) → IsBeforeLatch 0 (codes "ck" ++ rest) = λ rest. other 0 99 (107 ∷ rest) (λ e. omega (arith, e)) (λ e. omega (arith, e)) in
-      let first = all_nets (IsBeforeLatch 0) bare cells latch_ports_are (cells_named (IsBeforeLatch 0) latch_cells ck names 0 plans trees) in
+      let first = all_nets (IsBeforeLatch 0) bare cells latch_ports_are (cells_named (IsBeforeLatch 0) latch_cells ck style names 0 plans trees) in
       let second = all_nets (IsBeforeLatch 0) (with_devices bare cells) (inverters gates opposite) first (inverters_named (IsBeforeLatch 0) latch_cells.v gates opposite gates_are opposite_are) in
       subst (λ (d : CircuitData). All (IsBeforeLatch 0) d.nets) (sym is)
       (All-from_recursion (IsBeforeLatch 0) (with_devices (with_devices bare cells) (inverters gates opposite)).nets second)
@@ -209,18 +210,18 @@ module _ (name : List ℕ) (phases : List Phase) (clocks : ℕ) (pins outs : Lis
       (AllByRecursion-map P data_net (range_with_len 0 count) (AllByRecursion-every (λ j. P (data_net j)) data_has (range_with_len 0 count))))
 
   -- the sinks find room behind cells, complements and latches
-  pub room_for_sinks : (names : List (List ℕ)) (plans : List GatePlan) (gates : List (List ℕ)) (leaves : List ℕ) (starts : List Bool) (count : ℕ) (c : CircuitData)
-      → c ≡ with_devices (with_devices (with_devices bare (cells_from names 0 plans)) (inverters gates (map complement_net leaves))) (latches_from 0 starts)
+  pub room_for_sinks : (style : Style) (names : List (List ℕ)) (plans : List GatePlan) (gates : List (List ℕ)) (leaves : List ℕ) (starts : List Bool) (count : ℕ) (c : CircuitData)
+      → c ≡ with_devices (with_devices (with_devices bare (cells_from style names 0 plans)) (inverters gates (map complement_net leaves))) (latches_from 0 starts)
       → count < 2 ^ 64 → IsDistinct (pointwise nat_eq) outs → HasRoomForInverters c (sinks_of count)
-  room_for_sinks names plans gates leaves starts count c is few apart =
-      let cells = cells_from names 0 plans in
+  room_for_sinks style names plans gates leaves starts count c is few apart =
+      let cells = cells_from style names 0 plans in
       let opposite = inverters gates (map complement_net leaves) in
       let latches = latches_from 0 starts in
       let complements_are : AllByRecursion IsNoSink (map complement_net leaves)
       = AllByRecursion-map IsNoSink complement_net leaves (AllByRecursion-every (λ n. IsNoSink (complement_net n)) (λ n. ((λ e. omega (arith, e)), (λ e. omega (arith, e)))) leaves) in
       let all : AllByRecursion (HasEnds IsNoSink) (cells ++ opposite ++ latches)
       = AllByRecursion-append (HasEnds IsNoSink) (cells ++ opposite) latches
-      (AllByRecursion-append (HasEnds IsNoSink) cells opposite (cells_end IsNoSink sink_cells names 0 plans) (inverters_end IsNoSink sink_cells.v gates (map complement_net leaves) complements_are))
+      (AllByRecursion-append (HasEnds IsNoSink) cells opposite (cells_end IsNoSink sink_cells style names 0 plans) (inverters_end IsNoSink sink_cells.v gates (map complement_net leaves) complements_are))
       (latches_end IsNoSink (λ rest. ((λ e. omega (arith, e)), (λ e. omega (arith, e)))) (λ rest. ((λ e. omega (arith, e)), (λ e. omega (arith, e)))) sink_cells.v 0 starts) in
       record {
         bare = bare;

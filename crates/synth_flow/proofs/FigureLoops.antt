@@ -6,32 +6,33 @@ use Rattle.std.proofs.lemmas.List.{take_more, length-take, take-map}
 use Rattle.std.proofs.lemmas.List.Sums.{sum_by-cons}
 use Rattle.std.proofs.lemmas.Option.{slice_get-map}
 use Rattle.dom_base.proofs.Lists.{enumerate_from-push}
-use Rattle.sp_network.specs.Tree.{Tree, leaves}
+use Rattle.domino_cell.specs.declared.style.Style.{Style}
+use Rattle.sp_network.specs.Tree.{Tree}
 use Rattle.sp_network.specs.TypedTree.{tree_of}
 use Rattle.sp_network.specs.declared.plan.GatePlan.{GatePlan}
 use Rattle.tree_map.specs.MappedCover.{plan_trees}
-use Rattle.tree_map.specs.Plans.{cost, tree_cost}
+use Rattle.tree_map.specs.Plans.{tree_cost_by}
+use Rattle.style_costs.specs.Styles.{cost_in, costs_of}
 use Rattle.synth_flow.specs.SummaryLines.{clock_line}
 
--- what the first trees cost and one more, and that it is within the cost of all
-pub cost_next : (trees : List (Tree ℕ)) (i : ℕ) (tree : Tree ℕ) → slice_get trees i ≡ Some tree → cost (take (i + 1) trees) ≡ cost (take i trees) + (leaves tree + 5)
-cost_next [] i tree e = absurd cc
-cost_next (x ∷ trees) zero tree e = let same : x ≡ tree = cc in omega (arith, sum_by-cons tree_cost x [], ap leaves same)
-cost_next (x ∷ trees) (suc i) tree e =
-    let same : suc i + 1 ≡ suc (i + 1) = omega arith in
-    rw same (omega (arith, sum_by-cons tree_cost x (take (i + 1) trees), sum_by-cons tree_cost x (take i trees), cost_next trees i tree e))
-
-pub cost_within : (trees : List (Tree ℕ)) (i : ℕ) (tree : Tree ℕ) → slice_get trees i ≡ Some tree → cost (take i trees) + (leaves tree + 5) ≤ cost trees
-cost_within [] i tree e = absurd cc
-cost_within (x ∷ trees) zero tree e = let same : x ≡ tree = cc in omega (arith, sum_by-cons tree_cost x trees, ap leaves same)
-cost_within (x ∷ trees) (suc i) tree e =
-    omega (arith, sum_by-cons tree_cost x (take i trees), sum_by-cons tree_cost x trees, cost_within trees i tree e)
+-- what the first trees cost and one more is within the cost of all
+cost_within : (style : Style) (trees : List (Tree ℕ)) (i : ℕ) (tree : Tree ℕ) → slice_get trees i ≡ Some tree
+    → cost_in style (take i trees) + tree_cost_by (costs_of style) tree ≤ cost_in style trees
+cost_within style [] i tree e = absurd cc
+cost_within style (x ∷ trees) zero tree e =
+    let same : x ≡ tree = cc in
+    omega (arith, sum_by-cons (tree_cost_by (costs_of style)) x trees, ap (tree_cost_by (costs_of style)) same)
+cost_within style (x ∷ trees) (suc i) tree e =
+    let f = tree_cost_by (costs_of style) in
+    omega (arith, sum_by-cons f x (take i trees), sum_by-cons f x trees, cost_within style trees i tree e)
 
 -- so for plans
-pub cost_room : (plans : List GatePlan) (i : ℕ) (p : GatePlan) → slice_get plans i ≡ Some p → cost (plan_trees (take i plans)) + (leaves (tree_of p.tree) + 5) ≤ cost (plan_trees plans)
-cost_room plans i p e =
-    subst (λ (l : List (Tree ℕ)). cost l + (leaves (tree_of p.tree) + 5) ≤ cost (plan_trees plans)) (take-map (λ (q : GatePlan). tree_of q.tree) i plans)
-    (cost_within (plan_trees plans) i (tree_of p.tree) (slice_get-map (λ (q : GatePlan). tree_of q.tree) plans i ∙ ap (option_map (λ (q : GatePlan). tree_of q.tree)) e))
+pub cost_room : (style : Style) (plans : List GatePlan) (i : ℕ) (p : GatePlan) → slice_get plans i ≡ Some p
+    → cost_in style (plan_trees (take i plans)) + tree_cost_by (costs_of style) (tree_of p.tree) ≤ cost_in style (plan_trees plans)
+cost_room style plans i p e =
+    subst (λ (l : List (Tree ℕ)). cost_in style l + tree_cost_by (costs_of style) (tree_of p.tree) ≤ cost_in style (plan_trees plans))
+    (take-map (λ (q : GatePlan). tree_of q.tree) i plans)
+    (cost_within style (plan_trees plans) i (tree_of p.tree) (slice_get-map (λ (q : GatePlan). tree_of q.tree) plans i ∙ ap (option_map (λ (q : GatePlan). tree_of q.tree)) e))
 
 -- the lines of the clocks and one more
 pub clock_lines_next : (cells : List ℕ) (k : ℕ) → k < length cells

@@ -17,11 +17,11 @@ use Rattle.deck.proofs.NetNumbers.{HasNumber-below, number_cases, same_number}
 use Rattle.domino_cell.specs.Cell.{inverter}
 use Rattle.domino_cell.specs.PushedNames.{IsPort}
 use Rattle.domino_cell.proofs.AppendedNets.{behind_no_source, new_behind, old_source, port_below, port_is_source}
-use Rattle.domino_cell.proofs.CellCircuits.{with_devices-append}
 use Rattle.latch_bind.specs.Sinks.{HasRoomForSink, sink_inverter}
 use Rattle.latch_bind.proofs.LatchParts.{two_parts}
 use Rattle.synth_flow.specs.MadeDecks.{EndsApart, HasRoomForInverters, inverters}
-use Rattle.synth_flow.proofs.LoopItems.{count_with, item_at}
+use Rattle.domino_cell.proofs.CellCircuits.{count_with, with_devices-append}
+use Rattle.synth_flow.proofs.LoopItems.{item_at}
 
 -- the devices of a circuit that end elsewhere by name end elsewhere by number
 away : (nets : List (List ℕ)) (out : List ℕ) (ds : List (NamedDevice (List ℕ))) → AllByRecursion (IsNumberedDevice nets) ds → AllByRecursion (EndsApart out) ds

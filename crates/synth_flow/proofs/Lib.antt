@@ -12,6 +12,7 @@ pub mod LoopItems
 pub mod MadeAsNamed
 pub mod MadeCircuits
 pub mod NetworkDecks
+pub mod PlanCosts
 pub mod PortNets
 pub mod PushedDecks
 pub mod SinkLists

@@ -1,5 +1,5 @@
 -- The devices of a deck as the code makes them are its named devices.
-use Rattle.domino_cell.specs.Style.{WithKeeper}
+use Rattle.domino_cell.specs.declared.style.Style.{Style}
 use Rattle.std.proofs.Common.{◌≡◌, ℕ, ◌+◌, ◌*◌, ◌<◌, ◌||◌, Bool, List, [], ◌∷◌, ◌++◌, length, map, zip, filter, refl, sym, ap, ap₂, ◌∙◌, Some, slice_get, flat_map}
 use Rattle.std.specs.List.{list_any, range_with_len, enumerate_from}
 use Rattle.dom_base.proofs.Lists.{list_any-map}
@@ -33,15 +33,15 @@ data_rows j [] = refl
 data_rows j (s ∷ starts) = ap (λ l. data_net j ∷ l) (data_rows (j + 1) starts)
 
 -- the devices of the deck
-pub made_named : (pins outs : List (List ℕ)) (starts : List Bool) (plans : List GatePlan) (ends : List End) (cells : List ℕ)
+pub made_named : (style : Style) (pins outs : List (List ℕ)) (starts : List Bool) (plans : List GatePlan) (ends : List End) (cells : List ℕ)
     → ((k : ℕ) (p : GatePlan) → slice_get plans k ≡ Some p → EachLeaf (λ gate. gate < 2 * (length pins + length starts) + k) (tree_of p.tree))
-    → made_devices pins (outs ++ map data_net (range_with_len 0 (length starts))) starts plans ends cells
-    ≡ named_devices WithKeeper pins outs starts (map cell_plan plans) (named_leaves plans ends (length pins + length starts)) (map (end_in cells) ends)
-made_named pins outs starts plans ends cells earlier =
+    → made_devices style pins (outs ++ map data_net (range_with_len 0 (length starts))) starts plans ends cells
+    ≡ named_devices style pins outs starts (map cell_plan plans) (named_leaves plans ends (length pins + length starts)) (map (end_in cells) ends)
+made_named style pins outs starts plans ends cells earlier =
     let lc : ℕ = length pins + length starts in
     let leaves = named_leaves plans ends lc in
     let nets = outs ++ map data_net (range_with_len 0 (length starts)) in
-    let first = cells_are (gate_nets pins lc (2 * lc + length plans)) pins lc 0 plans (gates_are pins lc plans earlier) in
+    let first = cells_are style (gate_nets pins lc (2 * lc + length plans)) pins lc 0 plans (gates_are pins lc plans earlier) in
     let second = complements_are pins leaves in
     let last = sinks_are pins nets (map (end_in cells) ends) ∙ ap (λ l. flat_map (named_sink pins) (zip (outs ++ l) (map (end_in cells) ends))) (data_rows 0 starts) in
     λ i. first i ++ second i ++ latches_from 0 starts ++ last i

@@ -1,5 +1,5 @@
 -- The circuit that the code makes of a network is its deck.
-use Rattle.domino_cell.specs.Style.{WithKeeper}
+use Rattle.domino_cell.specs.declared.style.Style.{Style}
 use Rattle.std.proofs.Common.{◌≡◌, ℕ, ◌+◌, ◌*◌, ◌<◌, Bool, List, [], ◌∷◌, ◌++◌, length, map, zip, filter, refl, sym, ap, ap₂, ◌∙◌, subst, arith, Some, slice_get, All}
 use Rattle.std.specs.Prelude.{codes, slice_index_or}
 use Rattle.std.specs.List.{AllByRecursion, range_with_len}
@@ -59,12 +59,12 @@ ends_same kept (e ∷ ends) low = ap₂ (λ a l. a ∷ l) (one e low.0) (ends_sa
     one (FromOutput place) h = ap OfOutput (number place h)
 
 -- the circuit is the deck of these trees, levels, signs and ends
-pub made_is_deck : (network : NetworkData) (phases : ℕ) (signs : List Bool) (plans : List GatePlan) (levels : List ℕ) (ends : List End) (kept : List Bool)
+pub made_is_deck : (style : Style) (network : NetworkData) (phases : ℕ) (signs : List Bool) (plans : List GatePlan) (levels : List ℕ) (ends : List End) (kept : List Bool)
     → map (λ (p : GatePlan). p.clock) plans ≡ map (clock_of phases (greatest levels)) levels → All (IsEndThere (length kept)) ends
     → ((k : ℕ) (p : GatePlan) → slice_get plans k ≡ Some p → EachLeaf (λ gate. gate < 2 * leaf_count network + k) (tree_of p.tree))
-    → made_deck network phases signs plans ends (map (cell_of kept) (range_with_len 0 (length kept)))
-    ≡ deck_circuit WithKeeper network phases (cells_of phases levels (plan_trees plans)) signs (map (end_at_cell kept) ends)
-made_is_deck network phases signs plans levels ends kept clocks low earlier =
+    → made_deck style network phases signs plans ends (map (cell_of kept) (range_with_len 0 (length kept)))
+    ≡ deck_circuit style network phases (cells_of phases levels (plan_trees plans)) signs (map (end_at_cell kept) ends)
+made_is_deck style network phases signs plans levels ends kept clocks low earlier =
     let pins = pins_of network in
     let outs = outs_of network in
     let starts = starts_of network in
@@ -75,15 +75,15 @@ made_is_deck network phases signs plans levels ends kept clocks low earlier =
     let sinks : sinks_of network ≡ outs ++ map data_net (range_with_len 0 (length starts)) = ap (λ n. outs ++ map data_net (range_with_len 0 n)) (sym count) in
     let nets : sinks_of network ≡ sink_nets outs starts = sinks ∙ ap (λ l. outs ++ l) (data_rows 0 starts) in
     let reads = subst (λ n. (k : ℕ) (p : GatePlan) → slice_get plans k ≡ Some p → EachLeaf (λ gate. gate < 2 * n + k) (tree_of p.tree)) (sym lc) earlier in
-    let named = made_named pins outs starts plans ends numbers reads in
+    let named = made_named style pins outs starts plans ends numbers reads in
     let leaves : named_leaves plans ends (length pins + length starts) ≡ filter (names_complement (map cell_plan plans) (map (end_in numbers) ends)) (range_with_len 0 (leaf_count network))
     = ap (named_leaves plans ends) lc ∙ leaves_named plans ends numbers (leaf_count network) in
     let cells : map cell_plan plans ≡ cells_of phases levels (plan_trees plans) = cells_same (clock_of phases (greatest levels)) plans levels clocks in
     let taken = ends_same kept ends (recursion_from_All (IsEndThere (length kept)) ends low) in
-    (λ i. with_devices (new_circuit (escaped network.name) (map phase_of_sink (zip (nets i) signs)) phases pins outs) (made_devices pins (sinks i) starts plans ends numbers))
+    (λ i. with_devices (new_circuit (escaped network.name) (map phase_of_sink (zip (nets i) signs)) phases pins outs) (made_devices style pins (sinks i) starts plans ends numbers))
     ∙ (λ i. with_devices (new_circuit (escaped network.name) (phases_of_sinks network signs) phases pins outs) (named i))
-    ∙ (λ i. with_devices (new_circuit (escaped network.name) (phases_of_sinks network signs) phases pins outs) (named_devices WithKeeper pins outs starts (map cell_plan plans) (leaves i) (map (end_in numbers) ends)))
+    ∙ (λ i. with_devices (new_circuit (escaped network.name) (phases_of_sinks network signs) phases pins outs) (named_devices style pins outs starts (map cell_plan plans) (leaves i) (map (end_in numbers) ends)))
     ∙ (λ i. with_devices (new_circuit (escaped network.name) (phases_of_sinks network signs) phases pins outs)
-    (named_devices WithKeeper pins outs starts (cells i) (filter (names_complement (cells i) (taken i)) (range_with_len 0 (leaf_count network))) (taken i)))
+    (named_devices style pins outs starts (cells i) (filter (names_complement (cells i) (taken i)) (range_with_len 0 (leaf_count network))) (taken i)))
 
 pub ruleset made_circuits = (made_is_deck)

@@ -14,6 +14,7 @@ use Rattle.dual_rail.specs.declared.forest.End.{End}
 use Rattle.gate_decompose.specs.Items.{Among}
 use Rattle.sp_network.specs.declared.plan.GatePlan.{GatePlan}
 use Rattle.latch_bind.proofs.LatchParts.{two_parts}
+use Rattle.domino_cell.specs.declared.style.Style.{Style}
 use Rattle.synth_flow.specs.BareDecks.{ArePlans, IsBareDeck, gate_nets, made_devices, named_leaves}
 use Rattle.deck_form.specs.DeckNets.{complement_net, own_net, sink_gate}
 use Rattle.synth_flow.specs.MadeDecks.{HasRoomForInverters, IsBeforeLatch, cells_from, inverters, latches_from}
@@ -24,7 +25,7 @@ use Rattle.deck_form.proofs.DeckForms.{rises_in_range}
 use Rattle.synth_flow.proofs.DeckStages.{complements_before, gates_before, latches_are_new, own_are_before, room_for_complements, room_for_sinks}
 use Rattle.synth_flow.proofs.InverterRows.{inverters_length}
 use Rattle.synth_flow.proofs.LatchNets.{latches_length}
-use Rattle.synth_flow.proofs.LoopItems.{count_with}
+use Rattle.domino_cell.proofs.CellCircuits.{count_with}
 
 each_among : (P : ℕ → Type 0) (ns : List ℕ) → ((n : ℕ) → Among n ns → P n) → AllByRecursion P ns
 each_among P [] h = tt
@@ -38,8 +39,8 @@ few_filtered test (n ∷ ns) = by (test n) (few_filtered test ns)
     by true h = omega (arith, h)
     by false h = omega (arith, h)
 
-module _ (old : CircuitData) (pins sinks : List (List ℕ)) (starts : List Bool) (plans : List GatePlan) (ends : List End) (lc : ℕ) (lc_is : length pins + length starts ≡ lc)
-    (bare : IsBareDeck old (length starts) pins sinks plans) (whole : IsCircuit old.ports old.nets old.devices) (are : ArePlans lc plans) (few : lc ≤ 200000) where
+module _ (style : Style) (old : CircuitData) (pins sinks : List (List ℕ)) (starts : List Bool) (plans : List GatePlan) (ends : List End) (lc : ℕ) (lc_is : length pins + length starts ≡ lc)
+    (bare : IsBareDeck old (length starts) pins sinks plans) (whole : IsCircuit old.ports old.nets old.devices) (are : ArePlans style lc plans) (few : lc ≤ 200000) where
   abbrev names : List (List ℕ)
   names = gate_nets pins lc (2 * lc + length plans)
 
@@ -69,12 +70,12 @@ module _ (old : CircuitData) (pins sinks : List (List ℕ)) (starts : List Bool)
       omega (arith, at_most, length-range_with_len 0 lc)
 
   -- the circuit with its cells has room for the complements
-  pub complements_fit : (c : CircuitData) → c ≡ with_devices old (cells_from names 0 plans) → HasRoomForInverters c (map complement_net named) × (length c.devices + 2 * length named ≤ most_devices)
+  pub complements_fit : (c : CircuitData) → c ≡ with_devices old (cells_from style names 0 plans) → HasRoomForInverters c (map complement_net named) × (length c.devices + 2 * length named ≤ most_devices)
   complements_fit c one = (
-    room_for_complements bare.name bare.phases bare.clocks pins bare.outs bare_is pins_are outs_are names plans c named
-        (one ∙ ap (λ d. with_devices d (cells_from names 0 plans)) bare.circuit_is)
+    room_for_complements bare.name bare.phases bare.clocks pins bare.outs bare_is pins_are outs_are style names plans c named
+        (one ∙ ap (λ d. with_devices d (cells_from style names 0 plans)) bare.circuit_is)
         (rises_in_range (λ leaf. are_read plans leaf || list_any (is_plus_end leaf) ends) 0 lc).0 small,
-    omega (arith, ap (λ (d : CircuitData). length d.devices) one, count_with old (cells_from names 0 plans), cells_length names 0 plans, none_yet, are.cheap, few_named, few),
+    omega (arith, ap (λ (d : CircuitData). length d.devices) one, count_with old (cells_from style names 0 plans), cells_length style names 0 plans, none_yet, are.cheap, few_named, few),
   )
 
   abbrev opposite : List (NamedDevice (List ℕ))
@@ -87,11 +88,11 @@ module _ (old : CircuitData) (pins sinks : List (List ℕ)) (starts : List Bool)
       omega (arith, inverters_length (map (own_net pins) named) (map complement_net named) (own ∙ sym these), these, few_named, few)
 
   -- behind these it has room for the latches
-  pub latches_fit : (c d : CircuitData) → c ≡ with_devices old (cells_from names 0 plans) → d ≡ with_devices c opposite → length starts ≤ 8192
+  pub latches_fit : (c d : CircuitData) → c ≡ with_devices old (cells_from style names 0 plans) → d ≡ with_devices c opposite → length starts ≤ 8192
       → All (IsBeforeLatch 0) d.nets × (length d.devices + 9 * length starts ≤ most_devices)
   latches_fit c d one two few_starts = (
-    latches_are_new bare.name bare.phases bare.clocks pins bare.outs bare_is pins_are outs_are names plans (map (own_net pins) named) (map complement_net named) d
-        (two ∙ ap (λ e. with_devices e opposite) (one ∙ ap (λ e. with_devices e (cells_from names 0 plans)) bare.circuit_is))
+    latches_are_new bare.name bare.phases bare.clocks pins bare.outs bare_is pins_are outs_are style names plans (map (own_net pins) named) (map complement_net named) d
+        (two ∙ ap (λ e. with_devices e opposite) (one ∙ ap (λ e. with_devices e (cells_from style names 0 plans)) bare.circuit_is))
         (gates_before pins lc plans (omega (arith, few)) (omega (arith, are.few)) pins_are are.earlier) (own_are_before pins named pins_are small) (complements_before named),
     omega (
       arith,
@@ -99,8 +100,8 @@ module _ (old : CircuitData) (pins sinks : List (List ℕ)) (starts : List Bool)
       count_with c opposite,
       opposite_count,
       ap (λ (e : CircuitData). length e.devices) one,
-      count_with old (cells_from names 0 plans),
-      cells_length names 0 plans,
+      count_with old (cells_from style names 0 plans),
+      cells_length style names 0 plans,
       none_yet,
       are.cheap,
       few_starts,
@@ -108,12 +109,12 @@ module _ (old : CircuitData) (pins sinks : List (List ℕ)) (starts : List Bool)
   )
 
   -- and behind the latches for the sinks
-  pub sinks_fit : (c d e : CircuitData) → c ≡ with_devices old (cells_from names 0 plans) → d ≡ with_devices c opposite → e ≡ with_devices d (latches_from 0 starts) → length starts ≤ 8192 → length sinks ≤ 8192
+  pub sinks_fit : (c d e : CircuitData) → c ≡ with_devices old (cells_from style names 0 plans) → d ≡ with_devices c opposite → e ≡ with_devices d (latches_from 0 starts) → length starts ≤ 8192 → length sinks ≤ 8192
       → HasRoomForInverters e sinks × (length e.devices + 2 * length sinks ≤ most_devices)
   sinks_fit c d e one two three few_starts few_sinks = (
     subst (HasRoomForInverters e) (sym bare.sinks_are)
-        (room_for_sinks bare.name bare.phases bare.clocks pins bare.outs bare_is pins_are outs_are names plans (map (own_net pins) named) named starts (length starts) e
-        (three ∙ ap (λ x. with_devices x (latches_from 0 starts)) (two ∙ ap (λ x. with_devices x opposite) (one ∙ ap (λ x. with_devices x (cells_from names 0 plans)) bare.circuit_is)))
+        (room_for_sinks bare.name bare.phases bare.clocks pins bare.outs bare_is pins_are outs_are style names plans (map (own_net pins) named) named starts (length starts) e
+        (three ∙ ap (λ x. with_devices x (latches_from 0 starts)) (two ∙ ap (λ x. with_devices x opposite) (one ∙ ap (λ x. with_devices x (cells_from style names 0 plans)) bare.circuit_is)))
         (omega (arith, few_starts)) bare.apart),
     omega (
       arith,
@@ -124,8 +125,8 @@ module _ (old : CircuitData) (pins sinks : List (List ℕ)) (starts : List Bool)
       count_with c opposite,
       opposite_count,
       ap (λ (x : CircuitData). length x.devices) one,
-      count_with old (cells_from names 0 plans),
-      cells_length names 0 plans,
+      count_with old (cells_from style names 0 plans),
+      cells_length style names 0 plans,
       none_yet,
       are.cheap,
       few_starts,
@@ -134,12 +135,12 @@ module _ (old : CircuitData) (pins sinks : List (List ℕ)) (starts : List Bool)
   )
 
   -- all groups are the devices of the deck
-  pub deck_made : (c d e f : CircuitData) (cells : List ℕ) → c ≡ with_devices old (cells_from names 0 plans) → d ≡ with_devices c opposite → e ≡ with_devices d (latches_from 0 starts)
-      → f ≡ with_devices e (inverters (map (sink_gate pins) (map (end_in cells) ends)) sinks) → f ≡ with_devices old (made_devices pins sinks starts plans ends cells)
+  pub deck_made : (c d e f : CircuitData) (cells : List ℕ) → c ≡ with_devices old (cells_from style names 0 plans) → d ≡ with_devices c opposite → e ≡ with_devices d (latches_from 0 starts)
+      → f ≡ with_devices e (inverters (map (sink_gate pins) (map (end_in cells) ends)) sinks) → f ≡ with_devices old (made_devices style pins sinks starts plans ends cells)
   deck_made c d e f cells one two three four =
-      let first = cells_from names 0 plans in
+      let first = cells_from style names 0 plans in
       let latches = latches_from 0 starts in
       let last = inverters (map (sink_gate pins) (map (end_in cells) ends)) sinks in
       two_parts old e f (first ++ opposite ++ latches) last (two_parts old d e (first ++ opposite) latches (two_parts old c d first opposite one two) three) four
-      ∙ ap (λ n. with_devices old (cells_from (gate_nets pins n (2 * n + length plans)) 0 plans
+      ∙ ap (λ n. with_devices old (cells_from style (gate_nets pins n (2 * n + length plans)) 0 plans
       ++ inverters (map (own_net pins) (named_leaves plans ends n)) (map complement_net (named_leaves plans ends n)) ++ latches ++ last)) (sym lc_is)

@@ -11,8 +11,7 @@ use Rattle.sp_network.specs.Tree.{Tree}
 use Rattle.tree_map.specs.Plans.{IsPlan, IsTreeOf, roots}
 use Rattle.synth_flow.specs.CellCounts.{AreTreesOf}
 use Rattle.deck_form.proofs.DeckForms.{all_zip_length}
-use Rattle.deck_form.proofs.SmallTrees.{trees_are_small}
-use Rattle.synth_flow.proofs.SynthFacts.{cheap_trees, few_trees, reads_earlier}
+use Rattle.synth_flow.proofs.SynthFacts.{few_trees, reads_earlier}
 
 -- there is one chosen sign for each sink
 pub one_sign : (gates : GatesData) (signs : List Bool) → AreGates gates → AreChosen gates signs → length signs ≡ length gates.sinks
@@ -22,10 +21,8 @@ module _ (forest : ForestData) (kept : List Bool) (w h : ℕ) (trees : List (Tre
   pub few_cells : length (roots kept) ≤ 800000
   few_cells = omega (arith, few_trees forest kept w h trees plan is, all_zip_length (IsTreeOf forest kept) (roots kept) trees plan.trees_are)
 
-  pub are_trees : w ≤ 8 → h ≤ 6 → AreTreesOf forest kept trees
-  are_trees wide high = record {
+  pub are_trees : AreTreesOf forest kept trees
+  are_trees = record {
     trees_are = plan.trees_are;
-    small = trees_are_small w h trees wide high plan.within;
-    cheap = cheap_trees forest kept w h trees plan is;
     earlier = reads_earlier forest kept w h trees plan is;
   }

@@ -11,6 +11,7 @@ use Rattle.dual_rail.specs.declared.forest.End.{End}
 use Rattle.dual_rail.specs.declared.forest.End.TheVariants.{Const, Literal, FromDynamic, FromOutput}
 use Rattle.dual_rail.specs.Uses.{IsEndThere}
 use Rattle.dual_rail.proofs.Zips.{all_zip_back, all_from}
+use Rattle.domino_cell.specs.declared.style.Style.{Style}
 use Rattle.sp_network.specs.Tree.{Tree, EachLeaf, Leaf}
 use Rattle.sp_network.specs.TypedTree.{tree_of}
 use Rattle.sp_network.specs.declared.plan.GatePlan.{GatePlan}
@@ -19,8 +20,9 @@ use Rattle.clock_phase.specs.Plans.{ReadEarlierCells}
 use Rattle.clock_phase.proofs.Levels.{clock_within, level_at_most}
 use Rattle.network.proofs.Lists.{get_of_map}
 use Rattle.tree_map.specs.MappedCover.{plan_trees}
-use Rattle.tree_map.specs.Plans.{IsPlan, IsTreeOf, cost, is_kept, roots}
-use Rattle.tree_map.proofs.PlanCosts.{plan_cost}
+use Rattle.tree_map.specs.Plans.{IsPlan, IsTreeOf, is_kept, roots}
+use Rattle.style_costs.specs.Styles.{cost_in}
+use Rattle.synth_flow.proofs.PlanCosts.{cost_at_most}
 use Rattle.synth_flow.specs.BareDecks.{ArePlans}
 use Rattle.deck_form.proofs.CellOrder.{root_of_cell, tree_reads}
 use Rattle.deck_form.proofs.DeckForms.{all_zip_length}
@@ -41,14 +43,14 @@ module _ (forest : ForestData) (kept : List Bool) (w h : ℕ) (trees : List (Tre
       let few = few_filtered (λ place. not (is_kept kept place)) (range_with_len 0 (length kept)) in
       omega (arith, same, few, length-range_with_len 0 (length kept), plan.one_each, is.few_pairs)
 
-  pub cheap_trees : cost trees ≤ 5600000
-  cheap_trees = omega (arith, plan_cost forest kept is.in_place.in_order w h trees plan, is.few_pairs)
+  pub cheap_trees : (style : Style) → cost_in style trees ≤ 5600000
+  cheap_trees style = omega (arith, cost_at_most forest kept w h trees plan is.in_place.in_order style, is.few_pairs)
 
 -- the plans of these trees
-pub plans_are : (leaves : ℕ) (trees : List (Tree ℕ)) (plans : List GatePlan) → plan_trees plans ≡ trees → ReadEarlierCells leaves trees → length trees ≤ 800000 → cost trees ≤ 5600000 → ArePlans leaves plans
-plans_are leaves trees plans same earlier few cheap = record {
+pub plans_are : (style : Style) (leaves : ℕ) (trees : List (Tree ℕ)) (plans : List GatePlan) → plan_trees plans ≡ trees → ReadEarlierCells leaves trees → length trees ≤ 800000 → cost_in style trees ≤ 5600000 → ArePlans style leaves plans
+plans_are style leaves trees plans same earlier few cheap = record {
   few = omega (arith, ap length same, length-map plans (λ (p : GatePlan). tree_of p.tree), few);
-  cheap = omega (arith, ap cost same, cheap);
+  cheap = omega (arith, ap (cost_in style) same, cheap);
   earlier = λ k p at. earlier k (tree_of p.tree) (ap (λ l. slice_get l k) (sym same) ∙ slice_get-map (λ (p : GatePlan). tree_of p.tree) plans k ∙ ap (option_map (λ (p : GatePlan). tree_of p.tree)) at);
 }
 

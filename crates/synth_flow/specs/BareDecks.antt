@@ -12,7 +12,8 @@ use Rattle.sp_network.specs.Tree.{EachLeaf}
 use Rattle.sp_network.specs.TypedTree.{tree_of}
 use Rattle.sp_network.specs.declared.plan.GatePlan.{GatePlan}
 use Rattle.tree_map.specs.MappedCover.{plan_trees}
-use Rattle.tree_map.specs.Plans.{cost}
+use Rattle.domino_cell.specs.declared.style.Style.{Style}
+use Rattle.style_costs.specs.Styles.{cost_in}
 use Rattle.dual_rail.specs.declared.forest.End.{End}
 use Rattle.deck_form.specs.DeckNets.{complement_net, data_net, named_gate, own_net, sink_gate}
 use Rattle.synth_flow.specs.MadeDecks.{cells_from, inverters, latches_from}
@@ -35,9 +36,9 @@ pub record IsBareDeck (c : CircuitData) (latches : ℕ) (pins sinks : List (List
   pub sinks_are : sinks ≡ outs ++ map data_net (range_with_len 0 latches)
 
 -- the plans of cells over so many leaves
-pub record ArePlans (leaves : ℕ) (plans : List GatePlan) : Type 0 where
+pub record ArePlans (style : Style) (leaves : ℕ) (plans : List GatePlan) : Type 0 where
   pub few : length plans ≤ 800000
-  pub cheap : cost (plan_trees plans) ≤ 5600000
+  pub cheap : cost_in style (plan_trees plans) ≤ 5600000
   -- each reads rails of the leaves and cells before it
   pub earlier : (k : ℕ) (p : GatePlan) → slice_get plans k ≡ Some p → EachLeaf (λ gate. gate < 2 * leaves + k) (tree_of p.tree)
 
@@ -50,9 +51,9 @@ abbrev pub named_leaves : List GatePlan → List End → ℕ → List ℕ
 named_leaves plans ends leaves = filter (λ leaf. are_read plans leaf || list_any (is_plus_end leaf) ends) (range_with_len 0 leaves)
 
 -- the devices of a deck of these pins, sinks, start values, plans, ends and numbers of cells, group by group
-abbrev pub made_devices : List (List ℕ) → List (List ℕ) → List Bool → List GatePlan → List End → List ℕ → List (NamedDevice (List ℕ))
-made_devices pins sinks starts plans ends cells =
-    cells_from (gate_nets pins (length pins + length starts) (2 * (length pins + length starts) + length plans)) 0 plans
+abbrev pub made_devices : Style → List (List ℕ) → List (List ℕ) → List Bool → List GatePlan → List End → List ℕ → List (NamedDevice (List ℕ))
+made_devices style pins sinks starts plans ends cells =
+    cells_from style (gate_nets pins (length pins + length starts) (2 * (length pins + length starts) + length plans)) 0 plans
     ++ inverters (map (own_net pins) (named_leaves plans ends (length pins + length starts))) (map complement_net (named_leaves plans ends (length pins + length starts)))
     ++ latches_from 0 starts
     ++ inverters (map (sink_gate pins) (map (end_in cells) ends)) sinks

@@ -5,6 +5,7 @@ use Rattle.deck.specs.CircuitData.{CircuitData}
 use Rattle.deck.specs.Escapes.{escaped}
 use Rattle.deck.specs.NamedDevices.{with_devices}
 use Rattle.deck.specs.Pushes.{new_circuit}
+use Rattle.domino_cell.specs.declared.style.Style.{Style}
 use Rattle.dual_rail.specs.declared.forest.End.{End}
 use Rattle.sp_network.specs.declared.plan.GatePlan.{GatePlan}
 use Rattle.network.specs.NetworkData.{NetworkData}
@@ -17,8 +18,8 @@ use Rattle.synth_flow.specs.SinkParts.{phase_of_sink}
 abbrev pub sinks_of : NetworkData → List (List ℕ)
 sinks_of network = outs_of network ++ map data_net (range_with_len 0 (length network.latches))
 
--- its circuit with these signs, plans, ends and numbers of cells
-abbrev pub made_deck : NetworkData → ℕ → List Bool → List GatePlan → List End → List ℕ → CircuitData
-made_deck network clocks signs plans ends cells =
+-- its circuit in cells of a style, with these signs, plans, ends and numbers of cells
+abbrev pub made_deck : Style → NetworkData → ℕ → List Bool → List GatePlan → List End → List ℕ → CircuitData
+made_deck style network clocks signs plans ends cells =
     with_devices (new_circuit (escaped network.name) (map phase_of_sink (zip (sinks_of network) signs)) clocks (pins_of network) (outs_of network))
-    (made_devices (pins_of network) (sinks_of network) (starts_of network) plans ends cells)
+    (made_devices style (pins_of network) (sinks_of network) (starts_of network) plans ends cells)

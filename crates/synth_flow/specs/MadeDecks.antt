@@ -11,9 +11,11 @@ use Rattle.deck.specs.Sources.{is_source}
 use Rattle.sp_network.specs.Tree.{EachLeaf}
 use Rattle.sp_network.specs.TypedTree.{tree_of}
 use Rattle.sp_network.specs.declared.plan.GatePlan.{GatePlan}
-use Rattle.domino_cell.specs.Cell.{cell, inverter}
+use Rattle.domino_cell.specs.Cell.{inverter}
 use Rattle.domino_cell.specs.NamedTrees.{named_tree}
 use Rattle.domino_cell.specs.PushedNames.{IsPort, numbered_cell}
+use Rattle.domino_cell.specs.declared.style.Style.{Style}
+use Rattle.domino_cell.specs.StyledCells.{styled_cell}
 use Rattle.latch_bind.specs.Latches.{named_latch}
 use Rattle.deck_form.specs.NameParts.{leading_letter, number_of, rest_of}
 
@@ -56,10 +58,10 @@ is_cell_letter c = (c == 100) || (c == 102) || (c == 116) || (c == 122)
 abbrev pub IsBeforeCell : ℕ → List ℕ → Type 0
 IsBeforeCell k name = is_cell_letter (leading_letter name) ≡ true → number_of name < k
 
--- the cells of these plans, from number k on, where gate by gate the first list has the net that gates it
-abbrev pub cells_from : List (List ℕ) → ℕ → List GatePlan → List (NamedDevice (List ℕ))
-cells_from names k plans =
-    flat_map (λ (p : ℕ × GatePlan). cell (numbered_cell p.1.clock p.0) (named_tree names (tree_of p.1.tree))) (enumerate_from k plans)
+-- the cells of these plans in a style, from number k on, where gate by gate the first list has the net that gates it
+abbrev pub cells_from : Style → List (List ℕ) → ℕ → List GatePlan → List (NamedDevice (List ℕ))
+cells_from style names k plans =
+    flat_map (λ (p : ℕ × GatePlan). styled_cell style (numbered_cell p.1.clock p.0) (named_tree names (tree_of p.1.tree))) (enumerate_from k plans)
 
 -- the gates of each plan, from number k on, have names, which are no nets of its own cell or of a later one
 abbrev pub AreGated : List (List ℕ) → ℕ → List GatePlan → Type 0

@@ -4,7 +4,7 @@ use Rattle.std.specs.List.{count_by, list_any, range_with_len}
 use Rattle.deck.specs.CircuitData.{CircuitData}
 use Rattle.clock_phase.specs.Levels.{greatest}
 use Rattle.network.specs.NetworkData.{NetworkData}
-use Rattle.tree_map.specs.Plans.{cost}
+use Rattle.style_costs.specs.Styles.{cost_in}
 use Rattle.deck_form.specs.ChosenDecks.{IsChosenDeck}
 use Rattle.deck_form.specs.DeckNets.{CellPlan}
 use Rattle.deck_form.specs.AskedOptions.{deck_options}
@@ -30,7 +30,8 @@ abbrev pub clock_counts : ℕ → List CellPlan → List ℕ
 clock_counts phases cells = map (λ clock. count_by (λ (c : CellPlan). c.clock == clock) cells) (range_with_len 1 phases)
 
 -- The figures of a circuit of the network, by the parts that it is made of: the needed pairs, the nodes that are needed in both
--- signs, the sinks with the sign minus, the cells, their greatest level, the cost of the plan, and all devices.
+-- signs, the sinks with the sign minus, the cells, their greatest level, the cost of the plan in its style, and all
+-- devices.
 abbrev pub figures : {network : NetworkData} {options : DeckOptions} {circuit : CircuitData}
     → IsChosenDeck network options circuit → SummaryData
 figures {network} {options} {circuit} is = record {
@@ -42,7 +43,7 @@ figures {network} {options} {circuit} is = record {
   minus = count_by not is.signs;
   cells = length is.trees;
   levels = greatest is.levels;
-  cost = cost is.trees;
+  cost = cost_in options.style is.trees;
   devices = length circuit.devices;
   clocks = clock_counts options.phases (cells_of options.phases is.levels is.trees);
 }

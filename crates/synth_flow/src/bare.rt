@@ -11,6 +11,7 @@ use crate::names::{escaped_name, out_names, pin_names};
 use crate::sinks::{phases, sink_names};
 use deck::Circuit;
 use dom_base::{Name, OutOfMemory};
+use domino_cell::Style;
 use dual_rail::End;
 use network::Network;
 use sp_network::GatePlan;
@@ -31,12 +32,13 @@ fn see_bytes(bytes: &[u8])
     ensures { All (λ b. b < 256) bytes.now }
 {}
 
-/// The circuit of a network with these plans of cells, ends of sinks and numbers of cells: its ports,
+/// The circuit of a network in cells of this style, with these plans of cells, ends of sinks and numbers of cells: its ports,
 /// its phases, and the devices of the deck. The one error is out of memory.
 pub fn deck_of(
     alloc: Global,
     network: &Network,
     clocks: u8,
+    style: Style,
     signs: &[bool],
     plans: &[GatePlan],
     ends: &[End],
@@ -45,11 +47,11 @@ pub fn deck_of(
     requires some_clock { 1 ≤ clocks }
     requires few_clocks { clocks ≤ 4 }
     requires signs { length signs.now ≡ length network.now.outputs + length network.now.latches }
-    requires plans { ArePlans (leaf_count network.now) plans.now }
+    requires plans { ArePlans style (leaf_count network.now) plans.now }
     requires clocks_are { All (λ (p : GatePlan). (1 ≤ p.clock) × (p.clock ≤ clocks)) plans.now }
     requires ends { All (IsEndThere (length cells.now)) ends.now }
     requires one_end { length ends.now ≡ length network.now.outputs + length network.now.latches }
-    ensures { IfOk result (λ c. c ≡ made_deck network.now clocks signs.now plans.now ends.now cells.now) }
+    ensures { IfOk result (λ c. c ≡ made_deck style network.now clocks signs.now plans.now ends.now cells.now) }
 {
     let names = network.names.as_slice();
     see_names(names);
@@ -70,6 +72,7 @@ pub fn deck_of(
     push_deck(
         alloc,
         &mut circuit,
+        style,
         pins.as_slice(),
         sinks.as_slice(),
         network.latches.as_slice(),

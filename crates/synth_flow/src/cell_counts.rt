@@ -1,39 +1,18 @@
 //! The cells of a cover, counted without their trees.
-ghost use Rattle.std.specs.Prelude.{ℕ, ◌≡◌, ◌≤◌, ◌<◌, ◌+◌, ◌*◌, ◌^◌, ◌==◌, ◌||◌, List, length, max, min};
+ghost use Rattle.std.specs.Prelude.{ℕ, ◌≡◌, ◌≤◌, ◌<◌, ◌+◌, ◌*◌, ◌^◌, ◌==◌, ◌||◌, List, length};
 ghost use Rattle.std.specs.List.{list_any};
 ghost use Rattle.clock_phase.specs.Levels.{AreLevels};
 ghost use Rattle.dual_rail.specs.ForestOrder.{IsForest};
-ghost use Rattle.sp_network.specs.Tree.{Tree, Leaf, leaves};
+ghost use Rattle.sp_network.specs.Tree.{Tree, Leaf};
 ghost use Rattle.tree_map.specs.MappedCover.{IsArmInForest, root_cell_numbers};
-ghost use Rattle.tree_map.specs.Plans.{IsArmTree, IsTreeOf, cost, roots};
+ghost use Rattle.tree_map.specs.Plans.{IsArmTree, IsTreeOf, roots};
 ghost use Rattle.synth_flow.specs.CellCounts.{AreTreesOf, greatest_read, is_read_in};
 ghost use Rattle.synth_flow.specs.NamedComplements.{MarksAlso, is_plus_end};
 ghost use Rattle.deck_form.specs.NamedDecks.{reads};
 
 use crate::complements::{mark_ends, mark_gate};
 use dual_rail::{Arm, Forest};
-use tree_map::{CELL_COST, gate_of};
-
-/// What is counted of a tree: its leaves, as far as a number of 32 bits goes, and the greatest level of the cells that
-/// it reads, or 0.
-#[derive(Clone, Copy)]
-struct TreeCount {
-    leaves: u32,
-    level: u32,
-}
-
-impl TreeCount {
-    /// Of two parts of a tree together.
-    fn with(self, other: TreeCount) -> TreeCount
-        ensures leaves { result.leaves ≡ min (self.leaves + other.leaves) 4294967295 }
-        ensures level { result.level ≡ max self.level other.level }
-    {
-        TreeCount {
-            leaves: self.leaves.saturating_add(other.leaves),
-            level: self.level.max(other.level),
-        }
-    }
-}
+use tree_map::gate_of;
 
 /// The level of the cell whose output this gate is, or 0 where it is a rail of one of so many leaves.
 fn gate_level(gate: u32, leaves: u32, levels: &[u32]) -> u32
@@ -48,21 +27,17 @@ fn gate_level(gate: u32, leaves: u32, levels: &[u32]) -> u32
     }
 }
 
-/// Counts a leaf with this gate, and marks the leaf of the forest whose opposite the gate is.
-fn leaf_count(gate: u32, leaves: u32, levels: &[u32], marks: &mut [bool]) -> TreeCount
+/// The level of the cell that a leaf with this gate reads, or 0, and marks the leaf of the forest whose opposite the gate is.
+fn leaf_count(gate: u32, leaves: u32, levels: &[u32], marks: &mut [bool]) -> u32
     requires room { 2 * leaves < 2 ^ 32 }
-    ensures leaves { result.leaves ≡ 1 }
-    ensures level { result.level ≡ greatest_read leaves levels.now (Leaf gate) }
+    ensures level { result ≡ greatest_read leaves levels.now (Leaf gate) }
     ensures marks { MarksAlso marks.old marks.new (λ leaf. gate == 2 * leaf + 1) }
 {
     mark_gate(marks, gate);
-    TreeCount {
-        leaves: 1,
-        level: gate_level(gate, leaves, levels),
-    }
+    gate_level(gate, leaves, levels)
 }
 
-/// Counts the tree whose root is this pair, and marks the leaves whose opposites gate it.
+/// The greatest level of the cells that the tree whose root is this pair reads, or 0, and marks the leaves whose opposites gate it.
 #[cycle(count)]
 fn pair_count(
     forest: &Forest,
@@ -71,24 +46,23 @@ fn pair_count(
     levels: &[u32],
     marks: &mut [bool],
     place: usize,
-) -> TreeCount
+) -> u32
     requires forest { IsForest forest.now }
     requires one_each { length kept.now ≡ length forest.now.pairs }
     requires cells { cells.now ≡ root_cell_numbers kept.now }
     requires there { place < length forest.now.pairs }
-    ensures leaves { (tree : Tree ℕ) → IsTreeOf forest.now kept.now place tree → result.leaves ≡ min (leaves tree) 4294967295 }
     ensures level { (tree : Tree ℕ) → IsTreeOf forest.now kept.now place tree
-        → result.level ≡ greatest_read forest.now.leaves levels.now tree }
+        → result ≡ greatest_read forest.now.leaves levels.now tree }
     ensures marks { (tree : Tree ℕ) → IsTreeOf forest.now kept.now place tree
         → MarksAlso marks.old marks.new (λ leaf. reads (2 * leaf + 1) tree) }
 {
     let (left, right) = forest.pairs[place].arms();
     let first = arm_count(forest, kept, cells, levels, marks, left);
     let second = arm_count(forest, kept, cells, levels, marks, right);
-    first.with(second)
+    first.max(second)
 }
 
-/// Counts the tree below an arm: a leaf, or the tree of a kept pair.
+/// So for the tree below an arm: a leaf, or the tree of a kept pair.
 #[cycle(count)]
 fn arm_count(
     forest: &Forest,
@@ -97,14 +71,13 @@ fn arm_count(
     levels: &[u32],
     marks: &mut [bool],
     arm: Arm,
-) -> TreeCount
+) -> u32
     requires forest { IsForest forest.now }
     requires one_each { length kept.now ≡ length forest.now.pairs }
     requires cells { cells.now ≡ root_cell_numbers kept.now }
     requires there { IsArmInForest forest.now arm }
-    ensures leaves { (tree : Tree ℕ) → IsArmTree forest.now kept.now arm tree → result.leaves ≡ min (leaves tree) 4294967295 }
     ensures level { (tree : Tree ℕ) → IsArmTree forest.now kept.now arm tree
-        → result.level ≡ greatest_read forest.now.leaves levels.now tree }
+        → result ≡ greatest_read forest.now.leaves levels.now tree }
     ensures marks { (tree : Tree ℕ) → IsArmTree forest.now kept.now arm tree
         → MarksAlso marks.old marks.new (λ leaf. reads (2 * leaf + 1) tree) }
 {
@@ -127,7 +100,7 @@ fn arm_count(
 }
 
 /// Writes the level of each cell of a cover, whose roots stand at these places, and marks the leaves whose opposites
-/// gate a tree. It gives what the cells cost: 5 and the leaves of its tree for each.
+/// gate a tree.
 fn count_trees(
     forest: &Forest,
     kept: &[bool],
@@ -135,7 +108,7 @@ fn count_trees(
     places: &[usize],
     levels: &mut [u32],
     marks: &mut [bool],
-) -> u64
+)
     requires forest { IsForest forest.now }
     requires one_each { length kept.now ≡ length forest.now.pairs }
     requires cells { cells.now ≡ root_cell_numbers kept.now }
@@ -143,16 +116,12 @@ fn count_trees(
     requires levels { length levels.old ≡ length places.now }
     requires trees { (trees : List (Tree ℕ)) × AreTreesOf forest.now kept.now trees }
     ensures levels { (trees : List (Tree ℕ)) → AreTreesOf forest.now kept.now trees → AreLevels forest.now.leaves trees levels.new }
-    ensures cost { (trees : List (Tree ℕ)) → AreTreesOf forest.now kept.now trees → result ≡ cost trees }
     ensures marks { (trees : List (Tree ℕ)) → AreTreesOf forest.now kept.now trees → MarksAlso marks.old marks.new (is_read_in trees) }
 {
-    let mut sum: u64 = 0;
     'cells: for k in 0..places.len() {
-        let count = pair_count(forest, kept, cells, levels, marks, places[k]);
-        levels[k] = 1 + count.level;
-        sum += u64::from(count.leaves) + CELL_COST as u64;
+        let level = pair_count(forest, kept, cells, levels, marks, places[k]);
+        levels[k] = 1 + level;
     }
-    sum
 }
 
 /// The same, and marks the leaves too that are the plus literal of an end: all whose complements are named.
@@ -163,7 +132,7 @@ pub fn count_cells(
     places: &[usize],
     levels: &mut [u32],
     marks: &mut [bool],
-) -> u64
+)
     requires forest { IsForest forest.now }
     requires one_each { length kept.now ≡ length forest.now.pairs }
     requires cells { cells.now ≡ root_cell_numbers kept.now }
@@ -171,11 +140,9 @@ pub fn count_cells(
     requires levels { length levels.old ≡ length places.now }
     requires trees { (trees : List (Tree ℕ)) × AreTreesOf forest.now kept.now trees }
     ensures levels { (trees : List (Tree ℕ)) → AreTreesOf forest.now kept.now trees → AreLevels forest.now.leaves trees levels.new }
-    ensures cost { (trees : List (Tree ℕ)) → AreTreesOf forest.now kept.now trees → result ≡ cost trees }
     ensures marks { (trees : List (Tree ℕ)) → AreTreesOf forest.now kept.now trees
         → MarksAlso marks.old marks.new (λ leaf. is_read_in trees leaf || list_any (is_plus_end leaf) forest.now.ends) }
 {
-    let cost = count_trees(forest, kept, cells, places, levels, marks);
+    count_trees(forest, kept, cells, places, levels, marks);
     mark_ends(marks, forest.ends.as_slice());
-    cost
 }

@@ -3,32 +3,33 @@ ghost use Rattle.std.specs.Prelude.{◌≡◌, ◌≤◌, ◌<◌, ◌+◌, ◌^
 ghost use Rattle.deck.specs.Limits.{most_devices};
 ghost use Rattle.deck.specs.NamedDevices.{with_devices};
 ghost use Rattle.tree_map.specs.MappedCover.{plan_trees};
-ghost use Rattle.tree_map.specs.Plans.{cost};
+ghost use Rattle.style_costs.specs.Styles.{cost_in};
 ghost use Rattle.synth_flow.specs.MadeDecks.{AreGated, HasRoomForCells, cells_from};
 
 use deck::{Circuit, reserve_nets};
 use dom_base::{NetName, OutOfMemory};
-use domino_cell::{CellNames, push_numbered_domino};
+use domino_cell::{CellNames, Style, push_numbered_domino};
 use sp_network::GatePlan;
 use std::alloc::Global;
 
 /// How many nets a cell of two switches has at most that no other cell has.
 const NETS_OF_A_CELL: usize = 4;
 
-/// Appends the cells of these plans in order from cell 0, where gate by gate `names` has the net that
+/// Appends the cells of these plans in this style, in order from cell 0, where gate by gate `names` has the net that
 /// gates it. The one error is out of memory, and then some of the cells may stand at the end.
 #[tactic(auto, using(domino_cell::proofs::NetsAt::no_numbers))]
 pub fn push_cells(
     alloc: Global,
     circuit: &mut Circuit,
+    style: Style,
     plans: &[GatePlan],
     names: &[NetName],
 ) -> Result<(), OutOfMemory>
     requires few { length plans.now < 2 ^ 32 }
     requires nets { HasRoomForCells circuit.old plans.now }
     requires gates { AreGated names.now 0 plans.now }
-    requires room { length circuit.old.devices + cost (plan_trees plans.now) ≤ most_devices }
-    ensures { OnOk result (circuit.new ≡ with_devices circuit.old (cells_from names.now 0 plans.now)) }
+    requires room { length circuit.old.devices + cost_in style (plan_trees plans.now) ≤ most_devices }
+    ensures { OnOk result (circuit.new ≡ with_devices circuit.old (cells_from style names.now 0 plans.now)) }
 {
     let outputs = names.len().saturating_sub(plans.len());
     let mut numbers = vec![in alloc; None; names.len()]?;
@@ -44,6 +45,7 @@ pub fn push_cells(
             plan,
             names,
             k as u32,
+            style,
             gate,
             &nets,
             numbers.as_mut_slice(),

@@ -9,8 +9,8 @@ use std::marker::Model;
 /// The figures of the deck that synthesis gives of a network: how many inputs, outputs and latches the
 /// network has; how many pairs of a node and a sign are needed, how many nodes are needed in both signs, and
 /// how many sinks have the sign minus; how many domino cells there are, the greatest of their levels, or 0
-/// without cells, and what they cost, which is 5 and the leaves of its tree for each; how many devices the
-/// deck has; and how many cells each clock has, from `ck1` on.
+/// without cells, and what they cost, which is the devices of each; how many devices the deck has; and how many
+/// cells each clock has, from `ck1` on.
 #[derive(Drop)]
 pub struct Summary {
     pub inputs: u32,

@@ -16,6 +16,7 @@ use crate::names::{complement_name, gate_names, own_name};
 use crate::sinks::sink_gate_names;
 use deck::Circuit;
 use dom_base::{NetName, OutOfMemory};
+use domino_cell::Style;
 use dual_rail::End;
 use network::NetLatch;
 use sp_network::GatePlan;
@@ -64,18 +65,19 @@ pub fn push_complements(
 fn push_deck_cells(
     alloc: Global,
     circuit: &mut Circuit,
+    style: Style,
     pins: &[NetName],
     plans: &[GatePlan],
     leaves: u32,
 ) -> Result<(), OutOfMemory>
     requires bare { (latches : ℕ) × (sinks : List (List ℕ)) × IsBareDeck circuit.old latches pins.now sinks plans.now }
     requires few { leaves ≤ 200000 }
-    requires plans { ArePlans leaves plans.now }
+    requires plans { ArePlans style leaves plans.now }
     ensures { OnOk result (circuit.new ≡ with_devices circuit.old
-        (cells_from (gate_nets pins.now leaves (2 * leaves + length plans.now)) 0 plans.now)) }
+        (cells_from style (gate_nets pins.now leaves (2 * leaves + length plans.now)) 0 plans.now)) }
 {
     let gates = gate_names(alloc, pins, leaves, 2 * leaves + plans.len() as u32)?;
-    push_cells(alloc, circuit, plans, gates.as_slice())?;
+    push_cells(alloc, circuit, style, plans, gates.as_slice())?;
     Ok(())
 }
 
@@ -84,6 +86,7 @@ fn push_deck_cells(
 pub fn push_deck(
     alloc: Global,
     circuit: &mut Circuit,
+    style: Style,
     pins: &[NetName],
     sinks: &[NetName],
     latches: &[NetLatch],
@@ -95,15 +98,15 @@ pub fn push_deck(
     requires few { length pins.now + length latches.now ≤ 200000 }
     requires few_sinks { length sinks.now ≤ 8192 }
     requires few_latches { length latches.now ≤ 8192 }
-    requires plans { ArePlans (length pins.now + length latches.now) plans.now }
+    requires plans { ArePlans style (length pins.now + length latches.now) plans.now }
     requires ends { All (IsEndThere (length cells.now)) ends.now }
     requires one_end { length ends.now ≡ length sinks.now }
     ensures { OnOk result (circuit.new ≡ with_devices circuit.old
-        (made_devices pins.now sinks.now (map (λ (l : NetLatch). l.init) latches.now) plans.now ends.now cells.now)) }
+        (made_devices style pins.now sinks.now (map (λ (l : NetLatch). l.init) latches.now) plans.now ends.now cells.now)) }
 {
     circuit.whole();
     let leaves = pins.len() as u32 + latches.len() as u32;
-    push_deck_cells(alloc, circuit, pins, plans, leaves)?;
+    push_deck_cells(alloc, circuit, style, pins, plans, leaves)?;
     let named = complements(alloc, plans, ends, leaves)?;
     push_complements(alloc, circuit, pins, named.as_slice())?;
     push_latches(alloc, circuit, latches)?;

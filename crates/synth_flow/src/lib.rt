@@ -19,7 +19,7 @@ mod sinks;
 mod summaries;
 mod synthesis;
 
-pub use deck_form::{SynthOptions, decks_are_domino};
+pub use deck_form::{Style, SynthOptions, decks_are_domino};
 pub use figure_laws::devices_are_counted;
 pub use figures::{Summary, append_summary};
 pub use summaries::summary;

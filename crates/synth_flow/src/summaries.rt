@@ -1,9 +1,10 @@
 //! The figures of the deck of a network, without the deck.
-ghost use Rattle.std.specs.Prelude.{◌≡◌, ◌≤◌, ◌<◌, ◌^◌, All, IfOk, length};
+ghost use Rattle.std.specs.Prelude.{◌≡◌, ◌≤◌, ◌<◌, ◌*◌, ◌^◌, All, IfOk, count_by, length};
 ghost use Rattle.network.specs.NetworkData.{NetworkData};
 ghost use Rattle.tree_map.specs.Plans.{roots};
 ghost use Rattle.synth_flow.specs.Summaries.{IsSummaryOf};
-ghost use Rattle.synth_flow.specs.SummaryParts.{figures_by};
+ghost use Rattle.style_costs.specs.Styles.{is_series};
+ghost use Rattle.synth_flow.specs.SummaryParts.{cost_of_plan, figures_by};
 
 use crate::both::both_signs;
 use crate::cell_counts::count_cells;
@@ -12,7 +13,8 @@ use crate::counts::{clock_counts, greatest_level, minus_count};
 use crate::figures::Summary;
 use deck_form::SynthOptions;
 use dom_base::OutOfMemory;
-use dual_rail::{Forest, rails};
+use domino_cell::Style;
+use dual_rail::{Forest, Pair, rails};
 use gate_decompose::decompose;
 use network::Network;
 use phase_assign::assign;
@@ -44,7 +46,7 @@ pub fn summary(
     let places = places_of_roots(alloc, kept.as_slice())?;
     let mut levels = vec![in alloc; 0u32; places.len()]?;
     let mut marks = vec![in alloc; false; forest.leaves as usize]?;
-    let cost = count_cells(
+    count_cells(
         &forest,
         kept.as_slice(),
         cells.as_slice(),
@@ -57,10 +59,10 @@ pub fn summary(
         alloc,
         network,
         options.phases,
+        options.style,
         signs.as_slice(),
         &forest,
         levels.as_slice(),
-        cost,
         named.as_slice(),
         both,
     )?;
@@ -80,16 +82,57 @@ fn places_of_roots(alloc: Global, kept: &[bool]) -> Result<Vec<usize>, OutOfMemo
     Ok(places)
 }
 
-/// The figures, by the parts of the deck: the signs, the forest, the levels of the cells and what they cost, the leaves
-/// whose complements are named, and how many nodes are needed in both signs.
+/// What a plan with so many cells of these pairs costs: a device for each pair and 6 for each cell, or where inner nets
+/// are precharged, one more for each series pair and 5 for each cell.
+fn plan_cost(style: Style, pairs: &[Pair], cells: usize) -> u64
+    requires pairs { length pairs.now ≤ 800000 }
+    requires cells { cells ≤ length pairs.now }
+    ensures cost { result ≡ cost_of_plan style pairs.now cells }
+    ensures few { result ≤ 7 * length pairs.now }
+{
+    let pair_count = pairs.len() as u64;
+    let cells = cells as u64;
+    match style {
+        Style::Keeper => pair_count + 6 * cells,
+        Style::Precharge => pair_count + series_count(pairs) + 5 * cells,
+    }
+}
+
+/// How many of the pairs are series.
+fn series_count(pairs: &[Pair]) -> u64
+    requires { length pairs.now ≤ 800000 }
+    ensures count { result ≡ count_by is_series pairs.now }
+    ensures few { result ≤ length pairs.now }
+{
+    let mut count: u64 = 0;
+    'pairs: for pair in pairs {
+        if is_series(*pair) {
+            count += 1;
+        }
+    }
+    count
+}
+
+/// Whether a pair is series.
+fn is_series(pair: Pair) -> bool
+    ensures { result ≡ is_series pair }
+{
+    match pair {
+        Pair::And(_, _) => true,
+        Pair::Or(_, _) => false,
+    }
+}
+
+/// The figures, by the parts of the deck: the signs, the forest, the levels of the cells, the leaves whose complements
+/// are named, and how many nodes are needed in both signs.
 fn figures_of(
     alloc: Global,
     network: &Network,
     phases: u8,
+    style: Style,
     signs: &[bool],
     forest: &Forest,
     levels: &[u32],
-    cost: u64,
     named: &[u32],
     both: u64,
 ) -> Result<Summary, OutOfMemory>
@@ -98,13 +141,16 @@ fn figures_of(
     requires few_signs { length signs.now ≤ 8192 }
     requires few_cells { length levels.now ≤ 800000 }
     requires from_one { All (λ level. 1 ≤ level) levels.now }
-    requires cheap { cost ≤ 5600000 }
+    requires cells { length levels.now ≤ length forest.now.pairs }
+    requires few_pairs { length forest.now.pairs ≤ 800000 }
     requires few_named { length named.now < 2 ^ 32 }
-    ensures { IfOk result (λ s. s ≡ figures_by network.now phases signs.now forest.now levels.now cost named.now both) }
+    ensures { IfOk result (λ s. s ≡ figures_by network.now phases signs.now forest.now levels.now
+        (cost_of_plan style forest.now.pairs (length levels.now)) named.now both) }
 {
     let outputs = network.outputs.len() as u32;
     let latches = network.latches.len() as u32;
     let sinks = outputs as u64 + latches as u64;
+    let cost = plan_cost(style, forest.pairs.as_slice(), levels.len());
     Ok(Summary {
         inputs: network.inputs,
         outputs,

@@ -43,6 +43,7 @@ fn deck_of_forest(
         alloc,
         network,
         options.phases,
+        options.style,
         signs,
         plans.as_slice(),
         forest.ends.as_slice(),
@@ -53,7 +54,7 @@ fn deck_of_forest(
 
 /// The circuit of a network for signs, one for each output and each latch (true is plus): a domino deck
 /// of the chosen cover of the pairs that these signs need, by trees within the bounds and on so many
-/// clocks. The one error is out of memory.
+/// clocks, in cells of the asked style. The one error is out of memory.
 pub fn synth_signs(
     alloc: Global,
     network: &Network,
@@ -77,7 +78,7 @@ pub fn synth_signs(
 }
 
 /// The circuit of a network: a domino deck of the chosen signs of its sinks and the chosen cover, by
-/// trees within the bounds and on so many clocks. The one error is out of memory.
+/// trees within the bounds and on so many clocks, in cells of the asked style. The one error is out of memory.
 pub fn synth(
     alloc: Global,
     network: &Network,

@@ -150,7 +150,7 @@ push_deck-requires-clause-plans c =
     let latches = c.len.ensures ∙ counted ∙ ap (λ (n : NetworkData). length n.latches) same in
     let sinks = c.in_ok-sinks.ensures ∙ ap₂ (λ l n. l ++ map data_net (range_with_len 0 n)) (c.as_slice-2.ensures.value ∙ outs) latches in
     let count = ap₂ (λ m n. m + n) (ap length (c.as_slice-6.ensures.value ∙ pins) ∙ pins_count network is) (ap length (c.as_slice-8.ensures.value ∙ ap (λ (n : NetworkData). n.latches) same)) in
-    subst (λ n. ArePlans n c.args.plans.now) (sym count) c.requires.plans
+    subst (λ n. ArePlans c.args.style n c.args.plans.now) (sym count) c.requires.plans
 
 pub push_deck-requires-clause-one_end : goal.push_deck-requires-clause-one_end
 push_deck-requires-clause-one_end c =
@@ -187,6 +187,6 @@ returns c =
     let some_latches = c.as_slice-8.ensures.value ∙ ap (λ (n : NetworkData). n.latches) same in
     let starts = λ (l : List NetLatch). map (λ (x : NetLatch). x.init) l in
     c.in_ok-push_deck.ensures
-    ∙ ap (λ d. with_devices d (made_devices c.as_slice-6.result.now c.as_slice-7.result.now (starts c.as_slice-8.result.now) c.args.plans.now c.args.ends.now c.args.cells.now)) circuit
+    ∙ ap (λ d. with_devices d (made_devices c.args.style c.as_slice-6.result.now c.as_slice-7.result.now (starts c.as_slice-8.result.now) c.args.plans.now c.args.ends.now c.args.cells.now)) circuit
     ∙ (λ i. with_devices (new_circuit (name i) (phases i) clocks (pins_of network) (outs_of network))
-    (made_devices (some_pins i) (some_sinks i) (starts (some_latches i)) c.args.plans.now c.args.ends.now c.args.cells.now))
+    (made_devices c.args.style (some_pins i) (some_sinks i) (starts (some_latches i)) c.args.plans.now c.args.ends.now c.args.cells.now))

@@ -25,10 +25,6 @@ arm_count-overflow_add-forest-inside t c =
     let few = cell_within c.args.kept.now c.in-Pair.place in
     omega (arith, cell, few, c.requires.one_each, c.requires.forest.few_pairs, c.forest.invariant.few_leaves)
 
-pub arm_count-returns-then-kept-place-clause-leaves : goal.arm_count-returns-then-kept-place-clause-leaves
-arm_count-returns-then-kept-place-clause-leaves t c tree is =
-    c.pair_count.ensures.leaves tree (tree_at_kept c.args.forest.now c.args.kept.now is c.in-Pair.place c.in-Pair.is c.if-kept-place.true)
-
 pub arm_count-returns-then-kept-place-clause-level : goal.arm_count-returns-then-kept-place-clause-level
 arm_count-returns-then-kept-place-clause-level t c tree is =
     c.pair_count.ensures.level tree (tree_at_kept c.args.forest.now c.args.kept.now is c.in-Pair.place c.in-Pair.is c.if-kept-place.true)
@@ -67,7 +63,7 @@ pair_count-returns-clause-level t c tree is =
     let p = parts_of forest kept c.args.place c.index.result.now tree at is in
     both_levels forest.leaves c.args.levels.now tree p.0 p.1 _ _ _ p.4
     (c.arm_count-first.ensures.level p.0 (subst (λ a. IsArmTree forest kept a p.0) (sym c.arms-left.ensures.left) p.2))
-    (c.arm_count-second.ensures.level p.1 (subst (λ a. IsArmTree forest kept a p.1) (sym c.arms-left.ensures.right) p.3)) c.with.ensures.level
+    (c.arm_count-second.ensures.level p.1 (subst (λ a. IsArmTree forest kept a p.1) (sym c.arms-left.ensures.right) p.3)) c.max.ensures
 
 pub pair_count-returns-clause-marks : goal.pair_count-returns-clause-marks
 pair_count-returns-clause-marks t c tree is =

@@ -1,7 +1,6 @@
-use Rattle.std.proofs.Common.{◌≡◌, ℕ, List, take}
+use Rattle.std.proofs.Common.{ℕ, List, take}
 use Rattle.clock_phase.proofs.LevelsUpTo.{AreLevelsUpTo}
 use Rattle.sp_network.specs.Tree.{Tree}
-use Rattle.tree_map.specs.Plans.{cost}
 use Rattle.synth_flow.specs.CellCounts.{AreTreesOf, is_read_in}
 use Rattle.synth_flow.specs.NamedComplements.{MarksAlso}
 use Rattle.synth_flow.proofs.cell_counts.count_trees.Given as goal
@@ -9,6 +8,5 @@ use Rattle.synth_flow.proofs.cell_counts.count_trees.Given as goal
 abbrev pub invariant-cells : goal.invariant-cells
 invariant-cells l = record {
   levels : (trees : List (Tree ℕ)) → AreTreesOf l.forest l.kept trees → AreLevelsUpTo l.forest.leaves trees l.levels l.k;
-  sum : (trees : List (Tree ℕ)) → AreTreesOf l.forest l.kept trees → l.sum ≡ cost (take l.k trees);
   marks : (trees : List (Tree ℕ)) → AreTreesOf l.forest l.kept trees → MarksAlso l.fn.marks l.marks (is_read_in (take l.k trees));
 }

@@ -14,7 +14,7 @@ push_numbered_domino-requires-clause-gates c =
 pub push_numbered_domino-requires-clause-room : goal.push_numbered_domino-requires-clause-room
 push_numbered_domino-requires-clause-room c =
     let p = c.index-plans-k.result in
-    let room = room_in_circuit c.args.circuit.now c.cells.circuit c.args.names.now c.args.plans.now c.cells.k p (item_at c.args.plans.now c.cells.k p (omega arith) c.index-plans-k.is) c.cells.invariant.made in
+    let room = room_in_circuit c.args.style c.args.circuit.now c.cells.circuit c.args.names.now c.args.plans.now c.cells.k p (item_at c.args.plans.now c.cells.k p (omega arith) c.index-plans-k.is) c.cells.invariant.made in
     omega (arith, room, c.requires.room)
 
 pub cells-preserved : goal.cells-preserved
@@ -24,7 +24,7 @@ cells-preserved c =
     let back = written_over c.cells.numbers.len c.push_numbered_domino.new.numbers c.cells.numbers.items
     (len ∙ sym (c.push_numbered_domino.auto.numbers ∙ ap length c.as_mut_slice.ensures.value)) in
     record {
-      made = next_cell c.args.circuit.now c.cells.circuit c.push_numbered_domino.new.circuit c.args.names.now c.args.plans.now c.cells.k p
+      made = next_cell c.args.style c.args.circuit.now c.cells.circuit c.push_numbered_domino.new.circuit c.args.names.now c.args.plans.now c.cells.k p
           (item_at c.args.plans.now c.cells.k p (omega arith) c.index-plans-k.is) c.cells.invariant.made c.in_ok-push_numbered_domino.ensures.devices;
       vdd = c.in_ok-renumber.ensures.vdd;
       vss = c.in_ok-renumber.ensures.vss;

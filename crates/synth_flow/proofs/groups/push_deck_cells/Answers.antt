@@ -25,4 +25,4 @@ push_cells-requires-clause-gates c =
 pub returns : goal.returns
 returns c =
     c.in_ok-push_cells.ensures
-    ∙ ap (λ names. with_devices c.args.circuit.now (cells_from names 0 c.args.plans.now)) (c.as_slice.ensures.value ∙ c.in_ok-gates.ensures)
+    ∙ ap (λ names. with_devices c.args.circuit.now (cells_from c.args.style names 0 c.args.plans.now)) (c.as_slice.ensures.value ∙ c.in_ok-gates.ensures)

@@ -14,7 +14,6 @@ use Rattle.tree_map.specs.Plans.{cell_of}
 use Rattle.synth_flow.specs.BareDecks.{ArePlans}
 use Rattle.deck_form.specs.ChosenDecks.{end_at_cell}
 use Rattle.deck_form.specs.DominoDecks.{cells_of, deck_circuit}
-use Rattle.domino_cell.specs.Style.{WithKeeper}
 use Rattle.synth_flow.specs.MadeCircuits.{made_deck}
 use Rattle.dual_rail.specs.Uses.{IsEndThere}
 use Rattle.synth_flow.proofs.MadeCircuits.{made_is_deck}
@@ -64,10 +63,10 @@ deck_of-requires-clause-plans c =
     let made = c.in_ok-plans.ensures in
     let plans = c.in_ok-plans.plans.items in
     let leaf_total : forest.leaves ≡ leaf_count network = c.requires.forest.2.leaves_are ∙ c.requires.forest.1.leaves_are in
-    let deck_plans = plans_are forest.leaves trees plans made.trees earlier (few_trees forest kept c.args.options.bounds.w c.args.options.bounds.h trees plan is) (cheap_trees forest kept c.args.options.bounds.w c.args.options.bounds.h trees plan is) in
+    let deck_plans = plans_are c.args.options.style forest.leaves trees plans made.trees earlier (few_trees forest kept c.args.options.bounds.w c.args.options.bounds.h trees plan is) (cheap_trees forest kept c.args.options.bounds.w c.args.options.bounds.h trees plan is c.args.options.style) in
     let numbers = c.as_slice-3.ensures.value ∙ c.in_ok-kept.ensures.cells in
     let ends : c.as_slice-2.result.now ≡ forest.ends = c.as_slice-2.ensures.value ∙ ap (λ (f : ForestData). f.ends) c.forest.view_is in
-    subst (ArePlans (leaf_count network)) (sym c.as_slice.ensures.value) (subst (λ n. ArePlans n plans) leaf_total deck_plans)
+    subst (ArePlans c.args.options.style (leaf_count network)) (sym c.as_slice.ensures.value) (subst (λ n. ArePlans c.args.options.style n plans) leaf_total deck_plans)
 
 pub deck_of-requires-clause-clocks_are : goal.deck_of-requires-clause-clocks_are
 deck_of-requires-clause-clocks_are c =
@@ -84,7 +83,7 @@ deck_of-requires-clause-clocks_are c =
     let made = c.in_ok-plans.ensures in
     let plans = c.in_ok-plans.plans.items in
     let leaf_total : forest.leaves ≡ leaf_count network = c.requires.forest.2.leaves_are ∙ c.requires.forest.1.leaves_are in
-    let deck_plans = plans_are forest.leaves trees plans made.trees earlier (few_trees forest kept c.args.options.bounds.w c.args.options.bounds.h trees plan is) (cheap_trees forest kept c.args.options.bounds.w c.args.options.bounds.h trees plan is) in
+    let deck_plans = plans_are c.args.options.style forest.leaves trees plans made.trees earlier (few_trees forest kept c.args.options.bounds.w c.args.options.bounds.h trees plan is) (cheap_trees forest kept c.args.options.bounds.w c.args.options.bounds.h trees plan is c.args.options.style) in
     let numbers = c.as_slice-3.ensures.value ∙ c.in_ok-kept.ensures.cells in
     let ends : c.as_slice-2.result.now ≡ forest.ends = c.as_slice-2.ensures.value ∙ ap (λ (f : ForestData). f.ends) c.forest.view_is in
     let fit = clocks_fit forest.leaves c.args.options.phases trees made.levels plans c.requires.some_phase (subst (λ n. AreLevels n trees made.levels) leaves made.levels_are) made.clocks in
@@ -105,7 +104,7 @@ deck_of-requires-clause-ends c =
     let made = c.in_ok-plans.ensures in
     let plans = c.in_ok-plans.plans.items in
     let leaf_total : forest.leaves ≡ leaf_count network = c.requires.forest.2.leaves_are ∙ c.requires.forest.1.leaves_are in
-    let deck_plans = plans_are forest.leaves trees plans made.trees earlier (few_trees forest kept c.args.options.bounds.w c.args.options.bounds.h trees plan is) (cheap_trees forest kept c.args.options.bounds.w c.args.options.bounds.h trees plan is) in
+    let deck_plans = plans_are c.args.options.style forest.leaves trees plans made.trees earlier (few_trees forest kept c.args.options.bounds.w c.args.options.bounds.h trees plan is) (cheap_trees forest kept c.args.options.bounds.w c.args.options.bounds.h trees plan is c.args.options.style) in
     let numbers = c.as_slice-3.ensures.value ∙ c.in_ok-kept.ensures.cells in
     let ends : c.as_slice-2.result.now ≡ forest.ends = c.as_slice-2.ensures.value ∙ ap (λ (f : ForestData). f.ends) c.forest.view_is in
     let count : length c.as_slice-3.result.now ≡ length forest.pairs = ap length numbers ∙ length-map-range_with_len (cell_of kept) 0 (length kept) ∙ plan.one_each in
@@ -126,14 +125,14 @@ returns c = λ gates are is_forest.
     let made = c.in_ok-plans.ensures in
     let plans = c.in_ok-plans.plans.items in
     let leaf_total : forest.leaves ≡ leaf_count network = c.requires.forest.2.leaves_are ∙ c.requires.forest.1.leaves_are in
-    let deck_plans = plans_are forest.leaves trees plans made.trees earlier (few_trees forest kept c.args.options.bounds.w c.args.options.bounds.h trees plan is) (cheap_trees forest kept c.args.options.bounds.w c.args.options.bounds.h trees plan is) in
+    let deck_plans = plans_are c.args.options.style forest.leaves trees plans made.trees earlier (few_trees forest kept c.args.options.bounds.w c.args.options.bounds.h trees plan is) (cheap_trees forest kept c.args.options.bounds.w c.args.options.bounds.h trees plan is c.args.options.style) in
     let numbers = c.as_slice-3.ensures.value ∙ c.in_ok-kept.ensures.cells in
     let ends : c.as_slice-2.result.now ≡ forest.ends = c.as_slice-2.ensures.value ∙ ap (λ (f : ForestData). f.ends) c.forest.view_is in
     let phases = c.args.options.phases in
     let levels : AreLevels forest.leaves trees made.levels = subst (λ n. AreLevels n trees made.levels) leaves made.levels_are in
     let some_plans = c.as_slice.ensures.value in
     let low = ends_have_cells forest (length kept) plan.one_each is.in_place.has_ends in
-    let deck = made_is_deck network phases signs plans made.levels forest.ends kept made.clocks low (subst (λ n. ArePlans n plans) leaf_total deck_plans).earlier in
+    let deck = made_is_deck c.args.options.style network phases signs plans made.levels forest.ends kept made.clocks low (subst (λ n. ArePlans c.args.options.style n plans) leaf_total deck_plans).earlier in
     record {
       gates = gates;
       signs = signs;
@@ -147,7 +146,7 @@ returns c = λ gates are is_forest.
       is_chosen_plan = chosen;
       levels_are = subst (λ n. AreLevels n trees made.levels) leaf_total levels;
       circuit_is = c.in_ok-circuit.ensures
-          ∙ (λ i. made_deck network phases signs (some_plans i) (ends i) (numbers i))
+          ∙ (λ i. made_deck c.args.options.style network phases signs (some_plans i) (ends i) (numbers i))
           ∙ deck
-          ∙ ap (λ t. deck_circuit WithKeeper network phases (cells_of phases made.levels t) signs (map (end_at_cell kept) forest.ends)) made.trees;
+          ∙ ap (λ t. deck_circuit c.args.options.style network phases (cells_of phases made.levels t) signs (map (end_at_cell kept) forest.ends)) made.trees;
     }
