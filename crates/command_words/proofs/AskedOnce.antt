@@ -7,10 +7,11 @@ use Rattle.std.specs.Cmp.Lexicographic.{bytes_decides}
 use Rattle.deck_form.specs.declared.options.SynthOptions.{SynthOptions}
 use Rattle.trace_tool.specs.TraceData.{TraceOptionsData}
 use Rattle.trace_tool.specs.declared.options.Order.{Order}
+use Rattle.domino_cell.specs.declared.style.Style.{Style}
 use Rattle.command_words.specs.Commands.{Asks, Bench, Command, Cosim, Flat, HasGoodOptions, Report, Run, Sim, Synth, bench_in, bench_of, command_for, command_named, cosim_in, flat_in, report_in, run_in, sim_in, synth_in, taken}
-use Rattle.command_words.specs.Given.{given, of_one, of_three, of_two, with_three, with_two}
+use Rattle.command_words.specs.Given.{given, of_one, of_three, of_two, with_four, with_three, with_two}
 use Rattle.command_words.specs.NumberWords.{number_from}
-use Rattle.command_words.specs.SynthOptionWords.{AreGoodOptions, height_of, method_of, phases_of, synth_flag_names, synth_option_names, synth_options, synth_options_with, width_of}
+use Rattle.command_words.specs.SynthOptionWords.{AreGoodOptions, height_of, method_of, phases_of, style_of, synth_flag_names, synth_option_names, synth_options, synth_options_with, width_of}
 use Rattle.command_words.specs.TraceOptionWords.{order_of, order_option_names, seed_of, trace_flag_names, trace_option_names, trace_options}
 use Rattle.command_words.specs.declared.command.Method.{Method}
 use Rattle.command_words.specs.Written.{Written, is_same, plain_words, takes, values_of, written}
@@ -32,15 +33,21 @@ given_range low high default least most [] = (least, most)
 given_range low high default least most (value ∷ []) = number_range low high value
 given_range low high default least most (value ∷ another ∷ values) = tt
 
-all_good : (w h p : Option ℕ) → IfSome w (λ n. (2 ≤ n) × (n ≤ 8)) → IfSome h (λ n. (2 ≤ n) × (n ≤ 6)) → IfSome p (λ n. (1 ≤ n) × (n ≤ 4))
-    → IfSome (with_three synth_options_with w h p) AreGoodOptions
-all_good None h p a b c = tt
-all_good (Some w) None p a b c = tt
-all_good (Some w) (Some h) None a b c = tt
-all_good (Some w) (Some h) (Some p) a b c = record { some_width = a.0; few_wide = a.1; some_height = b.0; few_high = b.1; some_phase = c.0; few_phases = c.1 }
+pub given_most : (low high default : ℕ) → low ≤ default → default ≤ high → (values : List (List ℕ)) (n : ℕ)
+    → given (number_from low high) default values ≡ Some n → n ≤ high
+given_most low high default least most values n is =
+    (subst (λ o. IfSome o (λ m. (low ≤ m) × (m ≤ high))) is (given_range low high default least most values)).1
+
+all_good : (w h p : Option ℕ) (s : Option Style) → IfSome w (λ n. (2 ≤ n) × (n ≤ 8)) → IfSome h (λ n. (2 ≤ n) × (n ≤ 6)) → IfSome p (λ n. (1 ≤ n) × (n ≤ 4))
+    → IfSome (with_four synth_options_with w h p s) AreGoodOptions
+all_good None h p s a b c = tt
+all_good (Some w) None p s a b c = tt
+all_good (Some w) (Some h) None s a b c = tt
+all_good (Some w) (Some h) (Some p) None a b c = tt
+all_good (Some w) (Some h) (Some p) (Some s) a b c = record { some_width = a.0; few_wide = a.1; some_height = b.0; few_high = b.1; some_phase = c.0; few_phases = c.1 }
 
 good_options : (words : List Written) → IfSome (synth_options words) AreGoodOptions
-good_options words = all_good (width_of words) (height_of words) (phases_of words)
+good_options words = all_good (width_of words) (height_of words) (phases_of words) (style_of words)
     (given_range 2 8 4 (omega arith) (omega arith) (values_of (codes "--width") words))
     (given_range 2 6 4 (omega arith) (omega arith) (values_of (codes "--height") words))
     (given_range 1 4 1 (omega arith) (omega arith) (values_of (codes "--phases") words))

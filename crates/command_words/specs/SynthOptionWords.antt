@@ -1,16 +1,19 @@
 -- The options of synthesis on the command line, and what they give.
-use Rattle.std.specs.Prelude.{ℕ, ◌≤◌, List, [], ◌∷◌, Option, Some, codes}
+use Rattle.std.specs.Prelude.{ℕ, ◌≤◌, List, [], ◌∷◌, Option, Some, None, codes, if◌then◌else◌}
 use Rattle.deck_form.specs.declared.options.SynthOptions.{SynthOptions}
-use Rattle.command_words.specs.Given.{given, with_three}
+use Rattle.domino_cell.specs.declared.style.Style.{Style}
+use Rattle.domino_cell.specs.declared.style.Style.TheVariants.{Keeper as WithKeeper, Precharge as WithPrecharge}
+use Rattle.command_words.specs.Given.{given, with_four}
 use Rattle.command_words.specs.NumberWords.{number_from}
-use Rattle.command_words.specs.Written.{Written, flags_of, values_of}
+use Rattle.command_words.specs.Written.{Written, flags_of, is_same, values_of}
 use Rattle.command_words.specs.declared.command.Method.{Method}
 use Rattle.command_words.specs.declared.command.Method.TheVariants.{Exact, Plain}
 
 abbrev pub synth_option_names : List (List ℕ)
-synth_option_names = codes "--width" ∷ codes "--height" ∷ codes "--phases" ∷ []
+synth_option_names = codes "--width" ∷ codes "--height" ∷ codes "--phases" ∷ codes "--style" ∷ []
 
--- a width of 2 to 8 and a height of 2 to 6, 4 where none is given, and 1 to 4 clocks, one where none is given
+-- a width of 2 to 8 and a height of 2 to 6, 4 where none is given, 1 to 4 clocks, one where none is given, and a style, with keepers where
+-- none is given
 abbrev pub width_of : List Written → Option ℕ
 width_of words = given (number_from 2 8) 4 (values_of (codes "--width") words)
 
@@ -20,11 +23,20 @@ height_of words = given (number_from 2 6) 4 (values_of (codes "--height") words)
 abbrev pub phases_of : List Written → Option ℕ
 phases_of words = given (number_from 1 4) 1 (values_of (codes "--phases") words)
 
-abbrev pub synth_options_with : (width height phases : ℕ) → SynthOptions
-synth_options_with width height phases = record { bounds = record { w = width; h = height }; phases = phases }
+-- the style that a word names
+abbrev pub style_named : List ℕ → Option Style
+style_named word =
+    if is_same word (codes "keeper") then Some WithKeeper
+    else (if is_same word (codes "precharge") then Some WithPrecharge else None)
+
+abbrev pub style_of : List Written → Option Style
+style_of words = given style_named WithKeeper (values_of (codes "--style") words)
+
+abbrev pub synth_options_with : (width height phases : ℕ) → Style → SynthOptions
+synth_options_with width height phases style = record { bounds = record { w = width; h = height }; phases = phases; style = style }
 
 abbrev pub synth_options : List Written → Option SynthOptions
-synth_options words = with_three synth_options_with (width_of words) (height_of words) (phases_of words)
+synth_options words = with_four synth_options_with (width_of words) (height_of words) (phases_of words) (style_of words)
 
 abbrev pub synth_flag_names : List (List ℕ)
 synth_flag_names = codes "--exact" ∷ []

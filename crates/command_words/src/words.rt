@@ -45,7 +45,11 @@ fn synth_of<'a>(words: &'a [String]) -> Option<Command<'a>>
     ensures { MatchOption result (synth_in (written (map string_bytes words.now)) ≡ None)
         (λ command. synth_in (written (map string_bytes words.now)) ≡ Some (asked_command command)) }
 {
-    if !takes_all(words, &["--width", "--height", "--phases"], &["--exact"]) {
+    if !takes_all(
+        words,
+        &["--width", "--height", "--phases", "--style"],
+        &["--exact"],
+    ) {
         return None;
     }
     let file = one_plain(words)?;
@@ -129,7 +133,7 @@ fn report_of<'a>(words: &'a [String]) -> Option<Command<'a>>
     ensures { MatchOption result (report_in (written (map string_bytes words.now)) ≡ None)
         (λ command. report_in (written (map string_bytes words.now)) ≡ Some (asked_command command)) }
 {
-    if !takes_all(words, &["--width", "--height", "--phases"], &[]) {
+    if !takes_all(words, &["--width", "--height", "--phases", "--style"], &[]) {
         return None;
     }
     let file = one_plain(words)?;
@@ -142,7 +146,7 @@ fn bench_of<'a>(words: &'a [String]) -> Option<Command<'a>>
     ensures { MatchOption result (bench_in (written (map string_bytes words.now)) ≡ None)
         (λ command. bench_in (written (map string_bytes words.now)) ≡ Some (asked_command command)) }
 {
-    if !takes_all(words, &["--width", "--height", "--phases"], &[]) {
+    if !takes_all(words, &["--width", "--height", "--phases", "--style"], &[]) {
         return None;
     }
     let (seed, size) = two_plain(words)?;

@@ -26,7 +26,7 @@ use Rattle.synth_flow.specs.Summaries.{IsSummaryOf, both_nodes, clock_counts, fi
 use Rattle.synth_flow.specs.SummaryData.{SummaryData}
 use Rattle.deck_form.specs.declared.options.SynthOptions.{SynthOptions}
 use Rattle.tree_map.specs.LeastPlans.{IsChosenPlan}
-use Rattle.tree_map.specs.Plans.{cost}
+use Rattle.style_costs.specs.Styles.{cost_in}
 use Rattle.tree_map.proofs.PlanOne.{chosen_plan_one}
 
 module _ (network : NetworkData) (is : IsNetwork network) (options : SynthOptions) where
@@ -56,7 +56,7 @@ module _ (network : NetworkData) (is : IsNetwork network) (options : SynthOption
         minus = count_by not (signs i);
         cells = length (trees i);
         levels = greatest (levels i);
-        cost = cost (trees i);
+        cost = cost_in options.style (trees i);
         devices = length (circuits i).devices;
         clocks = clock_counts options.phases (cells_of options.phases (levels i) (trees i));
       }

@@ -1,5 +1,5 @@
 -- The deck of a network that is generated has one verdict beside it, which is that all is the same.
-use Rattle.domino_cell.specs.Style.{Style}
+use Rattle.domino_cell.specs.declared.style.Style.{Style}
 use Rattle.std.proofs.Common.{◌≡◌, ◌≤◌, ◌∙◌, ◌++◌, ℕ, List, Bool, length, take, refl, sym, ap₂, subst}
 use Rattle.std.proofs.Math.Seq.{take-append_seam}
 use Rattle.dom_base.proofs.Faults.{answer_same}
