@@ -5,7 +5,7 @@ use comparison::Trouble;
 use network::Network;
 use spice_text::write;
 use std::alloc::Global;
-use synth_flow::{SynthOptions, synth};
+use synth_flow::{Style, SynthOptions, synth};
 use tree_map::Bounds;
 
 /// How many options there are: widths from 2 to 8, heights from 2 to 6, and 1 to 4 clocks.
@@ -26,6 +26,7 @@ pub fn options_at(number: u32) -> SynthOptions
             h: 2 + number / 4 % 5,
         },
         phases: 1 + (number % 4) as u8,
+        style: Style::Keeper,
     }
 }
 

@@ -4,7 +4,7 @@ use net_gen::generate;
 use std::alloc::Global;
 use std::process::Abort;
 use std::test::Fail;
-use synth_flow::{SynthOptions, append_summary, summary};
+use synth_flow::{Style, SynthOptions, append_summary, summary};
 use tree_map::Bounds;
 
 /// The text of the figures of a BLIF text within this width and height, on so many clocks.
@@ -18,7 +18,12 @@ fn figures(
     assert!(rt; 2 <= bounds.w && bounds.w <= 8 && 2 <= bounds.h && bounds.h <= 6);
     assert!(rt; 1 <= phases && phases <= 4);
     let network = network_of(alloc, text)?;
-    let figures = summary(alloc, &network, SynthOptions { bounds, phases })?;
+    let options = SynthOptions {
+        bounds,
+        phases,
+        style: Style::Keeper,
+    };
+    let figures = summary(alloc, &network, options)?;
     let mut lines = Vec::new(alloc);
     append_summary(&mut lines, &network.name, &figures)?;
     Ok(lines)

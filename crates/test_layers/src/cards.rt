@@ -6,7 +6,7 @@ ghost use Rattle.deck.specs.Pushes.{new_circuit};
 use crate::trees::series_of_two;
 use deck::Circuit;
 use dom_base::{Kind, NameBytes, NetName, OutOfMemory};
-use domino_cell::{push_domino, push_static};
+use domino_cell::{Style, push_domino, push_static};
 use sp_network::GatePlan;
 use std::alloc::Global;
 use std::process::Abort;
@@ -75,14 +75,14 @@ fn static_pair_of_a_series(rt: HostRuntime) -> Result<(), Fail> {
 }
 
 /// A domino cell of two leaves in series.
-fn cell(alloc: Global) -> Result<Circuit, Fail> {
+fn cell(alloc: Global, style: Style) -> Result<Circuit, Fail> {
     let mut circuit = without_devices(alloc)?;
     let plan = GatePlan {
         tree: series_of_two(alloc)?,
         clock: 1,
     };
     let names = [named(alloc, b"a")?, named(alloc, b"b")?];
-    push_domino(alloc, &mut circuit, &plan, &names, 7)?;
+    push_domino(alloc, &mut circuit, &plan, &names, 7, style)?;
     Ok(circuit)
 }
 
@@ -99,8 +99,27 @@ const DOMINO_CELL: &[Ends] = &[
 /// Precharge, keeper, the tree from the dynamic net to the foot net, foot, inverter.
 #[test]
 fn domino_cell_of_a_series(rt: HostRuntime) -> Result<(), Fail> {
-    let circuit = cell(rt.alloc())?;
+    let circuit = cell(rt.alloc(), Style::Keeper)?;
     has_names(&rt, &circuit, &[b"d7", b"z7", b"a", b"t7_0", b"b", b"f7"]);
     assert!(rt; has_devices(&circuit, DOMINO_CELL));
+    Ok(())
+}
+
+const PRECHARGED_CELL: &[Ends] = &[
+    (Kind::P, 9, 2, 0),
+    (Kind::P, 10, 2, 0),
+    (Kind::N, 9, 11, 10),
+    (Kind::N, 10, 12, 13),
+    (Kind::N, 13, 2, 1),
+    (Kind::P, 14, 9, 0),
+    (Kind::N, 14, 9, 1),
+];
+
+/// Precharge, the precharge of the inner net, the tree from the dynamic net to the foot net, foot, inverter.
+#[test]
+fn precharged_cell_of_a_series(rt: HostRuntime) -> Result<(), Fail> {
+    let circuit = cell(rt.alloc(), Style::Precharge)?;
+    has_names(&rt, &circuit, &[b"d7", b"t7_0", b"a", b"b", b"f7", b"z7"]);
+    assert!(rt; has_devices(&circuit, PRECHARGED_CELL));
     Ok(())
 }
