@@ -8,6 +8,7 @@ use Rattle.gate_decompose.specs.declared.gates.Ref.{Ref}
 use Rattle.gate_decompose.specs.declared.gates.Ref.TheVariants.{Const as constant_ref}
 use Rattle.gate_decompose.specs.GatesData.{GatesData}
 use Rattle.gate_decompose.specs.GatesOrder.{AreInPlace, ReadsEarlier}
+use Rattle.gate_decompose.proofs.GatesOrder.{sink_there}
 use Rattle.gate_decompose.specs.Needed.{Asked, AsksFor, Literal, Pair, Value, constant, gate, leaf, under}
 use Rattle.dual_rail.specs.ArmPlaces.{HasPlace}
 use Rattle.dual_rail.specs.EndPlaces.{AreEndsSoFar, IsEndFor, IsNodeWithin, SinksHavePlaces}
@@ -15,7 +16,6 @@ use Rattle.dual_rail.specs.Forests.{IsEndOf}
 use Rattle.dual_rail.specs.Places.{place_at}
 use Rattle.dual_rail.specs.WantedNodes.{AreOrderedNodes}
 use Rattle.dual_rail.proofs.ArmsOf.{plain_place}
-use Rattle.dual_rail.proofs.Marks.{sink_there}
 use Rattle.dual_rail.proofs.TargetsOf.{asks_opposite}
 use Rattle.dual_rail.specs.declared.forest.End.{End}
 use Rattle.dual_rail.specs.declared.signed.Signed.{Signed}

@@ -1,13 +1,12 @@
 -- Marks of wanted nodes: what sinks and nodes add, and the pass over marks that are one.
-use Rattle.std.proofs.Common.{◌≡◌, ◌⊎◌, inl, inr, refl, sym, ap, ap₂, ◌∙◌, ℕ, zero, suc, ◌+◌, ◌≤◌, ◌<◌, Bool, true, false, not, ◌&&◌, ◌||◌, List, [], ◌∷◌, length, take, drop, ◌++◌, replicate, get_or, Some, slice_get, arith, add-one}
+use Rattle.std.proofs.Common.{◌≡◌, ◌⊎◌, inl, inr, refl, sym, ap, ap₂, ◌∙◌, ℕ, zero, suc, ◌+◌, ◌<◌, Bool, true, false, not, ◌&&◌, ◌||◌, List, [], ◌∷◌, length, take, drop, ◌++◌, replicate, get_or, Some, slice_get, arith, add-one}
 use Rattle.std.proofs.Math.Seq.{take-append_seam}
 use Rattle.dom_base.proofs.Bools.{or_assoc, or_false}
 use Rattle.gate_decompose.specs.declared.gates.Node.{Node}
-use Rattle.gate_decompose.specs.declared.gates.Node.TheVariants.{And, Or, Not}
+use Rattle.gate_decompose.specs.declared.gates.Node.TheVariants.{And, Or}
 use Rattle.gate_decompose.specs.declared.gates.Ref.{Ref}
-use Rattle.gate_decompose.specs.declared.gates.Ref.TheVariants.{Const, Leaf, Node as node_ref}
+use Rattle.gate_decompose.specs.declared.gates.Ref.TheVariants.{Const}
 use Rattle.gate_decompose.specs.GatesData.{GatesData}
-use Rattle.gate_decompose.specs.GatesOrder.{HasParts, IsTermPart, IsThere, NodeReadsEarlier, ReadsEarlier}
 use Rattle.gate_decompose.specs.Needed.{signed}
 use Rattle.gate_decompose.specs.NeededPass.{is_asked_by, is_asked_by_sinks, names_node, pass, wanted_by_pass}
 use Rattle.dual_rail.specs.WantedNodes.{holds}
@@ -64,25 +63,6 @@ sink_marked old mid new signs sinks bits i n s lt count is before added =
 -- the pass over marks that hold the same
 pub pass_same : (nodes : List Node) (k : ℕ) (a b : ℕ → Bool → Bool) → ((n : ℕ) (s : Bool) → a n s ≡ b n s) → (n : ℕ) (s : Bool) → pass nodes a k n s ≡ pass nodes b k n s
 pass_same nodes k a b h n s = ap (λ f. pass nodes f k n s) (λ i m t. h m t i)
-
--- parts are there
-pub parts_there : (leaves n m : ℕ) (x : Node) → HasParts leaves n x → n ≤ m → NodeReadsEarlier m x
-parts_there leaves n m x h le = by x h
-  where
-    part : (r : Ref) → IsTermPart leaves n r → ReadsEarlier m r
-    part (Const b) h = tt
-    part (Leaf k) h = tt
-    part (node_ref k) h = omega arith
-
-    by : (x : Node) → HasParts leaves n x → NodeReadsEarlier m x
-    by (Not a) h = part a h
-    by (And a b) h = (part a h.0, part b h.1)
-    by (Or a b) h = (part a h.0, part b h.1)
-
-pub sink_there : (leaves nodes : ℕ) (r : Ref) → IsThere leaves nodes r → ReadsEarlier nodes r
-sink_there leaves nodes (Const b) h = tt
-sink_there leaves nodes (Leaf k) h = tt
-sink_there leaves nodes (node_ref n) h = h
 
 -- both parts of an operator
 pub parts_marked : (old mid new : List (Signed Bool)) (signs : Signed Bool) (node : Node) (left right : Ref) → (node ≡ And left right) ⊎ (node ≡ Or left right)

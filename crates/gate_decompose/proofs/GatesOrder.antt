@@ -1,6 +1,6 @@
 -- The gates of a network read only what is there, and nodes that stand before.
 use Rattle.network.proofs.Lists.{get_map, get_of_map}
-use Rattle.std.proofs.Common.{◌≡◌, ◌⊎◌, inl, inr, sym, ap, subst, ◌∙◌, ℕ, ◌+◌, ◌<◌, List, [], length, Some, slice_get, All, arith, zero-add}
+use Rattle.std.proofs.Common.{◌≡◌, ◌⊎◌, inl, inr, sym, ap, subst, ◌∙◌, ℕ, ◌+◌, ◌<◌, ◌≤◌, List, [], length, Some, slice_get, All, arith, zero-add}
 use Rattle.std.specs.List.{position_or_len}
 use Rattle.std.proofs.lemmas.List.{length-map}
 use Rattle.std.proofs.lemmas.Option.{slice_get_within, get_or_from_slice_get}
@@ -18,25 +18,30 @@ use Rattle.gate_decompose.specs.declared.gates.Ref.{Ref}
 use Rattle.gate_decompose.specs.declared.gates.Ref.TheVariants.{Const, Leaf, Node as node_ref}
 use Rattle.gate_decompose.specs.GatesOrder.{GatesAreOrdered, NetworkGatesAreInPlace, HasParts, IsTermPart, IsThere, NodeReadsEarlier, ReadsEarlier}
 
-part_earlier : (leaves n : ℕ) (r : Ref) → IsTermPart leaves n r → ReadsEarlier n r
-part_earlier leaves n (Const b) h = tt
-part_earlier leaves n (Leaf k) h = tt
-part_earlier leaves n (node_ref m) h = h
+-- parts that are there before a node are there before each number that is no lower
+pub parts_there : (leaves n m : ℕ) (x : Node) → HasParts leaves n x → n ≤ m → NodeReadsEarlier m x
+parts_there leaves n m x h le = by x h
+  where
+    part : (r : Ref) → IsTermPart leaves n r → ReadsEarlier m r
+    part (Const b) h = tt
+    part (Leaf k) h = tt
+    part (node_ref k) h = omega arith
 
-there_earlier : (leaves n : ℕ) (r : Ref) → IsThere leaves n r → ReadsEarlier n r
-there_earlier leaves n (Const b) h = tt
-there_earlier leaves n (Leaf k) h = tt
-there_earlier leaves n (node_ref m) h = h
+    by : (x : Node) → HasParts leaves n x → NodeReadsEarlier m x
+    by (Not a) h = part a h
+    by (And a b) h = (part a h.0, part b h.1)
+    by (Or a b) h = (part a h.0, part b h.1)
 
-node_earlier : (leaves n : ℕ) (x : Node) → HasParts leaves n x → NodeReadsEarlier n x
-node_earlier leaves n (Not a) h = part_earlier leaves n a h
-node_earlier leaves n (And a b) h = (part_earlier leaves n a h.0, part_earlier leaves n b h.1)
-node_earlier leaves n (Or a b) h = (part_earlier leaves n a h.0, part_earlier leaves n b h.1)
+-- a sink that is there is before the number of all nodes
+pub sink_there : (leaves nodes : ℕ) (r : Ref) → IsThere leaves nodes r → ReadsEarlier nodes r
+sink_there leaves nodes (Const b) h = tt
+sink_there leaves nodes (Leaf k) h = tt
+sink_there leaves nodes (node_ref n) h = h
 
 pub gates_are_ordered : GatesAreOrdered
 gates_are_ordered = λ gates is. record {
-  nodes = λ n x e. node_earlier gates.leaves n x (is.nodes n x e);
-  sinks = λ k r e. there_earlier gates.leaves _ r (is.sinks k r e);
+  nodes = λ n x e. parts_there gates.leaves n n x (is.nodes n x e) (omega arith);
+  sinks = λ k r e. sink_there gates.leaves _ r (is.sinks k r e);
 }
 
 module _ (network : NetworkData) (gates : GatesData) (is : AreGatesOf network gates) (order : IsOrderedNetwork network) where

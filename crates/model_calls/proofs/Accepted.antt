@@ -8,7 +8,7 @@ use Rattle.model_calls.specs.declared.fault.FlatKind.TheVariants.{DuplicateModel
 use Rattle.model_calls.specs.ModelCalls.{NothingRefuses}
 use Rattle.model_calls.specs.Refusal.{At, Refusal, TooMany, flat_kind_order, refusal_order}
 use Rattle.model_calls.specs.Refusals.{HasRefusal, IsRefusal, IsReported}
-use Rattle.model_calls.specs.Reports.{NoneHolds}
+use Rattle.model_calls.specs.FirstFaults.{NoneHolds}
 
 module _ (f : BlifFileData) where
   least_order : (kind : FlatKind) → flat_kind_order kind ≤ 0 → ⊥

@@ -10,12 +10,12 @@ use Rattle.blif_ast.specs.InstanceData.{InstanceData}
 use Rattle.dom_base.proofs.Lists.{Contains-slice_get, map-push}
 use Rattle.graph_order.proofs.Lists.{take_next}
 use Rattle.network.proofs.Lists.{get_map, get_of_map, get_take}
-use Rattle.model_calls.proofs.Reports.{none_of_both, none_of_each, none_up_to, reported_at, reported_of_each}
+use Rattle.model_calls.proofs.FirstFaults.{none_of_both, none_of_each, none_up_to, reported_at, reported_of_each}
 use Rattle.model_calls.specs.CallNumbers.{AreCallees, AreCalls, AreNamed, IsOfNone, IsUseOfNone, names_of_models}
 use Rattle.model_calls.specs.ModelFaults.{IsDuplicateModel, Use, uses_in}
 use Rattle.model_calls.specs.NameNumbers.{IsNameAdded}
 use Rattle.model_calls.specs.Refusals.{IsReported}
-use Rattle.model_calls.specs.Reports.{NoneHolds}
+use Rattle.model_calls.specs.FirstFaults.{NoneHolds}
 
 -- so many models were numbered
 abbrev pub NoneBefore : List BlifModelData → ℕ → Type 0

@@ -5,7 +5,7 @@ pub mod Drivers
 pub mod EachPart
 pub mod Firsts
 pub mod Fitting
-pub mod FormalReports
+pub mod FormalFaults
 pub mod KindOrders
 pub mod LinedCards
 pub mod MainNames
@@ -17,7 +17,7 @@ pub mod Pairs
 pub mod PlacedNames
 pub mod Reaching
 pub mod Recursions
-pub mod Reports
+pub mod FirstFaults
 pub mod Rising
 pub mod Scans
 pub mod StableSort

@@ -13,7 +13,7 @@ use Rattle.graph_order.proofs.Circles.{no_circle}
 use Rattle.graph_order.proofs.Lists.{contains_cons, take_get}
 use Rattle.graph_order.specs.Orders.{IsGraph, IsOrder, IsSuccessor, LeadsOn, more as leads_more, step as leads_step, successors}
 use Rattle.model_calls.proofs.CallNumbers.{known_at}
-use Rattle.model_calls.proofs.FormalReports.{callee_is, callees_count, called_at, calls_at, calls_count}
+use Rattle.model_calls.proofs.FormalFaults.{callee_is, callees_count, called_at, calls_at, calls_count}
 use Rattle.network.proofs.Lists.{get_map, get_of_map}
 use Rattle.model_calls.proofs.MainNames.{contains_flat}
 use Rattle.model_calls.proofs.Pairs.{contains_to}
@@ -28,7 +28,7 @@ use Rattle.model_calls.specs.ModelCalls.{HasCircle, HavePlans}
 use Rattle.model_calls.specs.Occurrences.{first_model, main_model}
 use Rattle.model_calls.specs.Plans.{AreCards, IsCardAt, IsPlanned, HasMainPlan, plan_at}
 use Rattle.model_calls.specs.Recursions.{IsBack}
-use Rattle.model_calls.specs.Reports.{NoneHolds}
+use Rattle.model_calls.specs.FirstFaults.{NoneHolds}
 
 -- the main model of a file that has models
 pub first_there_of : (all : List BlifModelData) → all ≢ [] → slice_get all 0 ≡ Some (first_model all)

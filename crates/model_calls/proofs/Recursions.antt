@@ -12,17 +12,17 @@ use Rattle.dom_base.proofs.Lists.{Contains-slice_get, slice_get-contained}
 use Rattle.graph_order.specs.Components.{AreComponents, IsJoined}
 use Rattle.graph_order.specs.Orders.{IsSuccessor, LeadsOn, more as leads_more, step as leads_step, successors}
 use Rattle.model_calls.proofs.CallNumbers.{known_at}
-use Rattle.model_calls.proofs.FormalReports.{callees_count, calls_at, calls_count}
+use Rattle.model_calls.proofs.FormalFaults.{callees_count, calls_at, calls_count}
 use Rattle.network.proofs.Lists.{get_map, get_of_map, get_take}
 use Rattle.model_calls.proofs.MainNames.{contains_flat}
 use Rattle.model_calls.proofs.Pairs.{contains_to}
-use Rattle.model_calls.proofs.Reports.{none_of_each, reported_of_each}
+use Rattle.model_calls.proofs.FirstFaults.{none_of_each, reported_of_each}
 use Rattle.model_calls.specs.CallNumbers.{AreCallees, AreCalls, names_of_models}
 use Rattle.model_calls.specs.ModelFaults.{HasInstance, IsDuplicateModel, IsRecursion, Use, uses_in}
 use Rattle.model_calls.specs.Reaches.{Reaches, more, step}
 use Rattle.model_calls.specs.Recursions.{IsBack, IsFirstBack}
 use Rattle.model_calls.specs.Refusals.{IsReported}
-use Rattle.model_calls.specs.Reports.{NoneHolds}
+use Rattle.model_calls.specs.FirstFaults.{NoneHolds}
 
 -- an element of lists for each of some things is one of the list of one of them
 pub from_flat : {X Y : Type 0} (g : X → List Y) (xs : List X) (y : Y) → Contains (flat_map g xs) y → (k : ℕ) × (x : X) × (slice_get xs k ≡ Some x) × Contains (g x) y

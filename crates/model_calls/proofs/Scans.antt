@@ -11,12 +11,12 @@ use Rattle.blif_ast.specs.Cards.{same}
 use Rattle.dom_base.proofs.Lists.{Contains-slice_get, slice_get-append, slice_get-push, slice_get-push_cases}
 use Rattle.graph_order.proofs.Lists.{take_get, take_next}
 use Rattle.network.proofs.Lists.{count_twice}
-use Rattle.model_calls.proofs.Reports.{none_of_each, reported_of_each}
-use Rattle.model_calls.specs.declared.report.Report.{Report}
-use Rattle.model_calls.specs.Reports.{IsReport}
+use Rattle.model_calls.proofs.FirstFaults.{none_of_each, reported_of_each}
+use Rattle.model_calls.specs.declared.first_fault.FirstFault.{FirstFault}
+use Rattle.model_calls.specs.FirstFaults.{IsFirstFaultIn}
 use Rattle.model_calls.specs.ModelFaults.{IsTwiceIn}
 use Rattle.model_calls.specs.NameNumbers.{IsNameAdded}
-use Rattle.model_calls.specs.Scans.{AreFirsts, IsLeastWrong, IsLooked, IsOnceIn, IsRightBelow, IsScan, IsWrong, IsWrongReport, ScanData, least_with, wrong_name}
+use Rattle.model_calls.specs.Scans.{AreFirsts, IsLeastWrong, IsLooked, IsOnceIn, IsRightBelow, IsScan, IsWrong, IsFirstWrongName, ScanData, least_with, wrong_name}
 
 -- the names of a list in order of first appearance
 
@@ -272,14 +272,14 @@ next_scan Good all k before after x scan there good goods looked =
 module _ {Element : Type 0} (Holds : Element → Type 0) (line_of : Element → ℕ) (name_of : Element → List ℕ) (element : List ℕ → Element) (Good : List ℕ → Type 0) (all : List (List ℕ))
     (wrong_holds : (x : List ℕ) → IsWrong Good all x → Holds (element x)) (holds_wrong : (x : List ℕ) → Holds (element x) → IsWrong Good all x)
     (line : ℕ) (lines : (x : List ℕ) → line ≡ line_of (element x)) (names : (x : List ℕ) → x ≡ name_of (element x)) where
-  pub scan_reports : (s : ScanData) (k : ℕ) → length all ≤ k → IsScan Good all (take k all) s → (found : Option Report) → IsWrongReport s line found
-      → IsReport (λ before. Holds) (map element all) line_of name_of found
-  scan_reports s k most scan found report = by found report
+  pub scan_faults : (s : ScanData) (k : ℕ) → length all ≤ k → IsScan Good all (take k all) s → (found : Option FirstFault) → IsFirstWrongName s line found
+      → IsFirstFaultIn (λ before. Holds) (map element all) line_of name_of found
+  scan_faults s k most scan found report = by found report
     where
       whole : IsScan Good all all s
       whole = subst (λ seen. IsScan Good all seen s) (take_all k all most) scan
 
-      by : (found : Option Report) → IsWrongReport s line found → IsReport (λ before. Holds) (map element all) line_of name_of found
+      by : (found : Option FirstFault) → IsFirstWrongName s line found → IsFirstFaultIn (λ before. Holds) (map element all) line_of name_of found
       by None none = none_of_each Holds line_of name_of element all (λ k x there holds. none_wrong Good all s whole none k x there (holds_wrong x holds))
       by (Some r) (line_is, name_is) = let h = first_wrong Good all s whole r.name name_is in
           reported_of_each Holds line_of name_of element all h.0 r.name h.1.0 (wrong_holds r.name h.1.1) (λ j y l there holds. h.1.2 j y l there (holds_wrong y holds))

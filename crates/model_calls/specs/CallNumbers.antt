@@ -7,7 +7,7 @@ use Rattle.model_calls.specs.declared.calls.CallGraph.{CallGraph}
 use Rattle.model_calls.specs.declared.calls.CallGraph.TheVariants.{Known as KnownGraph, Unknown as UnknownGraph}
 use Rattle.model_calls.specs.declared.calls.Callees.{Callees}
 use Rattle.model_calls.specs.declared.calls.Callees.TheVariants.{Known, Unknown}
-use Rattle.model_calls.specs.declared.report.Report.{Report}
+use Rattle.model_calls.specs.declared.first_fault.FirstFault.{FirstFault}
 use Rattle.model_calls.specs.ModelFaults.{IsDuplicateModel, Use, uses_in}
 use Rattle.model_calls.specs.Refusals.{IsReported}
 use Rattle.std.specs.List.{flat_map}
@@ -16,7 +16,7 @@ abbrev pub names_of_models : List BlifModelData → List (List ℕ)
 names_of_models models = map (λ (m : BlifModelData). m.name) models
 
 -- the names of models that all differ, or the first model with an earlier one's name
-abbrev pub AreNamed : List BlifModelData → List (List ℕ) → Option Report → Type 0
+abbrev pub AreNamed : List BlifModelData → List (List ℕ) → Option FirstFault → Type 0
 AreNamed models names None =
     (names ≡ names_of_models models)
     × ((k : ℕ) (m : BlifModelData) → slice_get models k ≡ Some m → IsDuplicateModel (take k models) m → ⊥)

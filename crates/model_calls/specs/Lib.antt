@@ -21,6 +21,6 @@ pub mod Reaches
 pub mod Pairs
 pub mod Plans
 pub mod Recursions
-pub mod Reports
+pub mod FirstFaults
 pub mod Scans
 pub mod NumberSets

@@ -5,8 +5,8 @@ use Rattle.blif_ast.specs.BlifFileData.{BlifFileData}
 use Rattle.blif_ast.specs.BlifModelData.{BlifModelData}
 use Rattle.graph_order.specs.Orders.{IsOrder, LeadsOn, successors}
 use Rattle.model_calls.specs.declared.fault.FlatKind.{FlatKind}
-use Rattle.model_calls.specs.declared.models.Planning.{Planning}
-use Rattle.model_calls.specs.declared.models.Planning.TheVariants.{Planned, Refused}
+use Rattle.model_calls.specs.declared.models.FoundCalls.{FoundCalls}
+use Rattle.model_calls.specs.declared.models.FoundCalls.TheVariants.{Known, Refused}
 use Rattle.model_calls.specs.declared.plan.CardAt.{CardAt}
 use Rattle.model_calls.specs.CallNumbers.{AreCalls, names_of_models}
 use Rattle.model_calls.specs.Expanded.{ordered_cards}
@@ -35,9 +35,9 @@ pub record AreModelCalls (f : BlifFileData) (p : ModelCallsData) : Type 0 where
   pub accepted : NothingRefuses f 5
 
 -- the calls of a file, or what is wrong with its models, which is of the first five orders
-abbrev pub IsPlanning : BlifFileData → Planning → Type 0
-IsPlanning f (Planned calls) = AreModelCalls f calls
-IsPlanning f (Refused kind report) = IsRefusal f (At kind report.line report.name) × (flat_kind_order kind ≤ 5)
+abbrev pub AreFoundCalls : BlifFileData → FoundCalls → Type 0
+AreFoundCalls f (Known calls) = AreModelCalls f calls
+AreFoundCalls f (Refused kind report) = IsRefusal f (At kind report.line report.name) × (flat_kind_order kind ≤ 5)
 
 -- some node leads back to itself
 abbrev pub HasCircle : List (List ℕ) → Type 0

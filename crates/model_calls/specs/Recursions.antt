@@ -2,7 +2,7 @@
 -- leads to the models that its instances name.
 use Rattle.std.specs.Prelude.{ℕ, ◌≡◌, ◌<◌, ◌⊎◌, List, Option, Some, None, slice_get}
 use Rattle.blif_ast.specs.InstanceData.{InstanceData}
-use Rattle.model_calls.specs.declared.report.Report.{Report}
+use Rattle.model_calls.specs.declared.first_fault.FirstFault.{FirstFault}
 use Rattle.graph_order.specs.Orders.{LeadsOn, successors}
 
 -- a model is this one, or leads to it
@@ -20,5 +20,5 @@ IsFirstBack nodes model (Some first) =
     ((unit : ℕ) × (slice_get (successors nodes model) first ≡ Some unit) × IsBack nodes model unit) × NoneBackBefore nodes model first
 
 -- a report of the instance of an index
-abbrev pub IsReportOf : List InstanceData → ℕ → Report → Type 0
+abbrev pub IsReportOf : List InstanceData → ℕ → FirstFault → Type 0
 IsReportOf instances at r = (i : InstanceData) × (slice_get instances at ≡ Some i) × (r.line ≡ i.line) × (r.name ≡ i.unit)

@@ -1,7 +1,7 @@
 -- Looking for the first name of a list that stands there twice or is wrong otherwise: the names so far by numbers, in order of
 -- first appearance, and the least number of a name that is wrong.
 use Rattle.std.specs.Prelude.{ℕ, ◌≡◌, ◌<◌, ◌⊎◌, Bool, ◌&&◌, min, List, Option, Some, None, option_and_then, slice_get, if◌then◌else◌}
-use Rattle.model_calls.specs.declared.report.Report.{Report}
+use Rattle.model_calls.specs.declared.first_fault.FirstFault.{FirstFault}
 use Rattle.model_calls.specs.ModelFaults.{IsTwiceIn}
 use Rattle.model_calls.specs.NameNumbers.{IsNameAdded}
 
@@ -26,9 +26,9 @@ abbrev pub wrong_name : ScanData → Option (List ℕ)
 wrong_name s = option_and_then (slice_get s.names) s.least
 
 -- a report of the first name that is wrong
-abbrev pub IsWrongReport : ScanData → ℕ → Option Report → Type 0
-IsWrongReport s line None = wrong_name s ≡ None
-IsWrongReport s line (Some r) = (r.line ≡ line) × (wrong_name s ≡ Some r.name)
+abbrev pub IsFirstWrongName : ScanData → ℕ → Option FirstFault → Type 0
+IsFirstWrongName s line None = wrong_name s ≡ None
+IsFirstWrongName s line (Some r) = (r.line ≡ line) × (wrong_name s ≡ Some r.name)
 
 -- the names of a list, each once, in order of first appearance
 pub record AreFirsts (all names : List (List ℕ)) : Type 0 where

@@ -2,8 +2,8 @@
 ghost use Rattle.std.specs.Prelude.{◌≡◌, ◌≤◌, ◌^◌, [], IfOk, length};
 ghost use Rattle.model_calls.specs.CallNumbers.{AreNamed, IsCallGraph, IsCallees};
 
+use crate::first_fault::FirstFault;
 use crate::names::Names;
-use crate::report::Report;
 use blif_ast::{BlifModel, Instance};
 use dom_base::OutOfMemory;
 use graph_order::Node;
@@ -13,7 +13,7 @@ use std::alloc::Global;
 #[derive(Drop)]
 pub enum Callees {
     Known(Node<'static>),
-    Unknown(Report),
+    Unknown(FirstFault),
 }
 
 /// For each model the numbers of the models that its instances name, or the first instance that names
@@ -21,7 +21,7 @@ pub enum Callees {
 #[derive(Drop)]
 pub enum CallGraph {
     Known(Vec<Node<'static>>),
-    Unknown(Report),
+    Unknown(FirstFault),
 }
 
 /// Numbers the models by their names, up to the first that has an earlier one's name, which is
@@ -29,14 +29,14 @@ pub enum CallGraph {
 pub fn name_models<'a>(
     names: &mut Names<'a>,
     models: &'a [BlifModel],
-) -> Result<Option<Report>, OutOfMemory>
+) -> Result<Option<FirstFault>, OutOfMemory>
     requires none { names.old ≡ [] }
     ensures { IfOk result (AreNamed models.now names.new) }
 {
     for model in models {
         let (_, new) = names.add(&model.name)?;
         if !new {
-            return Ok(Some(Report::new(model.line, &model.name)?));
+            return Ok(Some(FirstFault::new(model.line, &model.name)?));
         }
     }
     Ok(None)
@@ -73,7 +73,7 @@ fn find_callees(
     let mut next = Vec::with_capacity(alloc, instances.len())?;
     for instance in instances {
         let Some(number) = names.number(&instance.unit) else {
-            return Ok(Callees::Unknown(Report::new(instance.line, &instance.unit)?));
+            return Ok(Callees::Unknown(FirstFault::new(instance.line, &instance.unit)?));
         };
         next.push(number as u32)?;
     }

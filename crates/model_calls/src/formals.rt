@@ -6,12 +6,12 @@ ghost use Rattle.blif_ast.specs.Cards.{same};
 ghost use Rattle.model_calls.specs.CallNumbers.{AreCallees, AreCalls, names_of_models};
 ghost use Rattle.model_calls.specs.Formals.{HavePorts, IsPortTable, IsUnbound, bound_formals, formals_in, formals_in_model, names_of_ports};
 ghost use Rattle.model_calls.specs.ModelFaults.{IsBadFormal, IsDuplicateModel, formals_with, line_of_formal, name_of_formal};
-ghost use Rattle.model_calls.specs.Reports.{IsReport, NoneHolds};
+ghost use Rattle.model_calls.specs.FirstFaults.{IsFirstFaultIn, NoneHolds};
 ghost use Rattle.model_calls.specs.Scans.{AreFirsts, IsScan};
 
+use crate::first_fault::FirstFault;
 use crate::name_hashes::{hash_of_formals, hash_of_lists};
 use crate::names::Names;
-use crate::report::Report;
 use crate::scan::Scan;
 use blif_ast::{Binding, BlifModel, Instance};
 use dom_base::{Name, OutOfMemory};
@@ -29,10 +29,10 @@ pub fn bad_formal(
     alloc: Global,
     models: &[BlifModel],
     nodes: &[Node<'_>],
-) -> Result<Option<Report>, OutOfMemory>
+) -> Result<Option<FirstFault>, OutOfMemory>
     requires apart { NoneHolds IsDuplicateModel models.now }
     requires calls { AreCalls (names_of_models models.now) models.now nodes.now }
-    ensures { IfOk result (IsReport IsBadFormal (flat_map (formals_in_model models.now) models.now) line_of_formal name_of_formal) }
+    ensures { IfOk result (IsFirstFaultIn IsBadFormal (flat_map (formals_in_model models.now) models.now) line_of_formal name_of_formal) }
 {
     let mut tables = IndexMap::new(alloc);
     for index in 0..models.len() {
@@ -97,11 +97,11 @@ fn bad_in_model<'a>(
     tables: &mut IndexMap<usize, Names<'a>>,
     instances: &[Instance],
     node: &Node<'_>,
-) -> Result<Option<Report>, OutOfMemory>
+) -> Result<Option<FirstFault>, OutOfMemory>
     requires apart { NoneHolds IsDuplicateModel models.now }
     requires callees { AreCallees (names_of_models models.now) instances.now node.now }
     requires ports { HavePorts models.now tables.old }
-    ensures report { IfOk result (IsReport IsBadFormal (formals_in models.now instances.now) line_of_formal name_of_formal) }
+    ensures report { IfOk result (IsFirstFaultIn IsBadFormal (formals_in models.now instances.now) line_of_formal name_of_formal) }
     ensures ports { OnOk result (HavePorts models.now tables.new) }
 {
     for index in 0..instances.len() {
@@ -129,9 +129,9 @@ fn bad_in_instance(
     instance: &Instance,
     unit: &BlifModel,
     table: Option<&Names<'_>>,
-) -> Result<Option<Report>, OutOfMemory>
+) -> Result<Option<FirstFault>, OutOfMemory>
     requires ports { IsPortTable unit.now (option_copied table) }
-    ensures { IfOk result (IsReport IsBadFormal (formals_with instance.now unit.now) line_of_formal name_of_formal) }
+    ensures { IfOk result (IsFirstFaultIn IsBadFormal (formals_with instance.now unit.now) line_of_formal name_of_formal) }
 {
     let hash = hash_of_formals(alloc, instance.bindings.as_slice())?;
     let mut scan = Scan::with_room(alloc, hash, instance.bindings.len())?;
@@ -182,12 +182,12 @@ fn unbound_input(
     formals: &Names<'_>,
     line: u64,
     inputs: &[Name],
-) -> Result<Option<Report>, OutOfMemory>
-    ensures { IfOk result (IsReport (IsUnbound formals.now) inputs.now (λ input. line) (λ input. input)) }
+) -> Result<Option<FirstFault>, OutOfMemory>
+    ensures { IfOk result (IsFirstFaultIn (IsUnbound formals.now) inputs.now (λ input. line) (λ input. input)) }
 {
     for input in inputs {
         if !formals.has(input) {
-            return Ok(Some(Report::new(line, input)?));
+            return Ok(Some(FirstFault::new(line, input)?));
         }
     }
     Ok(None)

@@ -4,6 +4,7 @@
 
 mod calls;
 mod fault;
+mod first_fault;
 mod formals;
 mod lined;
 mod models;
@@ -15,11 +16,10 @@ mod plan;
 mod ports;
 mod recent_numbers;
 mod recursion;
-mod report;
 mod scan;
 
 pub use fault::{FlatFault, FlatKind, Limit};
-pub use models::{ModelCalls, Planning, find_plans, plan_all, plan_models};
+pub use models::{FoundCalls, ModelCalls, file_calls, find_calls, plan_all};
 pub use name_table::NameTable;
 pub use number_set::NumberSet;
 pub use plan::{CardAt, Plan};

@@ -4,15 +4,16 @@ ghost use Rattle.blif_ast.specs.Good.{IsGoodFile};
 ghost use Rattle.graph_order.specs.Orders.{IsGraph};
 ghost use Rattle.model_calls.specs.CallNumbers.{AreCalls, names_of_models};
 ghost use Rattle.model_calls.specs.ModelFaults.{IsDuplicateModel};
-ghost use Rattle.model_calls.specs.ModelCalls.{AreModelCalls, HasCircle, HavePlans, IsPlanning, NothingRefuses};
+ghost use Rattle.model_calls.specs.ModelCalls.{AreModelCalls, HasCircle, HavePlans, AreFoundCalls, NothingRefuses};
 ghost use Rattle.model_calls.specs.declared.fault.FlatKind.{FlatKind};
 ghost use Rattle.model_calls.specs.declared.fault.Limit.{Limit};
 ghost use Rattle.model_calls.specs.Refusal.{At};
 ghost use Rattle.model_calls.specs.Refusals.{IsRefusal};
-ghost use Rattle.model_calls.specs.Reports.{NoneHolds};
+ghost use Rattle.model_calls.specs.FirstFaults.{NoneHolds};
 
 use crate::calls::{CallGraph, call_graph, name_models};
 use crate::fault::{FlatFault, FlatKind};
+use crate::first_fault::FirstFault;
 use crate::formals::bad_formal;
 use crate::lined::plan_model;
 use crate::name_hashes::hash_of_models;
@@ -20,7 +21,6 @@ use crate::names::Names;
 use crate::plan::Plan;
 use crate::ports::duplicate_port;
 use crate::recursion::recursion;
-use crate::report::Report;
 use blif_ast::{BlifFile, BlifModel};
 use dom_base::OutOfMemory;
 use graph_order::{Node, Order, put_in_order};
@@ -48,27 +48,27 @@ impl Model for ModelCalls {
 
 /// The calls of a file, or what is wrong with its models.
 #[derive(Drop)]
-pub enum Planning {
-    Planned(ModelCalls),
-    Refused(FlatKind, Report),
+pub enum FoundCalls {
+    Known(ModelCalls),
+    Refused(FlatKind, FirstFault),
 }
 
 /// The calls of the models of a file, which it is refused for nothing in its models; or its refusal
 /// for what is wrong with them.
-pub fn plan_models(alloc: Global, file: &BlifFile) -> Result<ModelCalls, FlatFault>
+pub fn file_calls(alloc: Global, file: &BlifFile) -> Result<ModelCalls, FlatFault>
     requires good { IsGoodFile file.now }
     ensures planned { IfOk result (AreModelCalls file.now) }
     ensures refused { (line : ℕ) (kind : FlatKind) (name : List ℕ) → IsErrOf result (FlatFault.At line kind name)
         → IsRefusal file.now (At kind line name) }
     ensures no_count { (limit : Limit) (count : ℕ) → IsErrOf result (FlatFault.TooMany limit count) → ⊥ }
 {
-    let planning = match find_plans(alloc, &file.models) {
-        Ok(planning) => planning,
+    let found = match find_calls(alloc, &file.models) {
+        Ok(found) => found,
         Err(OutOfMemory) => return Err(FlatFault::Memory),
     };
-    match planning {
-        Planning::Planned(calls) => Ok(calls),
-        Planning::Refused(kind, report) => Err(FlatFault::At {
+    match found {
+        FoundCalls::Known(calls) => Ok(calls),
+        FoundCalls::Refused(kind, report) => Err(FlatFault::At {
             line: report.line,
             kind,
             name: report.name,
@@ -79,9 +79,9 @@ pub fn plan_models(alloc: Global, file: &BlifFile) -> Result<ModelCalls, FlatFau
 /// The calls of the models of a file, or the first thing that is wrong with its models: a name or a
 /// port that is there twice, an instance of no model, a formal that is wrong, or a model that reaches
 /// itself. It fails only for want of memory.
-pub fn find_plans(alloc: Global, models: &[BlifModel]) -> Result<Planning, OutOfMemory>
+pub fn find_calls(alloc: Global, models: &[BlifModel]) -> Result<FoundCalls, OutOfMemory>
     requires good { IsGoodFile (record { models = models.now }) }
-    ensures { IfOk result (IsPlanning (record { models = models.now })) }
+    ensures { IfOk result (AreFoundCalls (record { models = models.now })) }
 {
     if MOST <= models.len() {
         return Err(OutOfMemory);
@@ -89,35 +89,35 @@ pub fn find_plans(alloc: Global, models: &[BlifModel]) -> Result<Planning, OutOf
     let hash = hash_of_models(alloc, models)?;
     let mut names = Names::with_room(alloc, hash, models.len())?;
     if let Some(report) = name_models(&mut names, models)? {
-        return Ok(Planning::Refused(FlatKind::DuplicateModel, report));
+        return Ok(FoundCalls::Refused(FlatKind::DuplicateModel, report));
     }
     if let Some(report) = duplicate_port(alloc, models)? {
-        return Ok(Planning::Refused(FlatKind::DuplicatePort, report));
+        return Ok(FoundCalls::Refused(FlatKind::DuplicatePort, report));
     }
     match call_graph(alloc, &names, models)? {
-        CallGraph::Unknown(report) => Ok(Planning::Refused(FlatKind::UnknownModel, report)),
+        CallGraph::Unknown(report) => Ok(FoundCalls::Refused(FlatKind::UnknownModel, report)),
         CallGraph::Known(nodes) => {
             drop(names);
-            plan_calls(alloc, models, nodes)
+            order_calls(alloc, models, nodes)
         }
     }
 }
 
 /// The same, where instances name models of the file.
-fn plan_calls(
+fn order_calls(
     alloc: Global,
     models: &[BlifModel],
     nodes: Vec<Node<'static>>,
-) -> Result<Planning, OutOfMemory>
+) -> Result<FoundCalls, OutOfMemory>
     requires good { IsGoodFile (record { models = models.now }) }
     requires few { length models.now < 2 ^ 32 }
     requires apart { NoneHolds IsDuplicateModel models.now }
     requires calls { AreCalls (names_of_models models.now) models.now nodes.items }
     requires accepted { NothingRefuses (record { models = models.now }) 3 }
-    ensures { IfOk result (IsPlanning (record { models = models.now })) }
+    ensures { IfOk result (AreFoundCalls (record { models = models.now })) }
 {
     if let Some(report) = bad_formal(alloc, models, &nodes)? {
-        return Ok(Planning::Refused(FlatKind::BadFormal, report));
+        return Ok(FoundCalls::Refused(FlatKind::BadFormal, report));
     }
     let order = match put_in_order(alloc, &nodes)? {
         Order::Of(order) => order,
@@ -126,7 +126,7 @@ fn plan_calls(
     if MOST <= order.len() {
         return Err(OutOfMemory);
     }
-    Ok(Planning::Planned(ModelCalls { nodes, order }))
+    Ok(FoundCalls::Known(ModelCalls { nodes, order }))
 }
 
 /// The refusal of a file in which some model reaches itself.
@@ -134,17 +134,17 @@ fn find_recursion(
     alloc: Global,
     models: &[BlifModel],
     nodes: &[Node<'_>],
-) -> Result<Planning, OutOfMemory>
+) -> Result<FoundCalls, OutOfMemory>
     requires circle { HasCircle nodes.now }
     requires graph { IsGraph nodes.now }
     requires few { length nodes.now < 2 ^ 32 }
     requires apart { NoneHolds IsDuplicateModel models.now }
     requires calls { AreCalls (names_of_models models.now) models.now nodes.now }
     requires accepted { NothingRefuses (record { models = models.now }) 4 }
-    ensures { IfOk result (IsPlanning (record { models = models.now })) }
+    ensures { IfOk result (AreFoundCalls (record { models = models.now })) }
 {
     match recursion(alloc, models, nodes)? {
-        Some(report) => Ok(Planning::Refused(FlatKind::Recursion, report)),
+        Some(report) => Ok(FoundCalls::Refused(FlatKind::Recursion, report)),
         None => unreachable!(),
     }
 }

@@ -6,9 +6,9 @@ ghost use Rattle.graph_order.specs.Orders.{IsGraph, successors};
 ghost use Rattle.model_calls.specs.CallNumbers.{AreCalls, names_of_models};
 ghost use Rattle.model_calls.specs.ModelFaults.{IsDuplicateModel, IsRecursion, uses_in};
 ghost use Rattle.model_calls.specs.Recursions.{IsFirstBack, IsReportOf};
-ghost use Rattle.model_calls.specs.Reports.{IsReport, NoneHolds};
+ghost use Rattle.model_calls.specs.FirstFaults.{IsFirstFaultIn, NoneHolds};
 
-use crate::report::Report;
+use crate::first_fault::FirstFault;
 use blif_ast::{BlifModel, Instance};
 use dom_base::OutOfMemory;
 use graph_order::{Node, component_numbers};
@@ -21,12 +21,12 @@ pub fn recursion(
     alloc: Global,
     models: &[BlifModel],
     nodes: &[Node<'_>],
-) -> Result<Option<Report>, OutOfMemory>
+) -> Result<Option<FirstFault>, OutOfMemory>
     requires apart { NoneHolds IsDuplicateModel models.now }
     requires calls { AreCalls (names_of_models models.now) models.now nodes.now }
     requires graph { IsGraph nodes.now }
     requires few { length nodes.now < 2 ^ 32 }
-    ensures { IfOk result (IsReport (IsRecursion (record { models = models.now })) (flat_map uses_in models.now)
+    ensures { IfOk result (IsFirstFaultIn (IsRecursion (record { models = models.now })) (flat_map uses_in models.now)
         (λ u. u.instance.line) (λ u. u.instance.unit)) }
 {
     let numbers = component_numbers(alloc, nodes)?;
@@ -41,12 +41,12 @@ pub fn recursion(
 }
 
 /// A report of the instance of this index.
-fn report_instance(instances: &[Instance], at: usize) -> Result<Report, OutOfMemory>
+fn report_instance(instances: &[Instance], at: usize) -> Result<FirstFault, OutOfMemory>
     requires within { at < length instances.now }
     ensures { IfOk result (IsReportOf instances.now at) }
 {
     let instance = &instances[at];
-    Report::new(instance.line, &instance.unit)
+    FirstFault::new(instance.line, &instance.unit)
 }
 
 /// The index of the first instance of a model that leads back to it, if there is one, by the numbers of

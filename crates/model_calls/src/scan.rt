@@ -1,9 +1,9 @@
 //! A search for the first name of a list that is wrong.
 ghost use Rattle.std.specs.Prelude.{◌≡◌, IfOk, OnOk, None, [], option_copied};
-ghost use Rattle.model_calls.specs.Scans.{IsLooked, IsWrongReport, least_with, wrong_name};
+ghost use Rattle.model_calls.specs.Scans.{IsLooked, IsFirstWrongName, least_with, wrong_name};
 
+use crate::first_fault::FirstFault;
 use crate::names::Names;
-use crate::report::Report;
 use dom_base::{Name, NameHash, OutOfMemory};
 use std::alloc::Global;
 use std::marker::Model;
@@ -50,12 +50,12 @@ impl<'a> Scan<'a> {
 
     /// The first name that is wrong, if there is one, with the line of its card. It fails only for
     /// want of memory.
-    pub fn report(&self, line: u64) -> Result<Option<Report>, OutOfMemory>
-        ensures { IfOk result (IsWrongReport self.now line) }
+    pub fn report(&self, line: u64) -> Result<Option<FirstFault>, OutOfMemory>
+        ensures { IfOk result (IsFirstWrongName self.now line) }
     {
         match self.wrong() {
             None => Ok(None),
-            Some(name) => Ok(Some(Report::new(line, name)?)),
+            Some(name) => Ok(Some(FirstFault::new(line, name)?)),
         }
     }
 

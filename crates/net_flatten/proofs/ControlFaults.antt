@@ -13,7 +13,8 @@ use Rattle.part_numbers.specs.CheckOutcomes.{IsAtControlOf, IsLineAt}
 use Rattle.net_flatten.specs.ClockSearches.{HasControl, IsAtNumber, IsControlFound, IsFirstControl}
 use Rattle.model_calls.specs.Ends.{Clocking, End, clocking, clocking_of, controls, driven_end, end_at, main_outputs, read_ends}
 use Rattle.model_calls.specs.Expanded.{LatchPart, PlacedPart, TablePart, expanded, part_latch}
-use Rattle.net_flatten.specs.FoundFirst.{HoldsOfNone, IsFirstAt, IsFoundFirst}
+use Rattle.model_calls.specs.FirstFaults.{NoneHolds}
+use Rattle.net_flatten.specs.FoundFirst.{IsFirstAt, IsFoundFirst}
 use Rattle.part_numbers.specs.NumberedFiles.{IsNumberedFile, NumberedFileData, NumberedPartData, card_of_part, numbered_part, placed_part}
 use Rattle.model_calls.specs.Occurrences.{main_model}
 use Rattle.part_numbers.specs.PartCards.{card_control}
@@ -98,7 +99,7 @@ module _ (f : BlifFileData) (all : List Signal) (n : NumberedFileData) (is : IsN
         let h = placed_at f all n is j x t.1 in
         none_at (h.0.reads ++ h.0.drives ∷ []) (part_ends x) (ends_number h.0 x h.2) (none j h.0 t.0 h.1)))
 
-    all_apart_from : HoldsOfNone (IsAtNumber s) n.parts → AllByRecursion (λ (e : End). e.signal ≡ control → ⊥) (flat_map part_ends (expanded f))
+    all_apart_from : NoneHolds (IsAtNumber s) n.parts → AllByRecursion (λ (e : End). e.signal ≡ control → ⊥) (flat_map part_ends (expanded f))
     all_apart_from none = subst (λ xs. AllByRecursion (λ (e : End). e.signal ≡ control → ⊥) (flat_map part_ends xs)) (take_all (length (expanded f)) (expanded f) (omega arith))
         (parts_apart_from (length (expanded f)) (λ j p l. none j p))
 
@@ -125,7 +126,7 @@ module _ (f : BlifFileData) (all : List Signal) (n : NumberedFileData) (is : IsN
         }
 
     -- or the first main output at it, where no part is
-    first_used_output : HoldsOfNone (IsAtNumber s) n.parts → Contains n.outputs s → (named : List ℕ) (line : ℕ) (name : List ℕ) → line ≡ (main_model f).line → name ≡ named → Reported named line name
+    first_used_output : NoneHolds (IsAtNumber s) n.parts → Contains n.outputs s → (named : List ℕ) (line : ℕ) (name : List ℕ) → line ≡ (main_model f).line → name ≡ named → Reported named line name
     first_used_output none c named line name line_is name_is =
         let r = first_at_number n.outputs (main_outputs f) (outputs_number f all n is) c in
         let split = split_at (main_outputs f) r.0 r.1 r.2 in
@@ -140,7 +141,7 @@ module _ (f : BlifFileData) (all : List Signal) (n : NumberedFileData) (is : IsN
           name_is = name_is;
         }
 
-    none_used : HoldsOfNone (IsAtNumber s) n.parts → (Contains n.outputs s → ⊥) → (k : ℕ) (e : End) → slice_get (ends_but_inputs f) k ≡ Some e → e.signal ≡ control → ⊥
+    none_used : NoneHolds (IsAtNumber s) n.parts → (Contains n.outputs s → ⊥) → (k : ℕ) (e : End) → slice_get (ends_but_inputs f) k ≡ Some e → e.signal ≡ control → ⊥
     none_used parts outputs k e at = AllByRecursion-contains (λ (d : End). d.signal ≡ control → ⊥) (ends_but_inputs f) e
         (AllByRecursion-append (λ (d : End). d.signal ≡ control → ⊥) (flat_map part_ends (expanded f)) (main_outputs f) (all_apart_from parts)
         (none_at n.outputs (main_outputs f) (outputs_number f all n is) outputs)) (Contains-slice_get (ends_but_inputs f) k e at)
@@ -185,7 +186,7 @@ module _ (f : BlifFileData) (all : List Signal) (n : NumberedFileData) (is : IsN
       cc
 
   -- there is no control where no latch names one
-  pub no_first_control : HoldsOfNone HasControl n.parts → (control : End) → slice_get (controls f) 0 ≡ Some control → ⊥
+  pub no_first_control : NoneHolds HasControl n.parts → (control : End) → slice_get (controls f) 0 ≡ Some control → ⊥
   no_first_control none control is_first =
       let h = kept_from control_end (expanded f) control 0 (ap (λ l. slice_get l 0) (sym (controls_of_parts f)) ∙ is_first) in
       let p = placed_at f all n is h.0 h.1 h.2 in
@@ -193,11 +194,11 @@ module _ (f : BlifFileData) (all : List Signal) (n : NumberedFileData) (is : IsN
       none h.0 p.0 p.1 (subst IsSome (sym m.1) refl)
 
   -- and the file isn't refused for one
-  pub no_control : HoldsOfNone HasControl n.parts → (line : ℕ) (name : List ℕ) → IsOfKind f ControlUsed line name → ⊥
+  pub no_control : NoneHolds HasControl n.parts → (line : ℕ) (name : List ℕ) → IsOfKind f ControlUsed line name → ⊥
   no_control none line name r = no_first_control none r.control r.control_is
 
   -- nor where nothing else is at the control
-  pub control_unused : (at : ControlAt) → IsFirstControl n.parts at → HoldsOfNone (IsAtNumber at.number) n.parts → (Contains n.outputs at.number → ⊥) → (line : ℕ) (name : List ℕ) → IsOfKind f ControlUsed line name → ⊥
+  pub control_unused : (at : ControlAt) → IsFirstControl n.parts at → NoneHolds (IsAtNumber at.number) n.parts → (Contains n.outputs at.number → ⊥) → (line : ℕ) (name : List ℕ) → IsOfKind f ControlUsed line name → ⊥
   control_unused at first parts outputs line name r =
       let c = first_control at first in
       let i : Some r.control ≡ Some c.control = sym r.control_is ∙ c.there in
@@ -215,7 +216,7 @@ module _ (f : BlifFileData) (all : List Signal) (n : NumberedFileData) (is : IsN
         at = first_used at.number c.control.signal c.number_is k reported.line_is.part reported.line_is.there here c.control.name line name reported.line_is.line_is (same_name at c line name reported);
       }
 
-  pub used_at_output : (at : ControlAt) → IsFirstControl n.parts at → HoldsOfNone (IsAtNumber at.number) n.parts → Contains n.outputs at.number
+  pub used_at_output : (at : ControlAt) → IsFirstControl n.parts at → NoneHolds (IsAtNumber at.number) n.parts → Contains n.outputs at.number
       → (line : ℕ) (name : List ℕ) → IsAtControlOf f at.latch (λ l. l ≡ (main_model f).line) line name → IsOfKind f ControlUsed line name
   used_at_output at first parts there line name reported =
       let c = first_control at first in
@@ -226,10 +227,10 @@ module _ (f : BlifFileData) (all : List Signal) (n : NumberedFileData) (is : IsN
       }
 
 -- where no latch was found that a signal controls, none is
-pub none_controlled : (parts : List NumberedPartData) (found : Option ControlAt) → IsControlFound parts found → ((at : ControlAt) → found ≡ Some at → ⊥) → HoldsOfNone HasControl parts
+pub none_controlled : (parts : List NumberedPartData) (found : Option ControlAt) → IsControlFound parts found → ((at : ControlAt) → found ≡ Some at → ⊥) → NoneHolds HasControl parts
 none_controlled parts None h none = h
 none_controlled parts (Some at) h none = absurd (none at refl)
 
-pub none_found : {Element : Type 0} (Holds : List Element → Element → Type 0) (all : List Element) (found : Option ℕ) → IsFoundFirst Holds all found → ((k : ℕ) → found ≡ Some k → ⊥) → HoldsOfNone Holds all
+pub none_found : {Element : Type 0} (Holds : List Element → Element → Type 0) (all : List Element) (found : Option ℕ) → IsFoundFirst Holds all found → ((k : ℕ) → found ≡ Some k → ⊥) → NoneHolds Holds all
 none_found Holds all None h none = h
 none_found Holds all (Some k) h none = absurd (none k refl)

@@ -12,7 +12,8 @@ use Rattle.part_numbers.specs.CheckOutcomes.{IsAtOutput}
 use Rattle.net_flatten.specs.Dependences.{AreDependences, AreDrivenOnce, is_table}
 use Rattle.model_calls.specs.Ends.{driven_end, inputs_of, output_of}
 use Rattle.model_calls.specs.Expanded.{PlacedPart, PlacedTable, TablePart, expanded, part_table, tables}
-use Rattle.net_flatten.specs.FoundFirst.{HoldsOfNone, IsFirstAt}
+use Rattle.model_calls.specs.FirstFaults.{NoneHolds}
+use Rattle.net_flatten.specs.FoundFirst.{IsFirstAt}
 use Rattle.net_flatten.specs.Loops.{IsOnLoop}
 use Rattle.part_numbers.specs.NumberedFiles.{IsNumberedFile, NumberedFileData, NumberedPartData, numbered_part, placed_part}
 use Rattle.model_calls.specs.Reaches.{Reaches, more as onward, step as one}
@@ -104,7 +105,7 @@ module _ (f : BlifFileData) (all : List Signal) (n : NumberedFileData) (is : IsN
       subst (Reaches (IsFedBy f) (output_of t)) same r.2
 
   -- where no table is on a loop, none is refused
-  pub none_on_loop : HoldsOfNone (IsOnLoop nodes) n.parts → (line : ℕ) (name : List ℕ) → IsOfKind f Cycle line name → ⊥
+  pub none_on_loop : NoneHolds (IsOnLoop nodes) n.parts → (line : ℕ) (name : List ℕ) → IsOfKind f Cycle line name → ⊥
   none_on_loop none line name r =
       let b = both_of r.element (Contains-slice_get (tables f) r.first.index r.element r.first.there) in
       none b.index b.part b.there (cycle_to_loop r.element b r.first.holds)

@@ -12,7 +12,8 @@ use Rattle.part_numbers.specs.CheckOutcomes.{IsAtInput, IsAtMainOutput, IsAtOutp
 use Rattle.net_flatten.specs.DriverSearches.{IsFirstOutside, IsFirstRead, IsOutsideSet}
 use Rattle.model_calls.specs.Ends.{End, driven_end, drivers, end_at, main_inputs, main_outputs, read_ends, readers}
 use Rattle.model_calls.specs.Expanded.{PlacedPart, expanded}
-use Rattle.net_flatten.specs.FoundFirst.{HoldsOfNone, IsFirstAt}
+use Rattle.model_calls.specs.FirstFaults.{NoneHolds}
+use Rattle.net_flatten.specs.FoundFirst.{IsFirstAt}
 use Rattle.model_calls.specs.NumberSets.{IsSetOf}
 use Rattle.part_numbers.specs.NumberedFaults.{IsDrivenAgain, driven_by}
 use Rattle.part_numbers.specs.NumberedFiles.{IsNumberedFile, NumberedFileData, NumberedPartData, numbered_part, placed_part}
@@ -40,7 +41,7 @@ module _ (f : BlifFileData) (all : List Signal) (n : NumberedFileData) (is : IsN
       (driven_number f all n is k) (drives_number f all n is p x e) h
 
   -- where no part drives what is driven before it, none is refused
-  pub none_twice : HoldsOfNone (IsDrivenAgain n.inputs) n.parts → (line : ℕ) (name : List ℕ) → IsOfKind f DrivenTwice line name → ⊥
+  pub none_twice : NoneHolds (IsDrivenAgain n.inputs) n.parts → (line : ℕ) (name : List ℕ) → IsOfKind f DrivenTwice line name → ⊥
   none_twice none line name r =
       let h = placed_at f all n is r.first.index r.element r.first.there in
       none r.first.index h.0 h.1 (twice_to_again r.first.index h.0 r.element h.2 r.first.holds)
@@ -106,11 +107,11 @@ module _ (f : BlifFileData) (all : List Signal) (n : NumberedFileData) (is : IsN
           let same : first.element ≡ h.0 = cc in
           outside_undriven h.0 e h.2 (subst (λ x. slice_get set x ≡ Some false) same first.holds)
 
-      pub all_inside : HoldsOfNone (IsOutsideSet set) numbers → AllByRecursion (λ e. IsUndriven f [] e → ⊥) ends
+      pub all_inside : NoneHolds (IsOutsideSet set) numbers → AllByRecursion (λ e. IsUndriven f [] e → ⊥) ends
       all_inside none = subst (AllByRecursion (λ e. IsUndriven f [] e → ⊥)) (take_all (length ends) ends (omega arith)) (none_outside (length ends) (λ k e l. none k e))
 
     -- all that the parts before an index read is driven
-    reads_inside : (k : ℕ) → ((j : ℕ) (p : NumberedPartData) → j < k → slice_get n.parts j ≡ Some p → HoldsOfNone (IsOutsideSet set) p.reads)
+    reads_inside : (k : ℕ) → ((j : ℕ) (p : NumberedPartData) → j < k → slice_get n.parts j ≡ Some p → NoneHolds (IsOutsideSet set) p.reads)
         → AllByRecursion (λ e. IsUndriven f [] e → ⊥) (flat_map read_ends (take k (expanded f)))
     reads_inside k none = each_flat (λ e. IsUndriven f [] e → ⊥) read_ends (take k (expanded f))
         (each_place (λ x. AllByRecursion (λ e. IsUndriven f [] e → ⊥) (read_ends x)) (take k (expanded f)) (λ j x at.
@@ -118,7 +119,7 @@ module _ (f : BlifFileData) (all : List Signal) (n : NumberedFileData) (is : IsN
         let h = placed_at f all n is j x t.1 in
         all_inside h.0.reads (read_ends x) (reads_number f all n is h.0 x h.2) (none j h.0 t.0 h.1)))
 
-    all_reads_inside : ((j : ℕ) (p : NumberedPartData) → slice_get n.parts j ≡ Some p → HoldsOfNone (IsOutsideSet set) p.reads)
+    all_reads_inside : ((j : ℕ) (p : NumberedPartData) → slice_get n.parts j ≡ Some p → NoneHolds (IsOutsideSet set) p.reads)
         → AllByRecursion (λ e. IsUndriven f [] e → ⊥) (flat_map read_ends (expanded f))
     all_reads_inside none = subst (λ xs. AllByRecursion (λ e. IsUndriven f [] e → ⊥) (flat_map read_ends xs)) (take_all (length (expanded f)) (expanded f) (omega arith))
         (reads_inside (length (expanded f)) (λ j p l. none j p))
@@ -145,7 +146,7 @@ module _ (f : BlifFileData) (all : List Signal) (n : NumberedFileData) (is : IsN
         }
 
     -- or the first main output, where all that is read is driven
-    pub first_undriven_output : (k : ℕ) → ((j : ℕ) (p : NumberedPartData) → slice_get n.parts j ≡ Some p → HoldsOfNone (IsOutsideSet set) p.reads)
+    pub first_undriven_output : (k : ℕ) → ((j : ℕ) (p : NumberedPartData) → slice_get n.parts j ≡ Some p → NoneHolds (IsOutsideSet set) p.reads)
         → IsFirstAt (IsOutsideSet set) n.outputs k → (line : ℕ) (name : List ℕ) → IsAtMainOutput f k line name → IsOfKind f Undriven line name
     first_undriven_output k none first line name at =
         let e = end_at [] (main_model f).line at.output in
@@ -164,8 +165,8 @@ module _ (f : BlifFileData) (all : List Signal) (n : NumberedFileData) (is : IsN
         }
 
     -- and none is refused where main outputs are driven too
-    pub none_undriven : ((j : ℕ) (p : NumberedPartData) → slice_get n.parts j ≡ Some p → HoldsOfNone (IsOutsideSet set) p.reads)
-        → HoldsOfNone (IsOutsideSet set) n.outputs → (line : ℕ) (name : List ℕ) → IsOfKind f Undriven line name → ⊥
+    pub none_undriven : ((j : ℕ) (p : NumberedPartData) → slice_get n.parts j ≡ Some p → NoneHolds (IsOutsideSet set) p.reads)
+        → NoneHolds (IsOutsideSet set) n.outputs → (line : ℕ) (name : List ℕ) → IsOfKind f Undriven line name → ⊥
     none_undriven none outputs line name r =
         AllByRecursion-contains (λ e. IsUndriven f [] e → ⊥) (readers f) r.element
         (AllByRecursion-append (λ e. IsUndriven f [] e → ⊥) (flat_map read_ends (expanded f)) (main_outputs f) (all_reads_inside none)
@@ -187,6 +188,6 @@ output_there f all n is set k first =
 
 -- where no read was found, all that is read is in the set
 pub all_read : (set : List Bool) (parts : List NumberedPartData) (found : Option ReadAt) → IsFirstOutside set parts found → ((at : ReadAt) → found ≡ Some at → ⊥)
-    → (k : ℕ) (p : NumberedPartData) → slice_get parts k ≡ Some p → HoldsOfNone (IsOutsideSet set) p.reads
+    → (k : ℕ) (p : NumberedPartData) → slice_get parts k ≡ Some p → NoneHolds (IsOutsideSet set) p.reads
 all_read set parts None h none = h
 all_read set parts (Some at) h none = absurd (none at refl)

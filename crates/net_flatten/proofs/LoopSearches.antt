@@ -7,7 +7,7 @@ use Rattle.dom_base.proofs.Lists.{Contains-slice_get, All-at}
 use Rattle.graph_order.specs.Orders.{IsGraph, IsOrder, IsSuccessor, LeadsOn, more, step}
 use Rattle.graph_order.proofs.Circles.{no_circle}
 use Rattle.net_flatten.specs.Dependences.{AreDependences}
-use Rattle.net_flatten.specs.FoundFirst.{HoldsOfNone}
+use Rattle.model_calls.specs.FirstFaults.{NoneHolds}
 use Rattle.net_flatten.specs.Loops.{IsOnLoop}
 use Rattle.part_numbers.specs.NumberedFaults.{IsPartWithin}
 use Rattle.part_numbers.specs.NumberedFiles.{NumberedPartData}
@@ -16,13 +16,13 @@ use Rattle.network.proofs.Lists.{each_place}
 
 module _ (signals : ℕ) (parts : List NumberedPartData) (within : All (IsPartWithin signals) parts) (nodes : List (List ℕ)) (d : AreDependences signals parts nodes) where
   -- an order of all nodes leaves none on a loop
-  pub ordered_on_no_loop : (order : List ℕ) → IsOrder nodes order → HoldsOfNone (IsOnLoop nodes) parts
+  pub ordered_on_no_loop : (order : List ℕ) → IsOrder nodes order → NoneHolds (IsOnLoop nodes) parts
   ordered_on_no_loop order ordered k p there loop =
       let low = (All-at (IsPartWithin signals) parts k p within there).drives in
       no_circle nodes order ordered p.drives (omega (arith, low, d.count)) loop.1
 
   -- a node that leads back to itself is that of a table on a loop
-  pub circle_on_loop : (node : ℕ) → LeadsOn nodes node node → HoldsOfNone (IsOnLoop nodes) parts → ⊥
+  pub circle_on_loop : (node : ℕ) → LeadsOn nodes node node → NoneHolds (IsOnLoop nodes) parts → ⊥
   circle_on_loop node leads none =
       let next = first_step leads in
       let w = d.only node next.0 next.1 in

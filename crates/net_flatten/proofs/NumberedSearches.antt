@@ -6,7 +6,8 @@ use Rattle.std.proofs.lemmas.List.{take_all}
 use Rattle.std.proofs.lemmas.Option.{slice_get_within}
 use Rattle.dom_base.proofs.Lists.{map-push}
 use Rattle.net_flatten.specs.DriverSearches.{IsSetOfDrivers}
-use Rattle.net_flatten.specs.FoundFirst.{HoldsOfNone, IsFirstAt}
+use Rattle.model_calls.specs.FirstFaults.{NoneHolds}
+use Rattle.net_flatten.specs.FoundFirst.{IsFirstAt}
 use Rattle.model_calls.specs.NumberSets.{IsSetOf}
 use Rattle.part_numbers.specs.NumberedFaults.{IsDrivenAgain, driven_by}
 use Rattle.part_numbers.specs.NumberedFiles.{NumberedPartData}
@@ -32,7 +33,7 @@ module _ {Element : Type 0} (Holds : List Element → Element → Type 0) (all :
           let same : e ≡ x = cc in
           not (subst (λ y. Holds (take index all) y) same (subst (λ n. Holds (take n all) e) is h))
 
-  pub none_at_end : HoldsOfNoneBefore Holds all (length all) → HoldsOfNone Holds all
+  pub none_at_end : HoldsOfNoneBefore Holds all (length all) → NoneHolds Holds all
   none_at_end none k e there h = none k e (slice_get_within all k e there) there h
 
   pub first_at : (index : ℕ) (x : Element) → slice_get all index ≡ Some x → Holds (take index all) x → HoldsOfNoneBefore Holds all index → IsFirstAt Holds all index
@@ -77,16 +78,16 @@ module _ (signals : ℕ) (inputs : List ℕ) (parts : List NumberedPartData) whe
 
 -- this holds of no number that the parts before an index read
 abbrev pub ReadsHoldOfNoneBefore : (List ℕ → ℕ → Type 0) → List NumberedPartData → ℕ → Type 0
-ReadsHoldOfNoneBefore Holds parts index = (k : ℕ) (p : NumberedPartData) → k < index → slice_get parts k ≡ Some p → HoldsOfNone Holds p.reads
+ReadsHoldOfNoneBefore Holds parts index = (k : ℕ) (p : NumberedPartData) → k < index → slice_get parts k ≡ Some p → NoneHolds Holds p.reads
 
-pub reads_at_next : (Holds : List ℕ → ℕ → Type 0) (parts : List NumberedPartData) (index : ℕ) (p : NumberedPartData) → slice_get parts index ≡ Some p → HoldsOfNone Holds p.reads
+pub reads_at_next : (Holds : List ℕ → ℕ → Type 0) (parts : List NumberedPartData) (index : ℕ) (p : NumberedPartData) → slice_get parts index ≡ Some p → NoneHolds Holds p.reads
     → ReadsHoldOfNoneBefore Holds parts index → ReadsHoldOfNoneBefore Holds parts (index + 1)
 reads_at_next Holds parts index p at new none k q l there = by (cases_lt k index)
   where
-    by : (k < index) ⊎ (index ≤ k) → HoldsOfNone Holds q.reads
+    by : (k < index) ⊎ (index ≤ k) → NoneHolds Holds q.reads
     by (inl before) = none k q before there
     by (inr past) =
         let is : k ≡ index = omega (arith, l, past) in
         let i : Some q ≡ Some p = sym there ∙ ap (slice_get parts) is ∙ at in
         let same : p ≡ q = cc in
-        subst (λ (r : NumberedPartData). HoldsOfNone Holds r.reads) same new
+        subst (λ (r : NumberedPartData). NoneHolds Holds r.reads) same new

@@ -5,7 +5,7 @@ use Rattle.blif_ast.specs.declared.latch.Edge2.{Edge2}
 use Rattle.blif_ast.specs.declared.latch.Edge2.TheVariants.{Rising, Falling}
 use Rattle.net_flatten.specs.declared.clocking.Clock.{Clock}
 use Rattle.net_flatten.specs.declared.clocking.ControlAt.{ControlAt}
-use Rattle.net_flatten.specs.FoundFirst.{HoldsOfNone}
+use Rattle.model_calls.specs.FirstFaults.{NoneHolds}
 use Rattle.part_numbers.specs.NumberedFiles.{NumberedPartData}
 use Rattle.part_numbers.specs.PartCards.{edge_of}
 
@@ -74,7 +74,7 @@ pub record IsFirstControl (parts : List NumberedPartData) (at : ControlAt) : Typ
 
 -- or none, where there is none
 abbrev pub IsControlFound : List NumberedPartData → Option ControlAt → Type 0
-IsControlFound parts None = HoldsOfNone HasControl parts
+IsControlFound parts None = NoneHolds HasControl parts
 IsControlFound parts (Some at) = IsFirstControl parts at
 
 -- a part reads or drives the signal of a number

@@ -1,9 +1,6 @@
 -- The index of the first element of a list of which something holds.
 use Rattle.std.specs.Prelude.{ℕ, ◌≡◌, ◌<◌, List, take, Option, Some, None, slice_get}
-
--- this holds of no element of a list, by itself and the elements before it
-abbrev pub HoldsOfNone : {Element : Type 0} → (List Element → Element → Type 0) → List Element → Type 0
-HoldsOfNone {Element} Holds all = (k : ℕ) (e : Element) → slice_get all k ≡ Some e → Holds (take k all) e → ⊥
+use Rattle.model_calls.specs.FirstFaults.{NoneHolds}
 
 -- the element at an index is the first of which this holds
 pub record IsFirstAt {Element : Type 0} (Holds : List Element → Element → Type 0) (all : List Element) (index : ℕ) : Type 0 where
@@ -14,5 +11,5 @@ pub record IsFirstAt {Element : Type 0} (Holds : List Element → Element → Ty
 
 -- the index of the first element of which this holds, or none where it holds of none
 abbrev pub IsFoundFirst : {Element : Type 0} → (List Element → Element → Type 0) → List Element → Option ℕ → Type 0
-IsFoundFirst Holds all None = HoldsOfNone Holds all
+IsFoundFirst Holds all None = NoneHolds Holds all
 IsFoundFirst Holds all (Some index) = IsFirstAt Holds all index

@@ -3,7 +3,8 @@ use Rattle.std.specs.Prelude.{ℕ, List}
 use Rattle.net_flatten.specs.declared.cycle_check.Levelled.{Levelled}
 use Rattle.net_flatten.specs.declared.cycle_check.Levelled.TheVariants.{Levels, Loop}
 use Rattle.net_flatten.specs.Dependences.{AreDependences, AreTableLevels}
-use Rattle.net_flatten.specs.FoundFirst.{HoldsOfNone, IsFirstAt}
+use Rattle.model_calls.specs.FirstFaults.{NoneHolds}
+use Rattle.net_flatten.specs.FoundFirst.{IsFirstAt}
 use Rattle.net_flatten.specs.Loops.{IsOnLoop}
 use Rattle.part_numbers.specs.NumberedFiles.{NumberedPartData}
 
@@ -11,7 +12,7 @@ use Rattle.part_numbers.specs.NumberedFiles.{NumberedPartData}
 pub record IsWithoutLoop (signals : ℕ) (parts : List NumberedPartData) : Type 0 where
   pub nodes : List (List ℕ)
   pub depend : AreDependences signals parts nodes
-  pub none : HoldsOfNone (IsOnLoop nodes) parts
+  pub none : NoneHolds (IsOnLoop nodes) parts
 
 -- or the table at this index is the first that is
 pub record IsFirstLoop (signals : ℕ) (parts : List NumberedPartData) (index : ℕ) : Type 0 where

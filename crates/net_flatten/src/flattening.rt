@@ -10,7 +10,7 @@ ghost use Rattle.model_calls.specs.Refusals.{IsRefusal};
 use crate::building::network_of;
 use crate::signal_checks::check_signals;
 use blif_ast::BlifFile;
-use model_calls::{FlatFault, plan_models};
+use model_calls::{FlatFault, file_calls};
 use network::Network;
 use part_numbers::{check_sizes, first_tables, number_planned_file};
 use std::alloc::Global;
@@ -27,7 +27,7 @@ pub fn flatten(alloc: Global, file: &BlifFile) -> Result<Network, FlatFault>
     ensures too_many { (limit : Limit) (count : ℕ) → IsErrOf result (FlatFault.TooMany limit count)
         → IsRefusal file.now (TooMany limit count) }
 {
-    let calls = plan_models(alloc, file)?;
+    let calls = file_calls(alloc, file)?;
     let names = first_tables(alloc, &file.models)?;
     check_sizes(alloc, file, &calls, &names)?;
     let numbered = number_planned_file(alloc, file, &calls, names)?;

@@ -8,7 +8,7 @@ use Rattle.dom_base.proofs.Decided.{dec_and, dec_any, dec_map, lt_or_ge}
 use Rattle.dom_base.proofs.Lists.{head_same, tail_same}
 use Rattle.model_calls.specs.First.{IsFirst}
 use Rattle.model_calls.specs.Refusals.{IsReported}
-use Rattle.model_calls.specs.Reports.{NoneHolds}
+use Rattle.model_calls.specs.FirstFaults.{NoneHolds}
 
 pub dec_list : {X : Type 0} → ((x y : X) → Decided (x ≡ y)) → (xs ys : List X) → Decided (xs ≡ ys)
 dec_list dec [] [] = inl refl

@@ -206,7 +206,7 @@ module _ (plans : List (List CardAt)) (f : BlifFileData) (depth : ℕ) (planned 
       parts_before = AllByRecursion-weaker (IsPartInside e.scopes) (λ (p : ScopedPart). p.scope < length paths) (λ p h. omega (arith, h.0, made.are_paths.count)) e.parts made.parts_inside
 
       entering : rest f.models (way_of f paths g ∷ other_ways) ≡ rest f.models (new_way ∷ record { depth = suc (g.depth - 1); path = path_at paths g.scope; left = left } ∷ other_ways)
-      entering = ap (λ w. rest f.models (w ∷ other_ways)) way_deep ∙ (enters f.models).same_rest (g.depth - 1) (path_at paths g.scope) i n left other_ways called
+      entering = ap (λ w. rest f.models (w ∷ other_ways)) way_deep ∙ enters f.models (g.depth - 1) (path_at paths g.scope) i n left other_ways called
 
       made_below : MakesExpansion f depth (entered (pushed_frame e (further g)) unit g.scope at (g.depth - 1))
       made_below = record {

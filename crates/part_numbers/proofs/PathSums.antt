@@ -14,7 +14,7 @@ use Rattle.graph_order.specs.Orders.{IsGraph, successors}
 use Rattle.graph_order.specs.WalkSums.{AreWalkSums, AreWeights, largest_u64, walk_sum}
 use Rattle.part_numbers.proofs.DeepEnough.{deep_enough}
 use Rattle.model_calls.proofs.Firsts.{none_holds}
-use Rattle.model_calls.proofs.FormalReports.{called_at, calls_count}
+use Rattle.model_calls.proofs.FormalFaults.{called_at, calls_count}
 use Rattle.network.proofs.Lists.{get_of_map}
 use Rattle.model_calls.proofs.OrderedPlans.{is_graph}
 use Rattle.model_calls.proofs.Recursions.{callees_of}
@@ -28,7 +28,7 @@ use Rattle.model_calls.specs.ModelCallsData.{ModelCallsData}
 use Rattle.part_numbers.specs.NetworkSizes.{model_weight, model_weights, path_weights}
 use Rattle.part_numbers.specs.NumberedFiles.{model_at}
 use Rattle.model_calls.specs.Occurrences.{Occurrence, first_model, main_model, models_called, occurrences_from}
-use Rattle.model_calls.specs.Reports.{NoneHolds}
+use Rattle.model_calls.specs.FirstFaults.{NoneHolds}
 
 -- a sum over instances and one over the numbers of the models that they name
 by_callees : (names : List (List ℕ)) (g : InstanceData → ℕ) (h : ℕ → ℕ) → ((i : InstanceData) (u : ℕ) → slice_get names u ≡ Some i.unit → g i ≡ h u)

@@ -7,7 +7,7 @@ ghost use Rattle.part_numbers.specs.NetworkSizes.{AreSizes};
 use crate::counting::{Sizes, count_network};
 use blif_ast::BlifFile;
 use dom_base::OutOfMemory;
-use model_calls::{Planning, find_plans};
+use model_calls::{FoundCalls, find_calls};
 use std::alloc::Global;
 
 /// How large the network of a file is, which is refused for nothing in its models. It works model by
@@ -17,8 +17,8 @@ pub fn sizes(alloc: Global, file: &BlifFile) -> Result<Sizes, OutOfMemory>
     requires accepted { NothingRefuses file.now 5 }
     ensures { IfOk result (AreSizes file.now) }
 {
-    match find_plans(alloc, &file.models)? {
-        Planning::Planned(calls) => count_network(alloc, file, &calls, &[]),
-        Planning::Refused(_, _) => unreachable!(),
+    match find_calls(alloc, &file.models)? {
+        FoundCalls::Known(calls) => count_network(alloc, file, &calls, &[]),
+        FoundCalls::Refused(_, _) => unreachable!(),
     }
 }

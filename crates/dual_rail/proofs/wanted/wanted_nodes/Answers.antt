@@ -5,7 +5,8 @@ use Rattle.std.proofs.lemmas.Grind.{common_steps}
 use Rattle.std.proofs.lemmas.Option.{slice_get_within}
 use Rattle.gate_decompose.specs.GatesData.{GatesData}
 use Rattle.gate_decompose.specs.NeededPass.{is_asked_by_sinks, pass}
-use Rattle.dual_rail.proofs.Marks.{all_marked, parts_there, sink_there, written_over}
+use Rattle.gate_decompose.proofs.GatesOrder.{parts_there, sink_there}
+use Rattle.dual_rail.proofs.Marks.{all_marked, written_over}
 use Rattle.dual_rail.proofs.SignedValues.{signed_same}
 use Rattle.dual_rail.proofs.Zips.{all_from}
 use Rattle.gate_decompose.specs.GatesOrder.{NodeReadsEarlier, ReadsEarlier}

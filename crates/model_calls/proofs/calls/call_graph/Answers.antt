@@ -1,6 +1,6 @@
 use Rattle.std.proofs.Common.{rules, ◌≡◌, length, refl, subst, arith}
 use Rattle.model_calls.proofs.CallNumbers.{calls_next, known_uses_next, unknown_use_at}
-use Rattle.model_calls.proofs.Reports.{item_at}
+use Rattle.model_calls.proofs.FirstFaults.{item_at}
 use Rattle.model_calls.specs.CallNumbers.{IsCallees}
 use Rattle.model_calls.proofs.calls.call_graph.Goals as goal
 

@@ -2,7 +2,7 @@ use Rattle.std.proofs.Common.{take}
 use Rattle.std.specs.List.{flat_map}
 use Rattle.model_calls.specs.CallNumbers.{AreCalls, IsUseOfNone}
 use Rattle.model_calls.specs.ModelFaults.{uses_in}
-use Rattle.model_calls.specs.Reports.{NoneHolds}
+use Rattle.model_calls.specs.FirstFaults.{NoneHolds}
 use Rattle.model_calls.proofs.calls.call_graph.Given as goal
 
 abbrev pub invariant-loop-model : goal.invariant-loop-model

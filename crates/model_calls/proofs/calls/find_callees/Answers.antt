@@ -4,7 +4,7 @@ use Rattle.std.proofs.lemmas.Option.{slice_get_within}
 use Rattle.blif_ast.specs.InstanceData.{InstanceData}
 use Rattle.dom_base.proofs.Lists.{Contains-slice_get}
 use Rattle.model_calls.proofs.CallNumbers.{callee_next, first_unknown, known_next}
-use Rattle.model_calls.proofs.Reports.{item_at}
+use Rattle.model_calls.proofs.FirstFaults.{item_at}
 use Rattle.model_calls.proofs.calls.find_callees.Goals as goal
 
 pub returns-in_default : goal.returns-in_default

@@ -1,7 +1,7 @@
 use Rattle.std.proofs.Common.{length, refl, ap, arith}
 use Rattle.blif_ast.specs.BlifModelData.{BlifModelData}
 use Rattle.model_calls.proofs.CallNumbers.{all_named, named_next}
-use Rattle.model_calls.proofs.Reports.{item_at}
+use Rattle.model_calls.proofs.FirstFaults.{item_at}
 use Rattle.model_calls.proofs.calls.name_models.Goals as goal
 
 pub loop-model-preserved : goal.loop-model-preserved

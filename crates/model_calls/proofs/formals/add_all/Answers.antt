@@ -1,6 +1,6 @@
 use Rattle.std.proofs.Common.{◌≤◌, ◌++◌, ◌∙◌, length, refl, ap, sym, subst, arith, append-nil}
 use Rattle.std.proofs.lemmas.List.{take_all}
-use Rattle.model_calls.proofs.Reports.{item_at}
+use Rattle.model_calls.proofs.FirstFaults.{item_at}
 use Rattle.model_calls.proofs.Scans.{firsts_next, take_none}
 use Rattle.model_calls.specs.Scans.{AreFirsts}
 use Rattle.model_calls.proofs.formals.add_all.Goals as goal

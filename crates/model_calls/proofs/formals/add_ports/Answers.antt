@@ -1,4 +1,4 @@
-use Rattle.model_calls.proofs.FormalReports.{have_ports_next}
+use Rattle.model_calls.proofs.FormalFaults.{have_ports_next}
 use Rattle.model_calls.proofs.formals.add_ports.Goals as goal
 
 pub returns : goal.returns

@@ -1,12 +1,12 @@
 use Rattle.std.proofs.Common.{rules, ◌≡◌, ◌≤◌, length, refl, subst, arith}
 use Rattle.std.specs.List.{flat_map}
 use Rattle.std.proofs.lemmas.List.{take_all}
-use Rattle.model_calls.proofs.FormalReports.{calls_at, calls_count, have_no_ports}
-use Rattle.model_calls.proofs.Reports.{item_at, none_up_to, reported_at, reported_none, reported_some}
+use Rattle.model_calls.proofs.FormalFaults.{calls_at, calls_count, have_no_ports}
+use Rattle.model_calls.proofs.FirstFaults.{item_at, none_up_to, reported_at, reported_none, reported_some}
 use Rattle.model_calls.specs.CallNumbers.{AreCallees, names_of_models}
 use Rattle.model_calls.specs.Formals.{formals_in, formals_in_model}
 use Rattle.model_calls.specs.ModelFaults.{IsBadFormal, IsWrongFormal, line_of_formal, name_of_formal}
-use Rattle.model_calls.specs.Reports.{IsReport, NoneHolds}
+use Rattle.model_calls.specs.FirstFaults.{IsFirstFaultIn, NoneHolds}
 use Rattle.model_calls.proofs.formals.bad_formal.Goals as goal
 
 pub bounds-nodes-index : goal.bounds-nodes-index
@@ -29,7 +29,7 @@ pub returns-in-Some : goal.returns-in-Some
 returns-in-Some c =
     let there = item_at c.args.models.now (length c.args.models.now) c.loop-index.index c.index-models-index.result refl c.loop-index-test.true c.index-models-index.is in
     let same : c.deref.result.now ≡ c.index-models-index.result.instances = search rules in
-    let report = subst (λ l. IsReport IsBadFormal (formals_in c.args.models.now l) line_of_formal name_of_formal c.in_ok-report.field-0) same c.in_ok-report.ensures.report in
+    let report = subst (λ l. IsFirstFaultIn IsBadFormal (formals_in c.args.models.now l) line_of_formal name_of_formal c.in_ok-report.field-0) same c.in_ok-report.ensures.report in
     reported_at IsWrongFormal line_of_formal name_of_formal (formals_in_model c.args.models.now) c.args.models.now c.loop-index.index c.index-models-index.result there c.in-Some.report.line c.in-Some.report.name
     c.loop-index.invariant.0
     (reported_some IsBadFormal (formals_in_model c.args.models.now c.index-models-index.result) line_of_formal name_of_formal c.in_ok-report.field-0 c.in-Some.report c.in-Some.is report)
@@ -41,7 +41,7 @@ pub loop-index-preserved : goal.loop-index-preserved
 loop-index-preserved c =
     let there = item_at c.args.models.now (length c.args.models.now) c.loop-index.index c.index-models-index.result refl c.loop-index-test.true c.index-models-index.is in
     let same : c.deref.result.now ≡ c.index-models-index.result.instances = search rules in
-    let report = subst (λ l. IsReport IsBadFormal (formals_in c.args.models.now l) line_of_formal name_of_formal c.in_ok-report.field-0) same c.in_ok-report.ensures.report in (
+    let report = subst (λ l. IsFirstFaultIn IsBadFormal (formals_in c.args.models.now l) line_of_formal name_of_formal c.in_ok-report.field-0) same c.in_ok-report.ensures.report in (
       none_up_to IsWrongFormal line_of_formal name_of_formal (formals_in_model c.args.models.now) c.args.models.now c.loop-index.index c.index-models-index.result there c.loop-index.invariant.0
           (reported_none IsBadFormal (formals_in_model c.args.models.now c.index-models-index.result) line_of_formal name_of_formal c.in_ok-report.field-0 c.in_default.not-Some report),
       c.in_ok-report.ensures.ports,

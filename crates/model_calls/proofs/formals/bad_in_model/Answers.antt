@@ -2,12 +2,12 @@ use Rattle.std.proofs.Common.{◌≡◌, ◌≤◌, length, Some, refl, sym, ◌
 use Rattle.std.proofs.lemmas.List.{take_all}
 use Rattle.std.proofs.lemmas.Option.{slice_get_within}
 use Rattle.blif_ast.specs.BlifModelData.{BlifModelData}
-use Rattle.model_calls.proofs.FormalReports.{called_at, callee_is, callees_count, report_of_instance}
-use Rattle.model_calls.proofs.Reports.{item_at, none_up_to, reported_at, reported_none, reported_some}
+use Rattle.model_calls.proofs.FormalFaults.{called_at, callee_is, callees_count, report_of_instance}
+use Rattle.model_calls.proofs.FirstFaults.{item_at, none_up_to, reported_at, reported_none, reported_some}
 use Rattle.model_calls.specs.CallNumbers.{names_of_models}
 use Rattle.model_calls.specs.Formals.{IsPortTable, formals_in, formals_of_instance}
 use Rattle.model_calls.specs.ModelFaults.{IsBadFormal, IsWrongFormal, line_of_formal, name_of_formal}
-use Rattle.model_calls.specs.Reports.{NoneHolds}
+use Rattle.model_calls.specs.FirstFaults.{NoneHolds}
 use Rattle.model_calls.proofs.formals.bad_in_model.Goals as goal
 
 pub callee-unit-requires : goal.callee-unit-requires

@@ -2,7 +2,7 @@ use Rattle.std.proofs.Common.{sym, ap, ◌∙◌}
 use Rattle.std.specs.Prelude.{option_copied}
 use Rattle.dom_base.proofs.Lists.{Contains-slice_get, slice_get-contained}
 use Rattle.model_calls.specs.Formals.{names_of_ports}
-use Rattle.model_calls.proofs.FormalReports.{at_listed, firsts_have, firsts_only, listed_at}
+use Rattle.model_calls.proofs.FormalFaults.{at_listed, firsts_have, firsts_only, listed_at}
 use Rattle.model_calls.proofs.formals.is_port.Goals as goal
 
 pub returns-in-Some : goal.returns-in-Some

@@ -3,7 +3,7 @@ use Rattle.std.specs.Prelude.{Contains}
 use Rattle.std.proofs.lemmas.List.{length-map, take_all}
 use Rattle.blif_ast.specs.declared.instance.Binding.{Binding}
 use Rattle.network.proofs.Lists.{get_map}
-use Rattle.model_calls.proofs.Reports.{item_at}
+use Rattle.model_calls.proofs.FirstFaults.{item_at}
 use Rattle.model_calls.proofs.Scans.{next_scan, no_scan}
 use Rattle.model_calls.specs.Formals.{bound_formals, names_of_ports}
 use Rattle.model_calls.specs.Scans.{IsScan}

@@ -2,10 +2,10 @@ use Rattle.std.proofs.Common.{◌≤◌, ◌≡◌, length, true, false, Some, [
 use Rattle.std.specs.Prelude.{slice_get}
 use Rattle.std.proofs.lemmas.List.{take_all}
 use Rattle.model_calls.proofs.Scans.{take_none}
-use Rattle.model_calls.proofs.FormalReports.{bound_next, first_unbound}
-use Rattle.model_calls.proofs.Reports.{item_at}
+use Rattle.model_calls.proofs.FormalFaults.{bound_next, first_unbound}
+use Rattle.model_calls.proofs.FirstFaults.{item_at}
 use Rattle.model_calls.specs.Formals.{IsUnbound}
-use Rattle.model_calls.specs.Reports.{NoneHolds}
+use Rattle.model_calls.specs.FirstFaults.{NoneHolds}
 use Rattle.model_calls.proofs.formals.unbound_input.Goals as goal
 
 pub loop-input-init : goal.loop-input-init

@@ -1,6 +1,6 @@
 use Rattle.std.proofs.Common.{take}
 use Rattle.model_calls.specs.Formals.{IsUnbound}
-use Rattle.model_calls.specs.Reports.{NoneHolds}
+use Rattle.model_calls.specs.FirstFaults.{NoneHolds}
 use Rattle.model_calls.proofs.formals.unbound_input.Given as goal
 
 abbrev pub invariant-loop-input : goal.invariant-loop-input

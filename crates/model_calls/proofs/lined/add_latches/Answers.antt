@@ -2,7 +2,7 @@ use Rattle.std.proofs.Common.{◌++◌, ◌≤◌, length, map, refl, ap, sym, �
 use Rattle.std.specs.Prelude.{slice_get}
 use Rattle.std.proofs.lemmas.List.{take_all}
 use Rattle.model_calls.proofs.LinedCards.{lined_next}
-use Rattle.model_calls.proofs.Reports.{item_at}
+use Rattle.model_calls.proofs.FirstFaults.{item_at}
 use Rattle.model_calls.proofs.Scans.{take_none}
 use Rattle.model_calls.specs.Expanded.{LatchCard}
 use Rattle.model_calls.specs.LinedCards.{AreLinedCards}

@@ -3,7 +3,7 @@ use Rattle.std.specs.Prelude.{slice_get}
 use Rattle.std.proofs.lemmas.List.{take_all}
 use Rattle.blif_ast.specs.TableData.{TableData}
 use Rattle.model_calls.proofs.LinedCards.{lined_next}
-use Rattle.model_calls.proofs.Reports.{item_at}
+use Rattle.model_calls.proofs.FirstFaults.{item_at}
 use Rattle.model_calls.proofs.Scans.{take_none}
 use Rattle.model_calls.specs.Expanded.{TableCard}
 use Rattle.model_calls.specs.LinedCards.{AreLinedCards}

@@ -2,10 +2,10 @@ use Rattle.std.proofs.Common.{refl, subst, arith}
 use Rattle.std.specs.List.{flat_map}
 use Rattle.model_calls.proofs.Accepted.{first_refusal}
 use Rattle.model_calls.proofs.OrderedPlans.{circle_recurs}
-use Rattle.model_calls.proofs.Reports.{reported_some}
+use Rattle.model_calls.proofs.FirstFaults.{reported_some}
 use Rattle.model_calls.specs.declared.fault.FlatKind.TheVariants.{Recursion}
 use Rattle.model_calls.specs.ModelFaults.{IsRecursion, uses_in}
-use Rattle.model_calls.specs.Reports.{IsReport}
+use Rattle.model_calls.specs.FirstFaults.{IsFirstFaultIn}
 use Rattle.model_calls.proofs.models.find_recursion.Goals as goal
 
 pub recursion-requires : goal.recursion-requires
@@ -21,4 +21,4 @@ returns c = (
 
 pub unreachable-requires : goal.unreachable-requires
 unreachable-requires c = circle_recurs c.args.models.now c.args.nodes.now c.requires.apart c.requires.calls c.requires.circle
-    (subst (IsReport (IsRecursion (record { models = c.args.models.now })) (flat_map uses_in c.args.models.now) (λ u. u.instance.line) (λ u. u.instance.unit)) c.in-None.is c.in_ok-report.ensures)
+    (subst (IsFirstFaultIn (IsRecursion (record { models = c.args.models.now })) (flat_map uses_in c.args.models.now) (λ u. u.instance.line) (λ u. u.instance.unit)) c.in-None.is c.in_ok-report.ensures)

@@ -1,8 +1,8 @@
 use Rattle.std.proofs.Common.{◌≤◌, length, refl, subst, arith}
 use Rattle.std.proofs.lemmas.List.{take_all}
-use Rattle.model_calls.proofs.FormalReports.{callees_count, calls_at, calls_count}
+use Rattle.model_calls.proofs.FormalFaults.{callees_count, calls_at, calls_count}
 use Rattle.model_calls.proofs.ModelPlans.{have_no_plans, have_plans_next}
-use Rattle.model_calls.proofs.Reports.{item_at}
+use Rattle.model_calls.proofs.FirstFaults.{item_at}
 use Rattle.model_calls.specs.CallNumbers.{names_of_models}
 use Rattle.model_calls.specs.ModelCalls.{HavePlans}
 use Rattle.model_calls.proofs.models.plan_all.Goals as goal

@@ -4,10 +4,10 @@ use Rattle.std.proofs.lemmas.List.Sums.{count_by-le-length}
 use Rattle.blif_ast.specs.Cards.{same}
 use Rattle.network.proofs.Lists.{get_of_map}
 use Rattle.dom_base.proofs.Options.{if_ok-weaker}
-use Rattle.model_calls.proofs.Reports.{item_at}
-use Rattle.model_calls.proofs.Scans.{next_scan, no_scan, scan_reports}
+use Rattle.model_calls.proofs.FirstFaults.{item_at}
+use Rattle.model_calls.proofs.Scans.{next_scan, no_scan, scan_faults}
 use Rattle.model_calls.specs.ModelFaults.{IsDuplicatePort, IsTwiceIn, Port, ports_in}
-use Rattle.model_calls.specs.Reports.{NoneHolds}
+use Rattle.model_calls.specs.FirstFaults.{NoneHolds}
 use Rattle.model_calls.specs.Scans.{IsWrong}
 use Rattle.model_calls.proofs.ports.duplicate_in_list.Goals as goal
 
@@ -35,6 +35,6 @@ pub returns : goal.returns
 returns c =
     let whole : length c.args.names.now ≤ c.loop-name.name-index = omega (arith, c.loop-name-test.false, c.loop-name.auto.name-index-end) in
     if_ok-weaker c.report.result
-    (scan_reports (λ (p : Port). IsTwiceIn p.list p.name) (λ p. p.line) (λ p. p.name) (λ name. record { line = c.args.line; list = c.args.names.now; name = name }) (λ x. Unit {0}) c.args.names.now
+    (scan_faults (λ (p : Port). IsTwiceIn p.list p.name) (λ p. p.line) (λ p. p.name) (λ name. record { line = c.args.line; list = c.args.names.now; name = name }) (λ x. Unit {0}) c.args.names.now
     (is_twice c.args.names.now) (λ x twice. inr twice) c.args.line (λ x. refl) (λ x. refl)
     c.loop-name.scan c.loop-name.name-index whole c.loop-name.invariant) c.report.ensures

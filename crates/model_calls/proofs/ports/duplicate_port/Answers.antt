@@ -2,8 +2,8 @@ use Rattle.std.proofs.Common.{◌≤◌, length, refl, subst, arith}
 use Rattle.std.specs.List.{flat_map}
 use Rattle.std.proofs.lemmas.List.{take_all}
 use Rattle.model_calls.specs.ModelFaults.{IsDuplicatePort, IsTwiceIn, Port, ports_of_model}
-use Rattle.model_calls.specs.Reports.{NoneHolds}
-use Rattle.model_calls.proofs.Reports.{item_at, none_up_to, reported_at, reported_none, reported_some}
+use Rattle.model_calls.specs.FirstFaults.{NoneHolds}
+use Rattle.model_calls.proofs.FirstFaults.{item_at, none_up_to, reported_at, reported_none, reported_some}
 use Rattle.model_calls.proofs.ports.duplicate_port.Goals as goal
 
 pub loop-model-preserved : goal.loop-model-preserved

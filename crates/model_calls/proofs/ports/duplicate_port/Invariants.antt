@@ -1,7 +1,7 @@
 use Rattle.std.proofs.Common.{take}
 use Rattle.std.specs.List.{flat_map}
 use Rattle.model_calls.specs.ModelFaults.{IsDuplicatePort, ports_of_model}
-use Rattle.model_calls.specs.Reports.{NoneHolds}
+use Rattle.model_calls.specs.FirstFaults.{NoneHolds}
 use Rattle.model_calls.proofs.ports.duplicate_port.Given as goal
 
 abbrev pub invariant-loop-model : goal.invariant-loop-model

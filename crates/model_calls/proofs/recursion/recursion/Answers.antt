@@ -2,13 +2,13 @@ use Rattle.std.proofs.Common.{rules, ◌≡◌, ◌<◌, ◌≤◌, length, [], 
 use Rattle.std.specs.List.{flat_map}
 use Rattle.std.proofs.lemmas.List.{take_all}
 use Rattle.graph_order.specs.Components.{AreComponents}
-use Rattle.model_calls.proofs.FormalReports.{calls_count}
+use Rattle.model_calls.proofs.FormalFaults.{calls_count}
 use Rattle.model_calls.proofs.Recursions.{index_within, no_recursion_in, recursion_in}
-use Rattle.model_calls.proofs.Reports.{item_at, none_up_to, reported_at}
+use Rattle.model_calls.proofs.FirstFaults.{item_at, none_up_to, reported_at}
 use Rattle.model_calls.specs.CallNumbers.{names_of_models}
 use Rattle.model_calls.specs.ModelFaults.{IsRecursion, uses_in}
 use Rattle.model_calls.specs.Recursions.{IsFirstBack, IsReportOf}
-use Rattle.model_calls.specs.Reports.{NoneHolds}
+use Rattle.model_calls.specs.FirstFaults.{NoneHolds}
 use Rattle.model_calls.proofs.recursion.recursion.Goals as goal
 
 pub first_back-requires : goal.first_back-requires

@@ -1,7 +1,7 @@
 use Rattle.std.proofs.Common.{take}
 use Rattle.std.specs.List.{flat_map}
 use Rattle.model_calls.specs.ModelFaults.{IsRecursion, uses_in}
-use Rattle.model_calls.specs.Reports.{NoneHolds}
+use Rattle.model_calls.specs.FirstFaults.{NoneHolds}
 use Rattle.model_calls.proofs.recursion.recursion.Given as goal
 
 abbrev pub invariant-loop-index : goal.invariant-loop-index

@@ -1,7 +1,7 @@
 use Rattle.std.proofs.Common.{length, refl, ap, ◌∙◌}
 use Rattle.blif_ast.specs.InstanceData.{InstanceData}
 use Rattle.dom_base.proofs.Options.{if_ok-weaker}
-use Rattle.model_calls.proofs.Reports.{item_at}
+use Rattle.model_calls.proofs.FirstFaults.{item_at}
 use Rattle.model_calls.proofs.recursion.report_instance.Goals as goal
 
 pub returns : goal.returns

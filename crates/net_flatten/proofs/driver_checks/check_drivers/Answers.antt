@@ -4,7 +4,8 @@ use Rattle.std.proofs.lemmas.Option.{slice_get_within}
 use Rattle.model_calls.specs.declared.fault.FlatKind.TheVariants.{DrivenTwice}
 use Rattle.part_numbers.specs.CheckOutcomes.{IsAtOutput}
 use Rattle.net_flatten.specs.DriverSearches.{AreDrivers, IsSetOfDrivers}
-use Rattle.net_flatten.specs.FoundFirst.{HoldsOfNone, IsFirstAt}
+use Rattle.model_calls.specs.FirstFaults.{NoneHolds}
+use Rattle.net_flatten.specs.FoundFirst.{IsFirstAt}
 use Rattle.part_numbers.specs.NumberedFaults.{IsDrivenAgain, IsPartWithin}
 use Rattle.part_numbers.specs.NumberedFiles.{NumberedFileData}
 use Rattle.model_calls.specs.Refusals.{IsOfKind}
@@ -36,7 +37,7 @@ returns-in-Once-clause-check c =
     let once : IsSetOfDrivers c.numbered.inside.signals c.inputs.result.now c.parts.result.now c.in-Once.driven =
     subst (AreDrivers c.numbered.inside.signals c.inputs.result.now c.parts.result.now) c.in-Once.is (c.in_ok-driven.ensures {u = tt}) in
     none_twice c.args.file.now c.requires.numbers.0 c.args.numbered.now c.requires.numbers.1
-    (subst (HoldsOfNone (IsDrivenAgain c.args.numbered.now.inputs)) c.parts.ensures (subst (λ is. HoldsOfNone (IsDrivenAgain is) c.parts.result.now) c.inputs.ensures once.none))
+    (subst (NoneHolds (IsDrivenAgain c.args.numbered.now.inputs)) c.parts.ensures (subst (λ is. NoneHolds (IsDrivenAgain is) c.parts.result.now) c.inputs.ensures once.none))
 
 pub returns-in-Twice-clause-check : goal.returns-in-Twice-clause-check
 returns-in-Twice-clause-check c =

@@ -3,7 +3,8 @@ use Rattle.std.specs.Prelude.{All}
 use Rattle.model_calls.specs.declared.fault.FlatKind.TheVariants.{Undriven}
 use Rattle.part_numbers.specs.CheckOutcomes.{IsAtInput, IsAtMainOutput}
 use Rattle.net_flatten.specs.DriverSearches.{IsFirstOutside, IsFirstRead, IsOutsideSet}
-use Rattle.net_flatten.specs.FoundFirst.{HoldsOfNone, IsFirstAt}
+use Rattle.model_calls.specs.FirstFaults.{NoneHolds}
+use Rattle.net_flatten.specs.FoundFirst.{IsFirstAt}
 use Rattle.part_numbers.specs.NumberedFaults.{IsPartWithin}
 use Rattle.model_calls.specs.Refusals.{IsOfKind}
 use Rattle.part_numbers.proofs.CardFaults.{IsFaultOf-weaker}
@@ -46,7 +47,7 @@ pub returns-in-None : goal.returns-in-None
 returns-in-None c = record {
   check = none_undriven c.args.file.now c.requires.numbers.0 c.args.numbered.now c.requires.numbers.1 c.args.driven.now c.requires.driven
       (all_read c.args.driven.now c.args.numbered.now.parts c.find_read_outside.result (subst (λ ps. IsFirstOutside c.args.driven.now ps c.find_read_outside.result) c.parts.ensures c.find_read_outside.ensures) c.in_default.not-Some)
-      (subst (HoldsOfNone (IsOutsideSet c.args.driven.now)) c.outputs.ensures (c.in-None.ensures {u = tt}));
+      (subst (NoneHolds (IsOutsideSet c.args.driven.now)) c.outputs.ensures (c.in-None.ensures {u = tt}));
 }
 
 pub returns-in-Some-find_outside : goal.returns-in-Some-find_outside

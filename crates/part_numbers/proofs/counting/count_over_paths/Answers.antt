@@ -3,7 +3,7 @@ use Rattle.std.specs.Vec.{vec_len}
 use Rattle.blif_ast.specs.BlifFileData.{BlifFileData}
 use Rattle.graph_order.specs.Orders.{IsGraph}
 use Rattle.part_numbers.proofs.PathSums.{graph, path_weights_are, some_node, sums_are}
-use Rattle.model_calls.proofs.Reports.{item_at}
+use Rattle.model_calls.proofs.FirstFaults.{item_at}
 use Rattle.model_calls.specs.ModelCallsData.{ModelCallsData}
 use Rattle.part_numbers.proofs.counting.count_over_paths.Goals as goal
 

@@ -4,8 +4,7 @@ use Rattle.std.specs.Prelude.{All}
 use Rattle.std.proofs.lemmas.Option.{slice_get_within}
 use Rattle.gate_decompose.specs.GatesData.{GatesData}
 use Rattle.gate_decompose.specs.GatesOrder.{AreGates, NodeReadsEarlier, ReadsEarlier}
-use Rattle.gate_decompose.proofs.GatesOrder.{gates_are_ordered}
-use Rattle.dual_rail.proofs.Marks.{parts_there, sink_there}
+use Rattle.gate_decompose.proofs.GatesOrder.{gates_are_ordered, parts_there, sink_there}
 use Rattle.dual_rail.proofs.RailsOf.{nodes_ordered}
 use Rattle.dual_rail.proofs.Zips.{all_from}
 use Rattle.dual_rail.specs.WantedNodes.{AreOrderedNodes}

@@ -7,9 +7,9 @@ use Rattle.std.proofs.lemmas.Option.{slice_get_read, slice_get_within}
 use Rattle.dom_base.proofs.Lists.{slice_get-append}
 use Rattle.graph_order.proofs.Lists.{take_next}
 use Rattle.network.proofs.Lists.{get_map, get_of_map}
-use Rattle.model_calls.specs.declared.report.Report.{Report}
+use Rattle.model_calls.specs.declared.first_fault.FirstFault.{FirstFault}
 use Rattle.model_calls.specs.Refusals.{IsReported}
-use Rattle.model_calls.specs.Reports.{IsReport, NoneHolds}
+use Rattle.model_calls.specs.FirstFaults.{IsFirstFaultIn, NoneHolds}
 
 module _ {X : Type 0} where
   -- the element that a loop has come to
@@ -34,10 +34,10 @@ module _ {X : Type 0} where
 
 -- the two answers of a search
 module _ {Element : Type 0} (Holds : List Element → Element → Type 0) (all : List Element) (line_of : Element → ℕ) (name_of : Element → List ℕ) where
-  pub reported_some : (found : Option Report) (r : Report) → found ≡ Some r → IsReport Holds all line_of name_of found → IsReported Holds all line_of name_of r.line r.name
-  reported_some found r is h = subst (IsReport Holds all line_of name_of) is h
+  pub reported_some : (found : Option FirstFault) (r : FirstFault) → found ≡ Some r → IsFirstFaultIn Holds all line_of name_of found → IsReported Holds all line_of name_of r.line r.name
+  reported_some found r is h = subst (IsFirstFaultIn Holds all line_of name_of) is h
 
-  pub reported_none : (found : Option Report) → ((r : Report) → found ≡ Some r → ⊥) → IsReport Holds all line_of name_of found → NoneHolds Holds all
+  pub reported_none : (found : Option FirstFault) → ((r : FirstFault) → found ≡ Some r → ⊥) → IsFirstFaultIn Holds all line_of name_of found → NoneHolds Holds all
   reported_none None not h = h
   reported_none (Some r) not h = absurd (not r refl)
 
@@ -83,7 +83,7 @@ module _ {Element : Type 0} (Holds : Element → Type 0) (line_of : Element → 
     name_is = r.name_is;
   }
 
-  pub behind_none : (xs ys : List Element) → None_of xs → (found : Option Report) → IsReport (λ before. Holds) ys line_of name_of found → IsReport (λ before. Holds) (xs ++ ys) line_of name_of found
+  pub behind_none : (xs ys : List Element) → None_of xs → (found : Option FirstFault) → IsFirstFaultIn (λ before. Holds) ys line_of name_of found → IsFirstFaultIn (λ before. Holds) (xs ++ ys) line_of name_of found
   behind_none xs ys none None h = none_of_both xs ys none h
   behind_none xs ys none (Some r) h = reported_right xs ys r.line r.name none h
 

@@ -18,16 +18,16 @@ use Rattle.dom_base.proofs.Lists.{Contains-slice_get, slice_get-contained, slice
 use Rattle.graph_order.proofs.Lists.{take_next}
 use Rattle.model_calls.proofs.CallNumbers.{known_at}
 use Rattle.network.proofs.Lists.{get_map, get_of_map, get_take}
-use Rattle.model_calls.proofs.Reports.{behind_none, none_of_each, reported_of_each}
-use Rattle.model_calls.proofs.Scans.{scan_reports}
+use Rattle.model_calls.proofs.FirstFaults.{behind_none, none_of_each, reported_of_each}
+use Rattle.model_calls.proofs.Scans.{scan_faults}
 use Rattle.model_calls.specs.CallNumbers.{AreCallees, AreCalls, names_of_models}
-use Rattle.model_calls.specs.declared.report.Report.{Report}
+use Rattle.model_calls.specs.declared.first_fault.FirstFault.{FirstFault}
 use Rattle.model_calls.specs.Formals.{HavePorts, IsUnbound, formals_in_model, formals_of_instance, names_of_ports}
 use Rattle.model_calls.specs.ModelFaults.{BoundFormal, InputFormal, IsBadFormal, IsDuplicateModel, IsWrongFormal, formals, formals_of, formals_of_use, formals_with, line_of_formal, name_of_formal, uses_in}
 use Rattle.model_calls.specs.Occurrences.{models_called}
 use Rattle.model_calls.specs.Refusals.{IsReported}
-use Rattle.model_calls.specs.Reports.{IsReport, NoneHolds}
-use Rattle.model_calls.specs.Scans.{AreFirsts, IsScan, IsWrong, IsWrongReport, ScanData}
+use Rattle.model_calls.specs.FirstFaults.{IsFirstFaultIn, NoneHolds}
+use Rattle.model_calls.specs.Scans.{AreFirsts, IsScan, IsWrong, IsFirstWrongName, ScanData}
 
 -- names in order of first appearance are those of the list
 pub firsts_have : (all names : List (List ℕ)) → AreFirsts all names → (x : List ℕ) → Contains all x → Contains names x
@@ -45,12 +45,12 @@ module _ (i : InstanceData) (unit : BlifModelData) (s : ScanData) (scan : IsScan
   holds_wrong x (inl bad) = inl bad
   holds_wrong x (inr twice) = inr twice
 
-  pub bound_report : (found : Option Report) → IsWrongReport s i.line found → IsReport IsBadFormal (map (BoundFormal i unit) (formals_of i)) line_of_formal name_of_formal found
-  bound_report = scan_reports IsWrongFormal line_of_formal name_of_formal (BoundFormal i unit) (Contains (names_of_ports unit)) (formals_of i) wrong_holds holds_wrong i.line (λ x. refl) (λ x. refl)
+  pub bound_fault : (found : Option FirstFault) → IsFirstWrongName s i.line found → IsFirstFaultIn IsBadFormal (map (BoundFormal i unit) (formals_of i)) line_of_formal name_of_formal found
+  bound_fault = scan_faults IsWrongFormal line_of_formal name_of_formal (BoundFormal i unit) (Contains (names_of_ports unit)) (formals_of i) wrong_holds holds_wrong i.line (λ x. refl) (λ x. refl)
       s (length (formals_of i)) (omega arith) (subst (λ seen. IsScan (Contains (names_of_ports unit)) (formals_of i) seen s) (sym (take_all (length (formals_of i)) (formals_of i) (omega arith))) scan)
 
-  inputs_report : (found : Option Report) → IsReport (IsUnbound s.names) unit.inputs (λ x. i.line) (λ x. x) found
-      → IsReport IsBadFormal (map (InputFormal i) unit.inputs) line_of_formal name_of_formal found
+  inputs_report : (found : Option FirstFault) → IsFirstFaultIn (IsUnbound s.names) unit.inputs (λ x. i.line) (λ x. x) found
+      → IsFirstFaultIn IsBadFormal (map (InputFormal i) unit.inputs) line_of_formal name_of_formal found
   inputs_report None none = none_of_each IsWrongFormal line_of_formal name_of_formal (InputFormal i) unit.inputs
       (λ k x there bad. none k x there (λ c. bad (firsts_only (formals_of i) s.names scan.firsts x c)))
   inputs_report (Some r) h = reported_of_each IsWrongFormal line_of_formal name_of_formal (InputFormal i) unit.inputs h.first.index h.element h.first.there
@@ -59,8 +59,8 @@ module _ (i : InstanceData) (unit : BlifModelData) (s : ScanData) (scan : IsScan
       r.line r.name h.line_is h.name_is
 
   -- the bound formals, and then the inputs
-  pub instance_report : IsReport IsBadFormal (map (BoundFormal i unit) (formals_of i)) line_of_formal name_of_formal None
-      → (found : Option Report) → IsReport (IsUnbound s.names) unit.inputs (λ x. i.line) (λ x. x) found → IsReport IsBadFormal (formals_with i unit) line_of_formal name_of_formal found
+  pub instance_report : IsFirstFaultIn IsBadFormal (map (BoundFormal i unit) (formals_of i)) line_of_formal name_of_formal None
+      → (found : Option FirstFault) → IsFirstFaultIn (IsUnbound s.names) unit.inputs (λ x. i.line) (λ x. x) found → IsFirstFaultIn IsBadFormal (formals_with i unit) line_of_formal name_of_formal found
   instance_report none found h = behind_none IsWrongFormal line_of_formal name_of_formal (map (BoundFormal i unit) (formals_of i)) (map (InputFormal i) unit.inputs) none found (inputs_report found h)
 
 -- inputs that are bound
@@ -130,9 +130,9 @@ called_at models none u n name there is = ap option_to_list (found models u ther
         ∙ found all k e (λ j b l at. earlier (suc j) b (omega (arith, l)) at)
 
 -- the formals of an instance whose model is known
-pub report_of_instance : (models : List BlifModelData) (i : InstanceData) (n : BlifModelData) → models_called models i.unit ≡ n ∷ [] → (found : Option Report)
-    → IsReport IsBadFormal (formals_with i n) line_of_formal name_of_formal found → IsReport IsBadFormal (formals_of_instance models i) line_of_formal name_of_formal found
-report_of_instance models i n called found h = subst (λ all. IsReport IsBadFormal all line_of_formal name_of_formal found) (sym (ap (flat_map (formals_with i)) called ∙ append-nil (formals_with i n))) h
+pub report_of_instance : (models : List BlifModelData) (i : InstanceData) (n : BlifModelData) → models_called models i.unit ≡ n ∷ [] → (found : Option FirstFault)
+    → IsFirstFaultIn IsBadFormal (formals_with i n) line_of_formal name_of_formal found → IsFirstFaultIn IsBadFormal (formals_of_instance models i) line_of_formal name_of_formal found
+report_of_instance models i n called found h = subst (λ all. IsFirstFaultIn IsBadFormal all line_of_formal name_of_formal found) (sym (ap (flat_map (formals_with i)) called ∙ append-nil (formals_with i n))) h
 
 -- the formals of all instances, model by model
 by_model : (f : BlifFileData) (models : List BlifModelData) → flat_map (formals_of_use f) (flat_map uses_in models) ≡ flat_map (formals_in_model f.models) models

@@ -4,12 +4,12 @@ use Rattle.std.proofs.lemmas.List.{length-map}
 use Rattle.blif_ast.specs.BlifModelData.{BlifModelData}
 use Rattle.model_calls.proofs.Accepted.{first_refusal, none_reported, nothing_with, nothing_yet}
 use Rattle.model_calls.proofs.OrderedPlans.{all_known}
-use Rattle.model_calls.proofs.Reports.{reported_none, reported_some}
+use Rattle.model_calls.proofs.FirstFaults.{reported_none, reported_some}
 use Rattle.model_calls.specs.declared.fault.FlatKind.TheVariants.{DuplicateModel, DuplicatePort, UnknownModel}
 use Rattle.model_calls.specs.declared.calls.CallGraph.TheVariants.{Known, Unknown}
 use Rattle.model_calls.specs.CallNumbers.{AreNamed, IsCallGraph, IsUseOfNone, names_of_models}
 use Rattle.model_calls.specs.ModelFaults.{IsDuplicateModel, IsDuplicatePort, ports_of_model, uses_in}
-use Rattle.model_calls.proofs.models.find_plans.Goals as goal
+use Rattle.model_calls.proofs.models.find_calls.Goals as goal
 
 pub returns-in-Some : goal.returns-in-Some
 returns-in-Some c = (
@@ -48,8 +48,8 @@ returns-in-Unknown c =
       omega arith,
     )
 
-pub plan_calls-requires : goal.plan_calls-requires
-plan_calls-requires c =
+pub order_calls-requires : goal.order_calls-requires
+order_calls-requires c =
     let named = subst (AreNamed c.args.models.now c.name_models.new.names) c.in_default.is c.in_ok-report.ensures in
     let ports = reported_none IsDuplicatePort (flat_map ports_of_model c.args.models.now) (λ p. p.line) (λ p. p.name) c.in_ok-report-2.field-0 c.in_default-2.not-Some c.in_ok-report-2.ensures in
     let calls = subst (λ names. IsCallGraph names c.args.models.now (Known c.in-Known.nodes)) named.0 (subst (IsCallGraph c.name_models.new.names c.args.models.now) c.in-Known.is c.in_ok-report-3.ensures) in
@@ -68,4 +68,4 @@ plan_calls-requires c =
     }
 
 pub returns-in-Known : goal.returns-in-Known
-returns-in-Known c = c.plan_calls.ensures
+returns-in-Known c = c.order_calls.ensures

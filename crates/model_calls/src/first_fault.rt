@@ -5,17 +5,17 @@ use dom_base::{Name, OutOfMemory};
 
 /// The first fault of a kind: the line of its card, from 1, and its name.
 #[derive(Drop)]
-pub struct Report {
+pub struct FirstFault {
     pub line: u64,
     pub name: Name,
 }
 
-impl Report {
+impl FirstFault {
     /// A report of this line and name. It fails only for want of memory.
-    pub fn new(line: u64, name: &Name) -> Result<Report, OutOfMemory>
+    pub fn new(line: u64, name: &Name) -> Result<FirstFault, OutOfMemory>
         ensures { IfOk result (λ report. (report.line ≡ line) × (report.name ≡ name.now)) }
     {
-        Ok(Report {
+        Ok(FirstFault {
             line,
             name: name.clone()?,
         })
