@@ -119,12 +119,17 @@ fn push_cell(
     ensures numbers { OnOk result (AreNumbersAt circuit.new.nets names.now numbers.new) }
     ensures grew { Grew circuit.old circuit.new }
 {
+    let cell = nets.nets_at(circuit, plan.clock);
+    let precharge = push_held(circuit, Kind::P, cell.dynamic, cell.clock, cell.vdd)?;
+    let first = match style {
+        Style::Keeper => None,
+        Style::Precharge => u32::try_from(circuit.nets.len()).ok(),
+    };
     let tree = TreeNames {
         gates: names,
         front: nets.front.as_bytes(),
+        first,
     };
-    let cell = nets.nets_at(circuit, plan.clock);
-    let precharge = push_held(circuit, Kind::P, cell.dynamic, cell.clock, cell.vdd)?;
     let dynamic = cell.dynamic.at(precharge.drain);
     let held = push_behind_precharge(alloc, circuit, style, &plan.tree, nets, cell, dynamic)?;
     let output = NetAt {
@@ -194,10 +199,12 @@ fn push_gate(
     let to_vdd = TreeNames {
         gates: names,
         front: nets.upper.as_bytes(),
+        first: None,
     };
     let to_vss = TreeNames {
         gates: names,
         front: nets.lower.as_bytes(),
+        first: None,
     };
     let out = NetAt::named(out);
     let vdd = NetAt::named(&nets.vdd);

@@ -18,11 +18,13 @@ use sp_network::Sp;
 use std::alloc::Global;
 
 /// The names of the nets of a tree: gate by gate the net that gates it, and how each inner net
-/// begins, before its number.
+/// begins, before its number. Where inner nets stand in the circuit already, in order, `first` is the number of
+/// the first of them.
 #[derive(Clone, Copy)]
 pub struct TreeNames<'a> {
     pub gates: &'a [NetName],
     pub front: &'a [u8],
+    pub first: Option<u32>,
 }
 
 impl<'a> TreeNames<'a> {
@@ -70,7 +72,11 @@ impl<'a> TreeNames<'a> {
             }
             Sp::Series(left, right) => {
                 let name = numbered_name(alloc, self.front, inner)?;
-                let middle = NetAt::named(&name);
+                let middle = NetAt {
+                    name: &name,
+                    number: self.first.and_then(|first| first.checked_add(inner)),
+                };
+                let middle = middle.checked(circuit);
                 let (next, number) = self.push(
                     alloc,
                     circuit,

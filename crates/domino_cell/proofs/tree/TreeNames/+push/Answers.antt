@@ -28,9 +28,9 @@ returns-in_ok-next-in-Series-clause-devices g t c =
     on_ok_weaker c.push-in-Series.result
     (λ two. series_pushed c.args.circuit.now c.push.new.circuit c.push-in-Series.new.circuit _
     (inner_net c.args.self.now.front.now) (net_name c.args.self.now.gates.now) (tree_of c.args.tree.now) (tree_of c.deref.result.now)
-    (tree_of c.deref-in-Series.result.now) c.args.top.name.now c.args.bottom.name.now c.named-middle.result.name.now c.args.inner _
+    (tree_of c.deref-in-Series.result.now) c.args.top.name.now c.args.bottom.name.now c.checked-middle.result.name.now c.args.inner _
     (ap tree_of c.in-Series.is ∙ ap₂ Series (ap tree_of (sym c.deref.ensures)) (ap tree_of (sym c.deref-in-Series.ensures)))
-    (c.named-middle.ensures.name ∙ c.in_ok-name-in-Series.ensures) c.in_ok-next-in-Series.ensures.next c.in_ok-next-in-Series.ensures.devices
+    (c.checked-middle.ensures.name ∙ c.in_ok-name-in-Series.ensures) c.in_ok-next-in-Series.ensures.next c.in_ok-next-in-Series.ensures.devices
     (two ∙ renamed_ends c.push.new.circuit g.S.Polarity.KIND (inner_net c.args.self.now.front.now)
     (named_tree c.args.self.now.gates.now (tree_of c.deref-in-Series.result.now)) c.in_ok-next-in-Series.next c.at-middle.ensures.name c.checked-bottom.ensures.name))
     c.push-in-Series.ensures.devices
