@@ -1,0 +1,10 @@
+pub mod CardCounts
+pub mod LeastDecks
+pub mod LooseDecks
+pub mod NamedCells
+pub mod OneDeck
+pub mod PlannedShapes
+pub mod RightDecks
+pub mod WholePlans
+pub mod WholeTrees
+pub mod WorkedDecks

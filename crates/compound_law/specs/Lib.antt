@@ -1,0 +1,4 @@
+pub mod PushedDecks
+pub mod CompoundDecks
+pub mod Laws
+pub mod WorkedDeck
