@@ -23,7 +23,7 @@ use Rattle.deck_calls.proofs.CellSubckts.{cell_subckt, cells_expand, cells_sized
 use Rattle.subckt_expand.proofs.Counts.{size_counts}
 use Rattle.spice_text.proofs.Groups.{groups_all, groups_count, groups_short, rises_far}
 use Rattle.deck_calls.proofs.NumberedShapes.{numbered_back, numbers_few, numbers_fall, cells_over, IsCellShape}
-use Rattle.deck_calls.proofs.PassedNets.{all_at}
+use Rattle.subckt_expand.proofs.MoreClosed.{all_index}
 use Rattle.spice_text.proofs.Shapes.{all_inserted, all_stand, shape_own}
 
 -- the groups of a circuit, and their shapes
@@ -141,9 +141,9 @@ with_devices-all : (P : List ℕ → Type 0) (nets : List (List ℕ)) (c : Circu
     → AllByRecursion P (with_devices c (map (named_device nets) group)).nets
 with_devices-all P nets c [] all h low = h
 with_devices-all P nets c (d ∷ ds) all h low =
-    let drain = all_at P nets d.drain [] all low.0.drain in
-    let gate = all_at P nets d.gate [] all low.0.gate in
-    let source = all_at P nets d.source [] all low.0.source in
+    let drain = all_index P nets d.drain [] all low.0.drain in
+    let gate = all_index P nets d.gate [] all low.0.gate in
+    let source = all_index P nets d.source [] all low.0.source in
     with_devices-all P nets (pushed c d.kind (net_name nets d.drain) (net_name nets d.gate) (net_name nets d.source)) ds all
     (with_net-all P _ (net_name nets d.source) (with_net-all P _ (net_name nets d.gate) (with_net-all P c.nets (net_name nets d.drain) h drain) gate) source) low.1
 

@@ -6,10 +6,8 @@ use Rattle.std.specs.Fmt.{decimal}
 use Rattle.std.proofs.lemmas.Fmt.{decimal_by_steps, decimal_injective}
 use Rattle.std.proofs.lemmas.List.{append_cancel_left}
 use Rattle.std.proofs.lemmas.List.Elements.{All-nil, All-cons, All-push, All-append}
-use Rattle.dom_base.specs.Names.{IsNetByte, IsNetName, is_net_name}
-use Rattle.dom_base.proofs.Decimals.{decimal_is_net}
+use Rattle.dom_base.specs.Names.{IsNetName}
 use Rattle.dom_base.proofs.Lists.{AllByRecursion-every, AllByRecursion-map}
-use Rattle.dom_base.proofs.Names.{IsNetName-from_test}
 use Rattle.deck.specs.DeckText.{HasNoEquals}
 use Rattle.spice_text.proofs.CellPorts.{numbered_name}
 use Rattle.spice_text.specs.Cells.{cell_port}

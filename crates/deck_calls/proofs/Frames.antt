@@ -7,16 +7,13 @@ use Rattle.dom_base.proofs.Lists.{length-none}
 use Rattle.deck.specs.NamedDevices.{NamedDevice, map_device}
 use Rattle.deck.specs.Subckts.{SubcktPart, Single, Called, Subckt, passed_net, call_devices, part_devices, expansion, expansions, sizes}
 use Rattle.deck_calls.specs.Frames.{ExpansionFrame, name_in, left_in, found_above, ExpansionSteps}
+use Rattle.subckt_expand.proofs.CallsMade.{map_twice}
 use Rattle.subckt_expand.proofs.Counts.{all_counted, part_counted}
 
--- devices renamed by nothing, and twice
+-- devices renamed by nothing
 map_same : (ds : List (NamedDevice (List ℕ))) → map (map_device (λ name. name)) ds ≡ ds
 map_same [] = refl
 map_same (d ∷ ds) = ap (λ l. d ∷ l) (map_same ds)
-
-map_twice : (f g : List ℕ → List ℕ) (ds : List (NamedDevice (List ℕ))) → map (map_device f) (map (map_device g) ds) ≡ map (map_device (λ name. f (g name))) ds
-map_twice f g [] = refl
-map_twice f g (d ∷ ds) = ap (λ l. map_device f (map_device g d) ∷ l) (map_twice f g ds)
 
 -- the subcircuit that is found is the one whose expansion is
 found_expansion : (name : List ℕ) (all : List Subckt) (s : Subckt) (above : List Subckt) → found_above name all ≡ Some (s, above)

@@ -1,5 +1,5 @@
 -- The nets that are passed to a call stand for the ports, place by place.
-use Rattle.std.proofs.Common.{◌≡◌, ℕ, ◌<◌, zero, suc, false, nat_eq, List, [], ◌∷◌, map, length, slice_index_or, refl, ◌∙◌, arith}
+use Rattle.std.proofs.Common.{◌≡◌, ℕ, ◌<◌, zero, suc, false, nat_eq, List, [], ◌∷◌, map, length, refl, ◌∙◌, arith}
 use Rattle.std.specs.List.{AllByRecursion, IsDistinct}
 use Rattle.std.specs.Cmp.Lexicographic.{pointwise}
 use Rattle.std.proofs.lemmas.Option.{get_or_from_slice_get, slice_get_within}
@@ -8,12 +8,7 @@ use Rattle.deck.specs.Nets.{net_name, net_number}
 use Rattle.deck.specs.NumberedDevices.{HasNumber, IsNumberedDevice, numbered_device}
 use Rattle.deck.specs.Subckts.{passed_net}
 use Rattle.deck.proofs.NetNumbers.{same_name}
-
--- what holds of all holds of one by its place
-pub all_at : {X : Type 0} (P : X → Type 0) (xs : List X) (i : ℕ) (d : X) → AllByRecursion P xs → i < length xs → P (slice_index_or xs i d)
-all_at P [] i d h lt = absurd (omega arith)
-all_at P (x ∷ xs) zero d h lt = h.0
-all_at P (x ∷ xs) (suc i) d h lt = all_at P xs i d h.1 (omega arith)
+use Rattle.subckt_expand.proofs.MoreClosed.{all_index}
 
 -- the net that stands for a port is the one at its place
 passed_at : (call : List ℕ) (ports nets : List (List ℕ)) (i : ℕ) → IsDistinct (pointwise nat_eq) ports → length ports ≡ length nets → i < length ports
@@ -23,7 +18,7 @@ passed_at call [] nets i apart same lt = absurd (omega arith)
 passed_at call (p ∷ ps) [] i apart same lt = absurd (omega arith)
 passed_at call (p ∷ ps) (n ∷ ns) zero apart same lt = rw (same_name p) refl
 passed_at call (p ∷ ps) (n ∷ ns) (suc i) apart same lt =
-    let other : pointwise nat_eq p (net_name ps i) ≡ false = all_at (λ y. pointwise nat_eq p y ≡ false) ps i [] apart.0 (omega arith) in
+    let other : pointwise nat_eq p (net_name ps i) ≡ false = all_index (λ y. pointwise nat_eq p y ≡ false) ps i [] apart.0 (omega arith) in
     rw other (passed_at call ps ns i apart.1 (omega arith) (omega arith))
 
 -- a net by the number that it has among the passed ones

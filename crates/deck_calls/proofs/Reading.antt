@@ -1,5 +1,5 @@
 -- What a text without a fault is read as, card by card: its subcircuits.
-use Rattle.std.proofs.Common.{◌≡◌, ◌≢◌, ℕ, ◌+◌, ◌≤◌, max, true, false, not, cond, List, [], ◌∷◌, ◌++◌, map, filter, reverse, length, fold, sum_by, nat_eq, nat_lt, codes, Some, IsSomeAnd, refl, sym, ap, ap₂, ◌∙◌, subst, arith, append_assoc, append-nil}
+use Rattle.std.proofs.Common.{◌≡◌, ◌≢◌, ℕ, ◌+◌, ◌≤◌, true, false, not, cond, List, [], ◌∷◌, ◌++◌, map, filter, reverse, length, sum_by, nat_eq, nat_lt, codes, Some, IsSomeAnd, refl, sym, ap, ap₂, ◌∙◌, subst, arith, append_assoc, append-nil}
 use Rattle.std.specs.List.{AllByRecursion, AllZip, flat_map}
 use Rattle.std.specs.Cmp.Lexicographic.{pointwise, bytes_decides}
 use Rattle.std.proofs.lemmas.Bool.{true≢false}
@@ -19,6 +19,7 @@ use Rattle.deck.specs.Subckts.{SubcktPart, Single, Called, Subckt, size_named, s
 use Rattle.deck.specs.DecksWithCalls.{IsPartCard, AreSubcktCards, IsCallOver, IsSubcktOver, AreSubckts, most_depth}
 use Rattle.deck.specs.CardsWithCalls.{call_of_card, is_named_before, open_subckt, card_parts, unit_word}
 use Rattle.deck.specs.FaultsWithCalls.{open_count}
+use Rattle.subckt_expand.proofs.Counts.{depth_push, sum_push}
 use Rattle.deck_calls.proofs.CardForms.{IsForm, call, device, ending, opening, skipped}
 use Rattle.deck_calls.proofs.CleanCards.{IsOf}
 use Rattle.spice_read.proofs.NoFault.{left}
@@ -96,14 +97,6 @@ read_opening before card e o words new once few done groups s named order zip so
       few_devices = omega arith;
       shallow = omega arith;
     })
-
-sum_push : (f : SubcktPart → ℕ) (n : ℕ) (ps : List SubcktPart) (q : SubcktPart) → fold (λ a p. a + f p) n (ps ++ q ∷ []) ≡ fold (λ a p. a + f p) n ps + f q
-sum_push f n [] q = refl
-sum_push f n (p ∷ ps) q = sum_push f (n + f p) ps q
-
-depth_push : (f : SubcktPart → ℕ) (n : ℕ) (ps : List SubcktPart) (q : SubcktPart) → fold max n (map f (ps ++ q ∷ [])) ≡ max (fold max n (map f ps)) (f q)
-depth_push f n [] q = refl
-depth_push f n (p ∷ ps) q = depth_push f (max n (f p)) ps q
 
 -- one more part of the open subcircuit
 read_part : (before : List NumberedCard) (card : NumberedCard) (q : SubcktPart) → is_skipped card.words ≡ false → has_first_word dot_subckt card ≡ false → has_first_word dot_ends card ≡ false

@@ -1,10 +1,10 @@
 -- The circuit of a deck meets what holds of every circuit, and can be written.
-use Rattle.std.proofs.Common.{ℕ, Bool, true, false, not, if◌then◌else◌, nat_eq, List, [], ◌∷◌, ◌++◌, map, reverse, find, length, take, codes, Some, refl, sym, ap, ◌∙◌, subst, arith, All, inl, cond}
+use Rattle.std.proofs.Common.{ℕ, Bool, true, false, not, if◌then◌else◌, nat_eq, List, [], ◌∷◌, map, reverse, find, length, take, codes, Some, refl, sym, ap, ◌∙◌, subst, arith, All, cond}
 use Rattle.std.specs.List.{AllByRecursion, AllZip, flat_map}
 use Rattle.std.specs.Cmp.Lexicographic.{pointwise}
 use Rattle.std.proofs.lemmas.List.{reverse-reverse}
-use Rattle.std.proofs.lemmas.List.Elements.{All-head, All-tail, All-append, All-cons, All-from_recursion}
-use Rattle.dom_base.specs.Names.{IsNetByte, IsNetName}
+use Rattle.std.proofs.lemmas.List.Elements.{All-head, All-tail, All-from_recursion}
+use Rattle.dom_base.specs.Names.{IsNetName}
 use Rattle.dom_base.proofs.Lists.{AllByRecursion-append, AllByRecursion-left, AllByRecursion-kept, AllByRecursion-groups, AllByRecursion-reverse}
 use Rattle.deck.specs.CircuitData.{CircuitData}
 use Rattle.deck.specs.DeckText.{HasNetNames, HasNoEquals, IsGoodCircuit, bare_circuit, deck_cards, deck_lines, deck_phases, is_skipped}
@@ -17,6 +17,7 @@ use Rattle.std.proofs.lemmas.List.{take_at}
 use Rattle.deck.specs.Subckts.{Call, SubcktPart, Single, Called, Subckt, Expansion, passed_net, call_devices, part_devices, expansion, expansions}
 use Rattle.deck.specs.DecksWithCalls.{IsPartCard, AreSubcktCards, IsDeckWithCalls}
 use Rattle.subckt_expand.proofs.Counts.{size_counts}
+use Rattle.subckt_expand.proofs.InnerNames.{inner_name-good}
 
 -- a part whose nets, and whose name if it is a call, are names of nets
 IsPlainPart : SubcktPart → Type 0
@@ -56,17 +57,10 @@ plain_subckts [] (s ∷ ss) z h = absurd z
 plain_subckts (group ∷ groups) [] z h = absurd z
 plain_subckts (group ∷ groups) (s ∷ ss) z h = (plain_subckt group s z.0 h.0, plain_subckts groups ss z.1 h.1)
 
--- the name of an inner net of a call
-inner_plain : (call own : List ℕ) → IsNetName call → IsNetName own → IsNetName (call ++ 46 ∷ own)
-inner_plain [] own c o = absurd (c.some refl)
-inner_plain (b ∷ call) own c o = record {
-  some = λ e. cc;
-  good = All-append IsNetByte (b ∷ call) (46 ∷ own) c.good (All-cons IsNetByte 46 own (omega arith, (λ e. omega arith), inl (omega arith)) o.good);
-}
-
+-- the names of the nets that are passed
 passed_plain : (call : List ℕ) (ports nets : List (List ℕ)) (own : List ℕ) → IsNetName call → AllByRecursion IsNetName nets → IsNetName own → IsNetName (passed_net call ports nets own)
-passed_plain call [] nets own c n o = inner_plain call own c o
-passed_plain call (p ∷ ports) [] own c n o = inner_plain call own c o
+passed_plain call [] nets own c n o = inner_name-good call own c o
+passed_plain call (p ∷ ports) [] own c n o = inner_name-good call own c o
 passed_plain call (p ∷ ports) (net ∷ nets) own c n o = by (pointwise nat_eq p own) (passed_plain call ports nets own c n.1 o)
   where
     by : (b : Bool) → IsNetName (passed_net call ports nets own) → IsNetName (if b then net else passed_net call ports nets own)

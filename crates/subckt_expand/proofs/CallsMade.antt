@@ -13,7 +13,8 @@ use Rattle.subckt_expand.proofs.FoundCalls.{found_call}
 use Rattle.subckt_expand.proofs.LevelNames.{call_at-push, name_at-more, unit_of-more}
 use Rattle.subckt_expand.proofs.PartsMade.{devices_of_part}
 
-map_twice : (f g : List ℕ → List ℕ) (ds : List (NamedDevice (List ℕ))) → map (map_device f) (map (map_device g) ds) ≡ map (map_device (λ name. f (g name))) ds
+-- devices renamed twice
+pub map_twice : (f g : List ℕ → List ℕ) (ds : List (NamedDevice (List ℕ))) → map (map_device f) (map (map_device g) ds) ≡ map (map_device (λ name. f (g name))) ds
 map_twice f g [] = refl
 map_twice f g (d ∷ ds) = ap (λ l. map_device f (map_device g d) ∷ l) (map_twice f g ds)
 

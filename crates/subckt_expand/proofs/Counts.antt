@@ -1,5 +1,5 @@
 -- The devices that are counted by subcircuits are those of their expansions.
-use Rattle.std.proofs.Common.{◌≡◌, ℕ, ◌+◌, Bool, true, false, nat_eq, List, [], ◌∷◌, map, length, find, fold, sum_by, refl, ap, sym, ◌∙◌, arith, length-append}
+use Rattle.std.proofs.Common.{◌≡◌, ℕ, ◌+◌, max, Bool, true, false, nat_eq, List, [], ◌∷◌, ◌++◌, map, length, find, fold, sum_by, refl, ap, sym, ◌∙◌, arith, length-append}
 use Rattle.std.specs.List.{flat_map}
 use Rattle.std.specs.Cmp.Lexicographic.{pointwise}
 use Rattle.std.proofs.lemmas.List.{length-map}
@@ -73,3 +73,12 @@ sizes_count all = counts_same (expansions all) (sizes all) (all_counted all)
 -- a subcircuit stands for as many devices as are counted
 pub size_counts : (above : List Subckt) (s : Subckt) → length (expansion (expansions above) s).devices ≡ (size (sizes above) s).devices
 size_counts above s = parts_counted (expansions above) (sizes above) s.parts (all_counted above)
+
+-- one part more: the sum of some numbers, and the greatest
+pub sum_push : (f : SubcktPart → ℕ) (n : ℕ) (ps : List SubcktPart) (q : SubcktPart) → fold (λ a p. a + f p) n (ps ++ q ∷ []) ≡ fold (λ a p. a + f p) n ps + f q
+sum_push f n [] q = refl
+sum_push f n (p ∷ ps) q = sum_push f (n + f p) ps q
+
+pub depth_push : (f : SubcktPart → ℕ) (n : ℕ) (ps : List SubcktPart) (q : SubcktPart) → fold max n (map f (ps ++ q ∷ [])) ≡ max (fold max n (map f ps)) (f q)
+depth_push f n [] q = refl
+depth_push f n (p ∷ ps) q = depth_push f (max n (f p)) ps q

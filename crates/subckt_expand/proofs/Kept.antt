@@ -6,6 +6,7 @@ use Rattle.std.proofs.lemmas.List.{length-map, length-set}
 use Rattle.std.proofs.lemmas.Option.{get_or_from_slice_get, slice_get-get_or}
 use Rattle.deck.specs.declared.device.Device.{Device}
 use Rattle.deck.specs.Nets.{net_name, with_net}
+use Rattle.deck.proofs.KnownNumbers.{known_net, known_number}
 use Rattle.deck.proofs.NetNumbers.{IsDistinct-with_net, with_net-grows}
 use Rattle.dom_base.proofs.Lists.{slice_get-append}
 use Rattle.dom_base.proofs.Decided.{lt_or_ge}
@@ -14,7 +15,7 @@ use Rattle.subckt_expand.specs.Units.{AreUnits, HasSlots, IsCallBelow, UnitData,
 use Rattle.subckt_expand.specs.Frames.{ExpandingData, IsEmpty, IsEntered, IsExpanding, IsNumberOf, call_at, definition_of, end_name, name_at, slot_name, unit_of}
 use Rattle.subckt_expand.proofs.LevelNames.{call_at-more, name_at-more, unit_of-more}
 use Rattle.subckt_expand.proofs.MoreClosed.{all_index}
-use Rattle.subckt_expand.proofs.Places.{index_or-append, index_or-map, index_or-push, number_of_place, with_net-there}
+use Rattle.subckt_expand.proofs.Places.{index_or-append, index_or-map, index_or-push}
 
 -- the subcircuit at a level is one of those that were closed
 pub unit_there : (e : ExpandingData) → IsExpanding e → (level : ℕ) → level ≤ length e.calls → unit_of e.main e.calls level < length e.units
@@ -46,7 +47,7 @@ slot_read items of_net net read same lt is_item =
 
 -- a net that stands at a number has it, and is not added again
 pub number_there : (nets : List (List ℕ)) (name : List ℕ) (number : ℕ) → IsDistinct (pointwise nat_eq) nets → slice_get nets number ≡ Some name → IsNumberOf nets name number
-number_there nets name number apart at = record { number_is = sym (number_of_place nets number name apart at); nets_are = with_net-there nets number name at }
+number_there nets name number apart at = record { number_is = sym (known_number nets name number apart at); nets_are = known_net nets name number apart at }
 
 -- what is kept for a slot is its number
 pub kept_is : (e : ExpandingData) → IsExpanding e → (level slot : ℕ) (o : Option ℕ) → level ≤ length e.calls

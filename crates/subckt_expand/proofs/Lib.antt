@@ -5,12 +5,14 @@ pub mod Counts
 pub mod DefinitionGrowth
 pub mod DevicesMade
 pub mod FoundCalls
+pub mod FoundSizes
 pub mod InnerNames
 pub mod Kept
 pub mod LevelNames
 pub mod Live
 pub mod MoreClosed
 pub mod MoreParts
+pub mod MoreSizes
 pub mod MoreSlots
 pub mod MoreUnits
 pub mod Outwards

@@ -93,11 +93,10 @@ subckt-with_device names d kind a b c is =
     λ i. record { name = d.name; ports = ports i; parts = parts i }
 
 -- one call more
-pub subckt-with_call : (names : List (List ℕ)) (d : DefinitionData) (call : CallData) → IsDefinition d
-    → map (named_part names (record d { calls = d.calls ++ call ∷ []; parts = d.parts ++ Calling (length d.calls) ∷ [] })) (d.parts ++ Calling (length d.calls) ∷ [])
-    ≡ map (named_part names d) d.parts ++ named_call names d.nets call ∷ []
-subckt-with_call names d call is =
-    let e : DefinitionData = record d { calls = d.calls ++ call ∷ []; parts = d.parts ++ Calling (length d.calls) ∷ [] } in
-    let first = parts-longer names d e [] (call ∷ []) d.parts (sym (append-nil d.nets)) refl is.calls_are is.parts_are in
+pub subckt-with_call : (names : List (List ℕ)) (d e : DefinitionData) (call : CallData) → IsDefinition d → e.nets ≡ d.nets → e.calls ≡ d.calls ++ call ∷ []
+    → map (named_part names e) (d.parts ++ Calling (length d.calls) ∷ []) ≡ map (named_part names d) d.parts ++ named_call names d.nets call ∷ []
+subckt-with_call names d e call is nets_are calls_are =
+    let first = parts-longer names d e [] (call ∷ []) d.parts (nets_are ∙ sym (append-nil d.nets)) calls_are is.calls_are is.parts_are in
+    let last : slice_index_or e.calls (length d.calls) no_call ≡ call = ap (λ l. slice_index_or l (length d.calls) no_call) calls_are ∙ index_or-push d.calls call no_call in
     map-append (named_part names e) d.parts (Calling (length d.calls) ∷ [])
-    ∙ ap₂ (λ l x. l ++ named_call names d.nets x ∷ []) first (index_or-push d.calls call no_call)
+    ∙ ap₂ (λ l x. l ++ x ∷ []) first (ap₂ (λ nets x. named_call names nets x) nets_are last)
