@@ -16,7 +16,7 @@ use Rattle.link_reduce.specs.declared.part.Ends.{Ends}
 use Rattle.link_reduce.specs.declared.part.Made.TheVariants.{Given}
 use Rattle.link_reduce.specs.declared.part.Part.{Part}
 use Rattle.link_reduce.proofs.Listing.{joined_listed, no_number}
-use Rattle.link_reduce.proofs.LiveLinks.{live_is}
+use Rattle.link_reduce.proofs.LiveLinks.{cons_cases, live_is}
 use Rattle.link_reduce.proofs.Steps.{room_more}
 
 all_live : (i : ℕ) (es : List Ends) → live_from i (map given_part es) (replicate (length es) true) ≡ links_from i es
@@ -194,7 +194,7 @@ module _ (ends : List Ends) (r : ReductionData) (h : IsBegun ends r) (e : Ends) 
       here n (inr z) = Contains-append_right (r.work ++ e.from ∷ []) (e.to ∷ []) n (subst (Contains (e.to ∷ [])) z (Contains-first e.to []))
 
 -- a link that joins a net to itself is in no network
-links_have : (k : ℕ) (es : List Ends) (i : ℕ) (e : Ends) → slice_get es i ≡ Some e → Contains (links_from k es) (part_link (k + i) (given_part e))
+pub links_have : (k : ℕ) (es : List Ends) (i : ℕ) (e : Ends) → slice_get es i ≡ Some e → Contains (links_from k es) (part_link (k + i) (given_part e))
 links_have k [] i e h = absurd cc
 links_have k (d ∷ es) zero e h =
     let s : k ≡ k + 0 = omega arith in
@@ -205,6 +205,17 @@ links_have k (d ∷ es) (suc i) e h =
     let s : k + 1 + i ≡ k + suc i = omega arith in
     Contains-later (part_link k (given_part d)) (links_from (k + 1) es) (part_link (k + suc i) (given_part e))
     (subst (λ n. Contains (links_from (k + 1) es) (part_link n (given_part e))) s (links_have (k + 1) es i e h))
+
+-- and each link of a list is one of these
+pub given_links : (k : ℕ) (es : List Ends) (g : Link) → Contains (links_from k es) g → (i : ℕ) × (e : Ends) × (slice_get es i ≡ Some e) × (g ≡ part_link (k + i) (given_part e))
+given_links k [] g c = absurd (omega (arith, c.1))
+given_links k (d ∷ es) g c = elim (cons_cases (part_link k (given_part d)) (links_from (k + 1) es) g c) [
+  | inl z ↦ let s : k ≡ k + 0 = omega arith in (0, d, refl, z ∙ ap (λ n. part_link n (given_part d)) s)
+  | inr h ↦
+      let y = given_links (k + 1) es g h in
+      let s : k + 1 + y.0 ≡ k + suc y.0 = omega arith in
+      (suc y.0, y.1, y.2, y.3 ∙ ap (λ n. part_link n (given_part y.1)) s)
+]
 
 pub no_loop : (ends : List Ends) (i : ℕ) (e : Ends) → slice_get ends i ≡ Some e → e.from ≡ e.to → (a b w h : ℕ) → IsNetwork (links_of ends) a b w h → ⊥
 no_loop ends i e at same a b w h n =

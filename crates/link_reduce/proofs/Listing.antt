@@ -19,10 +19,10 @@ no_number i (k, l, e) = omega (arith, l)
 
 -- the lists with a number more
 module _ (lists : List (List ℕ)) (place number : ℕ) (lt : place < length lists) where
-  more_same : listed (with_number lists place number) place ≡ listed lists place ++ number ∷ []
+  pub more_same : listed (with_number lists place number) place ≡ listed lists place ++ number ∷ []
   more_same = get_or-set_same lists place (listed lists place ++ number ∷ []) [] lt
 
-  more_other : (n : ℕ) → n ≢ place → listed (with_number lists place number) n ≡ listed lists n
+  pub more_other : (n : ℕ) → n ≢ place → listed (with_number lists place number) n ≡ listed lists n
   more_other n ne = get_or-set_other lists place n (listed lists place ++ number ∷ []) [] ne
 
   more_cases : (n j i : ℕ) → slice_get (listed (with_number lists place number) n) j ≡ Some i

@@ -9,3 +9,4 @@ mod stacks;
 
 pub use part::Ends;
 pub use reduce::{Shape, shape_of};
+pub use stacks::Stacks;

@@ -34,6 +34,13 @@ impl Stack {
         Ok(())
     }
 
+    /// The numbers, from the first.
+    pub fn as_slice(&self) -> &[u32]
+        ensures { result.now ≡ self.now }
+    {
+        self.0.as_slice()
+    }
+
     /// Takes the last number.
     pub fn take(&mut self) -> Option<u32>
         ensures some { IfSome result (λ number. self.old ≡ self.new ++ number ∷ []) }
@@ -73,6 +80,14 @@ impl Stacks {
         ensures { OnOk result (self.new ≡ with_number self.old list number) }
     {
         self.0[list as usize].add(number)
+    }
+
+    /// The numbers of a list.
+    pub fn at(&self, list: u32) -> &[u32]
+        requires { list < length self.now }
+        ensures { result.now ≡ listed self.now list }
+    {
+        self.0[list as usize].as_slice()
     }
 
     /// Takes the last number of a list.

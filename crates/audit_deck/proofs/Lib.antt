@@ -1,0 +1,10 @@
+pub mod Breaks
+pub mod CellTrees
+pub mod Found
+pub mod Listings
+pub mod LocalLinks
+pub mod Meets
+pub mod Numberings
+pub mod Reaches
+pub mod RenamedTrees
+pub mod Scans

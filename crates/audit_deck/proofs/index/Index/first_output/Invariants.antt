@@ -1,0 +1,6 @@
+use Rattle.std.proofs.Common.{ℕ, ◌<◌}
+use Rattle.deck_audit.specs.Audits.{Breaks}
+use Rattle.audit_deck.proofs.index.Index.first_output.Given as goal
+
+abbrev pub invariant-loop-net : goal.invariant-loop-net
+invariant-loop-net l = (m : ℕ) → m < l.net → Breaks l.self.devices l.roles l.self.nets 2 m → ⊥

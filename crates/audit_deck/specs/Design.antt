@@ -1,0 +1,24 @@
+-- How an audit is computed, rule by rule, and what of it stands. The rules and the answers are those of deck_audit (`Breaks`, `IsAudit`).
+--
+-- Data. `Index` has the devices and, by net, the places of those that end at it and of those that it gates. `Numbering` has nets, or
+-- devices, in the order in which a walk meets them, and their numbers; all are forgotten at once, so one serves for all cells. Links of
+-- a cell are given to link_reduce by such numbers, so its time is linear in the cell and not in the circuit.
+--
+-- Each rule is one pass over the nets by rising number; the first net at which it is broken ends the audit, and the next rule is looked
+-- at only where none was found. So the answer has the first rule that is broken, and its smallest net.
+--   1  `front`: the only `pch` and the only keeper at a dynamic net.
+--   2  `output`: the two devices at the net that gates the keeper are an inverter.
+--   3  `tree`: `reach` meets the nets below the dynamic net, `meet_channels` their devices; the one device at a source is the foot, and
+--      `shape_of` reduces the others. Cells that share a net both break the rule, so no net is met twice before the pass ends.
+--
+-- To come, in this order.
+--   4  A group is found from its master in steps of constant size, since just two or three devices end at each of its nets and just two
+--      are gated by its master. `groups` has for each net the group that it is of, and each net at a control gate must have one. That a
+--      net has no second group follows from the devices that end at it: their gates tell which net of a group it is.
+--   5  Marks by net: cell output, dynamic, in a cell, of a group, latch data, complement. A complement is taken at the smallest net of its
+--      input, by one pass over nets. Then one pass over nets and one over devices, and the smaller of both answers.
+--   6  The gates of each tree are looked up in these marks. Cells are put in order by `put_in_order` of graph_order over the lists of
+--      cells that each reads; where that fails `circle_marks` tells the smallest net that leads back to itself.
+-- Yes. The order is for each cell in that order its front, its tree as it is spelled, its foot and its inverter; then complements, groups
+-- and sinks. link_reduce keeps of each part the two that were joined (`made`), from which `IsSpelled` is read by a stack of its own.
+-- `audit` then answers `Audit::Yes { order, cells, width, height }` or `Audit::No { rule, net }`, with `IsAudit` of the answer as contract.
