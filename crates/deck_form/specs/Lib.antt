@@ -1,6 +1,7 @@
 pub mod AskedOptions
 pub mod ChosenDecks
 pub mod DeckClocks
+pub mod DeckGroups
 pub mod DeckLaws
 pub mod DeckNets
 pub mod DeckOptions

@@ -4,7 +4,9 @@
 
 mod laws;
 mod options;
+mod version;
 
 pub use domino_cell::Style;
 pub use laws::decks_are_domino;
 pub use options::SynthOptions;
+pub use version::DeckVersion;

@@ -1,45 +1,20 @@
--- Cells of either style: over images of their nets, and beside the cells of decks by numbers.
-use Rattle.std.proofs.Common.{◌≡◌, ℕ, zero, suc, ◌+◌, ◌<◌, List, [], ◌∷◌, ◌++◌, length, map, refl, sym, ap, ap₂, ◌∙◌, arith, length-append, append_assoc, None}
+-- Cells of either style, beside the cells of decks by numbers.
+use Rattle.std.proofs.Common.{◌≡◌, ℕ, ◌+◌, ◌<◌, List, [], ◌∷◌, ◌++◌, length, refl, sym, arith, length-append, append_assoc, None}
 use Rattle.std.specs.List.{AllByRecursion}
-use Rattle.std.proofs.lemmas.List.{map-append}
 use Rattle.dom_base.specs.declared.kind.Kind.TheVariants.{N as nch, P as pch}
 use Rattle.dom_base.proofs.Lists.{AllByRecursion-right}
-use Rattle.deck.specs.NamedDevices.{NamedDevice, map_device}
+use Rattle.deck.specs.NamedDevices.{NamedDevice}
 use Rattle.deck.specs.NumberedDevices.{IsNumberedDevice}
-use Rattle.domino_cell.specs.Cell.{CellNets, cell, inverter, map_nets}
+use Rattle.domino_cell.specs.Cell.{CellNets, cell, inverter}
 use Rattle.domino_cell.specs.Spelling.{spell}
-use Rattle.domino_cell.proofs.Spellings.{spell-map_tree}
 use Rattle.domino_law.specs.Nets.{Net, gate_net, left_side}
 use Rattle.domino_law.specs.Shape.{DominoCell, left_stage}
 use Rattle.domino_cell.specs.declared.style.Style.{Style}
 use Rattle.domino_cell.specs.declared.style.Style.TheVariants.{Keeper as WithKeeper, Precharge as WithPrecharge}
 use Rattle.domino_law.specs.Spelled as law
 use Rattle.sp_network.specs.Tree.{Tree, inner_count, map_tree}
-use Rattle.sp_network.proofs.TreeImages.{inner_count-map_tree}
 use Rattle.deck_law.proofs.DeviceLists.{spell_longer}
 use Rattle.domino_cell.specs.StyledCells.{inner_precharges, behind_precharge, pull_down_cards, styled_cell}
-
-inner-map : {N Image : Type 0} (f : N → Image) (nets : CellNets N) (j n : ℕ) → map (map_device f) (inner_precharges nets j n) ≡ inner_precharges (map_nets f nets) j n
-inner-map f nets j zero = refl
-inner-map f nets j (suc n) = ap (λ l. map_device f (record { kind = pch; drain = nets.inner j; gate = nets.clock; source = nets.vdd }) ∷ l) (inner-map f nets (j + 1) n)
-
-behind-map : {N Image : Type 0} (f : N → Image) (style : Style) (nets : CellNets N) (n : ℕ) → map (map_device f) (behind_precharge style nets n) ≡ behind_precharge style (map_nets f nets) n
-behind-map f WithKeeper nets n = refl
-behind-map f WithPrecharge nets n = inner-map f nets 0 n
-
-pull_down-map : {N Image : Type 0} (f : N → Image) (nets : CellNets N) (t : Tree N) → map (map_device f) (pull_down_cards nets t) ≡ pull_down_cards (map_nets f nets) (map_tree f t)
-pull_down-map f nets t = rw (map-append (map_device f) (spell nch nets.inner t nets.dynamic nets.foot 0), spell-map_tree f nch nets.inner t) refl
-
--- the images of the cards are the cards of the image
-pub styled_cell-map_tree : {N Image : Type 0} (f : N → Image) (style : Style) (nets : CellNets N) (t : Tree N)
-    → map (map_device f) (styled_cell style nets t) ≡ styled_cell style (map_nets f nets) (map_tree f t)
-styled_cell-map_tree f style nets t =
-    let first : NamedDevice _ = record { kind = pch; drain = nets.dynamic; gate = nets.clock; source = nets.vdd } in
-    let inv = inverter nets.vdd nets.vss nets.dynamic nets.output in
-    map-append (map_device f) (first ∷ behind_precharge style nets (inner_count t)) (pull_down_cards nets t ++ inv)
-    ∙ ap₂ (λ a b. a ++ b)
-    (ap (λ l. map_device f first ∷ l) (behind-map f style nets (inner_count t) ∙ ap (behind_precharge style (map_nets f nets)) (sym (inner_count-map_tree f t))))
-    (map-append (map_device f) (pull_down_cards nets t) inv ∙ ap (λ l. l ++ inverter (f nets.vdd) (f nets.vss) (f nets.dynamic) (f nets.output)) (pull_down-map f nets t))
 
 -- the cards of a simple cell are those of the law
 pub styled_is : (style : Style) (k : ℕ) (c : DominoCell) → c.right ≡ None

@@ -1,14 +1,15 @@
 -- Each network has the deck and the text that synthesis gives of it.
-use Rattle.std.proofs.Common.{◌≡◌, ◌⊎◌, inl, inr, ℕ, ◌+◌, ◌*◌, ◌≤◌, ◌<◌, Bool, List, [], ◌∷◌, length, map, take, refl, sym, subst, ◌∙◌, arith}
+use Rattle.std.proofs.Common.{◌≡◌, ◌⊎◌, inl, inr, ℕ, ◌+◌, ◌*◌, ◌≤◌, ◌<◌, Bool, List, [], ◌∷◌, map, take, refl, sym, subst, ◌∙◌, arith}
 use Rattle.deck.specs.CircuitData.{CircuitData}
 use Rattle.deck.specs.Ports.{HasRoles, HasSomeRoles, leading_ports}
 use Rattle.deck.proofs.PortDecisions.{has_roles}
 use Rattle.deck.proofs.PortLayout.{HasRoles-same}
-use Rattle.spice_text.specs.Text.{IsWritten, text_with}
+use Rattle.spice_text.specs.Cells.{cell_text_with, groups_from}
+use Rattle.spice_text.specs.Text.{text_with}
 use Rattle.sp_network.specs.Tree.{Tree, EachLeaf}
 use Rattle.network.specs.NetworkData.{NetworkData}
 use Rattle.network.specs.Networks.{IsNetwork}
-use Rattle.gate_decompose.specs.GateNodes.{AreGatesOf, network_nodes, node_names, node_of, ref_of}
+use Rattle.gate_decompose.specs.GateNodes.{network_nodes, node_names, node_of, ref_of}
 use Rattle.gate_decompose.specs.GatesData.{GatesData}
 use Rattle.gate_decompose.specs.Sinks.{leaf_count, sink_signals}
 use Rattle.gate_decompose.proofs.GatesOrder.{gates_are_ordered, network_gates_are_in_place}
@@ -16,16 +17,17 @@ use Rattle.gate_decompose.proofs.NetworkOrder.{networks_are_ordered}
 use Rattle.gate_decompose.proofs.Operands.{are_operands, operands_of}
 use Rattle.dual_rail.specs.ForestData.{ForestData}
 use Rattle.dual_rail.specs.ForestOrder.{IsForestInPlace}
-use Rattle.dual_rail.specs.Forests.{IsForestOf}
 use Rattle.dual_rail.proofs.ForestOrders.{forests_are_in_place}
 use Rattle.dual_rail.proofs.Zips.{all_zip_back}
 use Rattle.phase_assign.specs.Signs.{AreChosen}
 use Rattle.phase_assign.proofs.ChosenSigns.{chosen_settled, chosen_there}
 use Rattle.tree_map.specs.Plans.{IsPlan, IsTreeOf, roots}
 use Rattle.tree_map.proofs.PlanThere.{chosen_plan_there}
-use Rattle.clock_phase.specs.Levels.{AreLevels}
-use Rattle.deck_form.specs.ChosenDecks.{IsDeckOfSigns, end_at_cell}
-use Rattle.deck_form.specs.DeckTexts.{IsTextOfSigns}
+use Rattle.deck_form.specs.ChosenDecks.{IsDeckOfSigns, IsPlannedDeck, end_at_cell, planned}
+use Rattle.deck_form.specs.DeckGroups.{group_places}
+use Rattle.deck_form.specs.DeckTexts.{IsTextInVersion, IsWrittenAs}
+use Rattle.deck_form.specs.declared.version.DeckVersion.{DeckVersion}
+use Rattle.deck_form.specs.declared.version.DeckVersion.TheVariants.{One as VersionOne, Two as VersionTwo}
 use Rattle.deck_form.specs.DeckOptions.{DeckOptions}
 use Rattle.deck_form.specs.DominoDecks.{cells_of, deck_circuit}
 use Rattle.deck_form.proofs.DeckForms.{sinks_of_network}
@@ -55,29 +57,43 @@ plan_reads forest w h kept trees is plan = λ k tree at.
     subst (λ cell. EachLeaf (λ gate. gate < 2 * forest.leaves + cell) tree) root.0
     (tree_reads forest kept is.in_order is.has_leaves found.0 (omega (arith, root.2)) tree found.2)
 
-pub written_there : TextsAreThere
-written_there = λ circuit. by circuit (has_roles (take circuit.ports circuit.nets))
+-- what a text is that is told by the ports of a circuit: where they have roles, and where they have none
+abbrev pub WithRoles : List (List ℕ) → (List (List ℕ) → List (List (List ℕ)) → List ℕ) → List ℕ → Type 0
+WithRoles ports told text =
+    (clocks : ℕ) (pins outs : List (List ℕ)) → HasRoles ports clocks pins outs → text ≡ told (leading_ports clocks) (pins ∷ outs ∷ [])
+
+abbrev pub WithoutRoles : List (List ℕ) → (List (List ℕ) → List (List (List ℕ)) → List ℕ) → List ℕ → Type 0
+WithoutRoles ports told text =
+    ((clocks : ℕ) (pins outs : List (List ℕ)) → HasRoles ports clocks pins outs → ⊥) → text ≡ told [] (ports ∷ [])
+
+-- such a text is there
+told_there : (ports : List (List ℕ)) (told : List (List ℕ) → List (List (List ℕ)) → List ℕ)
+    → (text : List ℕ) × WithRoles ports told text × WithoutRoles ports told text
+told_there ports told = by (has_roles ports)
   where
-    by : (circuit : CircuitData)
-        → HasSomeRoles (take circuit.ports circuit.nets)
-        ⊎ ((clocks : ℕ) (pins outs : List (List ℕ)) → HasRoles (take circuit.ports circuit.nets) clocks pins outs → ⊥)
-        → (text : List ℕ) × IsWritten circuit text
-    by c (inl h) = (
-      text_with c (leading_ports h.clocks) (h.pins ∷ h.outs ∷ []),
-      record {
-        with_roles = λ clocks pins outs has.
-            let same = HasRoles-same (take c.ports c.nets) h.clocks clocks h.pins pins h.outs outs h.roles has in
-            λ i. text_with c (leading_ports (same.same_clocks i)) (same.same_pins i ∷ same.same_outs i ∷ []);
-        without_roles = λ none. absurd (none h.clocks h.pins h.outs h.roles);
-      },
+    by : HasSomeRoles ports ⊎ ((clocks : ℕ) (pins outs : List (List ℕ)) → HasRoles ports clocks pins outs → ⊥)
+        → (text : List ℕ) × WithRoles ports told text × WithoutRoles ports told text
+    by (inl h) = (
+      told (leading_ports h.clocks) (h.pins ∷ h.outs ∷ []),
+      (λ clocks pins outs has.
+          let same = HasRoles-same ports h.clocks clocks h.pins pins h.outs outs h.roles has in
+          λ i. told (leading_ports (same.same_clocks i)) (same.same_pins i ∷ same.same_outs i ∷ [])),
+      (λ none. absurd (none h.clocks h.pins h.outs h.roles)),
     )
-    by c (inr fails) = (
-      text_with c [] (take c.ports c.nets ∷ []),
-      record {
-        with_roles = λ clocks pins outs has. absurd (fails clocks pins outs has);
-        without_roles = λ none. refl;
-      },
-    )
+    by (inr fails) = (told [] (ports ∷ []), (λ clocks pins outs has. absurd (fails clocks pins outs has)), (λ none. refl))
+
+pub written_there : TextsAreThere
+written_there = λ c.
+    let text = told_there (take c.ports c.nets) (text_with c) in
+    (text.0, record { with_roles = text.1; without_roles = text.2 })
+
+-- a planned deck has a written form in each version
+planned_there : (version : DeckVersion) {network : NetworkData} {options : DeckOptions} {circuit : CircuitData} (is : IsPlannedDeck network options circuit)
+    → (text : List ℕ) × IsWrittenAs version is text
+planned_there VersionOne {circuit = c} is = written_there c
+planned_there VersionTwo {circuit = c} is =
+    let text = told_there (take c.ports c.nets) (cell_text_with c (groups_from 0 (group_places is) c.devices)) in
+    (text.0, record { with_roles = text.1; without_roles = text.2 })
 
 -- a network has a deck of signs that its gates have
 module _ {AreSigns : GatesData → List Bool → Type 0} (network : NetworkData) (options : DeckOptions) (is : IsNetwork network) (wide : 2 ≤ options.width) (tall : 2 ≤ options.height) where
@@ -110,11 +126,11 @@ module _ {AreSigns : GatesData → List Bool → Type 0} (network : NetworkData)
         },
       )
 
-  -- and the text of that deck
-  pub texts_of_signs_there : HaveSigns AreSigns network → (text : List ℕ) × IsTextOfSigns AreSigns text network options
-  texts_of_signs_there have =
+  -- and the text of that deck in each version
+  pub texts_of_signs_there : (version : DeckVersion) → HaveSigns AreSigns network → (text : List ℕ) × IsTextInVersion version AreSigns text network options
+  texts_of_signs_there version have =
       let deck = decks_of_signs_there have in
-      let text = written_there deck.0 in
+      let text = planned_there version (planned deck.1) in
       (text.0, record { circuit = deck.0; is_chosen = deck.1; written = text.1 })
 
 pub signed_decks_there : SignedDecksAreThere
@@ -132,4 +148,4 @@ pub decks_there : ChosenDecksAreThere
 decks_there = λ network options is wide tall. decks_of_signs_there network options is wide tall (chosen_signs network is)
 
 pub texts_there : SynthTextsAreThere
-texts_there = λ network options is wide tall. texts_of_signs_there network options is wide tall (chosen_signs network is)
+texts_there = λ network options is wide tall. texts_of_signs_there network options is wide tall VersionOne (chosen_signs network is)

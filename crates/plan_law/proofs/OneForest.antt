@@ -1,15 +1,15 @@
 -- Gates under signs have one forest.
-use Rattle.std.proofs.Common.{◌≡◌, inl, inr, refl, sym, ap, ap₂, subst, ◌∙◌, ℕ, ◌+◌, ◌<◌, Bool, true, false, not, List, length, map, Some, slice_get, get_or, arith}
+use Rattle.std.proofs.Common.{◌≡◌, inl, inr, refl, sym, ap, ap₂, subst, ◌∙◌, ℕ, ◌+◌, ◌<◌, Bool, true, false, List, length, map, Some, slice_get, get_or, arith}
 use Rattle.std.specs.Prelude.{AllPairs}
 use Rattle.std.specs.List.{AllZip, range_with_len}
 use Rattle.std.proofs.lemmas.Bool.{cases_lt}
 use Rattle.std.proofs.lemmas.Option.{get_or_from_slice_get, same_Some, slice_get_within}
 use Rattle.dom_base.proofs.Lists.{AllZip-one}
 use Rattle.gate_decompose.specs.declared.gates.Node.{Node}
-use Rattle.gate_decompose.specs.declared.gates.Node.TheVariants.{And as and_node, Not as not_node, Or as or_node}
+use Rattle.gate_decompose.specs.declared.gates.Node.TheVariants.{And as and_node, Or as or_node}
 use Rattle.gate_decompose.specs.declared.gates.Ref.{Ref}
 use Rattle.gate_decompose.specs.GatesData.{GatesData}
-use Rattle.gate_decompose.specs.Needed.{Asked, AsksFor, IsGateNode, Literal, Pair as asked_pair, Precedes, Value, constant, gate, leaf, signed, under}
+use Rattle.gate_decompose.specs.Needed.{Precedes}
 use Rattle.gate_decompose.proofs.NeededLists.{needed_one}
 use Rattle.dual_rail.specs.declared.forest.Arm.{Arm}
 use Rattle.dual_rail.specs.declared.forest.Arm.TheVariants.{Literal as literal_arm, Pair as pair_arm}

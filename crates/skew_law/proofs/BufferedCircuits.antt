@@ -20,10 +20,9 @@ use Rattle.phase_buffer.specs.Buffers.{buffered}
 use Rattle.domino_law.specs.Shape.{overlapping}
 use Rattle.deck_law.specs.NetNames.{deck_shape}
 use Rattle.deck_law.proofs.Numbers.{the_shape}
-use Rattle.skew_law.specs.BufferedDecks.{IsBufferedDeck}
 use Rattle.phase_buffer.specs.BufferedPlans.{DeckPlan, plan_cells}
 use Rattle.phase_buffer.specs.Chains.{with_chains}
-use Rattle.skew_law.specs.BufferedPlans.{buffered_circuit, cells_taken, new_end, plan_of}
+use Rattle.synth_flow.specs.BufferedDecks.{IsBufferedDeck, buffered_circuit, cells_taken, new_end, plan_of}
 use Rattle.skew_law.proofs.NamedPlans.{complements_same, named_deck, the_plan, the_shape_same}
 use Rattle.skew_law.proofs.PlannedShapes.{leaves_are, planned_deck, planned_may_be_buffered}
 

@@ -17,7 +17,7 @@ use Rattle.deck_law.specs.NetNames.{cell_shape, deck_shape, end_gate, gate_of, l
 use Rattle.phase_buffer.specs.Buffers.{buffered, ended, ended_latch, is_of, reads, shape_cells, sinks, taken, takes}
 use Rattle.phase_buffer.specs.BufferedPlans.{DeckPlan, is_among, new_gate, plan_cells}
 use Rattle.phase_buffer.specs.Chains.{Cells, chain, chain_last, chain_length, clock_at, moved, place, reader_clocks, taken_at, with_chains}
-use Rattle.skew_law.specs.BufferedPlans.{cells_taken, new_end}
+use Rattle.synth_flow.specs.BufferedDecks.{cells_taken, new_end}
 
 -- gates as the numbers of a plan and as those of a shape
 module _ (pins leaves : ℕ) where

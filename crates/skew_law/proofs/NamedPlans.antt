@@ -29,7 +29,7 @@ use Rattle.phase_buffer.specs.Chains.{chain, chain_length, end_at, place, taken_
 use Rattle.phase_buffer.specs.Laws.{MayBeBuffered}
 use Rattle.phase_buffer.proofs.BufferedShapes.{buffered_may_overlap, shape_chain}
 use Rattle.phase_buffer.specs.BufferedPlans.{DeckPlan, new_gate, plan_cells}
-use Rattle.skew_law.specs.BufferedPlans.{cells_taken, new_end}
+use Rattle.synth_flow.specs.BufferedDecks.{cells_taken, new_end}
 use Rattle.skew_law.proofs.BufferedPlans.{length_is, new_shape, place_is, shape_of, shape_same}
 
 each_back : {X Y : Type 0} (F : Y → Type 0) (f : X → Y) (t : Tree X) → EachLeaf F (map_tree f t) → EachLeaf (λ x. F (f x)) t

@@ -10,7 +10,7 @@ use Rattle.phase_buffer.specs.BufferedPlans.{DeckPlan, plan_cells}
 use Rattle.phase_buffer.specs.Chains.{with_chains}
 use Rattle.std.specs.Fmt.{decimal}
 use Rattle.deck_form.specs.DeckNets.{OfDynamic, clock_net, dynamic_net, named_devices, output_net, vdd, vss}
-use Rattle.skew_law.specs.BufferedPlans.{new_end}
+use Rattle.synth_flow.specs.BufferedDecks.{new_end}
 
 abbrev worked_plan : DeckPlan
 worked_plan = record { leaves = 2; clocks = 2; cells = record { tree = Series (Leaf 0) (Leaf 2); clock = 1 } ∷ []; sinks = 0 ∷ [] }

@@ -1,5 +1,5 @@
 -- Decks of a network with chains of buffers, for the bytes of a BLIF text (Harris and Horowitz, Skew-tolerant domino circuits).
-use Rattle.std.specs.Prelude.{List, map, take, ℕ, ◌++◌, ◌≡◌}
+use Rattle.std.specs.Prelude.{List, take, ℕ, ◌++◌, ◌≡◌}
 use Rattle.blif_ast.specs.BlifFileData.{BlifFileData}
 use Rattle.blif_ast.specs.Reading.{IsFileOf}
 use Rattle.deck.specs.CircuitData.{CircuitData}
@@ -8,20 +8,9 @@ use Rattle.deck.specs.Ports.{leading_ports}
 use Rattle.net_flatten.specs.Flattening.{IsNetworkOf}
 use Rattle.network.specs.NetworkData.{NetworkData}
 use Rattle.port_runs.specs.Environment.{Overlapping, Together}
-use Rattle.deck_form.specs.ChosenDecks.{IsPlannedDeck, end_at_cell}
-use Rattle.deck_form.specs.AskedOptions.{keeper_options}
 use Rattle.deck_form.specs.declared.options.SynthOptions.{SynthOptions}
 use Rattle.deck_law.specs.Headline.{IsRightInEveryRun, input_ports, output_ports, roles_of}
-use Rattle.skew_law.specs.BufferedPlans.{buffered_circuit, plan_of}
-
--- the circuit is that of a plan of the network with its chains of buffers: of the forest of any signs and any plan of it within the
--- bounds
-pub record IsBufferedDeck (network : NetworkData) (options : SynthOptions) (circuit : CircuitData) : Type 0 where
-  -- the circuit without buffers
-  pub plain : CircuitData
-  pub planned : IsPlannedDeck network (keeper_options options) plain
-  pub circuit_is : circuit ≡ buffered_circuit network options.phases planned.signs (map (end_at_cell planned.kept) planned.forest.ends)
-      (plan_of network options.phases planned.trees planned.levels (map (end_at_cell planned.kept) planned.forest.ends))
+use Rattle.synth_flow.specs.BufferedDecks.{IsBufferedDeck}
 
 -- The bytes of a deck whose clocks overlap, for the bytes of a BLIF text, beside the bytes of a deck whose clocks fall together.
 pub record IsRightOverlappingDeck (blif : List ℕ) (options : SynthOptions) (deck : List ℕ) : Type 0 where

@@ -13,7 +13,8 @@ use Rattle.port_runs.specs.Environment.{Overlapping, Together}
 use Rattle.deck_form.specs.declared.options.SynthOptions.{SynthOptions}
 use Rattle.deck_law.specs.Headline.{IsRightInEveryRun, roles_of}
 use Rattle.deck_law.specs.HonestDecks.{IsHonestDeck}
-use Rattle.skew_law.specs.BufferedDecks.{IsBufferedDeck, IsRightOverlappingDeck}
+use Rattle.synth_flow.specs.BufferedDecks.{IsBufferedDeck}
+use Rattle.skew_law.specs.BufferedDecks.{IsRightOverlappingDeck}
 
 -- the circuit of a network's plan with its chains of buffers is right in every run, where its clocks overlap and where all fall together
 abbrev pub BufferedDecksAreRight : Type 0

@@ -1,3 +1,2 @@
-pub mod BufferedPlans
 pub mod BufferedDecks
 pub mod Laws

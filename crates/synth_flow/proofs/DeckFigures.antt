@@ -47,7 +47,7 @@ parts_count : {X : Type 0} (part : X → List (NamedDevice (List ℕ))) (n : ℕ
 parts_count part n each [] = omega arith
 parts_count part n each (x ∷ xs) = omega (arith, length-append (part x) (flat_map part xs), each x, parts_count part n each xs)
 
-latch_count : (p : ℕ × Bool) → length (named_latch p) ≡ 9
+pub latch_count : (p : ℕ × Bool) → length (named_latch p) ≡ 9
 latch_count (j, start) = refl
 
 -- the devices of a deck
@@ -84,7 +84,7 @@ module _ (style : Style) (network : NetworkData) (phases : ℕ) (trees : List (T
     starts_count,
   )
 
-  sinks_count : length (zip (sink_nets outs starts) ends) ≡ length network.outputs + length network.latches
+  pub sinks_count : length (zip (sink_nets outs starts) ends) ≡ length network.outputs + length network.latches
   sinks_count = omega (arith, length-zip (sink_nets outs starts) ends, nets_count, one_end)
 
   pub deck_count : length (deck_circuit style network phases (cells_of phases levels trees) signs ends).devices
@@ -111,7 +111,7 @@ module _ (style : Style) (network : NetworkData) (phases : ℕ) (trees : List (T
       )
 
 -- each sink has an end
-ends_count : (network : NetworkData) (gates : GatesData) (signs kept : List Bool) (forest : ForestData) → AreGatesOf network gates → IsForestOf gates signs forest
+pub ends_count : (network : NetworkData) (gates : GatesData) (signs kept : List Bool) (forest : ForestData) → AreGatesOf network gates → IsForestOf gates signs forest
     → length (map (end_at_cell kept) forest.ends) ≡ length network.outputs + length network.latches
 ends_count network gates signs kept forest are is =
     length-map forest.ends (end_at_cell kept) ∙ is.ends_count ∙ ap length are.sinks_are ∙ length-map (sink_signals network) _

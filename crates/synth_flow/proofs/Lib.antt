@@ -1,10 +1,13 @@
 pub mod BareDecks
 pub mod CellNets
+pub mod ClockedCovers
 pub mod CountedTrees
 pub mod DeckFigures
 pub mod DeckRooms
 pub mod DeckStages
 pub mod FigureLoops
+pub mod GroupEnds
+pub mod GroupedDecks
 pub mod InverterRows
 pub mod LatchNets
 pub mod LeafMarks
@@ -17,4 +20,6 @@ pub mod PortNets
 pub mod PushedDecks
 pub mod SinkLists
 pub mod SummaryFacts
+pub mod SkewDecks
 pub mod SynthFacts
+pub mod TakenCells

@@ -33,7 +33,7 @@ use Rattle.synth_flow.specs.SinkParts.{end_in, phase_of_sink}
 use Rattle.synth_flow.proofs.MadeAsNamed.{data_rows, leaves_named, made_named}
 
 -- each plan with the clock of its level
-cells_same : (f : ℕ → ℕ) (plans : List GatePlan) (levels : List ℕ) → map (λ (p : GatePlan). p.clock) plans ≡ map f levels
+pub cells_same : (f : ℕ → ℕ) (plans : List GatePlan) (levels : List ℕ) → map (λ (p : GatePlan). p.clock) plans ≡ map f levels
     → map cell_plan plans ≡ map (λ (p : Tree ℕ × ℕ). record { tree = p.0; clock = f p.1 }) (zip (plan_trees plans) levels)
 cells_same f [] [] e = refl
 cells_same f [] (l ∷ levels) e = absurd (cc)
@@ -44,7 +44,7 @@ cells_same f (p ∷ plans) (l ∷ levels) e =
     λ i. record { tree = tree_of p.tree; clock = clock i } ∷ rest i
 
 -- each end by the number of its cell
-ends_same : (kept : List Bool) (ends : List End) → AllByRecursion (IsEndThere (length kept)) ends
+pub ends_same : (kept : List Bool) (ends : List End) → AllByRecursion (IsEndThere (length kept)) ends
     → map (end_in (map (cell_of kept) (range_with_len 0 (length kept)))) ends ≡ map (end_at_cell kept) ends
 ends_same kept [] low = refl
 ends_same kept (e ∷ ends) low = ap₂ (λ a l. a ∷ l) (one e low.0) (ends_same kept ends low.1)
@@ -58,17 +58,14 @@ ends_same kept (e ∷ ends) low = ap₂ (λ a l. a ∷ l) (one e low.0) (ends_sa
     one (FromDynamic place) h = ap OfDynamic (number place h)
     one (FromOutput place) h = ap OfOutput (number place h)
 
--- the circuit is the deck of these trees, levels, signs and ends
-pub made_is_deck : (style : Style) (network : NetworkData) (phases : ℕ) (signs : List Bool) (plans : List GatePlan) (levels : List ℕ) (ends : List End) (kept : List Bool)
-    → map (λ (p : GatePlan). p.clock) plans ≡ map (clock_of phases (greatest levels)) levels → All (IsEndThere (length kept)) ends
+-- the circuit is that of these plans, signs and ends, whatever the clocks of the plans are
+pub made_is_circuit : (style : Style) (network : NetworkData) (phases : ℕ) (signs : List Bool) (plans : List GatePlan) (ends : List End) (numbers : List ℕ)
     → ((k : ℕ) (p : GatePlan) → slice_get plans k ≡ Some p → EachLeaf (λ gate. gate < 2 * leaf_count network + k) (tree_of p.tree))
-    → made_deck style network phases signs plans ends (map (cell_of kept) (range_with_len 0 (length kept)))
-    ≡ deck_circuit style network phases (cells_of phases levels (plan_trees plans)) signs (map (end_at_cell kept) ends)
-made_is_deck style network phases signs plans levels ends kept clocks low earlier =
+    → made_deck style network phases signs plans ends numbers ≡ deck_circuit style network phases (map cell_plan plans) signs (map (end_in numbers) ends)
+made_is_circuit style network phases signs plans ends numbers earlier =
     let pins = pins_of network in
     let outs = outs_of network in
     let starts = starts_of network in
-    let numbers = map (cell_of kept) (range_with_len 0 (length kept)) in
     let count : length starts ≡ length network.latches = length-map network.latches (λ (l : NetLatch). l.init) in
     let pins_count : length pins ≡ network.inputs = length-map-range_with_len (port_net (codes "i_") network.names) 0 network.inputs in
     let lc : length pins + length starts ≡ leaf_count network = ap₂ (λ m n. m + n) pins_count count in
@@ -78,12 +75,20 @@ made_is_deck style network phases signs plans levels ends kept clocks low earlie
     let named = made_named style pins outs starts plans ends numbers reads in
     let leaves : named_leaves plans ends (length pins + length starts) ≡ filter (names_complement (map cell_plan plans) (map (end_in numbers) ends)) (range_with_len 0 (leaf_count network))
     = ap (named_leaves plans ends) lc ∙ leaves_named plans ends numbers (leaf_count network) in
-    let cells : map cell_plan plans ≡ cells_of phases levels (plan_trees plans) = cells_same (clock_of phases (greatest levels)) plans levels clocks in
-    let taken = ends_same kept ends (recursion_from_All (IsEndThere (length kept)) ends low) in
     (λ i. with_devices (new_circuit (escaped network.name) (map phase_of_sink (zip (nets i) signs)) phases pins outs) (made_devices style pins (sinks i) starts plans ends numbers))
     ∙ (λ i. with_devices (new_circuit (escaped network.name) (phases_of_sinks network signs) phases pins outs) (named i))
     ∙ (λ i. with_devices (new_circuit (escaped network.name) (phases_of_sinks network signs) phases pins outs) (named_devices style pins outs starts (map cell_plan plans) (leaves i) (map (end_in numbers) ends)))
-    ∙ (λ i. with_devices (new_circuit (escaped network.name) (phases_of_sinks network signs) phases pins outs)
-    (named_devices style pins outs starts (cells i) (filter (names_complement (cells i) (taken i)) (range_with_len 0 (leaf_count network))) (taken i)))
+
+-- the circuit is the deck of these trees, levels, signs and ends
+pub made_is_deck : (style : Style) (network : NetworkData) (phases : ℕ) (signs : List Bool) (plans : List GatePlan) (levels : List ℕ) (ends : List End) (kept : List Bool)
+    → map (λ (p : GatePlan). p.clock) plans ≡ map (clock_of phases (greatest levels)) levels → All (IsEndThere (length kept)) ends
+    → ((k : ℕ) (p : GatePlan) → slice_get plans k ≡ Some p → EachLeaf (λ gate. gate < 2 * leaf_count network + k) (tree_of p.tree))
+    → made_deck style network phases signs plans ends (map (cell_of kept) (range_with_len 0 (length kept)))
+    ≡ deck_circuit style network phases (cells_of phases levels (plan_trees plans)) signs (map (end_at_cell kept) ends)
+made_is_deck style network phases signs plans levels ends kept clocks low earlier =
+    let numbers = map (cell_of kept) (range_with_len 0 (length kept)) in
+    let cells : map cell_plan plans ≡ cells_of phases levels (plan_trees plans) = cells_same (clock_of phases (greatest levels)) plans levels clocks in
+    let taken = ends_same kept ends (recursion_from_All (IsEndThere (length kept)) ends low) in
+    made_is_circuit style network phases signs plans ends numbers earlier ∙ (λ i. deck_circuit style network phases (cells i) signs (taken i))
 
 pub ruleset made_circuits = (made_is_deck)

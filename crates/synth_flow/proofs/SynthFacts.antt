@@ -1,5 +1,5 @@
 -- What the chosen plan of a forest says of the plans of a deck.
-use Rattle.std.proofs.Common.{◌≡◌, ℕ, ◌+◌, ◌*◌, ◌≤◌, ◌<◌, Bool, not, List, length, map, sym, ap, ◌∙◌, subst, arith, slice_get, get_or, option_map, All}
+use Rattle.std.proofs.Common.{◌≡◌, ℕ, ◌+◌, ◌*◌, ◌≤◌, ◌<◌, Bool, not, List, Some, length, map, sym, ap, ◌∙◌, subst, arith, slice_get, get_or, option_map, All}
 use Rattle.std.specs.List.{range_with_len}
 use Rattle.std.proofs.lemmas.List.{length-map}
 use Rattle.std.proofs.lemmas.List.FromFn.{length-range_with_len}
@@ -47,11 +47,17 @@ module _ (forest : ForestData) (kept : List Bool) (w h : ℕ) (trees : List (Tre
   cheap_trees style = omega (arith, cost_at_most forest kept w h trees plan is.in_place.in_order style, is.few_pairs)
 
 -- the plans of these trees
+pub read_earlier : (leaves : ℕ) (trees : List (Tree ℕ)) (plans : List GatePlan) → plan_trees plans ≡ trees → ReadEarlierCells leaves trees
+    → (k : ℕ) (p : GatePlan) → slice_get plans k ≡ Some p → EachLeaf (λ gate. gate < 2 * leaves + k) (tree_of p.tree)
+read_earlier leaves trees plans same earlier k p at =
+    earlier k (tree_of p.tree)
+    (ap (λ l. slice_get l k) (sym same) ∙ slice_get-map (λ (q : GatePlan). tree_of q.tree) plans k ∙ ap (option_map (λ (q : GatePlan). tree_of q.tree)) at)
+
 pub plans_are : (style : Style) (leaves : ℕ) (trees : List (Tree ℕ)) (plans : List GatePlan) → plan_trees plans ≡ trees → ReadEarlierCells leaves trees → length trees ≤ 800000 → cost_in style trees ≤ 5600000 → ArePlans style leaves plans
 plans_are style leaves trees plans same earlier few cheap = record {
   few = omega (arith, ap length same, length-map plans (λ (p : GatePlan). tree_of p.tree), few);
   cheap = omega (arith, ap (cost_in style) same, cheap);
-  earlier = λ k p at. earlier k (tree_of p.tree) (ap (λ l. slice_get l k) (sym same) ∙ slice_get-map (λ (p : GatePlan). tree_of p.tree) plans k ∙ ap (option_map (λ (p : GatePlan). tree_of p.tree)) at);
+  earlier = read_earlier leaves trees plans same earlier;
 }
 
 -- the clocks of levels are among those of the deck

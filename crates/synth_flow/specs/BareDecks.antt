@@ -35,10 +35,11 @@ pub record IsBareDeck (c : CircuitData) (latches : ℕ) (pins sinks : List (List
   pub clocks_are : All (λ (p : GatePlan). (1 ≤ p.clock) × (p.clock ≤ clocks)) plans
   pub sinks_are : sinks ≡ outs ++ map data_net (range_with_len 0 latches)
 
--- the plans of cells over so many leaves
+-- The plans of cells over so many leaves. A forest has at most 800,000 cells, which cost at most 5,600,000; with chains of buffers there
+-- are at most two more for each cell and one more for each of 8,192 sinks, and each costs 6.
 pub record ArePlans (style : Style) (leaves : ℕ) (plans : List GatePlan) : Type 0 where
-  pub few : length plans ≤ 800000
-  pub cheap : cost_in style (plan_trees plans) ≤ 5600000
+  pub few : length plans ≤ 2408192
+  pub cheap : cost_in style (plan_trees plans) ≤ 15249152
   -- each reads rails of the leaves and cells before it
   pub earlier : (k : ℕ) (p : GatePlan) → slice_get plans k ≡ Some p → EachLeaf (λ gate. gate < 2 * leaves + k) (tree_of p.tree)
 

@@ -1,6 +1,8 @@
 pub mod BareDecks
+pub mod BufferedDecks
 pub mod CellCounts
 pub mod ClockedPlans
+pub mod GroupEnds
 pub mod MadeCircuits
 pub mod MadeDecks
 pub mod NamedComplements
@@ -10,3 +12,4 @@ pub mod SummaryData
 pub mod SummaryLaws
 pub mod SummaryLines
 pub mod SummaryParts
+pub mod TakenCells

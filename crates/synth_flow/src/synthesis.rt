@@ -3,6 +3,7 @@ ghost use Rattle.std.specs.Prelude.{◌≤◌, ◌≡◌, ◌+◌, length, IfOk}
 ghost use Rattle.dual_rail.specs.Forests.{IsForestOf};
 ghost use Rattle.gate_decompose.specs.GateNodes.{AreGatesOf};
 ghost use Rattle.gate_decompose.specs.GatesData.{GatesData};
+ghost use Rattle.tree_map.specs.MappedCover.{plan_trees};
 ghost use Rattle.deck_form.specs.ChosenDecks.{AreGiven, IsChosenDeck, IsDeckOfSigns};
 ghost use Rattle.deck_form.specs.AskedOptions.{deck_options};
 
@@ -15,8 +16,24 @@ use dual_rail::{Forest, rails};
 use gate_decompose::decompose;
 use network::Network;
 use phase_assign::assign;
+use sp_network::GatePlan;
 use std::alloc::Global;
 use tree_map::{Cover, cover};
+
+/// A circuit, and the plans of its cells.
+#[derive(Drop)]
+struct PlannedCircuit {
+    pub circuit: Circuit,
+    pub plans: Vec<GatePlan>,
+}
+
+/// The circuit of the chosen signs and the chosen cover, the plans of its cells, and its forest.
+#[derive(Drop)]
+pub struct ChosenDeck {
+    pub circuit: Circuit,
+    pub plans: Vec<GatePlan>,
+    pub forest: Forest,
+}
 
 /// The circuit of a network under signs, where this is the forest of its gates under them.
 fn deck_of_forest(
@@ -25,7 +42,7 @@ fn deck_of_forest(
     signs: &[bool],
     forest: &Forest,
     options: SynthOptions,
-) -> Result<Circuit, OutOfMemory>
+) -> Result<PlannedCircuit, OutOfMemory>
     requires some_width { 2 ≤ options.bounds.w }
     requires few_wide { options.bounds.w ≤ 8 }
     requires some_height { 2 ≤ options.bounds.h }
@@ -33,8 +50,9 @@ fn deck_of_forest(
     requires some_phase { 1 ≤ options.phases }
     requires few_phases { options.phases ≤ 4 }
     requires forest { (gates : GatesData) × AreGatesOf network.now gates × IsForestOf gates signs.now forest.now }
-    ensures { IfOk result (λ circuit. (gates : GatesData) → AreGatesOf network.now gates → IsForestOf gates signs.now forest.now
-        → IsDeckOfSigns (λ g s. (g ≡ gates) × (s ≡ signs.now)) network.now (deck_options options) circuit) }
+    ensures { IfOk result (λ made. (gates : GatesData) → AreGatesOf network.now gates → IsForestOf gates signs.now forest.now
+        → (is : IsDeckOfSigns (λ g s. (g ≡ gates) × (s ≡ signs.now)) network.now (deck_options options) made.circuit)
+        × (is.forest ≡ forest.now) × (is.trees ≡ plan_trees made.plans.items)) }
 {
     let Cover { kept, cells, plans } = cover(alloc, forest, options.bounds)?;
     drop(kept);
@@ -49,7 +67,7 @@ fn deck_of_forest(
         forest.ends.as_slice(),
         cells.as_slice(),
     )?;
-    Ok(circuit)
+    Ok(PlannedCircuit { circuit, plans })
 }
 
 /// The circuit of a network for signs, one for each output and each latch (true is plus): a domino deck
@@ -73,8 +91,45 @@ pub fn synth_signs(
     let gates = decompose(alloc, network)?;
     let forest = rails(alloc, &gates, signs)?;
     drop(gates);
-    let circuit = deck_of_forest(alloc, network, signs, &forest, options)?;
+    let PlannedCircuit { circuit, plans } = deck_of_forest(
+        alloc, network, signs, &forest, options,
+    )?;
+    drop(plans);
     Ok(circuit)
+}
+
+/// The circuit of the chosen signs of a network's sinks and the chosen cover, with the plans of its cells
+/// and its forest. The one error is out of memory.
+pub fn chosen_deck(
+    alloc: Global,
+    network: &Network,
+    options: SynthOptions,
+) -> Result<ChosenDeck, OutOfMemory>
+    requires some_width { 2 ≤ options.bounds.w }
+    requires few_wide { options.bounds.w ≤ 8 }
+    requires some_height { 2 ≤ options.bounds.h }
+    requires few_high { options.bounds.h ≤ 6 }
+    requires some_phase { 1 ≤ options.phases }
+    requires few_phases { options.phases ≤ 4 }
+    ensures { IfOk result (λ made. (is : IsChosenDeck network.now (deck_options options) made.circuit)
+        × (is.forest ≡ made.forest) × (is.trees ≡ plan_trees made.plans.items)) }
+{
+    let gates = decompose(alloc, network)?;
+    let signs = assign(alloc, &gates)?;
+    let forest = rails(alloc, &gates, signs.as_slice())?;
+    drop(gates);
+    let PlannedCircuit { circuit, plans } = deck_of_forest(
+        alloc,
+        network,
+        signs.as_slice(),
+        &forest,
+        options,
+    )?;
+    Ok(ChosenDeck {
+        circuit,
+        plans,
+        forest,
+    })
 }
 
 /// The circuit of a network: a domino deck of the chosen signs of its sinks and the chosen cover, by
@@ -92,10 +147,12 @@ pub fn synth(
     requires few_phases { options.phases ≤ 4 }
     ensures { IfOk result (IsChosenDeck network.now (deck_options options)) }
 {
-    let gates = decompose(alloc, network)?;
-    let signs = assign(alloc, &gates)?;
-    let forest = rails(alloc, &gates, signs.as_slice())?;
-    drop(gates);
-    let circuit = deck_of_forest(alloc, network, signs.as_slice(), &forest, options)?;
+    let ChosenDeck {
+        circuit,
+        plans,
+        forest,
+    } = chosen_deck(alloc, network, options)?;
+    drop(plans);
+    drop(forest);
     Ok(circuit)
 }

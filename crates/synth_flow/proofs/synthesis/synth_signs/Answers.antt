@@ -11,5 +11,5 @@ deck_of_forest-requires-clause-forest c = (c.in_ok-gates.gates, c.in_ok-gates.en
 
 pub returns : goal.returns
 returns c =
-    let is = c.in_ok-circuit.ensures c.in_ok-gates.gates c.in_ok-gates.ensures c.in_ok-forest.ensures in
+    let is = (c.in_ok-circuit.ensures c.in_ok-gates.gates c.in_ok-gates.ensures c.in_ok-forest.ensures).0 in
     with_signs is is.are_chosen.1
