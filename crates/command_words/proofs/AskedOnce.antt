@@ -11,7 +11,7 @@ use Rattle.domino_cell.specs.declared.style.Style.{Style}
 use Rattle.command_words.specs.Commands.{Asks, Bench, Command, Cosim, Flat, HasGoodOptions, Report, Run, Sim, Synth, bench_in, bench_of, command_for, command_named, cosim_in, flat_in, report_in, run_in, sim_in, synth_in, taken}
 use Rattle.command_words.specs.Given.{given, of_one, of_three, of_two, with_four, with_three, with_two}
 use Rattle.command_words.specs.NumberWords.{number_from}
-use Rattle.command_words.specs.SynthOptionWords.{AreGoodOptions, height_of, method_of, phases_of, style_of, synth_flag_names, synth_option_names, synth_options, synth_options_with, width_of}
+use Rattle.command_words.specs.SynthOptionWords.{AreGoodOptions, height_of, method_of, phases_of, style_of, deck_flag_names, deck_option_names, synth_option_names, synth_options, synth_options_with, width_of}
 use Rattle.command_words.specs.TraceOptionWords.{order_of, order_option_names, seed_of, trace_flag_names, trace_option_names, trace_options}
 use Rattle.command_words.specs.declared.command.Method.{Method}
 use Rattle.command_words.specs.Written.{Written, is_same, plain_words, takes, values_of, written}
@@ -104,7 +104,7 @@ taken_good : (valued flags : List (List ℕ)) (words : List Written) (command : 
 taken_good valued flags words command h = either_good (list_all (takes valued flags) words) command None h tt
 
 synth_in_good : (words : List Written) → IfSome (synth_in words) HasGoodOptions
-synth_in_good words = taken_good synth_option_names synth_flag_names words (of_one (λ file. with_two (Synth file) (synth_options words) (method_of words)) (plain_words words))
+synth_in_good words = taken_good deck_option_names deck_flag_names words (of_one (λ file. with_two (Synth file) (synth_options words) (method_of words)) (plain_words words))
     (one_good (λ file. with_two (Synth file) (synth_options words) (method_of words)) (λ file. synth_good file (synth_options words) (method_of words) (good_options words)) (plain_words words))
 
 flat_in_good : (words : List Written) → IfSome (flat_in words) HasGoodOptions

@@ -7,7 +7,7 @@ use Rattle.trace_tool.specs.TraceData.{TraceOptionsData}
 use Rattle.deck_form.specs.declared.options.SynthOptions.{SynthOptions}
 use Rattle.command_words.specs.Given.{of_one, of_three, of_two, with_three, with_two}
 use Rattle.command_words.specs.NumberWords.{number_from}
-use Rattle.command_words.specs.SynthOptionWords.{AreGoodOptions, method_of, synth_flag_names, synth_option_names, synth_options}
+use Rattle.command_words.specs.SynthOptionWords.{AreGoodOptions, method_of, deck_flag_names, deck_option_names, synth_option_names, synth_options}
 use Rattle.command_words.specs.TraceOptionWords.{order_of, order_option_names, seed_of, trace_flag_names, trace_option_names, trace_options}
 use Rattle.command_words.specs.declared.command.Method.{Method}
 use Rattle.command_words.specs.Written.{Written, is_same, plain_words, takes, written}
@@ -54,7 +54,7 @@ abbrev pub taken : (valued flags : List (List ℕ)) → List Written → Option 
 taken valued flags words command = if list_all (takes valued flags) words then command else None
 
 abbrev pub synth_in : List Written → Option Command
-synth_in words = taken synth_option_names synth_flag_names words
+synth_in words = taken deck_option_names deck_flag_names words
     (of_one (λ file. with_two (Synth file) (synth_options words) (method_of words)) (plain_words words))
 
 abbrev pub flat_in : List Written → Option Command

@@ -1,11 +1,12 @@
 //! What the program is asked for.
-use deck_form::SynthOptions;
+use deck_form::{DeckVersion, SynthOptions};
 use trace_tool::{Order, TraceOptions};
 
-/// How a deck is made: of the chosen signs of its sinks, or of those that need the fewest pairs of all.
+/// How a deck is made: of the chosen signs of its sinks and in a version of the text, or of the signs that need the fewest
+/// pairs of all and in version 1.
 #[derive(Clone, Copy)]
 pub enum Method {
-    Plain,
+    Plain(DeckVersion),
     Exact,
 }
 

@@ -1,13 +1,13 @@
 //! The options of synthesis on the command line.
 ghost use Rattle.std.specs.Prelude.{◌≡◌, map};
 ghost use Rattle.std.specs.String.{string_bytes};
-ghost use Rattle.command_words.specs.SynthOptionWords.{method_of, style_named, style_of, synth_options};
+ghost use Rattle.command_words.specs.SynthOptionWords.{exact_of, method_for, method_of, style_named, style_of, synth_options, version_of};
 ghost use Rattle.command_words.specs.Written.{written};
 
 use crate::command::Method;
 use crate::items::{Wanted, is_same, only_wanted};
 use crate::values::number_given;
-use deck_form::SynthOptions;
+use deck_form::{DeckVersion, SynthOptions};
 use domino_cell::Style;
 use tree_map::Bounds;
 
@@ -54,13 +54,42 @@ fn style_named(word: &str) -> Option<Style>
     None
 }
 
-/// The method that words ask for: the plain one where they name none.
-#[tactic(auto, using(crate::proofs::Given::given_rules))]
+/// The method that words ask for: the plain one where they name none. Exact signs have no version but version 1.
 pub fn method_of(words: &[String]) -> Option<Method>
     ensures { result ≡ method_of (written (map string_bytes words.now)) }
 {
-    match only_wanted(words, Wanted::Flag("--exact"))? {
-        Some(_) => Some(Method::Exact),
-        None => Some(Method::Plain),
+    let exact = exact_of(words)?;
+    let version = version_of(words)?;
+    method_for(exact, version)
+}
+
+/// Whether words ask for exact signs.
+#[tactic(auto, using(crate::proofs::Given::given_rules))]
+fn exact_of(words: &[String]) -> Option<bool>
+    ensures { result ≡ exact_of (written (map string_bytes words.now)) }
+{
+    Some(only_wanted(words, Wanted::Flag("--exact"))?.is_some())
+}
+
+/// The version of the deck that words ask for, or version 1.
+fn version_of(words: &[String]) -> Option<DeckVersion>
+    ensures { result ≡ version_of (written (map string_bytes words.now)) }
+{
+    let number = number_given(words, "--deck", 1, 2, 1)?;
+    Some(if number == 2 {
+        DeckVersion::Two
+    } else {
+        DeckVersion::One
+    })
+}
+
+/// The method of exact signs or of the chosen ones, and of a version.
+fn method_for(exact: bool, version: DeckVersion) -> Option<Method>
+    ensures { result ≡ method_for exact version }
+{
+    match (exact, version) {
+        (true, DeckVersion::One) => Some(Method::Exact),
+        (true, DeckVersion::Two) => None,
+        (false, version) => Some(Method::Plain(version)),
     }
 }

@@ -47,7 +47,7 @@ fn synth_of<'a>(words: &'a [String]) -> Option<Command<'a>>
 {
     if !takes_all(
         words,
-        &["--width", "--height", "--phases", "--style"],
+        &["--width", "--height", "--phases", "--style", "--deck"],
         &["--exact"],
     ) {
         return None;

@@ -3,11 +3,11 @@ use Rattle.std.proofs.Common.{◌≡◌, ◌∙◌, ◌++◌, ◌⊎◌, inl, in
 use Rattle.std.specs.Prelude.{if◌then◌else◌}
 use Rattle.command_words.specs.Commands.{IsGoodSize}
 use Rattle.command_words.specs.SynthOptionWords.{AreGoodOptions}
+use Rattle.command_words.specs.declared.command.Method.TheVariants.{Plain}
 use Rattle.deck.specs.DeckText.{IsDeckOf}
 use Rattle.deck.proofs.DeckUnique.{IsDeckOf-unique}
 use Rattle.deck_law.specs.Headline.{IsRightDeck}
 use Rattle.deck_law.proofs.RightDecks.{planned_good}
-use Rattle.deck_law.proofs.RightDecks.{synth_texts_are_right}
 use Rattle.network.specs.NetworkData.{NetworkData}
 use Rattle.net_gen.specs.Stimulus.{stimulus_cycles, stimulus_text}
 use Rattle.net_gen.proofs.AcceptedTexts.{generated_is_accepted}
@@ -18,6 +18,7 @@ use Rattle.plan_law.proofs.OneDeck.{decks_one}
 use Rattle.spice_text.proofs.ReadBack.{read_back}
 use Rattle.deck_form.specs.ChosenDecks.{IsChosenDeck, planned}
 use Rattle.deck_form.specs.AskedOptions.{deck_options}
+use Rattle.deck_form.specs.declared.version.DeckVersion.TheVariants.{One as VersionOne}
 use Rattle.synth_flow.specs.Summaries.{IsSummaryOf, figures}
 use Rattle.synth_flow.specs.SummaryData.{SummaryData}
 use Rattle.synth_flow.specs.SummaryLines.{summary_lines}
@@ -32,12 +33,13 @@ use Rattle.trace_tool.specs.declared.verdict.Verdict.{Verdict}
 use Rattle.trace_tool.specs.declared.verdict.Verdict.TheVariants.{Same}
 use Rattle.trace_tool.proofs.NetworkTexts.{network_same, no_network_apart, text_network_kept}
 use Rattle.verdict_law.proofs.RightVerdicts.{right_deck_is_accepted}
-use Rattle.domsyn.specs.Benches.{IsBenchOf, IsOwnVerdict, IsSameBench, IsWholeText, OfWholeDeck, bench_text, events_text, generated_text}
-use Rattle.domsyn.specs.Decks.{AreFigureLines}
+use Rattle.domsyn.specs.Benches.{IsBenchOf, IsOwnVerdict, IsSameBench, OfWholeDeck, bench_text, events_text, generated_text}
+use Rattle.domsyn.specs.Decks.{AreFigureLines, IsWholeText}
 use Rattle.domsyn.specs.Endings.{ending_number, ending_of}
 use Rattle.domsyn.specs.declared.answer.Ending.{Ending}
 use Rattle.domsyn.specs.Outcomes.{IsBench, is_same_verdict}
 use Rattle.domsyn.proofs.OneSummary.{summaries_one}
+use Rattle.domsyn.proofs.RightTexts.{right_without_calls}
 use Rattle.domsyn.proofs.OwnVerdicts.{own_verdict_of, own_verdict_one, own_verdict_same, own_verdict_there}
 
 -- a text that is generated has a network
@@ -108,12 +110,11 @@ module _ (seed size : ℕ) (options : SynthOptions) where
       record { model = is.model; summary = is.summary; verdict = Same 4 is.events; is = is.is; text_is = is.text_is; status_is = is.done }
 
   module _ (fits : AreGoodOptions options) (network : NetworkData) (has : HasNetworkOf (generated_text seed size) network) where
-    right : (deck : List ℕ) → IsWholeText network options deck → IsRightDeck (generated_text seed size) (deck_options options) deck
+    right : (deck : List ℕ) → IsWholeText network options (Plain VersionOne) deck → IsRightDeck (generated_text seed size) (deck_options options) deck
     right deck is =
-        synth_texts_are_right (generated_text seed size) deck (deck_options options) has.file network has.accepted has.network_is fits.some_phase fits.few_phases
-        (record { circuit = is.circuit; is_chosen = is.is_chosen; written = is.written }) is.whole.numbered is.whole.names
+        right_without_calls (Plain VersionOne) (generated_text seed size) deck has.file network options has.accepted has.network_is fits is refl
 
-    reads_back : (deck : List ℕ) → (is : IsWholeText network options deck) → IsDeckOf deck is.circuit
+    reads_back : (deck : List ℕ) → (is : IsWholeText network options (Plain VersionOne) deck) → IsDeckOf deck is.circuit
     reads_back deck is =
         read_back is.circuit deck
         (record {

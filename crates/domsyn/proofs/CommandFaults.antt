@@ -105,7 +105,7 @@ module _ (files : Files) (file bytes : List ℕ) (is_file : IsFile files file by
     refused = without_network method bytes why (network_cause bytes fault why is_file.within is e);
     name_is = about_one file why;
   }
-  synth_fault options Plain (any_fault.TooManySinks count) is = absurd is
+  synth_fault options (Plain version) (any_fault.TooManySinks count) is = absurd is
   synth_fault options Exact (any_fault.TooManySinks count) is = λ why e. record {
     bytes = bytes;
     holds = is_file.holds;

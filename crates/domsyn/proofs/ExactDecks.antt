@@ -1,26 +1,30 @@
 -- The phases of a deck are the signs that it was made by.
-use Rattle.std.proofs.Common.{◌≡◌, ◌∙◌, ◌+◌, ◌++◌, ◌≤◌, ℕ, Bool, List, [], ◌∷◌, length, length-append, map, refl, sym, ap, subst, codes, arith}
+use Rattle.std.proofs.Common.{◌≡◌, ◌∙◌, ◌++◌, ℕ, Bool, List, [], ◌∷◌, length, length-append, map, refl, sym, ap, subst, codes, arith}
 use Rattle.std.specs.List.{enumerate_from, zip}
 use Rattle.std.proofs.lemmas.List.{length-map}
 use Rattle.std.proofs.lemmas.List.FromFn.{length-enumerate_from}
 use Rattle.deck.specs.CircuitData.{CircuitData}
 use Rattle.deck.specs.CircuitGrowth.{Grew}
-use Rattle.deck.specs.DeckText.{IsDeckOf}
 use Rattle.deck.specs.Escapes.{escaped}
 use Rattle.deck.specs.Pushes.{new_circuit}
-use Rattle.deck.specs.declared.phase.Phase.{Phase}
 use Rattle.deck.proofs.CircuitGrowth.{with_devices-grew}
+use Rattle.command_words.specs.SynthOptionWords.{AreGoodOptions}
 use Rattle.command_words.specs.declared.command.Method.{Method}
 use Rattle.command_words.specs.declared.command.Method.TheVariants.{Exact, Plain}
 use Rattle.network.specs.NetworkData.{NetworkData}
 use Rattle.network.specs.declared.network.NetLatch.{NetLatch}
 use Rattle.exact_phase.specs.ExactSigns.{IsExact}
-use Rattle.deck_form.specs.ChosenDecks.{IsDeckOfSigns, IsPlannedDeck, end_at_cell, planned}
+use Rattle.spice_text.proofs.ReadBack.{read_back}
+use Rattle.deck_law.proofs.RightDecks.{planned_good}
+use Rattle.deck_form.specs.AskedOptions.{deck_options}
+use Rattle.deck_form.specs.declared.options.SynthOptions.{SynthOptions}
+use Rattle.deck_form.specs.ChosenDecks.{IsPlannedDeck, end_at_cell, planned}
 use Rattle.deck_form.specs.DeckNets.{data_net, named_devices, sink_nets}
 use Rattle.deck_form.specs.DeckOptions.{DeckOptions}
 use Rattle.deck_form.specs.DominoDecks.{cells_of, complements_of, outs_of, phases_of_sinks, pins_of, signal_name, starts_of}
 use Rattle.deck_form.proofs.DeckForms.{sinks_of_network}
-use Rattle.domsyn.specs.Methods.{AreSignsOf, HasSignsOf, signs_of_phases}
+use Rattle.domsyn.specs.Decks.{IsWholeText}
+use Rattle.domsyn.specs.Methods.{HasSignsOf, signs_of_phases}
 use Rattle.domsyn.specs.Networks.{HasNetwork}
 
 -- the signs of nets and signs, one for each
@@ -50,16 +54,19 @@ deck_signs network options circuit is =
     ap signs_of_phases grew.phases ∙ zipped_signs (sink_nets (outs_of network) (starts_of network)) is.signs one
 
 -- a deck of a method's signs that is written has phases of them
-pub has_signs : (method : Method) (bytes text : List ℕ) (network : NetworkData) (options : DeckOptions) (circuit : CircuitData) → HasNetwork bytes network
-    → IsDeckOfSigns (AreSignsOf method) network options circuit → IsDeckOf text circuit → HasSignsOf method bytes text
-has_signs Plain bytes text network options circuit has is deck = tt
-has_signs Exact bytes text network options circuit has is deck = record {
-  network = network;
-  has = has;
-  circuit = circuit;
-  is_deck = deck;
-  gates = is.gates;
-  are_gates = is.are_gates;
-  pairs = is.are_chosen.0;
-  are_exact = subst (λ signs. IsExact is.gates signs is.are_chosen.0) (sym (deck_signs network options circuit (planned is))) is.are_chosen.1;
-}
+pub has_signs : (method : Method) (bytes text : List ℕ) (network : NetworkData) (options : SynthOptions) → HasNetwork bytes network → AreGoodOptions options
+    → IsWholeText network options method text → HasSignsOf method bytes text
+has_signs (Plain version) bytes text network options has good is = tt
+has_signs Exact bytes text network options has good is =
+    let deck = is.is_chosen in
+    let names = planned_good network (deck_options options) is.circuit (planned deck) good.few_phases in
+    record {
+      network = network;
+      has = has;
+      circuit = is.circuit;
+      is_deck = read_back is.circuit text (record { is = is.whole.numbered; names = is.whole.names; good = names }) is.written;
+      gates = deck.gates;
+      are_gates = deck.are_gates;
+      pairs = deck.are_chosen.0;
+      are_exact = subst (λ signs. IsExact deck.gates signs deck.are_chosen.0) (sym (deck_signs network (deck_options options) is.circuit (planned deck))) deck.are_chosen.1;
+    }

@@ -20,6 +20,7 @@ pub mod OwnVerdicts
 pub mod ReportThere
 pub mod ReportedFailures
 pub mod ReportedFetches
+pub mod RightTexts
 pub mod Rooms
 pub mod RunThere
 pub mod SimThere

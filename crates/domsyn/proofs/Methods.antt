@@ -1,5 +1,5 @@
 -- Signs by a method are there and are one list; bytes have a deck by a method, or none for one cause.
-use Rattle.std.proofs.Common.{◌≡◌, ◌∙◌, ◌≤◌, ◌<◌, ◌⊎◌, inl, inr, ℕ, Bool, true, false, List, length, nat_lt, refl, sym, ap, subst, arith}
+use Rattle.std.proofs.Common.{◌≡◌, ◌∙◌, ◌⊎◌, inl, inr, ℕ, Bool, true, false, List, nat_lt, refl, sym, ap, subst, arith}
 use Rattle.std.proofs.lemmas.Bool.{ltb-false, ltb-true}
 use Rattle.command_words.specs.declared.command.Method.{Method}
 use Rattle.command_words.specs.declared.command.Method.TheVariants.{Exact, Plain}
@@ -17,17 +17,17 @@ use Rattle.domsyn.specs.declared.fault.Fault.{Fault}
 use Rattle.domsyn.specs.declared.fault.Fault.TheVariants as fault
 use Rattle.domsyn.specs.declared.refusal.Refusal.{Refusal}
 use Rattle.domsyn.specs.declared.refusal.Refusal.TheVariants.{TooManySinks}
-use Rattle.domsyn.specs.Methods.{AreSignsOf, HasNoDeckFor, HasTooManySinks, HaveTooManySinks, IsSuited, IsUndecked, IsUnsuited, most_exact_sinks, sink_count}
+use Rattle.domsyn.specs.Methods.{AreSignsOf, HasNoDeckFor, HaveTooManySinks, IsSuited, IsUndecked, IsUnsuited, most_exact_sinks, sink_count}
 use Rattle.domsyn.specs.Networks.{HasNetwork}
 use Rattle.domsyn.specs.Refusals.{HasNoNetworkFor}
 use Rattle.domsyn.proofs.NetworkCauses.{network_causes_alike, network_or_cause, networks_alike}
 
 pub method_one : (method : Method) (network : NetworkData) → HaveOneSigns (AreSignsOf method) network
-method_one Plain network = chosen_one network
+method_one (Plain version) network = chosen_one network
 method_one Exact network = λ gates a b are x y. (exact_one gates a b x.0 y.0 x.1 y.1).0
 
 pub method_there : (method : Method) (network : NetworkData) → IsNetwork network → HaveSigns (AreSignsOf method) network
-method_there Plain network is = chosen_signs network is
+method_there (Plain version) network is = chosen_signs network is
 method_there Exact network is = λ gates are.
     let ordered = gates_are_ordered gates (network_gates_are_in_place network gates (networks_are_ordered network is) are) in
     let exact = exact_there gates ordered in
@@ -36,7 +36,7 @@ method_there Exact network is = λ gates are.
 -- a network suits a method, or has too many sinks for it
 pub suited_or_not : (method : Method) (bytes : List ℕ) (network : NetworkData) → HasNetwork bytes network
     → IsSuited method network ⊎ ((why : Refusal) × HasNoDeckFor method bytes why)
-suited_or_not Plain bytes network has = inl tt
+suited_or_not (Plain version) bytes network has = inl tt
 suited_or_not Exact bytes network has = by (nat_lt most_exact_sinks (sink_count network)) refl
   where
     by : (many : Bool) → nat_lt most_exact_sinks (sink_count network) ≡ many → IsSuited Exact network ⊎ ((why : Refusal) × HasNoDeckFor Exact bytes why)
@@ -57,7 +57,7 @@ suited_or_not Exact bytes network has = by (nat_lt most_exact_sinks (sink_count 
 
 -- bytes without a network have no deck by any method
 pub without_network : (method : Method) (bytes : List ℕ) (why : Refusal) → HasNoNetworkFor bytes why → HasNoDeckFor method bytes why
-without_network Plain bytes why is = is
+without_network (Plain version) bytes why is = is
 without_network Exact bytes why is = inl is
 
 not_many : (bytes : List ℕ) (network : NetworkData) (count : ℕ) → HasNetwork bytes network → IsSuited Exact network → HaveTooManySinks bytes count → ⊥
@@ -67,13 +67,13 @@ not_many bytes network count has few many =
 
 -- bytes with a network that suits the method are refused for no cause
 pub deck_or_cause : (method : Method) (bytes : List ℕ) (network : NetworkData) (why : Refusal) → HasNetwork bytes network → IsSuited method network → HasNoDeckFor method bytes why → ⊥
-deck_or_cause Plain bytes network why has few refused = network_or_cause bytes network why has refused
+deck_or_cause (Plain version) bytes network why has few refused = network_or_cause bytes network why has refused
 deck_or_cause Exact bytes network why has few (inl refused) = network_or_cause bytes network why has refused
 deck_or_cause Exact bytes network why has few (inr many) = not_many bytes network many.0 has few many.1
 
 -- the causes of bytes are one
 pub deck_causes_alike : (method : Method) (bytes : List ℕ) (a b : Refusal) → HasNoDeckFor method bytes a → HasNoDeckFor method bytes b → a ≡ b
-deck_causes_alike Plain bytes a b x y = network_causes_alike bytes a b x y
+deck_causes_alike (Plain version) bytes a b x y = network_causes_alike bytes a b x y
 deck_causes_alike Exact bytes a b (inl x) (inl y) = network_causes_alike bytes a b x y
 deck_causes_alike Exact bytes a b (inl x) (inr y) = absurd (network_or_cause bytes y.1.network a y.1.has x)
 deck_causes_alike Exact bytes a b (inr x) (inl y) = absurd (network_or_cause bytes x.1.network b x.1.has y)
@@ -84,5 +84,5 @@ deck_causes_alike Exact bytes a b (inr x) (inr y) =
 -- a network that doesn't suit the method is that of bytes without a deck
 pub unsuited_undecked : (method : Method) (bytes : List ℕ) (network : NetworkData) (why : Fault) → HasNetwork bytes network → IsUnsuited method network why → IsUndecked method bytes why
 unsuited_undecked method bytes network (fault.Traced why) has is = subst (IsUnflattened bytes) (sym is) tt
-unsuited_undecked Plain bytes network (fault.TooManySinks count) has is = is
+unsuited_undecked (Plain version) bytes network (fault.TooManySinks count) has is = is
 unsuited_undecked Exact bytes network (fault.TooManySinks count) has is = record { network = network; has = has; sinks = is }

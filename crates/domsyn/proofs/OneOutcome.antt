@@ -11,11 +11,11 @@ use Rattle.command_words.specs.Commands.{Command, Synth, Flat as flat, Run as ru
 use Rattle.command_words.specs.declared.command.Method.{Method}
 use Rattle.plan_law.proofs.OneDeck.{texts_of_signs_one}
 use Rattle.deck_form.specs.AskedOptions.{deck_options}
-use Rattle.deck_form.specs.DeckTexts.{IsTextOfSigns}
+use Rattle.deck_form.specs.DeckTexts.{IsTextInVersion}
 use Rattle.synth_flow.specs.Summaries.{IsSummaryOf}
 use Rattle.synth_flow.specs.SummaryLines.{summary_lines}
 use Rattle.deck_form.specs.declared.options.SynthOptions.{SynthOptions}
-use Rattle.domsyn.specs.Methods.{AreSignsOf, HasNoDeckFor}
+use Rattle.domsyn.specs.Methods.{AreSignsOf, HasNoDeckFor, text_version}
 use Rattle.domsyn.proofs.Methods.{deck_causes_alike, deck_or_cause, method_one}
 use Rattle.domsyn.specs.Decks.{AreFiguresFor, IsDeckFor}
 use Rattle.domsyn.specs.Outcomes.{IsComparison, IsDeck, IsFile, IsFirstTooLong, IsFlat, HasNoDeck, HasNone, IsNoComparison, IsNoRun, IsNoTrace, IsOutcome, IsPrintedRun, IsFigureReport, IsTooLong, IsTrace, Outcome, Printed, Refused, is_same_verdict}
@@ -190,9 +190,9 @@ module _ (known : Pairs) (file : List ℕ) (options : SynthOptions) (method : Me
       let same = bytes_alike known file y.bytes x.bytes y.is_file.holds x.is_file.holds in
       let deck = subst (λ b. IsDeckFor b options method t') same y.deck in
       let networks = networks_alike x.bytes deck.network x.deck.network deck.has x.deck.has in
-      let text = subst (λ n. IsTextOfSigns (AreSignsOf method) t' n (deck_options options)) networks deck.is_text in
+      let text = subst (λ n. IsTextInVersion (text_version method) (AreSignsOf method) t' n (deck_options options)) networks deck.is_text in
       printed_alike s s' t t' (x.done ∙ sym y.done)
-      (texts_of_signs_one x.deck.network (network_kept x.bytes x.deck.network x.deck.has) (deck_options options) (method_one method x.deck.network) t t' x.deck.is_text text)
+      (texts_of_signs_one x.deck.network (network_kept x.bytes x.deck.network x.deck.has) (deck_options options) (text_version method) (method_one method x.deck.network) t t' x.deck.is_text text)
 
   synth_apart : (f : List ℕ) (s : ℕ) (t : List ℕ) (w : Refusal) → IsDeck (Some known) file options method s t → HasNoDeck (Some known) file method f w → ⊥
   synth_apart f s t w x y =

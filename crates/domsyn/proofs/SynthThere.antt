@@ -6,7 +6,7 @@ use Rattle.command_words.specs.SynthOptionWords.{AreGoodOptions}
 use Rattle.command_words.specs.declared.command.Method.{Method}
 use Rattle.network.specs.NetworkData.{NetworkData}
 use Rattle.domsyn.specs.declared.refusal.Refusal.{Refusal}
-use Rattle.domsyn.specs.Methods.{HasNoDeckFor, IsSuited}
+use Rattle.domsyn.specs.Methods.{HasNoDeckFor, IsSuited, text_version}
 use Rattle.domsyn.specs.Networks.{HasNetwork}
 use Rattle.domsyn.proofs.Methods.{method_there, suited_or_not, without_network}
 use Rattle.domsyn.specs.declared.refusal.Refusal.TheVariants.{TooLong}
@@ -27,7 +27,7 @@ synth_there known file options method good is = by (fits_or_not is.bytes file_li
         → HasOne known (Synth file options method)
     decked fits network has (inl suited) =
         let kept = network_kept is.bytes network has in
-        let text = texts_of_signs_there network (deck_options options) kept good.some_width good.some_height (method_there method network kept) in (
+        let text = texts_of_signs_there network (deck_options options) kept good.some_width good.some_height (text_version method) (method_there method network kept) in (
           Printed 0 text.0,
           record {
             bytes = is.bytes;

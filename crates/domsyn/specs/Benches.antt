@@ -3,22 +3,23 @@ use Rattle.std.specs.Prelude.{ℕ, ◌≡◌, List, [], ◌++◌, codes}
 use Rattle.std.specs.Fmt.{decimal}
 use Rattle.blif_ast.specs.Printed.{printed}
 use Rattle.command_words.specs.Commands.{Asks, Bench}
+use Rattle.command_words.specs.declared.command.Method.TheVariants.{Plain}
 use Rattle.deck.specs.CircuitData.{CircuitData}
 use Rattle.deck.specs.Roles.{AreRoles, ports_of}
-use Rattle.deck.specs.Whole.{IsWhole}
 use Rattle.deck.specs.declared.role.Roles.{Roles}
 use Rattle.event_sim.specs.Orders.{By}
 use Rattle.network.specs.NetworkData.{NetworkData}
 use Rattle.net_gen.specs.Generated.{generated}
 use Rattle.net_gen.specs.Stimulus.{stimulus_cycles}
 use Rattle.net_run.specs.Runs.{Cycle, IsNetworkRun}
-use Rattle.spice_text.specs.Text.{IsWritten}
 use Rattle.deck_form.specs.ChosenDecks.{IsChosenDeck}
 use Rattle.deck_form.specs.AskedOptions.{deck_options}
+use Rattle.deck_form.specs.declared.version.DeckVersion.TheVariants.{One as VersionOne}
 use Rattle.synth_flow.specs.Summaries.{IsSummaryOf}
 use Rattle.synth_flow.specs.SummaryData.{SummaryData}
 use Rattle.synth_flow.specs.SummaryLines.{summary_lines}
 use Rattle.deck_form.specs.declared.options.SynthOptions.{SynthOptions}
+use Rattle.domsyn.specs.Decks.{IsWholeText}
 use Rattle.trace_tool.specs.CosimRefusals.{HasNetworkOf}
 use Rattle.trace_tool.specs.Traces.{picked_place}
 use Rattle.trace_tool.specs.VerdictLines.{same_line, verdict_line}
@@ -79,15 +80,8 @@ GivesSameBench words Puts =
     (seed size : ℕ) (options : SynthOptions) → Asks words (Bench seed size options)
     → (text : List ℕ) × IsSameBench seed size options 0 text × Puts text
 
--- the text of the circuit that synthesis gives of a network, which is whole
-pub record IsWholeText (network : NetworkData) (options : SynthOptions) (text : List ℕ) : Type 0 where
-  pub circuit : CircuitData
-  pub is_chosen : IsChosenDeck network (deck_options options) circuit
-  pub whole : IsWhole circuit
-  pub written : IsWritten circuit text
-
--- a whole deck of a network, of whose text something holds
+-- a whole deck of a network by the plain method, of whose text in version 1 something holds
 pub record OfWholeDeck (network : NetworkData) (options : SynthOptions) (Holds : List ℕ → Type 0) : Type 0 where
   pub deck : List ℕ
-  pub is_text : IsWholeText network options deck
+  pub is_text : IsWholeText network options (Plain VersionOne) deck
   pub holds : Holds deck

@@ -1,22 +1,27 @@
 -- What is proved of the deck that `synth FILE` writes, with its options, on one page.
 -- The text of the file is read as Berkeley Logic Interchange Format, and the deck as a SPICE subcircuit of domino gates (Rabaey, Digital
 -- Integrated Circuits) at switch level (Bryant). `IsRightDeck` says it by the ports of the deck alone (`deck_law/specs/Headline`): for every
--- input stream and every order of net events.
-use Rattle.std.specs.Prelude.{ℕ, List}
+-- input stream and every order of net events. A deck of subcircuits that are called stands for such a circuit (`cell_decks/specs/RightTexts`).
+use Rattle.std.specs.Prelude.{ℕ, ◌≡◌, List}
+use Rattle.cell_decks.specs.RightTexts.{IsRightDeckWithCalls}
 use Rattle.command_words.specs.Commands.{Asks, Command, Synth, Flat, Run, Sim, Cosim, Report, Bench}
 use Rattle.command_words.specs.declared.command.Method.{Method}
 use Rattle.deck_law.specs.Headline.{IsRightDeck}
 use Rattle.deck_form.specs.AskedOptions.{deck_options}
 use Rattle.deck_form.specs.declared.options.SynthOptions.{SynthOptions}
+use Rattle.deck_form.specs.declared.version.DeckVersion.TheVariants.{One as VersionOne}
 use Rattle.domsyn.specs.Benches.{IsSameBench}
-use Rattle.domsyn.specs.Methods.{HasSignsOf}
+use Rattle.domsyn.specs.Methods.{HasSignsOf, text_version}
 use Rattle.domsyn.specs.Outcomes.{Files, IsFile}
 
--- the text is a right deck of the file's bytes, with options; by exact signs its phases are signs of which no others need fewer pairs
+-- the text, in either version, is a right deck of the file's bytes, with options; by exact signs its phases are signs of which no others
+-- need fewer pairs
 pub record IsRightDeckOfFile (files : Files) (name : List ℕ) (options : SynthOptions) (method : Method) (text : List ℕ) : Type 0 where
   pub bytes : List ℕ
   pub is_file : IsFile files name bytes
-  pub is_right : IsRightDeck bytes (deck_options options) text
+  pub is_right : IsRightDeckWithCalls bytes (deck_options options) text
+  -- a text of version 1 has no calls, and is read as one subcircuit
+  pub without_calls : text_version method ≡ VersionOne → IsRightDeck bytes (deck_options options) text
   pub signs : HasSignsOf method bytes text
 
 -- a text that is put out for a command with a status: for `synth` it is a right deck of the file, with its options,

@@ -3,7 +3,10 @@
 ghost use Rattle.std.specs.Prelude.{◌≡◌, ◌⊎◌, ◌++◌, IfOk, IsErrOf, OnOk};
 ghost use Rattle.command_words.specs.Commands.{IsGoodSize};
 ghost use Rattle.command_words.specs.SynthOptionWords.{AreGoodOptions};
-ghost use Rattle.domsyn.specs.Benches.{IsSameBench, IsWholeText, OfWholeDeck, events_text};
+ghost use Rattle.domsyn.specs.Benches.{IsSameBench, OfWholeDeck, events_text};
+ghost use Rattle.command_words.specs.declared.command.Method.TheVariants.{Plain};
+ghost use Rattle.deck_form.specs.declared.version.DeckVersion.TheVariants.{One as VersionOne};
+ghost use Rattle.domsyn.specs.Decks.{IsWholeText};
 ghost use Rattle.domsyn.specs.Endings.{ending_number};
 ghost use Rattle.trace_tool.specs.CosimRefusals.{IsCosimRefused};
 ghost use Rattle.net_gen.specs.Stimulus.{stimulus_text};
@@ -72,7 +75,7 @@ fn deck_text(
     options: SynthOptions,
 ) -> Result<Vec<u8>, OutOfMemory>
     requires good_options { AreGoodOptions options }
-    ensures { IfOk result (λ text. IsWholeText network.now options text.items) }
+    ensures { IfOk result (λ text. IsWholeText network.now options (Plain VersionOne) text.items) }
 {
     let circuit = deck_circuit(alloc, network, options)?;
     circuit.whole();

@@ -2,12 +2,14 @@
 ghost use Rattle.std.specs.Prelude.{◌≡◌, ◌≤◌, IfOk, IsErrOf, length};
 ghost use Rattle.dom_io.specs.Held.{file_limit};
 ghost use Rattle.command_words.specs.SynthOptionWords.{AreGoodOptions};
+ghost use Rattle.cell_decks.specs.RightTexts.{IsRightDeckWithCalls};
 ghost use Rattle.deck_law.specs.Headline.{IsRightDeck};
 ghost use Rattle.deck_form.specs.AskedOptions.{deck_options};
 ghost use Rattle.deck_form.specs.ChosenDecks.{IsDeckOfSigns};
-ghost use Rattle.domsyn.specs.Decks.{IsDeckFor};
-ghost use Rattle.domsyn.specs.Methods.{AreSignsOf, HasSignsOf, IsSuited, IsUndecked, IsUnsuited};
-ghost use Rattle.command_words.specs.declared.command.Method.TheVariants.{Exact};
+ghost use Rattle.deck_form.specs.declared.version.DeckVersion.TheVariants.{One as VersionOne};
+ghost use Rattle.domsyn.specs.Decks.{IsDeckFor, IsWholeText};
+ghost use Rattle.domsyn.specs.Methods.{AreSignsOf, HasSignsOf, IsSuited, IsUndecked, IsUnsuited, text_version};
+ghost use Rattle.command_words.specs.declared.command.Method.TheVariants.{Exact, Plain};
 ghost use Rattle.domsyn.specs.declared.answer.Ending.TheVariants.{Done};
 ghost use Rattle.domsyn.specs.declared.fault.Fault.{Fault as AnyFault};
 
@@ -15,12 +17,15 @@ use crate::answer::{Answer, Ending};
 use crate::fault::Fault;
 use command_words::Method;
 use deck::Circuit;
+use dom_base::OutOfMemory;
 use exact_phase::exact;
 use gate_decompose::decompose;
 use network::Network;
-use spice_text::write;
+use spice_text::{write, write_cells};
 use std::alloc::Global;
-use synth_flow::{SynthOptions, synth as deck_circuit, synth_signs};
+use synth_flow::{
+    DeckVersion, Grouped, SynthOptions, synth as deck_circuit, synth_grouped, synth_signs,
+};
 use trace_tool::network_of_text;
 
 /// The greatest number of sinks of which exact signs are sought.
@@ -36,37 +41,67 @@ pub fn synth(
     requires within { length bytes.now ≤ file_limit }
     requires good_options { AreGoodOptions options }
     ensures deck { IfOk result (λ answer. IsDeckFor bytes.now options method answer.text.items × (answer.ending ≡ Done)) }
-    ensures right { IfOk result (λ answer. IsRightDeck bytes.now (deck_options options) answer.text.items
+    ensures right { IfOk result (λ answer. IsRightDeckWithCalls bytes.now (deck_options options) answer.text.items
+        × (text_version method ≡ VersionOne → IsRightDeck bytes.now (deck_options options) answer.text.items)
         × HasSignsOf method bytes.now answer.text.items) }
     ensures refused { (why : AnyFault) → IsErrOf result why → IsUndecked method bytes.now why }
 {
     let network = network_of_text(alloc, bytes)?;
-    let circuit = circuit_of(alloc, &network, options, method)?;
-    drop(network);
-    circuit.whole();
-    let text = write(alloc, &circuit)?;
+    let text = text_of(alloc, network, options, method)?;
     let ending = Ending::Done;
     Ok(Answer { text, ending })
 }
 
-/// The circuit of a network with options, of the signs that a method gives its sinks.
-fn circuit_of(
+/// The text of the deck of a network with options, by a method.
+fn text_of(
     alloc: Global,
-    network: &Network,
+    network: Network,
     options: SynthOptions,
     method: Method,
-) -> Result<Circuit, Fault>
+) -> Result<Vec<u8>, Fault>
     requires good_options { AreGoodOptions options }
-    ensures circuit { IfOk result (IsDeckOfSigns (AreSignsOf method) network.now (deck_options options)) }
-    ensures suited { IfOk result (λ _. IsSuited method network.now) }
-    ensures refused { (why : AnyFault) → IsErrOf result why → IsUnsuited method network.now why }
+    ensures text { IfOk result (λ text. IsWholeText network options method text.items) }
+    ensures suited { IfOk result (λ _. IsSuited method network) }
+    ensures refused { (why : AnyFault) → IsErrOf result why → IsUnsuited method network why }
 {
     match method {
-        Method::Plain => {
-            let circuit = deck_circuit(alloc, network, options)?;
-            Ok(circuit)
+        Method::Plain(version) => {
+            let text = plain_text(alloc, network, options, version)?;
+            Ok(text)
         }
-        Method::Exact => exact_circuit(alloc, network, options),
+        Method::Exact => {
+            let circuit = exact_circuit(alloc, &network, options)?;
+            drop(network);
+            circuit.whole();
+            let text = write(alloc, &circuit)?;
+            Ok(text)
+        }
+    }
+}
+
+/// The text, in a version, of the deck of a network with options, of the chosen signs.
+fn plain_text(
+    alloc: Global,
+    network: Network,
+    options: SynthOptions,
+    version: DeckVersion,
+) -> Result<Vec<u8>, OutOfMemory>
+    requires good_options { AreGoodOptions options }
+    ensures { IfOk result (λ text. IsWholeText network options (Plain version) text.items) }
+{
+    match version {
+        DeckVersion::One => {
+            let circuit = deck_circuit(alloc, &network, options)?;
+            drop(network);
+            circuit.whole();
+            write(alloc, &circuit)
+        }
+        DeckVersion::Two => {
+            let Grouped { circuit, ends } = synth_grouped(alloc, &network, options)?;
+            drop(network);
+            circuit.whole();
+            write_cells(alloc, &circuit, ends.as_slice())
+        }
     }
 }
 
