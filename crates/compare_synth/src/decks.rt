@@ -7,12 +7,12 @@ use network::Network;
 use plain_hierarchies::refusal;
 use plain_networks::{PlainNetwork, Sizes};
 use plain_synthesis::{
-    PlainBounds, PlainOptions, Synthesis, cards_of, cells_of, chosen_plan, chosen_signs,
-    cover_tables, deck_of, forest_of, gates_of,
+    PlainBounds, PlainOptions, PlainStyle, Synthesis, cards_of, cells_of, chosen_plan,
+    chosen_signs, cover_tables, deck_of, forest_of, gates_of,
 };
 use plain_texts::{Draws, PlainDeck, write_deck};
 use std::alloc::Global;
-use synth_flow::SynthOptions;
+use synth_flow::{Style, SynthOptions};
 
 const SIZES: Sizes = Sizes {
     inputs: 6,
@@ -22,7 +22,7 @@ const SIZES: Sizes = Sizes {
 };
 
 /// How many files have to be compared for each of all options once.
-const STEP: u64 = 2;
+const STEP: u64 = 3;
 
 fn plain_options(options: SynthOptions) -> PlainOptions {
     PlainOptions {
@@ -31,6 +31,13 @@ fn plain_options(options: SynthOptions) -> PlainOptions {
             height: options.bounds.h as usize,
         },
         clocks: options.phases as usize,
+    }
+}
+
+fn plain_style(style: Style) -> PlainStyle {
+    match style {
+        Style::Keeper => PlainStyle::Keeper,
+        Style::Precharge => PlainStyle::Precharge,
     }
 }
 
@@ -51,16 +58,20 @@ fn plain_deck(
     alloc: Global,
     network: &PlainNetwork,
     synthesis: &mut Synthesis,
-    options: PlainOptions,
+    options: SynthOptions,
 ) -> Result<PlainDeck, Trouble> {
-    let tables = cover_tables(alloc, &synthesis.forest, options.bounds)?;
+    let PlainOptions { bounds, clocks } = plain_options(options);
+    let tables = cover_tables(alloc, &synthesis.forest, bounds)?;
     let Some(kept) = chosen_plan(alloc, &synthesis.forest, &tables)? else {
         return Err(Trouble::Refused);
     };
-    synthesis.cells = cells_of(alloc, &synthesis.forest, &kept, options.clocks)?;
+    synthesis.cells = cells_of(alloc, &synthesis.forest, &kept, clocks)?;
+    for cell in synthesis.cells.iter_mut() {
+        cell.style = plain_style(options.style);
+    }
     synthesis.kept = kept;
     let cards = cards_of(alloc, network, synthesis)?;
-    Ok(deck_of(alloc, network, &synthesis.signs, options.clocks, &cards)?)
+    Ok(deck_of(alloc, network, &synthesis.signs, clocks, &cards)?)
 }
 
 /// Compares decks of a network by the options whose numbers have this rest. It answers whether they are alike.
@@ -74,8 +85,7 @@ fn compare_network(
     let mut synthesis = in_common(alloc, plain)?;
     for number in 0..OPTIONS {
         if number as u64 % STEP == rest {
-            let options = plain_options(options_at(number));
-            let deck = plain_deck(alloc, plain, &mut synthesis, options)?;
+            let deck = plain_deck(alloc, plain, &mut synthesis, options_at(number))?;
             let wanted = write_deck(alloc, &deck)?;
             let found = deck_text(alloc, network, number)?;
             if found.as_slice() != wanted.as_slice() {

@@ -3,13 +3,14 @@ use crate::files::{DrawnText, drawn_text};
 use crate::product::{OPTIONS, deck_text, options_at};
 use crate::tally::OrderTally;
 use comparison::{Trouble, network_of};
-use legal_runs::{drawn_run, run_deck};
+use legal_runs::{Clocking, Terms, drawn_run, run_by};
 use network::Network;
 use plain_hierarchies::refusal;
 use plain_networks::Sizes;
 use plain_texts::{DeckReading, Draws, read_deck};
 use spice_read::read;
 use std::alloc::Global;
+use synth_flow::{Style, SynthOptions};
 
 const SIZES: Sizes = Sizes {
     inputs: 4,
@@ -33,6 +34,19 @@ fn run_draws(case: u64, order: u64) -> Draws {
     Draws::of_case(run.saturating_add(1_000_000))
 }
 
+/// What a deck of a network with so many pins by some options is run by.
+fn terms_of(options: SynthOptions, pins: usize) -> Terms {
+    Terms {
+        clocks: options.phases as usize,
+        pins,
+        style: match options.style {
+            Style::Keeper => legal_runs::Style::Keeper,
+            Style::Precharge => legal_runs::Style::Precharge,
+        },
+        clocking: Clocking::Together,
+    }
+}
+
 /// Runs a deck of a network, as it is read back. It answers whether each run keeps the laws and all runs are alike
 /// at rest.
 fn compare_deck(
@@ -53,22 +67,14 @@ fn compare_deck(
     let DeckReading::Deck(deck) = read_deck(alloc, &text)? else {
         return Err(Trouble::Refused);
     };
-    let clocks = options_at(number).phases as usize;
+    let terms = terms_of(options_at(number), plain.inputs);
     let run = drawn_run(alloc, draws, &plain, CYCLES)?;
-    let first = run_deck(
-        alloc,
-        &circuit,
-        &deck,
-        clocks,
-        plain.inputs,
-        &run,
-        run_draws(case, 0),
-    )?;
+    let first = run_by(alloc, &circuit, &deck, terms, &run, run_draws(case, 0))?;
     let mut alike = first.breach.is_none();
     tally.add_run(CYCLES, first.events);
     for order in 1..ORDERS {
         let draws = run_draws(case, order);
-        let other = run_deck(alloc, &circuit, &deck, clocks, plain.inputs, &run, draws)?;
+        let other = run_by(alloc, &circuit, &deck, terms, &run, draws)?;
         alike = alike && other.breach.is_none() && other.rests.as_slice() == first.rests.as_slice();
         tally.add_run(CYCLES, other.events);
     }

@@ -8,10 +8,10 @@ use std::alloc::Global;
 use synth_flow::{Style, SynthOptions, synth};
 use tree_map::Bounds;
 
-/// How many options there are: widths from 2 to 8, heights from 2 to 6, and 1 to 4 clocks.
-pub const OPTIONS: u32 = 7 * 5 * 4;
+/// How many options there are: both styles, widths from 2 to 8, heights from 2 to 6, and 1 to 4 clocks.
+pub const OPTIONS: u32 = 2 * 7 * 5 * 4;
 
-/// The options of this number: the clocks change first, then the heights.
+/// The options of this number: the clocks change first, then the heights, then the widths, then the style.
 pub fn options_at(number: u32) -> SynthOptions
     ensures some_width { 2 ≤ result.bounds.w }
     ensures few_wide { result.bounds.w ≤ 8 }
@@ -26,7 +26,11 @@ pub fn options_at(number: u32) -> SynthOptions
             h: 2 + number / 4 % 5,
         },
         phases: 1 + (number % 4) as u8,
-        style: Style::Keeper,
+        style: if number / 140 % 2 == 0 {
+            Style::Keeper
+        } else {
+            Style::Precharge
+        },
     }
 }
 

@@ -19,4 +19,4 @@ pub use breach::Breach;
 pub use clocks::Clocking;
 pub use nets::Style;
 pub use rests::Rests;
-pub use run::{NetworkRun, Shown, Terms, drawn_run, run_by, run_deck};
+pub use run::{NetworkRun, Shown, Terms, drawn_run, run_by};

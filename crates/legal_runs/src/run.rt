@@ -92,23 +92,3 @@ pub fn run_by(
         rests,
     })
 }
-
-/// One legal run of a circuit, which is this deck on so many clocks, beside the run of a network with so many
-/// pins, in an order that these draws give. Its cells have keepers, and its clocks fall together.
-pub fn run_deck(
-    alloc: Global,
-    circuit: &Circuit,
-    deck: &PlainDeck,
-    clocks: usize,
-    pins: usize,
-    run: &NetworkRun,
-    draws: Draws,
-) -> Result<Shown, Trouble> {
-    let terms = Terms {
-        clocks,
-        pins,
-        style: Style::Keeper,
-        clocking: Clocking::Together,
-    };
-    run_by(alloc, circuit, deck, terms, run, draws)
-}
