@@ -4,10 +4,11 @@
     deck_to_blif.py DECK > FILE
 
 Each device has to be a part of one of these, or the deck is refused: a domino cell (a device that charges `d` while a clock is 0,
-a keeper, a pull-down between `d` and a foot that is on while the same clock is 1, which comes apart in series and in parallel), an
-inverter, a clocked inverter of a latch, the reset of a latch. What gates a pull-down has to be a pin, a latch, an inverter of these, or
-the output of a cell of the same or an earlier clock. A series of two devices becomes an And, two devices side by side an Or, both as
-tables of their own, so that the text grows with the deck. It takes decks as `domsyn` writes them.
+a keeper or, in a deck without keepers, one more such device at each inner net, a pull-down between `d` and a foot that is on while the
+same clock is 1, which comes apart in series and in parallel), an inverter, a clocked inverter of a latch, the reset of a latch. What
+gates a pull-down has to be a pin, a latch, an inverter of these, or the output of a cell of the same or an earlier clock. A series of two
+devices becomes an And, two devices side by side an Or, both as tables of their own, so that the text grows with the deck. It takes decks
+as `domsyn` writes them.
 """
 import sys
 from collections import defaultdict
@@ -35,6 +36,7 @@ class Circuit:
         self.lines = [".names $vdd\n1\n.names $vss\n"]
         self.clock = {}                                 # of each output of a cell the number of its clock
         self.steady = {port for port in ports if port.startswith("i_")} | {"vdd", "vss"}
+        self.has_keepers = any(model == "pkeep" for _, _, _, model in devices)
         self.fresh = 0
 
     def take(self, drain, gate, source, model):
@@ -55,7 +57,8 @@ class Circuit:
         return f"${self.fresh}"
 
     def pull_down(self, top, clock):
-        """Takes the devices from `top` down to a foot, and returns the net of BLIF that is 1 where they conduct."""
+        """Takes the devices from `top` down to a foot, with those that charge its inner nets where there are no keepers, and returns the
+        net of BLIF that is 1 where it conducts."""
         edges, seen, waiting, foot = [], {top}, [top], None
         while waiting:
             net = waiting.pop()
@@ -75,6 +78,8 @@ class Circuit:
                         seen.add(end)
                         waiting.append(end)
         self.take(foot, clock, "vss", "nch")
+        for net in () if self.has_keepers else seen - {top, foot}:
+            self.take(net, clock, "vdd", "pch")
         return self.reduced(edges, top, foot)
 
     def gate(self, net, clock):
@@ -105,20 +110,25 @@ class Circuit:
             sys.exit("a pull-down that ends nowhere: " + top)
         return edges[0][2]
 
+    def dynamic_nets(self):
+        """The nets that a clock charges and that gate inverters, each with its clock and the outputs of these."""
+        outputs = defaultdict(list)
+        for drain, gate, source, model in self.devices:
+            if (source, model) == ("vdd", "pch"):
+                outputs[gate].append(drain)
+        return [(drain, gate, outputs[drain]) for drain, gate, source, model in self.devices
+                if (source, model) == ("vdd", "pch") and gate.startswith("ck") and drain in outputs]
+
     def cells(self):
-        for place in range(len(self.devices)):
-            drain, gate, source, model = self.devices[place]
-            if model == "pkeep":
-                dynamic = drain
-                self.left.remove(place)
-                if source != "vdd":
-                    sys.exit("no keeper: " + drain)
-                clock = self.take(dynamic, None, "vdd", "pch")
-                if not clock.startswith("ck"):
-                    sys.exit("no clock: " + clock)
-                self.table("0 1", self.pull_down(dynamic, clock), dynamic)
-                self.inverter(gate)
-                self.clock[gate] = clock
+        # A cell may stand before one that it reads: the clocks of the outputs are looked up first.
+        found = self.dynamic_nets()
+        for _, clock, outputs in found:
+            self.clock.update(dict.fromkeys(outputs, clock))
+        for dynamic, clock, outputs in found:
+            self.take(dynamic, clock, "vdd", "pch")
+            if self.has_keepers and self.take(dynamic, None, "vdd", "pkeep") not in outputs:
+                sys.exit("no keeper: " + dynamic)
+            self.table("0 1", self.pull_down(dynamic, clock), dynamic)
 
     def inverter(self, net):
         gate = self.take(net, None, "vdd", "pch")
@@ -157,10 +167,6 @@ class Circuit:
     def text(self):
         self.latches()
         self.static_inverters()
-        # A cell may stand before one that it reads: the clocks of the outputs are looked up first.
-        for drain, gate, _, model in self.devices:
-            if model == "pkeep":
-                self.clock[gate] = next(self.devices[p][1] for p in self.at[drain] if self.devices[p][1].startswith("ck"))
         self.cells()
         for place, (drain, _, _, model) in enumerate(self.devices):
             if place in self.left and model == "pch":

@@ -115,7 +115,7 @@ def counts(blif, flat, deck):
     devices = [line for line in deck.split("\n") if line.startswith("m")]
     return " ".join(map(str, [
         len(ports(flat, ".inputs")), len(ports(flat, ".outputs")), flat.count("\n.latch "), flat.count("\n.names "),
-        sum(line.endswith("pkeep") for line in devices), len(devices)]))
+        sum(re.match(r"m\d+ d\d+ ck\d ", line) is not None for line in devices), len(devices)]))
 
 
 def wave(node, place, corners):

@@ -6,8 +6,9 @@
 #
 # DOMSYN is the program, by default where `cd crates/domsyn_cli && rt run -- synth data/and2.blif` leaves it. CYCLES is how
 # many cycles of random bits each design runs, by default 100; decks of more than 5,000 devices run fewer. DESIGN is a file of
-# bench/designs without its ending; with none there are all of them. It needs yosys, berkeley-abc, iverilog, ngspice, python3 and
-# GNU time. Each design has a line of the table; what isn't as it should be has a line on standard error, and then the status is 1.
+# bench/designs without its ending; with none there are all of them. STYLE may name the style of the cells, by default `keeper`. It
+# needs yosys, berkeley-abc, iverilog, ngspice, python3 and GNU time. Each design has a line of the table; what isn't as it should be has
+# a line on standard error, and then the status is 1.
 set -eu
 here=$(CDPATH='' cd -- "$(dirname -- "$0")" && pwd)
 . "$here/measure.sh"
@@ -16,6 +17,7 @@ need berkeley-abc
 need iverilog
 need ngspice
 cycles=${2:-100}
+style=${STYLE:-keeper}
 bad=0
 # What runs in ngspice: decks of at most so many devices.
 small=230
@@ -93,7 +95,7 @@ verilog_run() {
 # deck_run OPTION..: the deck of these options by ABC, by switches in Icarus Verilog, and by `cosim`.
 deck_run() {
     deck=$folder/deck.sp
-    "$domsyn" synth "$folder/yosys.blif" "$@" >"$deck"
+    "$domsyn" synth "$folder/yosys.blif" --style "$style" "$@" >"$deck"
     python3 "$here/deck_to_blif.py" "$deck" >"$folder/deck.blif" || fault "deck_to_blif $*"
     ! equal "$folder/yosys.blif" "$folder/deck.blif" || equal_decks=$((equal_decks + 1))
     "$domsyn" cosim "$folder/yosys.blif" "$deck" "$folder/stim" --order seed --seed 7 >"$folder/said" ||
@@ -115,7 +117,7 @@ voltages() {
     "$here/ngspice/size.sh" "$1" >"$folder/sized.sp"
     cp "$here/ngspice/models.inc" "$folder"
     texts ngspice "$1" "$folder/sized.sp" "$folder/stim8" >"$folder/deck.cir"
-    (cd "$folder" && ngspice -b deck.cir >ngspice_said 2>&1) || true
+    (cd "$folder" && OMP_NUM_THREADS=1 ngspice -b deck.cir >ngspice_said 2>&1) || true
     texts voltages "$folder/stim8" "$folder/ngspice_said" >"$folder/lines"
     voltage_word=$(texts alike "$folder/run8" "$folder/lines")
     case $voltage_word in OTHER*) fault "ngspice: $voltage_word" ;; esac
@@ -128,9 +130,9 @@ one() {
     ! grep -q 'edge clk' "$source" || way=dsec
     cuts=0
     flats
-    "$domsyn" synth "$folder/yosys.blif" >"$folder/first.sp"
+    "$domsyn" synth "$folder/yosys.blif" --style "$style" >"$folder/first.sp"
     : >"$folder/times"
-    often "$folder/times" 10 "$domsyn" synth "$folder/yosys.blif" >"$folder/shown"
+    often "$folder/times" 10 "$domsyn" synth "$folder/yosys.blif" --style "$style" >"$folder/shown"
     # shellcheck disable=SC2046
     set -- $(texts counts "$folder/yosys.blif" "$folder/yosys.flat" "$folder/first.sp")
     devices=$6 number=$cycles
