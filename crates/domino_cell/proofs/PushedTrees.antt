@@ -1,12 +1,18 @@
 -- The devices of a tree, appended part by part.
-use Rattle.std.proofs.Common.{◌≡◌, ℕ, ◌+◌, ◌<◌, List, refl, sym, ap, ◌∙◌, arith}
+use Rattle.std.proofs.Common.{◌≡◌, ℕ, ◌+◌, ◌<◌, ◌≤◌, inl, inr, List, [], ◌∷◌, ◌++◌, length, refl, sym, ap, ◌∙◌, arith, length-append, zero-add}
+use Rattle.std.proofs.Math.Seq.{get_or-append_seam}
+use Rattle.std.proofs.lemmas.List.{get_or_append_left}
+use Rattle.dom_base.proofs.Decided.{lt_or_ge}
 use Rattle.dom_base.specs.declared.kind.Kind.{Kind}
 use Rattle.deck.specs.CircuitData.{CircuitData}
 use Rattle.deck.specs.NamedDevices.{with_devices}
 use Rattle.sp_network.specs.Tree.{Tree, Leaf, Series, Parallel, EachLeaf, dual, inner_count, leaves, map_tree}
 use Rattle.sp_network.proofs.TreeImages.{inner_count-map_tree}
 use Rattle.domino_cell.specs.Spelling.{spell}
+use Rattle.deck.specs.Nets.{net_name}
+use Rattle.domino_cell.specs.NamedTrees.{AreInnerNames, inner_net}
 use Rattle.domino_cell.proofs.CellCircuits.{with_devices-append}
+use Rattle.domino_cell.proofs.Spellings.{spell-same}
 
 -- a tree takes fewer inner nets than it has leaves
 pub inner_count-below : {Net : Type 0} (t : Tree Net) → inner_count t < leaves t
@@ -29,6 +35,22 @@ pub EachLeaf-dual : {Net : Type 0} (P : Net → Type 0) (t : Tree Net) → EachL
 EachLeaf-dual P (Leaf gate) h = h
 EachLeaf-dual P (Series l r) h = (EachLeaf-dual P l h.0, EachLeaf-dual P r h.1)
 EachLeaf-dual P (Parallel l r) h = (EachLeaf-dual P l h.0, EachLeaf-dual P r h.1)
+
+-- one more inner net
+pub AreInnerNames-push : (front : List ℕ) (names : List (List ℕ)) (name : List ℕ) → AreInnerNames front names → name ≡ inner_net front (length names)
+    → AreInnerNames front (names ++ name ∷ [])
+AreInnerNames-push front names name named is j low =
+    elim (lt_or_ge j (length names)) [
+      | inl before ↦ get_or_append_left names (name ∷ []) [] j before ∙ named j before
+      | inr behind ↦ let last : j ≡ length names = omega (arith, behind, low, length-append names (name ∷ [])) in
+          ap (net_name (names ++ name ∷ [])) last ∙ get_or-append_seam names name [] [] ∙ is ∙ ap (inner_net front) (sym last)
+    ]
+
+-- the devices of a tree over inner nets by names that are held
+pub spell_named : (front : List ℕ) (names : List (List ℕ)) (t : Tree (List ℕ)) (kind : Kind) (top bottom : List ℕ)
+    → inner_count t ≤ length names → AreInnerNames front names → spell kind (net_name names) t top bottom 0 ≡ spell kind (inner_net front) t top bottom 0
+spell_named front names t kind top bottom many named =
+    spell-same kind (net_name names) (inner_net front) t top bottom 0 0 (λ j lt. rw zero-add (named j (omega arith)))
 
 -- the devices of a tree between ends by other names
 pub renamed_ends : (c : CircuitData) (kind : Kind) (inner : ℕ → List ℕ) (t : Tree (List ℕ)) (k : ℕ) {top top' bottom bottom' : List ℕ}

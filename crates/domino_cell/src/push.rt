@@ -18,7 +18,7 @@ use crate::inverter::push_inverter;
 use crate::names::{CellNames, GateNames};
 use crate::numbers::keep_number;
 use crate::precharge::push_behind_precharge;
-use crate::tree::TreeNames;
+use crate::tree::{TreeNames, inner_names};
 use deck::{Circuit, NetAt, push_held};
 use dom_base::{Kind, NetName, OutOfMemory, ToVdd, ToVss};
 use sp_network::{GatePlan, Sp};
@@ -119,6 +119,7 @@ fn push_cell(
     ensures numbers { OnOk result (AreNumbersAt circuit.new.nets names.now numbers.new) }
     ensures grew { Grew circuit.old circuit.new }
 {
+    let inner = inner_names(alloc, nets.front.as_bytes(), &plan.tree)?;
     let cell = nets.nets_at(circuit, plan.clock);
     let precharge = push_held(circuit, Kind::P, cell.dynamic, cell.clock, cell.vdd)?;
     let first = match style {
@@ -127,16 +128,16 @@ fn push_cell(
     };
     let tree = TreeNames {
         gates: names,
-        front: nets.front.as_bytes(),
+        inner: &inner,
         first,
     };
     let dynamic = cell.dynamic.at(precharge.drain);
-    let held = push_behind_precharge(alloc, circuit, style, &plan.tree, nets, cell, dynamic)?;
+    let held = push_behind_precharge(circuit, style, nets, &inner, cell, dynamic)?;
     let output = NetAt {
         name: &nets.output,
         number: held,
     };
-    let (_, number) = tree.push(alloc, circuit, &plan.tree, dynamic, cell.foot, 0, numbers)?;
+    let (_, number) = tree.push(circuit, &plan.tree, dynamic, cell.foot, 0, numbers)?;
     let foot = cell.foot.at(number);
     push_held(circuit, Kind::N, foot, cell.clock, cell.vss)?;
     let last = push_inverter(circuit, dynamic, output, cell.vdd, cell.vss)?;
@@ -196,14 +197,16 @@ fn push_gate(
         ≡ with_devices circuit.old (static_gate out.now (named_tree names.now (tree_of tree.now)))) }
     ensures grew { Grew circuit.old circuit.new }
 {
+    let upper_inner = inner_names(alloc, nets.upper.as_bytes(), upper)?;
+    let lower_inner = inner_names(alloc, nets.lower.as_bytes(), tree)?;
     let to_vdd = TreeNames {
         gates: names,
-        front: nets.upper.as_bytes(),
+        inner: &upper_inner,
         first: None,
     };
     let to_vss = TreeNames {
         gates: names,
-        front: nets.lower.as_bytes(),
+        inner: &lower_inner,
         first: None,
     };
     let out = NetAt::named(out);
@@ -211,9 +214,9 @@ fn push_gate(
     let vss = NetAt::named(&nets.vss);
     let mut upper_numbers = Vec::new(alloc);
     let upper_numbers = upper_numbers.as_mut_slice();
-    to_vdd.push(alloc, circuit, upper, out, vdd, 0, upper_numbers)?;
+    to_vdd.push(circuit, upper, out, vdd, 0, upper_numbers)?;
     let mut lower_numbers = Vec::new(alloc);
     let lower_numbers = lower_numbers.as_mut_slice();
-    to_vss.push(alloc, circuit, tree, out, vss, 0, lower_numbers)?;
+    to_vss.push(circuit, tree, out, vss, 0, lower_numbers)?;
     Ok(())
 }

@@ -8,7 +8,8 @@ ghost use Rattle.deck.specs.NetsAt.{StandsAt};
 ghost use Rattle.sp_network.specs.Tree.{EachLeaf, inner_count, leaves};
 ghost use Rattle.sp_network.specs.TypedTree.{tree_of};
 ghost use Rattle.domino_cell.specs.NetsAt.{AreNumbersAt};
-ghost use Rattle.domino_cell.specs.NamedTrees.{inner_net, named_tree};
+ghost use Rattle.deck.specs.Nets.{net_name};
+ghost use Rattle.domino_cell.specs.NamedTrees.{AreInnerNames, named_tree};
 ghost use Rattle.domino_cell.specs.Spelling.{spell};
 
 use crate::numbers::{number_of, set_number};
@@ -17,13 +18,13 @@ use dom_base::{NetName, OutOfMemory, Polarity};
 use sp_network::Sp;
 use std::alloc::Global;
 
-/// The names of the nets of a tree: gate by gate the net that gates it, and how each inner net
-/// begins, before its number. Where inner nets stand in the circuit already, in order, `first` is the number of
-/// the first of them.
+/// The names of the nets of a tree: gate by gate the net that gates it, and its inner nets by their
+/// numbers. Where inner nets stand in the circuit already, in order, `first` is the number of the first
+/// of them.
 #[derive(Clone, Copy)]
 pub struct TreeNames<'a> {
     pub gates: &'a [NetName],
-    pub front: &'a [u8],
+    pub inner: &'a [NetName],
     pub first: Option<u32>,
 }
 
@@ -36,7 +37,6 @@ impl<'a> TreeNames<'a> {
     #[tactic(auto, using(crate::proofs::PushedTrees::tree_counts))]
     pub fn push<S: Polarity>(
         &self,
-        alloc: Global,
         circuit: &mut Circuit,
         tree: &Sp<S>,
         top: NetAt<'_>,
@@ -45,15 +45,15 @@ impl<'a> TreeNames<'a> {
         numbers: &mut [Option<u32>],
     ) -> Result<(u32, u32), OutOfMemory>
         requires gates { EachLeaf (λ gate. gate < length self.now.gates.now) (tree_of tree.now) }
-        requires front { All IsNetByte self.now.front.now }
         requires room { length circuit.old.devices + leaves (tree_of tree.now) ≤ most_devices }
-        requires inner_numbers { inner + inner_count (tree_of tree.now) < 2 ^ 32 }
+        requires inner_numbers { inner + inner_count (tree_of tree.now) ≤ length self.now.inner.now }
+        requires inner_few { inner + inner_count (tree_of tree.now) < 2 ^ 32 }
         requires top { StandsAt circuit.old.nets top.number top.name.now }
         requires bottom { StandsAt circuit.old.nets bottom.number bottom.name.now }
         requires numbers { AreNumbersAt circuit.old.nets self.now.gates.now numbers.old }
         ensures next { IfOk result (λ p. p.0 ≡ inner + inner_count (tree_of tree.now)) }
         ensures devices { OnOk result (circuit.new ≡ with_devices circuit.old
-            (spell S.KIND (inner_net self.now.front.now) (named_tree self.now.gates.now (tree_of tree.now)) top.entry.name.now bottom.entry.name.now inner)) }
+            (spell S.KIND (net_name self.now.inner.now) (named_tree self.now.gates.now (tree_of tree.now)) top.entry.name.now bottom.entry.name.now inner)) }
         ensures count { OnOk result (length circuit.new.devices ≡ length circuit.old.devices + leaves (tree_of tree.now)) }
         ensures grew { Grew circuit.old circuit.new }
         ensures stands { IfOk result (λ p. slice_get circuit.new.nets p.1 ≡ Some bottom.entry.name.now) }
@@ -71,37 +71,48 @@ impl<'a> TreeNames<'a> {
                 Ok((inner, device.source))
             }
             Sp::Series(left, right) => {
-                let name = numbered_name(alloc, self.front, inner)?;
                 let middle = NetAt {
-                    name: &name,
+                    name: &self.inner[inner as usize],
                     number: self.first.and_then(|first| first.checked_add(inner)),
                 };
                 let middle = middle.checked(circuit);
-                let (next, number) = self.push(
-                    alloc,
-                    circuit,
-                    left,
-                    top,
-                    middle,
-                    inner + 1,
-                    numbers,
-                )?;
+                let (next, number) = self.push(circuit, left, top, middle, inner + 1, numbers)?;
                 let middle = middle.at(number);
                 let bottom = bottom.checked(circuit);
-                self.push(alloc, circuit, right, middle, bottom, next, numbers)
+                self.push(circuit, right, middle, bottom, next, numbers)
             }
             Sp::Parallel(left, right) => {
-                let (next, number) = self.push(alloc, circuit, left, top, bottom, inner, numbers)?;
+                let (next, number) = self.push(circuit, left, top, bottom, inner, numbers)?;
                 let top = top.checked(circuit);
                 let bottom = bottom.at(number);
-                self.push(alloc, circuit, right, top, bottom, next, numbers)
+                self.push(circuit, right, top, bottom, next, numbers)
             }
         }
     }
 }
 
+/// The names of the inner nets of a tree, which begin so, by their numbers. It fails only for want of memory.
+pub fn inner_names<S: Polarity>(
+    alloc: Global,
+    front: &[u8],
+    tree: &Sp<S>,
+) -> Result<Vec<NetName>, OutOfMemory>
+    requires front { All IsNetByte front.now }
+    requires few { inner_count (tree_of tree.now) < 2 ^ 32 }
+    ensures count { IfOk result (λ names. length names.items ≡ inner_count (tree_of tree.now)) }
+    ensures names { IfOk result (λ names. AreInnerNames front.now names.items) }
+{
+    let count = inner_nets(tree);
+    let mut names = Vec::with_capacity(alloc, count as usize)?;
+    'inners: for inner in 0..count {
+        let name = numbered_name(alloc, front, inner)?;
+        names.push(name)?;
+    }
+    Ok(names)
+}
+
 /// The number of inner nets of a tree. It takes no memory.
-pub fn inner_nets<S: Polarity>(tree: &Sp<S>) -> u32
+fn inner_nets<S: Polarity>(tree: &Sp<S>) -> u32
     requires { inner_count (tree_of tree.now) < 2 ^ 32 }
     ensures { result ≡ inner_count (tree_of tree.now) }
 {

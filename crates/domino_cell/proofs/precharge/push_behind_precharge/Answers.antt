@@ -1,9 +1,7 @@
-use Rattle.std.proofs.Common.{◌≡◌, ap, arith, length, subst}
+use Rattle.std.proofs.Common.{ap, arith, length, subst}
 use Rattle.deck.specs.CircuitData.{CircuitData}
 use Rattle.deck.specs.NetsAt.{StandsAt}
 use Rattle.deck.proofs.NetsAt.{StandsAt-grew}
-use Rattle.sp_network.specs.Tree.{inner_count}
-use Rattle.sp_network.specs.TypedTree.{tree_of}
 use Rattle.domino_cell.specs.HeldNames.{held_nets}
 use Rattle.domino_cell.specs.StyledCells.{behind_count, inner_precharges}
 use Rattle.domino_cell.proofs.CellCircuits.{count_with}
@@ -14,10 +12,10 @@ pub returns-in_ok-push_inner_precharges-in-Precharge-clause-count :
     goal.returns-in_ok-push_inner_precharges-in-Precharge-clause-count
 returns-in_ok-push_inner_precharges-in-Precharge-clause-count c =
     let nets = held_nets c.args.nets.now in
-    let n = c.inner_nets-count.result in
+    let n = length c.args.inner.now in
     let many = ap (λ (d : CircuitData). length d.devices) c.in_ok-push_inner_precharges-in-Precharge.ensures.devices in
-    let style = ap (λ s. behind_count s (inner_count (tree_of c.args.tree.now))) c.in-Precharge.is in
-    omega (arith, many, count_with c.args.circuit.now (inner_precharges nets 0 n), length-inner nets 0 n, c.inner_nets-count.ensures, style)
+    let style = ap (λ s. behind_count s n) c.in-Precharge.is in
+    omega (arith, many, count_with c.args.circuit.now (inner_precharges nets 0 n), length-inner nets 0 n, style)
 
 pub returns-in_ok-push_inner_precharges-in-Precharge-clause-output :
     goal.returns-in_ok-push_inner_precharges-in-Precharge-clause-output

@@ -1,4 +1,4 @@
-use Rattle.std.proofs.Common.{ap, arith, sym, ◌∙◌}
+use Rattle.std.proofs.Common.{ap, arith, length, subst, sym, ◌∙◌}
 use Rattle.deck.specs.NamedDevices.{with_devices}
 use Rattle.deck.specs.Nets.{net_name}
 use Rattle.deck.specs.Pushes.{pushed}
@@ -9,19 +9,19 @@ use Rattle.sp_network.specs.TypedTree.{tree_of}
 use Rattle.sp_network.proofs.TreeImages.{inner_count-map_tree}
 use Rattle.domino_cell.specs.Cell.{inverter}
 use Rattle.domino_cell.specs.HeldNames.{held_nets}
-use Rattle.domino_cell.specs.NamedTrees.{inner_net, named_tree}
+use Rattle.domino_cell.specs.NamedTrees.{AreInnerNames, named_tree}
 use Rattle.domino_cell.specs.Spelling.{spell}
 use Rattle.domino_cell.specs.StyledCells.{behind_precharge}
 use Rattle.domino_cell.proofs.CellCircuits.{cell_devices_pushed}
 use Rattle.domino_cell.proofs.NetsAt.{AreNumbersAt-grew, StandInCircuit-grew}
-use Rattle.domino_cell.proofs.PushedTrees.{inner_count-below}
+use Rattle.domino_cell.proofs.PushedTrees.{inner_count-below, spell_named}
 use Rattle.domino_cell.proofs.push.push_cell.Goals as goal
 
-pub push_behind_precharge-requires-clause-few : goal.push_behind_precharge-requires-clause-few
-push_behind_precharge-requires-clause-few c = omega (arith, c.requires.room, inner_count-below (tree_of c.args.plan.now.tree))
+pub inner_names-requires-clause-few : goal.inner_names-requires-clause-few
+inner_names-requires-clause-few c = omega (arith, c.requires.room, inner_count-below (tree_of c.args.plan.now.tree))
 
-pub push-requires-clause-inner_numbers : goal.push-requires-clause-inner_numbers
-push-requires-clause-inner_numbers c = omega (arith, c.requires.room, inner_count-below (tree_of c.args.plan.now.tree))
+pub push-requires-clause-inner_few : goal.push-requires-clause-inner_few
+push-requires-clause-inner_few c = omega (arith, c.requires.room, inner_count-below (tree_of c.args.plan.now.tree))
 
 pub returns-in_err-precharge-clause-grew : goal.returns-in_err-precharge-clause-grew
 returns-in_err-precharge-clause-grew c = c.push_held.ensures.grew
@@ -146,11 +146,18 @@ returns-clause-devices c =
     let nets = held_nets c.args.nets.now in
     let dynamic = c.at-dynamic.ensures.name ∙ is.dynamic in
     let foot = c.at-foot.ensures.name ∙ is.foot in
-    let front = c.as_bytes.ensures.bytes in
+    let inner = c.deref.result.now in
+    let count = ap length c.deref.ensures.value ∙ c.in_ok-inner.ensures.count in
+    let count_behind = ap length c.deref-2.ensures.value ∙ c.in_ok-inner.ensures.count in
+    let named : AreInnerNames c.args.nets.now.front inner =
+    subst (λ front. AreInnerNames front inner) c.as_bytes.ensures.bytes
+    (subst (AreInnerNames c.as_bytes.result.now) (sym c.deref.ensures.value) c.in_ok-inner.ensures.names) in
     let same = inner_count-map_tree (net_name c.args.names.now) (tree_of c.args.plan.now.tree) in
     cell_devices_pushed c.args.style c.args.circuit.now c.push_held.new.circuit c.push_behind_precharge.new.circuit c.push.new.circuit c.push_held-2.new.circuit c.push_inverter.new.circuit nets tree
     (c.in_ok-precharge.ensures.ok ∙ (λ i. pushed c.args.circuit.now pch (is.dynamic i) (is.clock i) (is.vdd i)))
-    (c.in_ok-held.ensures.devices ∙ ap (λ n. with_devices c.push_held.new.circuit (behind_precharge c.args.style nets n)) (sym same))
-    (c.in_ok-number.ensures.devices ∙ (λ i. with_devices c.push_behind_precharge.new.circuit (spell nch (inner_net (front i)) tree (dynamic i) (is.foot i) 0)))
+    (c.in_ok-held.ensures.devices ∙ ap (λ n. with_devices c.push_held.new.circuit (behind_precharge c.args.style nets n)) (count_behind ∙ sym same))
+    (c.in_ok-number.ensures.devices
+    ∙ (λ i. with_devices c.push_behind_precharge.new.circuit (spell nch (net_name inner) tree (dynamic i) (is.foot i) 0))
+    ∙ ap (with_devices c.push_behind_precharge.new.circuit) (spell_named c.args.nets.now.front inner tree nch nets.dynamic nets.foot (omega (arith, count, same)) named))
     (c.in_ok-push_held.ensures.ok ∙ (λ i. pushed c.push.new.circuit nch (foot i) (is.clock i) (is.vss i)))
     (c.in_ok-last.ensures.devices ∙ (λ i. with_devices c.push_held-2.new.circuit (inverter (is.vdd i) (is.vss i) (dynamic i) nets.output)))
