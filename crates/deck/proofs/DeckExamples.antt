@@ -8,6 +8,7 @@ use Rattle.deck.specs.CircuitData.{CircuitData}
 use Rattle.deck.specs.DeckText.{is_skipped, deck_cards, deck_phases, deck_card_lines, BeginsACard, bare_circuit, HasNoEquals, IsDeckOf}
 use Rattle.deck.specs.NamedDevices.{NamedDevice, with_devices}
 use Rattle.deck.specs.Worked.{and_devices}
+use Rattle.deck.proofs.FlatDecks.{flat_is_deck}
 use Rattle.dom_base.proofs.Names.{names_equal}
 use Rattle.dom_base.proofs.Lists.{All-from_test}
 
@@ -113,7 +114,7 @@ and_pushed = refl
 -- the text of an And is a deck, and its circuit is the one above
 and_is_deck : IsDeckOf and_text and_circuit
 unfolding and_ports and_named_devices and_device_cards
-and_is_deck = record {
+and_is_deck = flat_is_deck and_text and_circuit (record {
   name = codes "and2";
   ports = and_ports;
   device_cards = and_device_cards;
@@ -156,7 +157,7 @@ and_is_deck = record {
     ),
   );
   circuit_is = sym and_pushed ∙ ap (λ phases. with_devices (bare_circuit (codes "and2") phases and_ports) and_named_devices) (sym and_phases);
-}
+})
 
 -- CR at the ends of lines, indents and tabs, upper-case letters, an empty line and comments before lines with `+`,
 -- cards `.model`, words behind the model of a device, and lines behind `.end`; `*phase x -` has three words and gives no phase

@@ -1,4 +1,5 @@
 pub mod CircuitGrowth
+pub mod Counts
 pub mod Cuts
 pub mod DeckCircuits
 pub mod DeckExamples
@@ -7,12 +8,13 @@ pub mod DeckUnique
 pub mod DeviceNumbers
 pub mod EscapedNames
 pub mod Escaping
+pub mod FlatDecks
+pub mod InnerNames
 pub mod JoinedNames
 pub mod KnownNumbers
 pub mod NetNames
 pub mod NetNumbers
 pub mod NetsAt
-pub mod OneCircuit
 pub mod PortDecisions
 pub mod PortLayout
 pub mod PortOrder

@@ -1,5 +1,5 @@
--- The cards of a deck, each with the number of its first line (SPICE subcircuit and M cards).
-use Rattle.std.specs.Prelude.{ℕ, Bool, true, false, ◌==◌, ◌||◌, ◌&&◌, not, nat_eq, nat_lt, if◌then◌else◌, List, [], ◌∷◌, ◌++◌, map, filter, length, drop, slice_index, slice_index_or, Option, Some, None, codes}
+-- The cards of a deck, each with the number of its first line (SPICE subcircuits, M and X cards).
+use Rattle.std.specs.Prelude.{ℕ, Bool, true, false, ◌-◌, ◌==◌, ◌||◌, ◌&&◌, not, nat_eq, nat_lt, if◌then◌else◌, List, [], ◌∷◌, ◌++◌, map, filter, length, take, drop, slice_index, slice_index_or, Option, Some, None, codes}
 use Rattle.std.specs.List.{list_any, find, enumerate_from}
 use Rattle.std.specs.Set.{distinct_count}
 use Rattle.std.specs.Cmp.Lexicographic.{pointwise}
@@ -8,6 +8,7 @@ use Rattle.dom_base.specs.declared.kind.Kind.{Kind}
 use Rattle.dom_base.specs.declared.kind.Kind.TheVariants.{N as nch, P as pch, Keep}
 use Rattle.deck.specs.DeckText.{deck_lines, is_of_card, continues, added_words}
 use Rattle.deck.specs.NamedDevices.{NamedDevice}
+use Rattle.deck.specs.Subckts.{Call}
 
 -- a card of a deck: the number of its first line, from 1, and its words
 pub record NumberedCard : Type 0 where
@@ -54,7 +55,7 @@ has_first_word word card = pointwise nat_eq (first_word card.words) word
 abbrev pub is_device : NumberedCard → Bool
 is_device card = slice_index (first_word card.words) 0 == 109
 
--- a card that is known
+-- a card that is known, and is no call
 abbrev pub is_deck_card : NumberedCard → Bool
 is_deck_card card =
     is_device card || has_first_word dot_subckt card || has_first_word dot_ends card || has_first_word dot_end card
@@ -64,7 +65,7 @@ is_deck_card card =
 abbrev pub has_equals : List ℕ → Bool
 has_equals word = list_any (λ b. b == 61) word
 
--- a known card in its form: a device has at least six words, `.subckt` has a name and no word with `=`,
+-- such a card in its form: a device has at least six words, `.subckt` has a name and no word with `=`,
 -- `.ends` has at most one word behind it, and `.end` and `.model` have any words
 abbrev pub is_deck_form : NumberedCard → Bool
 is_deck_form card =
@@ -97,6 +98,29 @@ port_names card = drop 2 card.words
 abbrev pub names_twice : NumberedCard → Bool
 names_twice card = nat_lt (distinct_count (pointwise nat_eq) (port_names card)) (length (port_names card))
 
+-- the card of a call: its first letter is `x`
+abbrev pub is_call : NumberedCard → Bool
+is_call card = slice_index (first_word card.words) 0 == 120
+
+-- a card that is known
+abbrev pub is_known_card : NumberedCard → Bool
+is_known_card card = is_call card || is_deck_card card
+
+-- a known card in its form: a call has at least two words, and none with `=`
+abbrev pub is_known_form : NumberedCard → Bool
+is_known_form card = if is_call card then nat_lt 1 (length card.words) && not (list_any has_equals card.words) else is_deck_form card
+
+-- the nets that a call passes: the words between the first and the last
+abbrev pub passed_nets : NumberedCard → List (List ℕ)
+passed_nets card = take (length card.words - 2) (drop 1 card.words)
+
+-- the subcircuit that a call names: the last word
+abbrev pub unit_word : NumberedCard → List ℕ
+unit_word card = word_at card (length card.words - 1)
+
+abbrev pub call_of_card : NumberedCard → Call
+call_of_card card = record { name = first_word card.words; nets = passed_nets card; unit = unit_word card }
+
 -- What stands before a card is given as the cards before it, the nearest first.
 
 -- the first of some cards, if there is one, begins with this word
@@ -111,7 +135,3 @@ is_open before = begins_some dot_subckt (find (λ card. has_first_word dot_subck
 -- a `.subckt` stands before
 abbrev pub has_subckt : List NumberedCard → Bool
 has_subckt before = list_any (has_first_word dot_subckt) before
-
--- how many devices stand before
-abbrev pub device_count : List NumberedCard → ℕ
-device_count before = length (filter is_device before)

@@ -1,6 +1,6 @@
--- The circuit of a deck, the text of one subcircuit of transistors (SPICE subcircuit and M cards).
-use Rattle.std.specs.Prelude.{ℕ, ◌≤◌, ◌≡◌, ◌≢◌, Bool, true, false, ◌==◌, ◌||◌, ◌&&◌, not, if◌then◌else◌, List, [], ◌∷◌, ◌++◌, length, map, filter, take, drop, Option, Some, None, All, nat_eq, codes}
-use Rattle.std.specs.List.{AllZip, IsDistinct, filter_map, list_any}
+-- The circuit of a deck, the text of subcircuits of transistors that may call one another (SPICE subcircuits, M and X cards).
+use Rattle.std.specs.Prelude.{ℕ, ◌≤◌, ◌≡◌, ◌≢◌, Bool, true, false, ◌==◌, ◌||◌, ◌&&◌, not, if◌then◌else◌, List, [], ◌∷◌, ◌++◌, length, map, filter, take, drop, reverse, Option, Some, None, All, nat_eq, codes, IsSomeAnd}
+use Rattle.std.specs.List.{AllZip, IsDistinct, filter_map, flat_map, list_any}
 use Rattle.std.specs.Str.{str_to_ascii_lowercase}
 use Rattle.std.specs.Cmp.Lexicographic.{pointwise}
 use Rattle.dom_base.specs.Names.{IsNetName}
@@ -9,8 +9,9 @@ use Rattle.dom_base.specs.declared.kind.Kind.{Kind}
 use Rattle.dom_base.specs.declared.kind.Kind.TheVariants.{N as nch, P as pch, Keep}
 use Rattle.deck.specs.declared.phase.Phase.{Phase}
 use Rattle.deck.specs.CircuitData.{CircuitData}
-use Rattle.deck.specs.Limits.{most_devices, most_ports}
+use Rattle.deck.specs.Limits.{most_depth, most_devices, most_ports}
 use Rattle.deck.specs.NamedDevices.{NamedDevice, with_devices}
+use Rattle.deck.specs.Subckts.{Call, SubcktPart, Single, Called, Subckt, Size, size_named, size, sizes, expansion, expansions}
 
 -- a line as it is read: without blanks and tabs at its start, and with upper-case ASCII letters as lower-case
 abbrev pub read_line : List ℕ → List ℕ
@@ -105,28 +106,61 @@ bare_circuit name phases ports = record { name = name; phases = phases; ports = 
 abbrev pub HasNoEquals : List ℕ → Type 0
 HasNoEquals word = All (λ b. b ≢ 61) word
 
--- the text is a deck, and the circuit is its circuit
-pub record IsDeckOf (text : List ℕ) (circuit : CircuitData) : Type 0 where
+-- the card of a call: a name that begins with `x`, the nets, and the name of the subcircuit; no word has `=`
+pub record IsCallCard (card : List (List ℕ)) (call : Call) : Type 0 where
   pub name : List ℕ
-  pub ports : List (List ℕ)
-  pub device_cards : List (List (List ℕ))
-  pub devices : List (NamedDevice (List ℕ))
-  -- the words behind `.ends`
+  pub name_is : call.name ≡ 120 ∷ name
+  pub words_are : card ≡ call.name ∷ call.nets ++ call.unit ∷ []
+  pub no_equals : All HasNoEquals card
+
+-- the card of a part
+abbrev pub IsPartCard : List (List ℕ) → SubcktPart → Type 0
+IsPartCard card (Single device) = IsDeviceCard card device
+IsPartCard card (Called call) = IsCallCard card call
+
+-- the cards of a subcircuit: `.subckt`, those of its parts, and `.ends` with at most one more word
+pub record AreSubcktCards (cards : List (List (List ℕ))) (s : Subckt) : Type 0 where
+  pub part_cards : List (List (List ℕ))
   pub closing : List (List ℕ)
+  pub cards_are : cards ≡ (codes ".subckt" ∷ s.name ∷ s.ports) ∷ part_cards ++ (codes ".ends" ∷ closing) ∷ []
+  pub parts_are : AllZip IsPartCard part_cards s.parts
+  pub few_closing : length closing ≤ 1
+
+-- a call names a subcircuit above, which has as many ports as nets are passed
+abbrev pub IsCallOver : List Size → SubcktPart → Type 0
+IsCallOver above (Single device) = Unit {0}
+IsCallOver above (Called call) = IsSomeAnd (size_named call.unit above) (λ s. s.ports ≡ length call.nets)
+
+-- what holds of a subcircuit, by those above it
+pub record IsSubcktOver (above : List Subckt) (s : Subckt) : Type 0 where
+  pub new_name : All (λ t. t.name ≢ s.name) above
+  pub no_equals : All HasNoEquals (s.name ∷ s.ports)
+  pub ports_differ : IsDistinct (pointwise nat_eq) s.ports
+  pub few_ports : length s.ports ≤ most_ports
+  pub calls : All (IsCallOver (sizes above)) s.parts
+  pub few_devices : (size (sizes above) s).devices ≤ most_devices
+  pub shallow : (size (sizes above) s).depth ≤ most_depth
+
+-- the same of each of some subcircuits
+abbrev pub AreSubckts : List Subckt → Type 0
+AreSubckts [] = Unit {0}
+AreSubckts (s ∷ above) = IsSubcktOver above s × AreSubckts above
+
+-- the text is a deck, and the circuit is its circuit: its last subcircuit, expanded
+pub record IsDeckOf (text : List ℕ) (circuit : CircuitData) : Type 0 where
+  pub last : Subckt
+  -- the subcircuits above it, the nearest first
+  pub above : List Subckt
+  pub groups : List (List (List (List ℕ)))
   -- no line with `+` stands before the first card
   pub begins : BeginsACard (deck_card_lines text)
   -- no card has a control byte
   pub visible : All (All (All (λ b. is_control b ≡ false))) (deck_cards text)
-  -- but for `.model` and `.end`, the cards are `.subckt`, those of the devices, and `.ends`
-  pub order : filter (λ card. not (is_skipped card)) (deck_cards text)
-      ≡ (codes ".subckt" ∷ name ∷ ports) ∷ device_cards ++ (codes ".ends" ∷ closing) ∷ []
-  pub few_closing : length closing ≤ 1
-  pub no_equals : All HasNoEquals (name ∷ ports)
-  pub ports_differ : IsDistinct (pointwise nat_eq) ports
-  pub few_ports : length ports ≤ most_ports
-  pub few_devices : length devices ≤ most_devices
-  pub cards_are : AllZip IsDeviceCard device_cards devices
-  pub circuit_is : circuit ≡ with_devices (bare_circuit name (deck_phases text) ports) devices
+  -- but for `.model` and `.end`, the cards are those of the subcircuits, one behind the other
+  pub order : filter (λ card. not (is_skipped card)) (deck_cards text) ≡ flat_map (λ group. group) groups
+  pub groups_are : AllZip AreSubcktCards groups (reverse (last ∷ above))
+  pub sound : AreSubckts (last ∷ above)
+  pub circuit_is : circuit ≡ with_devices (bare_circuit last.name (deck_phases text) last.ports) (expansion (expansions above) last).devices
 
 -- a circuit whose name and ports can stand on a card `.subckt`
 pub record IsGoodCircuit (c : CircuitData) : Type 0 where

@@ -1,4 +1,3 @@
-pub mod CardsWithCalls
 pub mod CircuitData
 pub mod CircuitGrowth
 pub mod Cuts
@@ -6,9 +5,7 @@ pub mod DeckCards
 pub mod DeckFaults
 pub mod DeckKinds
 pub mod DeckText
-pub mod DecksWithCalls
 pub mod Escapes
-pub mod FaultsWithCalls
 pub mod Limits
 pub mod NamedDevices
 pub mod Nets
@@ -24,6 +21,7 @@ pub mod Pushes
 pub mod Reach
 pub mod Roles
 pub mod Sources
+pub mod SubcktCards
 pub mod Subckts
 pub mod Switches
 pub mod Whole

@@ -18,3 +18,7 @@ most_ports = 2 ^ 20
 
 abbrev pub most_devices : ℕ
 most_devices = 2 ^ 24
+
+-- the greatest depth of a subcircuit that calls others
+abbrev pub most_depth : ℕ
+most_depth = 64

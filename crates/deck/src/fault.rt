@@ -14,20 +14,25 @@ pub enum DeckKind {
     BadCard,
     /// 4: a device whose model is none of `nch`, `pch` and `pkeep`.
     UnknownDevice,
-    /// 5: a device or `.ends` where no subcircuit is open, or a deck without `.subckt`.
+    /// 5: a device, a call or `.ends` where no subcircuit is open, or a deck without `.subckt`.
     NoSubckt,
-    /// 6: a `.subckt` after another.
+    /// 6: a `.subckt` while another is open, or with the name of an earlier one.
     SecondSubckt,
-    /// 7: a deck that ends with its subcircuit open.
+    /// 7: a deck that ends with a subcircuit open.
     NotClosed,
     /// 8: a `.subckt` that names a port twice.
     DuplicatePort,
-    /// 9: a device after 16,777,216 others, or more than 1,048,576 ports.
+    /// 9: a device or a call with which a subcircuit stands for more than 16,777,216 devices, a call with
+    /// which it is deeper than 64, or more than 1,048,576 ports.
     TooMany,
+    /// 10: a call of no subcircuit that was closed before.
+    UnknownSubckt,
+    /// 11: a call with another number of nets than the subcircuit has ports.
+    WrongCount,
 }
 
 impl DeckKind {
-    /// The number of the kind, from 1 to 9. Of two faults of a line the one with the smaller number
+    /// The number of the kind, from 1 to 11. Of two faults of a line the one with the smaller number
     /// is reported.
     pub fn number(self) -> u64
         ensures { result ≡ deck_kind_number self }
@@ -42,6 +47,8 @@ impl DeckKind {
             DeckKind::NotClosed => 7,
             DeckKind::DuplicatePort => 8,
             DeckKind::TooMany => 9,
+            DeckKind::UnknownSubckt => 10,
+            DeckKind::WrongCount => 11,
         }
     }
 
@@ -59,6 +66,8 @@ impl DeckKind {
             DeckKind::NotClosed => "NotClosed",
             DeckKind::DuplicatePort => "DuplicatePort",
             DeckKind::TooMany => "TooMany",
+            DeckKind::UnknownSubckt => "UnknownSubckt",
+            DeckKind::WrongCount => "WrongCount",
         }
     }
 }

@@ -20,7 +20,7 @@ pub use circuit::Circuit;
 pub use device::Device;
 pub use escape::{esc, escapes_differ};
 pub use fault::DeckKind;
-pub use limits::{MOST_CLOCKS, MOST_DEVICES, MOST_PORTS, UNCLOCKED_COUNT};
+pub use limits::{MOST_CLOCKS, MOST_DEPTH, MOST_DEVICES, MOST_PORTS, UNCLOCKED_COUNT};
 pub use names::{copied, fixed_name, joined_name, numbered_name};
 pub use net_at::NetAt;
 pub use number::NetSet;

@@ -12,3 +12,6 @@ pub const MOST_PORTS: u32 = 1_048_576;
 
 /// The greatest number of devices.
 pub const MOST_DEVICES: u32 = 16_777_216;
+
+/// The greatest depth of a subcircuit: one without calls has depth 0.
+pub const MOST_DEPTH: u32 = 64;

@@ -5,7 +5,7 @@ use Rattle.std.specs.Cmp.Lexicographic.{pointwise}
 use Rattle.std.specs.Fmt.{decimal}
 use Rattle.std.proofs.lemmas.List.{length-map, map-append}
 use Rattle.deck.specs.declared.device.Device.{Device}
-use Rattle.deck.specs.DeckText.{bare_circuit}
+use Rattle.deck.specs.DeckText.{bare_circuit, IsCallOver}
 use Rattle.deck.specs.Limits.{most_devices, most_ports}
 use Rattle.deck.specs.NamedDevices.{named_device, map_device}
 use Rattle.deck.specs.Nets.{ends, numbers_used, IsCircuit}
@@ -13,7 +13,6 @@ use Rattle.deck.specs.NumberedDevices.{IsNumberedDevice, numbered_device}
 use Rattle.deck.proofs.CircuitGrowth.{with_devices-grew, with_devices-devices, with_devices-numbered}
 use Rattle.deck.proofs.DeviceNumbers.{IsCircuit-with_devices}
 use Rattle.deck.specs.Subckts.{Call, SubcktPart, Called, Expansion, Size, passed_net, call_devices, part_devices, size_named, part_depth, depth_over}
-use Rattle.deck.specs.DecksWithCalls.{IsCallOver}
 use Rattle.spice_text.specs.Cells.{supplies, group_cell, group_shape, same_cell_shape, shape_number, cell_name, cell_ports}
 use Rattle.deck_calls.proofs.CellNames.{ports_apart}
 use Rattle.deck_calls.proofs.CellSubckts.{cell_expansion, cell_size, found_by_name}

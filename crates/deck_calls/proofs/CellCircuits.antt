@@ -8,7 +8,7 @@ use Rattle.indexmap.specs.IndexSet.{insert_key, insert_all}
 use Rattle.dom_base.proofs.Lists.{AllByRecursion-append, AllByRecursion-groups, AllByRecursion-weaker, AllByRecursion-reverse}
 use Rattle.deck.specs.declared.device.Device.{Device}
 use Rattle.deck.specs.CircuitData.{CircuitData}
-use Rattle.deck.specs.DeckText.{bare_circuit, HasNoEquals}
+use Rattle.deck.specs.DeckText.{bare_circuit, HasNoEquals, IsCallOver, AreSubckts}
 use Rattle.deck.specs.Limits.{most_devices, most_ports}
 use Rattle.deck.specs.NamedDevices.{named_device, with_devices}
 use Rattle.deck.specs.Nets.{net_name, with_net, IsCircuit, IsInRange}
@@ -16,11 +16,10 @@ use Rattle.deck.specs.Pushes.{pushed}
 use Rattle.deck.proofs.DeviceNumbers.{IsCircuit-ports, devices_in_range}
 use Rattle.deck.proofs.NetNumbers.{IsDistinct-take}
 use Rattle.deck.specs.Subckts.{Subckt, expansion, expansions, size, sizes, part_devices, part_depth}
-use Rattle.deck.specs.DecksWithCalls.{IsCallOver, AreSubckts}
 use Rattle.spice_text.specs.Cells.{supplies, groups_from, group_cell, group_shape, same_cell_shape, shapes_of, cell_name, HasCells}
 use Rattle.deck_calls.proofs.CellCalls.{calls_of, IsCalled, is_cell, calls_expand, calls_over, calls_shallow, groups_called}
 use Rattle.deck_calls.proofs.CellSubckts.{cell_subckt, cells_expand, cells_sized}
-use Rattle.subckt_expand.proofs.Counts.{size_counts}
+use Rattle.deck.proofs.Counts.{size_counts}
 use Rattle.spice_text.proofs.Groups.{groups_all, groups_count, groups_short, rises_far}
 use Rattle.deck_calls.proofs.NumberedShapes.{numbered_back, numbers_few, numbers_fall, cells_over, IsCellShape}
 use Rattle.subckt_expand.proofs.MoreClosed.{all_index}

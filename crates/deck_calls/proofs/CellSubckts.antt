@@ -1,13 +1,14 @@
 -- The subcircuits of shapes: their expansions and sizes, and how one is found by its number.
-use Rattle.std.proofs.Common.{◌≡◌, ℕ, ◌<◌, ◌≢◌, ◌+◌, ◌^◌, max, Bool, true, false, nat_eq, ◌||◌, List, [], ◌∷◌, map, length, find, fold, sum_by, Some, codes, refl, ap, sym, ◌∙◌, arith}
-use Rattle.std.specs.List.{AllByRecursion, flat_map, list_any}
+use Rattle.std.proofs.Common.{◌≡◌, ℕ, ◌<◌, ◌≢◌, ◌^◌, Bool, true, false, nat_eq, ◌||◌, List, [], ◌∷◌, map, length, find, sum_by, Some, codes, refl, ap, sym, ◌∙◌, arith}
+use Rattle.std.specs.List.{AllByRecursion, list_any}
 use Rattle.std.specs.Cmp.Lexicographic.{pointwise}
 use Rattle.std.proofs.lemmas.Bool.Decides.{Decides-eqb}
 use Rattle.std.proofs.lemmas.List.{length-map}
 use Rattle.deck.specs.declared.device.Device.{Device}
 use Rattle.deck.specs.NamedDevices.{NamedDevice, named_device}
-use Rattle.deck.specs.Subckts.{Single, Subckt, Expansion, Size, part_devices, expansion, expansions, part_count, part_depth, size, sizes}
+use Rattle.deck.specs.Subckts.{Single, Subckt, Expansion, Size, expansion, expansions, part_count, size, sizes}
 use Rattle.spice_text.specs.Cells.{cell_name, cell_ports}
+use Rattle.deck.proofs.FlatDecks.{singles_count, singles_depth, singles_expand}
 use Rattle.deck.proofs.NetNumbers.{same_name}
 use Rattle.deck_calls.proofs.CellNames.{numbers_apart}
 
@@ -24,19 +25,6 @@ cell_expansion p = record { name = cell_name p.0; ports = cell_ports p.1; device
 
 abbrev pub cell_size : ℕ × List Device → Size
 cell_size p = record { name = cell_name p.0; ports = length (cell_ports p.1); devices = length p.1; depth = 0 }
-
-pub singles_expand : (above : List Expansion) (ds : List (NamedDevice (List ℕ))) → flat_map (part_devices above) (map Single ds) ≡ ds
-singles_expand above [] = refl
-singles_expand above (d ∷ ds) = ap (λ l. d ∷ l) (singles_expand above ds)
-
--- devices counted from any number on
-pub singles_count : (above : List Size) (n : ℕ) (ds : List (NamedDevice (List ℕ))) → fold (λ a p. a + part_count above p) n (map Single ds) ≡ n + length ds
-singles_count above n [] = omega arith
-singles_count above n (d ∷ ds) = singles_count above (n + 1) ds ∙ omega arith
-
-pub singles_depth : (above : List Size) (ds : List (NamedDevice (List ℕ))) → fold max 0 (map (part_depth above) (map Single ds)) ≡ 0
-singles_depth above [] = refl
-singles_depth above (d ∷ ds) = singles_depth above ds
 
 pub cells_expand : (ps : List (ℕ × List Device)) → expansions (map cell_subckt ps) ≡ map cell_expansion ps
 cells_expand [] = refl

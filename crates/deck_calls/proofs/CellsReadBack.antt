@@ -12,8 +12,8 @@ use Rattle.dom_base.proofs.Lists.{AllByRecursion-append, AllByRecursion-every, A
 use Rattle.dom_base.proofs.Names.{IsNetName-from_test}
 use Rattle.deck.specs.declared.device.Device.{Device}
 use Rattle.deck.specs.CircuitData.{CircuitData}
-use Rattle.deck.specs.DeckText.{deck_cards, deck_phases, deck_card_lines, cards_of, is_skipped, phase_of, bare_circuit, BeginsACard, HasNoEquals, IsDeviceCard}
-use Rattle.deck.specs.NamedDevices.{NamedDevice, with_devices}
+use Rattle.deck.specs.DeckText.{deck_cards, deck_phases, deck_card_lines, cards_of, is_skipped, phase_of, bare_circuit, BeginsACard, HasNoEquals, IsCallCard, IsPartCard, AreSubcktCards, IsDeckOf}
+use Rattle.deck.specs.NamedDevices.{with_devices}
 use Rattle.deck.specs.Nets.{IsInRange}
 use Rattle.deck.specs.Ports.{leading_ports, HasRoles, HasSomeRoles}
 use Rattle.deck.proofs.PortDecisions.{has_roles}
@@ -22,9 +22,9 @@ use Rattle.spice_text.proofs.DeviceRows.{cards_are}
 use Rattle.spice_text.proofs.ReadBack.{plain_visible, no_phase, phases-rows, phases_plain, plus_plain, IsWritable, AreWrittenPorts, written_ports, opening_plain, same_circuit}
 use Rattle.spice_text.proofs.ReadRows.{row_line, text_of_rows, IsPlainRow, IsNoEnd, IsComment, IsOfCard, Begins, plus_rows, deck_phases-rows, card_lines-rows, cards_of-rows}
 use Rattle.spice_text.proofs.WrittenRows.{phase_row, opening_row, card_rows, ending_row}
-use Rattle.deck.specs.Subckts.{Single, Called}
-use Rattle.deck.specs.DecksWithCalls.{IsCallCard, IsPartCard, AreSubcktCards, IsDeckWithCalls}
+use Rattle.deck.specs.Subckts.{Called}
 use Rattle.spice_text.specs.Cells.{group_cell, shape_number, cell_name, cell_ports, cell_text_with, HasCells, IsWrittenByCells}
+use Rattle.deck.proofs.FlatDecks.{singles_are}
 use Rattle.deck_calls.proofs.CellCalls.{call_of, IsCalled, number_low}
 use Rattle.deck_calls.proofs.CellCircuits.{groups_in, shapes_in, main_subckt, cells_above, AreCells, are_cells, are_subckts, main_expands, cell_nets_all}
 use Rattle.deck.proofs.WordTests.{no_equals_by_test}
@@ -81,12 +81,6 @@ calls_are : (c : CircuitData) (shapes : List (List Device)) (ps : List (ℕ × L
     → AllZip IsPartCard (map (call_row c.nets shapes) ps) (map (λ p. Called (call_of c.nets shapes p)) ps)
 calls_are c shapes [] none low = tt
 calls_are c shapes (p ∷ ps) none low = (call_card c shapes p none low.0, calls_are c shapes ps none low.1)
-
-pub singles_are : (cards : List (List (List ℕ))) (ds : List (NamedDevice (List ℕ))) → AllZip IsDeviceCard cards ds → AllZip IsPartCard cards (map Single ds)
-singles_are [] [] h = tt
-singles_are [] (d ∷ ds) h = absurd h
-singles_are (card ∷ cards) [] h = absurd h
-singles_are (card ∷ cards) (d ∷ ds) h = (h.0, singles_are cards ds h.1)
 
 -- the rows of a cell are its cards
 cell_cards : (p : ℕ × List Device) → AreSubcktCards (cell_rows p) (cell_subckt p)
@@ -214,7 +208,7 @@ written_begins c places leading others text r e =
 -- the written text of a circuit, with its ports on these lines
 read_back_with : (c : CircuitData) (places : List ℕ) → IsWritable c → HasCells c places → AreCells c places → (leading : List (List ℕ)) (others : List (List (List ℕ)))
     → leading ++ flat_map (λ group. group) others ≡ take c.ports c.nets
-    → (text : List ℕ) → text ≡ cell_text_with c (groups_in c places) leading others → IsDeckWithCalls text c
+    → (text : List ℕ) → text ≡ cell_text_with c (groups_in c places) leading others → IsDeckOf text c
 read_back_with c places w has are leading others e text t =
     let p = written_ports c w leading others e in
     let r = written_rows c places w are leading others p in
@@ -249,10 +243,10 @@ read_back_with c places w has are leading others e text t =
     }
 
 -- the written text of a circuit
-pub read_back : (c : CircuitData) (places : List ℕ) (text : List ℕ) → IsWritable c → HasCells c places → IsWrittenByCells c places text → IsDeckWithCalls text c
+pub read_back : (c : CircuitData) (places : List ℕ) (text : List ℕ) → IsWritable c → HasCells c places → IsWrittenByCells c places text → IsDeckOf text c
 read_back c places text w has t = by (has_roles (take c.ports c.nets))
   where
-    by : HasSomeRoles (take c.ports c.nets) ⊎ ((clocks : ℕ) (pins outs : List (List ℕ)) → HasRoles (take c.ports c.nets) clocks pins outs → ⊥) → IsDeckWithCalls text c
+    by : HasSomeRoles (take c.ports c.nets) ⊎ ((clocks : ℕ) (pins outs : List (List ℕ)) → HasRoles (take c.ports c.nets) clocks pins outs → ⊥) → IsDeckOf text c
     by (inl h) = read_back_with c places w has (are_cells c places w.is has) (leading_ports h.clocks) (h.pins ∷ h.outs ∷ [])
         (ap (λ l. leading_ports h.clocks ++ (h.pins ++ l)) (append-nil h.outs) ∙ sym (append_assoc (leading_ports h.clocks) h.pins h.outs) ∙ sym h.roles.order)
         text (t.with_roles h.clocks h.pins h.outs h.roles)

@@ -8,7 +8,7 @@ use Rattle.deck.specs.NamedDevices.{NamedDevice, map_device}
 use Rattle.deck.specs.Subckts.{SubcktPart, Single, Called, Subckt, passed_net, call_devices, part_devices, expansion, expansions, sizes}
 use Rattle.deck_calls.specs.Frames.{ExpansionFrame, name_in, left_in, found_above, ExpansionSteps}
 use Rattle.subckt_expand.proofs.CallsMade.{map_twice}
-use Rattle.subckt_expand.proofs.Counts.{all_counted, part_counted}
+use Rattle.deck.proofs.Counts.{all_counted, part_counted}
 
 -- devices renamed by nothing
 map_same : (ds : List (NamedDevice (List ℕ))) → map (map_device (λ name. name)) ds ≡ ds

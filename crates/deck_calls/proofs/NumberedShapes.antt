@@ -11,12 +11,11 @@ use Rattle.std.proofs.lemmas.List.FromFn.{length-map-range_with_len}
 use Rattle.dom_base.proofs.Bools.{or_true}
 use Rattle.dom_base.proofs.Lists.{AllByRecursion-append, AllByRecursion-map, AllByRecursion-every, AllByRecursion-weaker, AllByRecursion-reverse, reverse-cons}
 use Rattle.deck.specs.declared.device.Device.{Device}
-use Rattle.deck.specs.DeckText.{HasNoEquals}
+use Rattle.deck.specs.DeckText.{HasNoEquals, IsCallOver, IsSubcktOver, AreSubckts}
 use Rattle.deck.specs.Limits.{most_devices, most_ports}
 use Rattle.deck.specs.Nets.{ends, numbers_used}
 use Rattle.deck.proofs.DeviceNumbers.{numbers_used-ge}
 use Rattle.deck.specs.Subckts.{Single, Subckt, sizes}
-use Rattle.deck.specs.DecksWithCalls.{IsCallOver, IsSubcktOver, AreSubckts}
 use Rattle.spice_text.specs.Cells.{cell_name, cell_port, cell_ports}
 use Rattle.deck.proofs.WordTests.{no_equals_by_test}
 use Rattle.deck_calls.proofs.CellNames.{ports_apart, ports_no_equals, no_equals-numbered}

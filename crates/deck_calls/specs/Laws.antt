@@ -1,22 +1,10 @@
--- What holds of the texts of decks with calls.
+-- What holds of the texts of decks whose subcircuits call one another.
 use Rattle.std.specs.Prelude.{ℕ, ◌≡◌, List, length, map}
-use Rattle.dom_base.specs.Answers.{HasOneAnswer}
 use Rattle.deck.specs.CircuitData.{CircuitData}
-use Rattle.deck.specs.DeckText.{IsGoodCircuit}
-use Rattle.deck.specs.DeckText as old
+use Rattle.deck.specs.DeckText.{IsGoodCircuit, IsDeckOf}
 use Rattle.deck.specs.Whole.{IsWhole}
-use Rattle.deck.specs.FaultsWithCalls.{IsFaultWithCalls, IsFaultWithCallsAt}
-use Rattle.deck.specs.DecksWithCalls.{IsDeckWithCalls}
-use Rattle.spice_text.specs.Cells.{HasCells, IsWrittenByCells}
 use Rattle.deck.specs.Subckts.{Subckt, Size, Expansion, sizes, expansions}
-
--- a text is the deck of at most one circuit
-abbrev pub DeckHasOneCircuit : Type 0
-DeckHasOneCircuit = (text : List ℕ) (c d : CircuitData) → IsDeckWithCalls text c → IsDeckWithCalls text d → c ≡ d
-
--- each text is accepted with one circuit and has no fault, or is refused for one fault, and never both
-abbrev pub TextHasOneAnswer : Type 0
-TextHasOneAnswer = (text : List ℕ) → HasOneAnswer (IsDeckWithCalls text) (IsFaultWithCalls text) (IsFaultWithCallsAt text)
+use Rattle.spice_text.specs.Cells.{HasCells, IsWrittenByCells}
 
 -- the devices that are counted without expanding are those of the expansions
 abbrev pub SizesCount : Type 0
@@ -28,13 +16,9 @@ abbrev pub CellsReadBack : Type 0
 CellsReadBack =
     (c : CircuitData) (places text : List ℕ)
     → IsWhole c → HasCells c places
-    → IsWrittenByCells c places text → IsDeckWithCalls text c
-
--- and so is the text of a circuit without cells: each deck of one subcircuit without calls is a deck, of the same circuit
-abbrev pub OldDecksAreDecks : Type 0
-OldDecksAreDecks = (text : List ℕ) (c : CircuitData) → old.IsDeckOf text c → IsDeckWithCalls text c
+    → IsWrittenByCells c places text → IsDeckOf text c
 
 -- the circuit of a deck meets what holds of every circuit, inner nets of calls too, and its name and ports have no byte `=`
 pub record DecksAreGood : Type 0 where
-  pub whole : (text : List ℕ) (c : CircuitData) → IsDeckWithCalls text c → IsWhole c
-  pub good : (text : List ℕ) (c : CircuitData) → IsDeckWithCalls text c → IsGoodCircuit c
+  pub whole : (text : List ℕ) (c : CircuitData) → IsDeckOf text c → IsWhole c
+  pub good : (text : List ℕ) (c : CircuitData) → IsDeckOf text c → IsGoodCircuit c

@@ -4,4 +4,4 @@
 
 mod laws;
 
-pub use laws::{cells_read_back, deck_has_one_circuit, decks_are_good, expansion_goes_by_steps};
+pub use laws::{cells_read_back, decks_are_good, expansion_goes_by_steps, sizes_count};

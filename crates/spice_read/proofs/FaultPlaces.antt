@@ -1,7 +1,7 @@
 -- Where a deck has its first fault.
-use Rattle.std.proofs.Common.{◌≡◌, ℕ, ◌≤◌, ◌<◌, ◌+◌, ◌⊎◌, inl, inr, Bool, true, false, cond, ◌==◌, ◌||◌, ◌&&◌, not, if◌then◌else◌, List, [], ◌∷◌, ◌++◌, length, map, reverse, nat_eq, nat_lt, codes, slice_index, slice_index_or, eqb-true, refl, sym, ap, ◌∙◌, subst, arith, Some, None, append-nil}
-use Rattle.std.specs.List.{before_first, list_any}
-use Rattle.std.specs.Cmp.Lexicographic.{bytes_decides, pointwise}
+use Rattle.std.proofs.Common.{◌≡◌, ℕ, ◌≤◌, ◌<◌, ◌+◌, ◌⊎◌, inl, inr, Bool, true, false, cond, ◌||◌, not, if◌then◌else◌, List, [], ◌∷◌, ◌++◌, length, map, reverse, nat_eq, codes, eqb-true, refl, sym, ap, ◌∙◌, subst, arith, Some, None, append-nil}
+use Rattle.std.specs.List.{before_first}
+use Rattle.std.specs.Cmp.Lexicographic.{pointwise}
 use Rattle.std.proofs.lemmas.Bool.{true≢false}
 use Rattle.std.proofs.lemmas.List.{reverse-reverse}
 use Rattle.dom_base.specs.LineFaults.{FaultIn as FaultInLines, NumbersRise}
@@ -9,20 +9,16 @@ use Rattle.dom_base.specs.Lines.{is_blank, lines, words, first_word}
 use Rattle.dom_base.proofs.Faults.{fault_in as fault_in_lines, passed, rising-fault as rising_line}
 use Rattle.dom_base.proofs.Lists.{reverse-onto}
 use Rattle.deck.specs.declared.fault.DeckKind.{DeckKind}
-use Rattle.deck.specs.declared.fault.DeckKind.TheVariants.{ControlByte, UnknownCard, BadCard, UnknownDevice, NoSubckt, SecondSubckt, NotClosed, DuplicatePort, TooMany}
-use Rattle.deck.specs.DeckText.{added_words, continues, is_end, is_of_card, read_line, through_end}
-use Rattle.deck.specs.DeckCards.{NumberedCard, has_first_word, dot_end, dot_ends, dot_model, dot_subckt, is_device, numbered_cards, numbered_cards_of, numbered_lines, numbered_lines_from, has_equals, has_subckt, is_model_word, is_open, device_count, names_twice, port_names}
-use Rattle.deck.specs.Limits.{most_devices, most_ports}
-use Rattle.deck.specs.DeckFaults.{deck_faults, has_deck_fault, has_end_fault, end_line, FaultTable, IsDeckFault, IsDeckFaultAt, IsFaultAtBy, IsFaultBy, IsFaultOfCard, IsStrayLine}
+use Rattle.deck.specs.declared.fault.DeckKind.TheVariants.{ControlByte, UnknownCard, BadCard, UnknownDevice, NoSubckt, SecondSubckt, NotClosed, DuplicatePort, TooMany, UnknownSubckt, WrongCount}
+use Rattle.deck.specs.DeckText.{added_words, continues, is_end, is_of_card, is_skipped, read_line, through_end}
+use Rattle.deck.specs.DeckCards.{NumberedCard, has_first_word, dot_end, dot_model, numbered_cards, numbered_cards_of, numbered_lines, numbered_lines_from, has_subckt, is_open}
+use Rattle.deck.specs.DeckFaults.{deck_faults, has_deck_fault, has_end_fault, end_line, FaultTable, IsDeckFaultAt, IsFaultAtBy, IsFaultBy, IsFaultOfCard, IsStrayLine}
 use Rattle.deck.specs.DeckKinds.{deck_kind_number}
-use Rattle.deck.specs.CircuitData.{CircuitData}
-use Rattle.spice_read.specs.declared.subckt.Subckt.{Subckt}
-use Rattle.spice_read.specs.declared.subckt.Subckt.TheVariants.{Before, Open, Closed}
-use Rattle.spice_read.specs.Subckts.{end_fault}
 use Rattle.spice_read.specs.Readers.{end_from, BeginsNumbered, IsStrayAt}
+use Rattle.spice_read.proofs.CleanCards.{unmet}
 use Rattle.spice_read.proofs.DeckEnds.{end_line-from}
 use Rattle.spice_read.proofs.KindNumbers.{IsFound}
-use Rattle.spice_read.proofs.Contexts.{IsContext, begins_one}
+use Rattle.spice_read.proofs.PartCards.{skipped_card}
 use Rattle.spice_read.proofs.FirstWords.{words-front}
 
 -- a number is before the end, or that of the line `.end`
@@ -265,30 +261,30 @@ module _ {Kind : Type 0} (table : FaultTable Kind) where
 end_card_fault : (before : List NumberedCard) (card : NumberedCard) (kind : DeckKind) → has_first_word dot_end card ≡ true → has_deck_fault kind before card ≡ true → deck_kind_number kind ≤ 1
 end_card_fault before card kind n h = of kind h
   where
-    d : is_device card ≡ false
-    d = ap (λ (w : List ℕ). slice_index w 0 == 109) ((bytes_decides (first_word card.words) (codes ".end")).0 n)
+    either : (m e : Bool) → e ≡ true → (m || e) ≡ true
+    either true e h = refl
+    either false e h = h
 
-    s : has_first_word dot_subckt card ≡ false
-    s = begins_one card dot_end dot_subckt n refl
+    skips : is_skipped card.words ≡ true
+    skips = either (has_first_word dot_model card) (has_first_word dot_end card) n
 
-    e : has_first_word dot_ends card ≡ false
-    e = begins_one card dot_end dot_ends n refl
-
-    never : {P : Type 0} (k : DeckKind) → has_deck_fault k before card ≡ true → has_deck_fault k before card ≡ false → P
-    never k g none = absurd (true≢false (sym g ∙ none))
+    never : {P : Type 0} {b : Bool} → b ≡ true → b ≡ false → P
+    never g none = absurd (true≢false (sym g ∙ none))
 
     of : (k : DeckKind) → has_deck_fault k before card ≡ true → deck_kind_number k ≤ 1
     of ControlByte g = omega arith
-    of UnknownCard g = never UnknownCard g (λ i. not (d i || s i || e i || n i || has_first_word dot_model card))
-    of BadCard g = never BadCard g (λ i. (d i || s i || e i || n i || has_first_word dot_model card) && not (if d i then nat_lt 5 (length card.words) else (if s i then nat_lt 1 (length card.words) && not (list_any has_equals card.words) else (if e i then nat_lt (length card.words) 3 else true))))
-    of UnknownDevice g = never UnknownDevice g (λ i. d i && nat_lt 5 (length card.words) && not (is_model_word (slice_index_or card.words 5 [])))
-    of NoSubckt g = never NoSubckt g (λ i. (d i || e i) && not (is_open before))
-    of SecondSubckt g = never SecondSubckt g (λ i. s i && has_subckt before)
-    of NotClosed g = never NotClosed g refl
-    of DuplicatePort g = never DuplicatePort g (λ i. s i && names_twice card)
-    of TooMany g = never TooMany g (λ i. (d i && (device_count before == most_devices)) || (s i && nat_lt most_ports (length (port_names card))))
+    of UnknownCard g = let k = skipped_card card skips in let o = k.of in never g (rw (o.call_is, o.device_is, o.opening_is, o.ending_is, k.known) refl)
+    of BadCard g = let k = skipped_card card skips in let o = k.of in never g (rw (o.call_is, o.device_is, o.opening_is, o.ending_is, k.known) refl)
+    of UnknownDevice g = let o = (skipped_card card skips).of in never g (rw o.device_is refl)
+    of NoSubckt g = let o = (skipped_card card skips).of in never g (rw (o.call_is, o.device_is, o.ending_is) refl)
+    of SecondSubckt g = let o = (skipped_card card skips).of in never g (rw o.opening_is refl)
+    of NotClosed g = never g refl
+    of DuplicatePort g = let o = (skipped_card card skips).of in never g (rw o.opening_is refl)
+    of TooMany g = let o = (skipped_card card skips).of in never g (rw (o.call_is, o.device_is, o.opening_is) refl)
+    of UnknownSubckt g = let o = (skipped_card card skips).of in never g (rw o.call_is refl)
+    of WrongCount g = let o = (skipped_card card skips).of in never g (rw o.call_is refl)
 
-pub kind_number-ge : (kind : DeckKind) → 1 ≤ deck_kind_number kind
+kind_number-ge : (kind : DeckKind) → 1 ≤ deck_kind_number kind
 kind_number-ge ControlByte = omega arith
 kind_number-ge UnknownCard = omega arith
 kind_number-ge BadCard = omega arith
@@ -298,59 +294,42 @@ kind_number-ge SecondSubckt = omega arith
 kind_number-ge NotClosed = omega arith
 kind_number-ge DuplicatePort = omega arith
 kind_number-ge TooMany = omega arith
+kind_number-ge UnknownSubckt = omega arith
+kind_number-ge WrongCount = omega arith
 
-pub no_end : {P : Type 0} → false ≡ true → P
-no_end e = absurd (true≢false (sym e))
-
-pub end_number : (kind : DeckKind) (all : List NumberedCard) → has_end_fault kind all ≡ true → 5 ≤ deck_kind_number kind
-end_number ControlByte all h = no_end h
-end_number UnknownCard all h = no_end h
-end_number BadCard all h = no_end h
-end_number UnknownDevice all h = no_end h
+end_number : (kind : DeckKind) (all : List NumberedCard) → has_end_fault kind all ≡ true → 5 ≤ deck_kind_number kind
+end_number ControlByte all h = unmet h
+end_number UnknownCard all h = unmet h
+end_number BadCard all h = unmet h
+end_number UnknownDevice all h = unmet h
 end_number NoSubckt all h = omega arith
-end_number SecondSubckt all h = no_end h
+end_number SecondSubckt all h = unmet h
 end_number NotClosed all h = omega arith
-end_number DuplicatePort all h = no_end h
-end_number TooMany all h = no_end h
+end_number DuplicatePort all h = unmet h
+end_number TooMany all h = unmet h
+end_number UnknownSubckt all h = unmet h
+end_number WrongCount all h = unmet h
 
-pub open_number : (kind : DeckKind) (all : List NumberedCard) → has_subckt all ≡ true → has_end_fault kind all ≡ true → 7 ≤ deck_kind_number kind
-open_number ControlByte all b h = no_end h
-open_number UnknownCard all b h = no_end h
-open_number BadCard all b h = no_end h
-open_number UnknownDevice all b h = no_end h
+open_number : (kind : DeckKind) (all : List NumberedCard) → has_subckt all ≡ true → has_end_fault kind all ≡ true → 7 ≤ deck_kind_number kind
+open_number ControlByte all b h = unmet h
+open_number UnknownCard all b h = unmet h
+open_number BadCard all b h = unmet h
+open_number UnknownDevice all b h = unmet h
 open_number NoSubckt all b h = absurd (true≢false (sym h ∙ ap not b))
-open_number SecondSubckt all b h = no_end h
+open_number SecondSubckt all b h = unmet h
 open_number NotClosed all b h = omega arith
-open_number DuplicatePort all b h = no_end h
-open_number TooMany all b h = no_end h
+open_number DuplicatePort all b h = unmet h
+open_number TooMany all b h = unmet h
+open_number UnknownSubckt all b h = unmet h
+open_number WrongCount all b h = unmet h
 
-closed_no_fault : (kind : DeckKind) (all : List NumberedCard) → has_subckt all ≡ true → is_open all ≡ false → has_end_fault kind all ≡ true → ⊥
-closed_no_fault ControlByte all b o h = no_end h
-closed_no_fault UnknownCard all b o h = no_end h
-closed_no_fault BadCard all b o h = no_end h
-closed_no_fault UnknownDevice all b o h = no_end h
-closed_no_fault NoSubckt all b o h = true≢false (sym h ∙ ap not b)
-closed_no_fault SecondSubckt all b o h = no_end h
-closed_no_fault NotClosed all b o h = true≢false (sym h ∙ o)
-closed_no_fault DuplicatePort all b o h = no_end h
-closed_no_fault TooMany all b o h = no_end h
-
--- the faults of decks without calls
+-- the faults of decks
 pub deck_sound : IsSoundTable deck_faults
 deck_sound = record { numbers = kind_number-ge; end_card = end_card_fault }
 
 -- the fault of the end, where no card has one
-pub fault_at_end : (text : List ℕ) (before : List NumberedCard) (subckt : Subckt) (kind : DeckKind) → BeginsNumbered (numbered_lines text) → IsPassed deck_faults text before [] → IsContext before subckt
-    → end_fault subckt ≡ Some kind → IsDeckFaultAt text (end_line text) kind
-fault_at_end text before Before kind starts p context is =
-    let same : NoSubckt ≡ kind = cc in
-    subst (IsDeckFaultAt text (end_line text)) same (fault_told deck_faults text before NoSubckt starts p (ap not context.begun_is) (λ other h. end_number other before h))
-fault_at_end text before (Open c) kind starts p context is =
-    let same : NotClosed ≡ kind = cc in
-    subst (IsDeckFaultAt text (end_line text)) same (fault_told deck_faults text before NotClosed starts p context.open_is (λ other h. open_number other before context.begun_is h))
-fault_at_end text before (Closed c) kind starts p context is = absurd (let never : ⊥ = cc in never)
+pub fault_none_begun : (text : List ℕ) (before : List NumberedCard) → BeginsNumbered (numbered_lines text) → IsPassed deck_faults text before [] → has_subckt before ≡ false → IsDeckFaultAt text (end_line text) NoSubckt
+fault_none_begun text before starts p none = fault_told deck_faults text before NoSubckt starts p (ap not none) (λ other h. end_number other before h)
 
--- no fault at all, where no card has one and the subcircuit was closed
-pub no_fault : (text : List ℕ) (before : List NumberedCard) (c : CircuitData) → BeginsNumbered (numbered_lines text) → IsPassed deck_faults text before [] → IsContext before (Closed c)
-    → (n : ℕ) (kind : DeckKind) → IsDeckFault text n kind → ⊥
-no_fault text before c starts p context n kind f = closed_no_fault kind before context.begun_is context.open_is (end_only deck_faults text before n kind starts p f).1
+pub fault_left_open : (text : List ℕ) (before : List NumberedCard) → BeginsNumbered (numbered_lines text) → IsPassed deck_faults text before [] → has_subckt before ≡ true → is_open before ≡ true → IsDeckFaultAt text (end_line text) NotClosed
+fault_left_open text before starts p begun opened = fault_told deck_faults text before NotClosed starts p opened (λ other h. open_number other before begun h)

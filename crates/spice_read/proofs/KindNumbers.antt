@@ -4,14 +4,14 @@ use Rattle.std.specs.List.{find}
 use Rattle.dom_base.specs.FaultKinds.{IsAmong, IsSmallest, RisesAbove}
 use Rattle.dom_base.proofs.Faults.{number_of-injective, smallest_found}
 use Rattle.deck.specs.declared.fault.DeckKind.{DeckKind}
-use Rattle.deck.specs.declared.fault.DeckKind.TheVariants.{ControlByte, UnknownCard, BadCard, UnknownDevice, NoSubckt, SecondSubckt, NotClosed, DuplicatePort, TooMany}
+use Rattle.deck.specs.declared.fault.DeckKind.TheVariants.{ControlByte, UnknownCard, BadCard, UnknownDevice, NoSubckt, SecondSubckt, NotClosed, DuplicatePort, TooMany, UnknownSubckt, WrongCount}
 use Rattle.deck.specs.DeckCards.{NumberedCard}
 use Rattle.deck.specs.DeckFaults.{deck_faults, has_deck_fault, FaultTable}
 use Rattle.deck.specs.DeckKinds.{deck_kind_number}
 
 -- the kinds by rising number
 abbrev pub kinds : List DeckKind
-kinds = ControlByte ∷ UnknownCard ∷ BadCard ∷ UnknownDevice ∷ NoSubckt ∷ SecondSubckt ∷ NotClosed ∷ DuplicatePort ∷ TooMany ∷ []
+kinds = ControlByte ∷ UnknownCard ∷ BadCard ∷ UnknownDevice ∷ NoSubckt ∷ SecondSubckt ∷ NotClosed ∷ DuplicatePort ∷ TooMany ∷ UnknownSubckt ∷ WrongCount ∷ []
 
 pub is_kind : (kind : DeckKind) → IsAmong kind kinds
 is_kind ControlByte = inl refl
@@ -23,9 +23,11 @@ is_kind SecondSubckt = inr (inr (inr (inr (inr (inl refl)))))
 is_kind NotClosed = inr (inr (inr (inr (inr (inr (inl refl))))))
 is_kind DuplicatePort = inr (inr (inr (inr (inr (inr (inr (inl refl)))))))
 is_kind TooMany = inr (inr (inr (inr (inr (inr (inr (inr (inl refl))))))))
+is_kind UnknownSubckt = inr (inr (inr (inr (inr (inr (inr (inr (inr (inl refl)))))))))
+is_kind WrongCount = inr (inr (inr (inr (inr (inr (inr (inr (inr (inr (inl refl))))))))))
 
 pub kinds_rise : RisesAbove deck_kind_number 0 kinds
-kinds_rise = (omega arith, (omega arith, (omega arith, (omega arith, (omega arith, (omega arith, (omega arith, (omega arith, (omega arith, tt)))))))))
+kinds_rise = (omega arith, (omega arith, (omega arith, (omega arith, (omega arith, (omega arith, (omega arith, (omega arith, (omega arith, (omega arith, (omega arith, tt)))))))))))
 
 -- kinds of one number are the same
 pub kind_number-injective : (a b : DeckKind) → deck_kind_number a ≡ deck_kind_number b → a ≡ b

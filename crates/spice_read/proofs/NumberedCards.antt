@@ -7,7 +7,7 @@ use Rattle.dom_base.proofs.WordBytes.{lower_bytes, lower_words, lower-drop}
 use Rattle.deck.specs.DeckText.{BeginsACard, added_words, deck_card_lines, cards_of, continues, deck_cards, deck_lines, is_end, is_of_card, read_line, through_end}
 use Rattle.deck.specs.DeckCards.{numbered_cards, numbered_cards_of, numbered_lines, numbered_lines_from}
 use Rattle.spice_read.specs.Readers.{BeginsNumbered}
-use Rattle.spice_read.specs.Subckts.{IsWordedCard}
+use Rattle.spice_read.specs.ReadSubckts.{IsWordedCard}
 
 pub numbered-lines : (n : ℕ) (all : List (List ℕ)) → map (λ p. p.1) (numbered_lines_from n all) ≡ filter is_of_card all
 numbered-lines n [] = refl

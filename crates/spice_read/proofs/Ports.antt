@@ -1,5 +1,5 @@
 -- Ports that a `.subckt` names, each once in a set.
-use Rattle.std.proofs.Common.{◌≡◌, ◌<◌, ◌≤◌, ◌^◌, ℕ, zero, suc, ◌+◌, Bool, true, false, ◌||◌, List, [], ◌∷◌, ◌++◌, length, take, map, nat_eq, nat_lt, slice_index_or, Some, None, All, refl, sym, ap, ◌∙◌, subst, arith, if◌then◌else◌}
+use Rattle.std.proofs.Common.{◌≡◌, ◌<◌, ◌≤◌, ◌^◌, ℕ, zero, suc, ◌+◌, Bool, true, false, ◌||◌, List, [], ◌∷◌, ◌++◌, length, take, map, nat_eq, nat_lt, slice_index_or, Some, None, All, refl, sym, ap, ◌∙◌, arith, if◌then◌else◌}
 use Rattle.std.specs.List.{AllByRecursion, IsDistinct, list_any}
 use Rattle.std.specs.Set.{distinct_count}
 use Rattle.std.specs.Cmp.Lexicographic.{pointwise, bytes_decides}
@@ -7,14 +7,12 @@ use Rattle.std.proofs.lemmas.Bool.Decides.{nat_tests}
 use Rattle.std.proofs.lemmas.List.Elements.{All-from_recursion}
 use Rattle.std.proofs.lemmas.Map.Made.{distinct_count-le, length-from_keys, IsDistinct-from_count}
 use Rattle.indexmap.proofs.SetLemmas.{set_all_distinct}
-use Rattle.deck.specs.Nets.{with_net, IsCircuit}
+use Rattle.deck.specs.Nets.{with_net}
 use Rattle.deck.specs.Numbers.{with_all}
 use Rattle.deck.specs.declared.fault.DeckKind.TheVariants.{DuplicatePort, TooMany}
-use Rattle.deck.specs.DeckCards.{NumberedCard, port_names, names_twice, word_at}
+use Rattle.deck.specs.DeckCards.{NumberedCard, port_names, names_twice}
 use Rattle.deck.specs.Limits.{most_ports}
-use Rattle.deck.specs.declared.device.Device.{Device}
-use Rattle.deck.specs.declared.phase.Phase.{Phase}
-use Rattle.spice_read.specs.Subckts.{opened, ports_fault}
+use Rattle.spice_read.specs.ReadSubckts.{ports_fault}
 use Rattle.dom_base.proofs.Names.{names_equal}
 use Rattle.deck.proofs.NetNumbers.{IsDistinct-with_net}
 use Rattle.dom_base.proofs.Bools.{or_false, or_true, or_assoc}
@@ -41,11 +39,11 @@ any-with_all q ks (x ∷ xs) =
     ∙ ap (λ b. b || list_any (pointwise nat_eq q) xs) (any-with_net q ks x)
     ∙ or_assoc (list_any (pointwise nat_eq q) ks) (pointwise nat_eq q x) (list_any (pointwise nat_eq q) xs)
 
-IsDistinct-with_all : (ks xs : List (List ℕ)) → IsDistinct (pointwise nat_eq) ks → IsDistinct (pointwise nat_eq) (with_all ks xs)
+pub IsDistinct-with_all : (ks xs : List (List ℕ)) → IsDistinct (pointwise nat_eq) ks → IsDistinct (pointwise nat_eq) (with_all ks xs)
 IsDistinct-with_all ks [] d = d
 IsDistinct-with_all ks (x ∷ xs) d = IsDistinct-with_all (with_net ks x) xs (IsDistinct-with_net ks x d)
 
-none_differ : IsDistinct (pointwise nat_eq) []
+pub none_differ : IsDistinct (pointwise nat_eq) []
 unfolding IsDistinct
 none_differ = tt
 
@@ -99,32 +97,6 @@ good_ports card clean = by (names_twice card) (nat_lt most_ports (length (port_n
     by true t e f h = absurd (let never : ⊥ = cc in never)
     by false true e f h = absurd (let never : ⊥ = cc in never)
     by false false e f h = record { differ = differ_from_count (port_names card) e; few = grind (arith, nat_tests) }
-
--- a set that was made of them
-pub record IsPortSet (ports keys : List (List ℕ)) : Type 0 where
-  pub keys_are : keys ≡ ports
-  pub few : length keys ≤ 2 ^ 20
-  pub circuit : IsCircuit (length keys) keys []
-
-pub port_set : (ports keys : List (List ℕ)) → HasGoodPorts ports → keys ≡ with_all [] ports → IsPortSet ports keys
-port_set ports keys good is =
-    let same : keys ≡ ports = is ∙ with_all-ports ports good.differ in
-    record {
-      keys_are = same;
-      few = subst (λ l. length l ≤ 2 ^ 20) (sym same) good.few;
-      circuit = subst (λ l. IsCircuit (length l) l []) (sym same) (record { few_ports = good.few; few_devices = omega arith; distinct = good.differ; in_order = tt; all_used = refl });
-    }
-
-pub empty_circuit : (count : ℕ) (keys : List (List ℕ)) (devices : List Device) → count ≡ length keys → devices ≡ [] → IsCircuit (length keys) keys [] → IsCircuit count keys devices
-empty_circuit count keys devices is none h = subst (λ n. IsCircuit n keys devices) (sym is) (subst (λ ds. IsCircuit (length keys) keys ds) (sym none) h)
-
--- the circuit of a `.subckt`, by its parts
-pub opened-parts : (card : NumberedCard) (name : List ℕ) (phases : List Phase) (count : ℕ) (keys : List (List ℕ)) (devices : List Device)
-    → name ≡ word_at card 1 → phases ≡ [] → count ≡ length keys → keys ≡ port_names card → devices ≡ []
-    → record { name = name; phases = phases; ports = count; nets = keys; devices = devices } ≡ opened card
-opened-parts card name phases count keys devices a b c d e =
-    let ports = c ∙ ap length d in
-    λ i. record { name = a i; phases = b i; ports = ports i; nets = d i; devices = e i }
 
 -- the ports of a `.subckt`, counted: so many words, of which so many differ
 module _ (card : NumberedCard) (keys : List (List ℕ)) (keys_are : keys ≡ with_all [] (port_names card)) (most : ℕ) (all_is : most ≡ length (port_names card)) where

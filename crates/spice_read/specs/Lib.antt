@@ -1,4 +1,5 @@
 pub mod Laws
+pub mod FlatSubckts
 pub mod Forms
 pub mod Readers
-pub mod Subckts
+pub mod ReadSubckts

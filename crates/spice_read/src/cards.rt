@@ -1,5 +1,5 @@
 //! The cards of a text, each with its words cut once, and what a card is.
-ghost use Rattle.std.specs.Prelude.{◌≡◌, ◌<◌, ◌++◌, ℕ, IfOk, IsErrOf, OnOk, map};
+ghost use Rattle.std.specs.Prelude.{◌≡◌, ◌<◌, ◌++◌, ℕ, IfOk, IsErrOf, OnOk, length, map};
 ghost use Rattle.std.specs.Cmp.Lexicographic.{pointwise};
 ghost use Rattle.std.specs.List.{list_any};
 ghost use Rattle.std.specs.Option.{option_to_list};
@@ -8,8 +8,8 @@ ghost use Rattle.dom_base.specs.Lines.{is_control, words};
 ghost use Rattle.deck.specs.declared.fault.DeckKind.{DeckKind};
 ghost use Rattle.deck.specs.declared.fault.DeckKind.TheVariants.{BadCard};
 ghost use Rattle.deck.specs.DeckText.{phase_of};
-ghost use Rattle.deck.specs.DeckCards.{has_first_word, has_equals, is_device, numbered_lines, port_names, word_at};
-ghost use Rattle.spice_read.specs.Forms.{card_form, device_form, known_kind};
+ghost use Rattle.deck.specs.DeckCards.{has_first_word, has_equals, is_call, is_device, numbered_lines, passed_nets, port_names, unit_word, word_at};
+ghost use Rattle.spice_read.specs.Forms.{card_form, device_form, known_kind, named_form};
 ghost use Rattle.spice_read.specs.Readers.{continued_words, IsAtFirstCard, IsNextRead, IsStrayAt};
 
 use crate::DeckFault;
@@ -20,11 +20,12 @@ use dom_base::{Kind, OutOfMemory, have_control};
 use std::alloc::Global;
 use std::marker::Model;
 
-/// What a card is: a device of this kind, a `.subckt`, a `.ends`, or a card that adds nothing,
-/// `.model` or `.end`.
+/// What a card is: a device of this kind, the call of a subcircuit, a `.subckt`, a `.ends`, or a card
+/// that adds nothing, `.model` or `.end`.
 #[derive(Clone, Copy, Debug)]
 pub enum Form {
     Device(Kind),
+    Call,
     Subckt,
     Ends,
     Skipped,
@@ -90,6 +91,24 @@ impl<'a> Card<'a> {
         }
     }
 
+    /// The nets that a call passes, between its name and the name of the subcircuit.
+    pub fn passed(&self) -> &[&'a [u8]]
+        requires { 1 < length self.now.words }
+        ensures { map (λ w. str_to_ascii_lowercase w.now) result.now ≡ passed_nets self.now }
+    {
+        let last = self.words.len() - 1;
+        &self.words[1..last]
+    }
+
+    /// The subcircuit that a call names: the last word.
+    pub fn unit(&self) -> &[u8]
+        requires { 1 < length self.now.words }
+        ensures { str_to_ascii_lowercase result.now ≡ unit_word self.now }
+    {
+        let last = self.words.len() - 1;
+        self.word(last)
+    }
+
     /// The fault of this kind at the card.
     pub fn fault(&self, kind: DeckKind) -> DeckFault
         ensures { result ≡ DeckFault.At self.now.number kind }
@@ -128,6 +147,27 @@ impl<'a> Card<'a> {
         }
     }
 
+    /// Whether the card is that of a call: its first letter is `x`.
+    fn is_call(&self) -> bool
+        ensures { result ≡ is_call self.now }
+    {
+        match self.word(0) {
+            [first, ..] => *first == b'x' || *first == b'X',
+            [] => false,
+        }
+    }
+
+    /// The form, where the card has a name behind its first word and no word with `=`.
+    fn named_form(&self, form: Form) -> Result<Form, DeckKind>
+        ensures { result ≡ named_form form self.now }
+    {
+        if 1 < self.words.len() && !self.has_equals() {
+            Ok(form)
+        } else {
+            Err(DeckKind::BadCard)
+        }
+    }
+
     /// What a card of a device is, or its fault.
     fn device_form(&self) -> Result<Form, DeckKind>
         ensures { result ≡ device_form self.now }
@@ -151,11 +191,11 @@ impl<'a> Card<'a> {
         if self.is_device() {
             return self.device_form();
         }
+        if self.is_call() {
+            return self.named_form(Form::Call);
+        }
         if self.has_first_word(b".subckt") {
-            if 1 < self.words.len() && !self.has_equals() {
-                return Ok(Form::Subckt);
-            }
-            return Err(DeckKind::BadCard);
+            return self.named_form(Form::Subckt);
         }
         if self.has_first_word(b".ends") {
             if self.words.len() < 3 {

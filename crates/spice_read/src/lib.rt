@@ -7,6 +7,7 @@ mod laws;
 mod lines;
 mod reader;
 mod subckt;
+mod subckts;
 mod words;
 
 pub use deck::DeckKind;

@@ -1,155 +1,160 @@
-//! The subcircuit of a deck, made card by card.
-ghost use Rattle.std.specs.Prelude.{◌≡◌, ◌<◌, ℕ, [], All, IfOk, OnOk, IsErrOf, Option, Some, None, length, map};
+//! A subcircuit of a deck, made card by card.
+ghost use Rattle.std.specs.Prelude.{◌≡◌, ◌<◌, ◌≤◌, ◌+◌, ◌^◌, ℕ, [], All, IfOk, OnOk, length, map};
 ghost use Rattle.std.specs.Str.{str_to_ascii_lowercase};
 ghost use Rattle.dom_base.specs.Names.{IsNetName};
 ghost use Rattle.deck.specs.Limits.{most_devices};
 ghost use Rattle.deck.specs.Numbers.{with_all};
-ghost use Rattle.spice_read.specs.Subckts.{end_fault, ending_fault, fault_in, opening_fault, ports_fault, room_fault, AnswersFault};
-ghost use Rattle.spice_read.specs.Subckts.{after_device, after_ends, opened, subckt_after, with_device, HasNames, IsFinished, IsWordedCard};
-ghost use Rattle.spice_read.specs.declared.subckt.Subckt.TheVariants.{Open};
+ghost use Rattle.spice_read.specs.FlatSubckts.{definition_of, flat_definition, own_part};
+ghost use Rattle.spice_read.specs.ReadSubckts.{HasNames, numbers_in, with_call_of, with_device_of};
 
-use crate::DeckFault;
-use crate::cards::{Card, Cards, Form};
+use crate::cards::Card;
 use crate::words::net_name;
-use deck::{Circuit, DeckKind, MOST_DEVICES, MOST_PORTS, NetSet};
-use dom_base::{Kind, NameHash, NetName, OutOfMemory};
+use deck::{Circuit, Device};
+use dom_base::{Kind, OutOfMemory};
 use std::alloc::Global;
-use std::mem;
+use subckt_expand::{Call, Definition, LocalDevice, Part};
 
-/// What was read of the subcircuit: nothing, or its circuit, while it is open or once it is closed.
+/// A subcircuit that calls none, as its circuit, or one with calls.
 #[derive(Drop)]
 pub enum Subckt {
-    Before,
-    Open(Circuit),
-    Closed(Circuit),
+    Flat(Circuit),
+    Calling(Definition),
 }
 
-/// The words as nets, each once, in order of first appearance.
-fn nets_of(alloc: Global, hash: NameHash, words: &[&[u8]]) -> Result<NetSet, OutOfMemory>
-    requires { All (λ w. IsNetName (str_to_ascii_lowercase w.now)) words.now }
-    ensures { IfOk result (λ nets. nets.keys ≡ with_all [] (map (λ w. str_to_ascii_lowercase w.now) words.now)) }
+/// The part that a device of a circuit is.
+fn own_part(device: &Device) -> Part
+    ensures { result ≡ own_part device.now }
 {
-    let mut nets = NetSet::with_hasher(alloc, hash);
-    for word in words {
-        nets.insert(net_name(alloc, word)?)?;
-    }
-    Ok(nets)
-}
-
-/// The circuit that a `.subckt` opens: its ports are its nets, and it has no devices.
-fn open(alloc: Global, hash: NameHash, card: &Card<'_>) -> Result<Circuit, DeckFault>
-    requires { HasNames 1 card.now }
-    ensures circuit { IfOk result (λ c. (ports_fault card.now ≡ None) × (c ≡ opened card.now)) }
-    ensures fault { AnswersFault result card.now.number (ports_fault card.now) }
-{
-    let nets = nets_of(alloc, hash, card.ports())?;
-    if nets.len() < card.ports().len() {
-        return Err(card.fault(DeckKind::DuplicatePort));
-    }
-    if nets.len() > MOST_PORTS as usize {
-        return Err(card.fault(DeckKind::TooMany));
-    }
-    let ports = nets.len() as u32;
-    Ok(Circuit {
-        name: net_name(alloc, card.word(1))?,
-        phases: Vec::new(alloc),
-        ports,
-        nets,
-        devices: Vec::new(alloc),
+    Part::Own(LocalDevice {
+        kind: device.kind,
+        drain: device.drain as usize,
+        gate: device.gate as usize,
+        source: device.source as usize,
     })
 }
 
-/// Adds the device of a card to the circuit.
-fn push_device(
+/// The subcircuit that a circuit is, which calls none.
+pub fn flat_definition(alloc: Global, circuit: Circuit) -> Result<Definition, OutOfMemory>
+    ensures { IfOk result (λ d. d ≡ flat_definition circuit) }
+{
+    let Circuit {
+        name,
+        ports,
+        nets,
+        devices,
+        ..
+    } = circuit;
+    let mut parts = Vec::new(alloc);
+    for device in devices.as_slice() {
+        parts.push(own_part(device))?;
+    }
+    Ok(Definition {
+        name,
+        ports: ports as usize,
+        nets,
+        calls: Vec::new(alloc),
+        parts,
+        devices: devices.len() as u32,
+        depth: 0,
+    })
+}
+
+/// The numbers of these nets in a subcircuit, where those that are new take the next numbers.
+fn numbers_of(
     alloc: Global,
-    circuit: &mut Circuit,
-    kind: Kind,
+    subckt: &mut Definition,
+    words: &[&[u8]],
+) -> Result<Vec<usize>, OutOfMemory>
+    requires { All (λ w. IsNetName (str_to_ascii_lowercase w.now)) words.now }
+    ensures numbers { IfOk result (λ v. v.items ≡ numbers_in subckt.old.nets (map (λ w. str_to_ascii_lowercase w.now) words.now)) }
+    ensures nets { OnOk result (subckt.new ≡ record subckt.old { nets = with_all subckt.old.nets (map (λ w. str_to_ascii_lowercase w.now) words.now) }) }
+{
+    let mut numbers = Vec::new(alloc);
+    for word in words {
+        let number = subckt.number(net_name(alloc, word)?)?;
+        numbers.push(number)?;
+    }
+    Ok(numbers)
+}
+
+/// Adds the call of a card, of the subcircuit of this number, with so many devices and of this depth,
+/// to a subcircuit.
+fn push_call(
+    alloc: Global,
+    subckt: &mut Definition,
+    unit: usize,
+    devices: u32,
+    depth: u32,
     card: &Card<'_>,
 ) -> Result<(), OutOfMemory>
-    requires room { length circuit.old.devices < most_devices }
-    requires names { HasNames 5 card.now }
-    ensures { OnOk result (circuit.new ≡ with_device circuit.old kind card.now) }
+    requires few { subckt.old.devices + devices ≤ most_devices }
+    requires shallow { depth < 2 ^ 31 }
+    requires names { HasNames 1 card.now }
+    ensures { OnOk result (subckt.new ≡ with_call_of subckt.old unit devices depth card.now) }
 {
-    let drain = net_name(alloc, card.word(1))?;
-    let gate = net_name(alloc, card.word(2))?;
-    let source = net_name(alloc, card.word(3))?;
-    circuit.push(kind, &drain, &gate, &source)
+    let name = net_name(alloc, card.word(0))?;
+    let nets = numbers_of(alloc, subckt, card.passed())?;
+    subckt.push_call(Call { name, unit, nets }, devices, depth)
 }
 
 impl Subckt {
-    /// Reads a card, or says why it can't be read.
-    pub fn push(&mut self, alloc: Global, hash: NameHash, card: &Card<'_>) -> Result<(), DeckFault>
-        requires { IsWordedCard card.now }
-        ensures clean { OnOk result (fault_in self.old card.now ≡ None) }
-        ensures after { OnOk result (self.new ≡ subckt_after self.old card.now) }
-        ensures fault { AnswersFault result card.now.number (fault_in self.old card.now) }
-    {
-        match card.form() {
-            Ok(Form::Device(kind)) => self.push_device(alloc, kind, card),
-            Ok(Form::Subckt) => self.open(alloc, hash, card),
-            Ok(Form::Ends) => self.close(card),
-            Ok(Form::Skipped) => Ok(()),
-            Err(kind) => Err(card.fault(kind)),
-        }
-    }
-
-    fn push_device(&mut self, alloc: Global, kind: Kind, card: &Card<'_>) -> Result<(), DeckFault>
-        requires { HasNames 5 card.now }
-        ensures clean { OnOk result (room_fault self.old ≡ None) }
-        ensures after { OnOk result (self.new ≡ after_device self.old kind card.now) }
-        ensures fault { AnswersFault result card.now.number (room_fault self.old) }
-    {
-        let Subckt::Open(circuit) = self else {
-            return Err(card.fault(DeckKind::NoSubckt));
-        };
-        if circuit.device_count() == MOST_DEVICES {
-            return Err(card.fault(DeckKind::TooMany));
-        }
-        push_device(alloc, circuit, kind, card)?;
-        Ok(())
-    }
-
-    fn open(&mut self, alloc: Global, hash: NameHash, card: &Card<'_>) -> Result<(), DeckFault>
-        requires { HasNames 1 card.now }
-        ensures clean { OnOk result (opening_fault self.old card.now ≡ None) }
-        ensures after { OnOk result (self.new ≡ Open (opened card.now)) }
-        ensures fault { AnswersFault result card.now.number (opening_fault self.old card.now) }
+    /// The number of devices that it stands for.
+    pub fn devices(&self) -> u32
+        ensures { result ≡ (definition_of self.now).devices }
     {
         match self {
-            Subckt::Before => {
-                *self = Subckt::Open(open(alloc, hash, card)?);
-                Ok(())
-            }
-            Subckt::Open(_) | Subckt::Closed(_) => Err(card.fault(DeckKind::SecondSubckt)),
+            Subckt::Flat(circuit) => circuit.device_count(),
+            Subckt::Calling(definition) => definition.devices,
         }
     }
 
-    fn close(&mut self, card: &Card<'_>) -> Result<(), DeckFault>
-        ensures clean { OnOk result (ending_fault self.old ≡ None) }
-        ensures after { OnOk result (self.new ≡ after_ends self.old) }
-        ensures fault { AnswersFault result card.now.number (ending_fault self.old) }
+    /// Adds the device of a card. The one error is out of memory.
+    pub fn push_device(
+        &mut self,
+        alloc: Global,
+        kind: Kind,
+        card: &Card<'_>,
+    ) -> Result<(), OutOfMemory>
+        requires room { (definition_of self.old).devices < most_devices }
+        requires names { HasNames 5 card.now }
+        ensures { OnOk result (definition_of self.new ≡ with_device_of (definition_of self.old) kind card.now) }
     {
-        match mem::replace(self, Subckt::Before) {
-            Subckt::Open(circuit) => {
-                *self = Subckt::Closed(circuit);
-                Ok(())
-            }
-            Subckt::Before | Subckt::Closed(_) => Err(card.fault(DeckKind::NoSubckt)),
+        let drain = net_name(alloc, card.word(1))?;
+        let gate = net_name(alloc, card.word(2))?;
+        let source = net_name(alloc, card.word(3))?;
+        match self {
+            Subckt::Flat(circuit) => circuit.push(kind, &drain, &gate, &source),
+            Subckt::Calling(definition) => definition.push_device(kind, drain, gate, source),
         }
     }
 
-    /// The circuit of a text whose cards were all read, or the fault of its end.
-    pub fn finish(self, cards: Cards<'_>) -> Result<Circuit, DeckFault>
-        ensures circuit { IfOk result (λ c. IsFinished self cards.entry.phases c) }
-        ensures fault { AnswersFault result cards.entry.left.number (end_fault self) }
+    /// The subcircuit by numbers. The one error is out of memory.
+    pub fn definition(self, alloc: Global) -> Result<Definition, OutOfMemory>
+        ensures { IfOk result (λ d. d ≡ definition_of self) }
     {
-        let Cards { lines, phases, .. } = cards;
-        let line = lines.number;
-        let kind = match self {
-            Subckt::Before => DeckKind::NoSubckt,
-            Subckt::Open(_) => DeckKind::NotClosed,
-            Subckt::Closed(circuit) => return Ok(Circuit { phases, ..circuit }),
-        };
-        Err(DeckFault::At { line, kind })
+        match self {
+            Subckt::Flat(circuit) => flat_definition(alloc, circuit),
+            Subckt::Calling(definition) => Ok(definition),
+        }
+    }
+
+    /// The subcircuit with the call of a card, of the subcircuit of this number, with so many devices
+    /// and of this depth. The one error is out of memory.
+    pub fn with_call(
+        self,
+        alloc: Global,
+        unit: usize,
+        devices: u32,
+        depth: u32,
+        card: &Card<'_>,
+    ) -> Result<Subckt, OutOfMemory>
+        requires few { (definition_of self).devices + devices ≤ most_devices }
+        requires shallow { depth < 2 ^ 31 }
+        requires names { HasNames 1 card.now }
+        ensures { IfOk result (λ s. definition_of s ≡ with_call_of (definition_of self) unit devices depth card.now) }
+    {
+        let mut definition = self.definition(alloc)?;
+        push_call(alloc, &mut definition, unit, devices, depth, card)?;
+        Ok(Subckt::Calling(definition))
     }
 }

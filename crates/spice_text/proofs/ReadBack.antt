@@ -17,6 +17,7 @@ use Rattle.deck.specs.Nets.{ends, numbers_used, IsCircuit}
 use Rattle.deck.specs.Ports.{leading_ports, HasRoles, HasSomeRoles}
 use Rattle.deck.proofs.DeckCircuits.{IsDeckOf-circuit, IsDeckOf-good}
 use Rattle.deck.proofs.DeckNames.{IsDeckOf-names}
+use Rattle.deck.proofs.FlatDecks.{IsFlatDeck, flat_is_deck}
 use Rattle.spice_text.specs.Text.{sign_of, eights, text_with, IsWritten}
 use Rattle.spice_text.proofs.DeviceRows.{all_cards, cards_plain, cards_are}
 use Rattle.deck.proofs.DeviceNumbers.{numbers_used-ge, devices_in_range, with_devices-named}
@@ -185,7 +186,7 @@ same_circuit c is phases e =
 -- the written text of a circuit, with its ports on these lines
 pub read_back_with : (c : CircuitData) → IsWritable c → (leading : List (List ℕ)) (groups : List (List (List ℕ)))
     → leading ++ flat_map (λ group. group) groups ≡ take c.ports c.nets
-    → (text : List ℕ) → text ≡ text_with c leading groups → IsDeckOf text c
+    → (text : List ℕ) → text ≡ text_with c leading groups → IsFlatDeck text c
 read_back_with c w leading groups e text t =
     let p = written_ports c w leading groups e in
     let r = written_rows c w leading groups p in
@@ -222,7 +223,7 @@ pub read_back : (c : CircuitData) (text : List ℕ) → IsWritable c → IsWritt
 read_back c text w t = by (has_roles (take c.ports c.nets))
   where
     by : HasSomeRoles (take c.ports c.nets) ⊎ ((clocks : ℕ) (pins outs : List (List ℕ)) → HasRoles (take c.ports c.nets) clocks pins outs → ⊥) → IsDeckOf text c
-    by (inl h) = read_back_with c w (leading_ports h.clocks) (h.pins ∷ h.outs ∷ [])
+    by (inl h) = flat_is_deck text c (read_back_with c w (leading_ports h.clocks) (h.pins ∷ h.outs ∷ [])
         (ap (λ l. leading_ports h.clocks ++ (h.pins ++ l)) (append-nil h.outs) ∙ sym (append_assoc (leading_ports h.clocks) h.pins h.outs) ∙ sym h.roles.order)
-        text (t.with_roles h.clocks h.pins h.outs h.roles)
-    by (inr none) = read_back_with c w [] (take c.ports c.nets ∷ []) (append-nil (take c.ports c.nets)) text (t.without_roles none)
+        text (t.with_roles h.clocks h.pins h.outs h.roles))
+    by (inr none) = flat_is_deck text c (read_back_with c w [] (take c.ports c.nets ∷ []) (append-nil (take c.ports c.nets)) text (t.without_roles none))

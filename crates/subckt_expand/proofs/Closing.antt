@@ -9,7 +9,7 @@ use Rattle.subckt_expand.specs.Definitions.{CallData, DefinitionData, no_definit
 use Rattle.subckt_expand.specs.Live.{live, lives, size_of}
 use Rattle.subckt_expand.specs.StandsFor.{IsOpen, StandFor, StandsFor}
 use Rattle.subckt_expand.specs.Units.{AreClosed, IsCallBelow, IsClosed, definition_at, expansion_at, names_of, subckts_before}
-use Rattle.subckt_expand.proofs.Counts.{size_counts}
+use Rattle.deck.proofs.Counts.{size_counts}
 use Rattle.subckt_expand.proofs.FoundCalls.{before-suc}
 use Rattle.subckt_expand.proofs.Live.{expansions-lives}
 use Rattle.subckt_expand.proofs.MoreClosed.{AreNamed, before-more, call-more, length-names, names-more, subckt-more}
@@ -56,10 +56,17 @@ module _ (all : List DefinitionData) (ss : List Subckt) (d : DefinitionData) (s 
         sizes_are = ap reverse (map-append size_of all (d ∷ [])) ∙ reverse-append (map size_of all) (size_of d ∷ []) ∙ ap₂ (λ a b. a ∷ b) stands.size_is stand.sizes_are;
       }
 
--- the last of some closed subcircuits stands for what the last of these does
+-- the last of some closed subcircuits, and those above it
+split-last : (all : List DefinitionData) (s : Subckt) (above : List Subckt) (last : ℕ) → StandFor all (s ∷ above) → length all ≡ suc last
+    → subckt_of (names_of all) (definition_at all last) ∷ subckts_before all last ≡ lives (s ∷ above)
+split-last all s above last stand long = sym (before-suc all last (omega (arith, long))) ∙ ap (subckts_before all) (sym long) ∙ stand.live_are
+
+-- it has the name and the ports of the last of these
+pub subckt-last : (all : List DefinitionData) (s : Subckt) (above : List Subckt) (last : ℕ) → StandFor all (s ∷ above) → length all ≡ suc last
+    → subckt_of (names_of all) (definition_at all last) ≡ live (sizes above) s
+subckt-last all s above last stand long = head_same (split-last all s above last stand long)
+
+-- and stands for what it does
 pub expansion-last : (all : List DefinitionData) (s : Subckt) (above : List Subckt) (last : ℕ) → StandFor all (s ∷ above) → length all ≡ suc last
     → expansion_at all last ≡ expansion (expansions above) s
-expansion-last all s above last stand long =
-    let split : subckt_of (names_of all) (definition_at all last) ∷ subckts_before all last ≡ lives (s ∷ above) =
-    sym (before-suc all last (omega (arith, long))) ∙ ap (subckts_before all) (sym long) ∙ stand.live_are in
-    head_same (ap expansions split ∙ expansions-lives (s ∷ above))
+expansion-last all s above last stand long = head_same (ap expansions (split-last all s above last stand long) ∙ expansions-lives (s ∷ above))

@@ -1,7 +1,6 @@
 pub mod CallsEntered
 pub mod CallsMade
 pub mod Closing
-pub mod Counts
 pub mod DefinitionGrowth
 pub mod DevicesMade
 pub mod FoundCalls
@@ -11,6 +10,7 @@ pub mod Kept
 pub mod LevelNames
 pub mod Live
 pub mod MoreClosed
+pub mod MoreOpen
 pub mod MoreParts
 pub mod MoreSizes
 pub mod MoreSlots

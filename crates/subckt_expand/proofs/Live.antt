@@ -5,7 +5,7 @@ use Rattle.std.specs.List.{flat_map}
 use Rattle.dom_base.proofs.Lists.{length-none}
 use Rattle.deck.specs.Subckts.{Subckt, SubcktPart, Expansion, Size, expansion, expansions, part_count, part_devices, sizes}
 use Rattle.subckt_expand.specs.Live.{is_live, live, lives}
-use Rattle.subckt_expand.proofs.Counts.{AreCounted, all_counted, part_counted}
+use Rattle.deck.proofs.Counts.{AreCounted, all_counted, part_counted}
 
 -- the devices of the parts that stand for some
 live-parts : (es : List Expansion) (ss : List Size) (ps : List SubcktPart) → AreCounted es ss → flat_map (part_devices es) (filter (is_live ss) ps) ≡ flat_map (part_devices es) ps

@@ -64,7 +64,7 @@ nets-grow nets a b c =
     (with_net-grows (with_net (with_net nets a) b) c)
 
 -- a net that was numbered has its name in longer nets
-name-kept : (old new : List (List ℕ)) (name : List ℕ) → Longer (with_net old name) new → net_name new (net_number old name) ≡ name
+pub name-kept : (old new : List (List ℕ)) (name : List ℕ) → Longer (with_net old name) new → net_name new (net_number old name) ≡ name
 name-kept old new name longer =
     let kept = net_number-kept old new name longer in
     ap (net_name new) kept.0 ∙ get_or_from_slice_get new (net_number new name) name [] kept.1

@@ -11,7 +11,7 @@ use Rattle.subckt_expand.specs.Definitions.{CallData, DefinitionData, IsDefiniti
 use Rattle.subckt_expand.specs.Live.{is_live, live, size_of}
 use Rattle.subckt_expand.specs.StandsFor.{StandsFor}
 use Rattle.subckt_expand.specs.Units.{names_of}
-use Rattle.subckt_expand.proofs.Counts.{depth_push, sum_push}
+use Rattle.deck.proofs.Counts.{depth_push, sum_push}
 use Rattle.subckt_expand.proofs.MoreParts.{subckt-with_call, subckt-with_device, subckt-with_net}
 
 -- a subcircuit with one part more

@@ -1,5 +1,5 @@
 //! The subcircuits that were closed.
-ghost use Rattle.std.specs.Prelude.{◌≡◌, ◌<◌, ◌≤◌, ◌++◌, ◌∷◌, [], IfOk, OnOk, MatchOption, length, false, nat_eq};
+ghost use Rattle.std.specs.Prelude.{◌≡◌, ◌<◌, ◌≤◌, ◌+◌, ◌++◌, ◌∷◌, [], IfOk, OnOk, MatchOption, length, false, nat_eq};
 ghost use Rattle.std.specs.Cmp.Lexicographic.{pointwise};
 ghost use Rattle.std.specs.List.{AllByRecursion, list_any};
 ghost use Rattle.deck.specs.Limits.{most_devices, most_ports};
@@ -67,6 +67,13 @@ impl Units {
         let number = self.names.get_index_of(name)?;
         let unit = &self.closed[number];
         Some((number, &unit.definition))
+    }
+
+    /// The number of the last one, if there is one.
+    pub fn last(&self) -> Option<usize>
+        ensures { MatchOption result (length self.now ≡ 0) (λ last. length self.now ≡ last + 1) }
+    {
+        self.closed.len().checked_sub(1)
     }
 
     /// Closes a subcircuit. The one error is out of memory.

@@ -1,9 +1,0 @@
-use Rattle.std.proofs.Common.{◌∙◌, sym, ap, Ok}
-use Rattle.spice_read.proofs.CardForms.{device_names, opening_names}
-use Rattle.spice_read.proofs.subckt.Subckt.push.Goals as goal
-
-pub push_device-requires : goal.push_device-requires
-push_device-requires c = device_names c.args.card.now c.in-Ok-Device.kind c.requires (sym c.form.ensures ∙ c.in-Ok-Device.is ∙ ap Ok c.in-Ok-Device.field-0-is)
-
-pub open-requires : goal.open-requires
-open-requires c = opening_names c.args.card.now c.requires (sym c.form.ensures ∙ c.in-Ok-Subckt.is ∙ ap Ok c.in-Ok-Subckt.field-0-is)
