@@ -1,1 +1,5 @@
 pub mod CompoundCells
+pub mod PairCells
+pub mod PairDevices
+pub mod PlanCells
+pub mod UndrivenNets

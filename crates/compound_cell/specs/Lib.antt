@@ -1,1 +1,2 @@
 pub mod CompoundCells
+pub mod PushedCells

@@ -3,14 +3,14 @@ use Rattle.std.specs.Prelude.{flat_map, slice_index_or}
 use Rattle.std.specs.List.{AllByRecursion, enumerate_from}
 use Rattle.std.proofs.Common.{◌≡◌, ℕ, zero, suc, ◌+◌, ◌-◌, ◌≤◌, Bool, true, false, List, [], ◌∷◌, ◌++◌, length, map, take, drop, refl, slice_get, sym, ap, ap₂, ◌∙◌, arith, append_assoc, zip, zero-add, add-zero, length-drop, codes}
 use Rattle.std.specs.Fmt.{decimal}
-use Rattle.std.proofs.lemmas.List.{append_cancel_right, map-append}
+use Rattle.std.proofs.lemmas.List.{map-append}
 use Rattle.dom_base.specs.declared.kind.Kind.TheVariants.{N as nch, P as pch}
 use Rattle.deck.specs.Escapes.{escaped}
 use Rattle.deck.specs.NamedDevices.{NamedDevice, map_device, with_devices}
 use Rattle.deck.specs.Pushes.{new_circuit}
 use Rattle.sp_network.specs.Tree.{Leaf, Series, Tree, dual, map_tree}
 use Rattle.network.specs.NetworkData.{NetworkData}
-use Rattle.domino_cell.specs.Cell.{CellNets, inverter, map_nets}
+use Rattle.domino_cell.specs.Cell.{map_nets}
 use Rattle.domino_cell.specs.NamedTrees.{inner_net}
 use Rattle.domino_cell.specs.PushedNames.{lower_front, numbered_cell, static_gate, upper_front}
 use Rattle.domino_cell.specs.Spelling.{spell}
@@ -19,7 +19,7 @@ use Rattle.domino_cell.specs.StyledCells.{styled_stage}
 use Rattle.domino_cell.specs.declared.style.Style.TheVariants.{Precharge as WithPrecharge}
 use Rattle.domino_cell.proofs.PushedTrees.{dual-map_tree}
 use Rattle.domino_cell.proofs.Spellings.{spell-map_tree}
-use Rattle.domino_cell.proofs.StyledCells.{styled_cell-map_tree, styled_cell-parts}
+use Rattle.domino_cell.proofs.StyledCells.{styled_stage-map_tree}
 use Rattle.domino_law.specs.Nets.{At, CellSide, Dynamic, Gate, Net, Next, Output, Part, Sink, Vdd, Vss, gate_net, left_side, right_side}
 use Rattle.domino_law.specs.Shape.{DynamicStage, Shape, cell_nets, dynamic_nets, gate_tree, left_stage}
 use Rattle.domino_law.specs.Spelled as law
@@ -34,17 +34,6 @@ use Rattle.deck_law.proofs.DeckDevices.{complements_same, latches_same}
 use Rattle.deck_law.proofs.GateNames.{end_name, tree_name}
 use Rattle.compound_law.specs.CompoundDecks.{cell_shape, cell_shapes, clocked, network_shape, whole_cells}
 use Rattle.compound_law.specs.PushedDecks.{DecksArePushed, cell_names, named_devices, sink_tree}
-
--- the images of the cards of a side are the cards of the image, as those of its cell are
-side-map : {N Image : Type 0} (f : N → Image) (nets : CellNets N) (t : Tree N)
-    → map (map_device f) (styled_stage WithPrecharge nets t) ≡ styled_stage WithPrecharge (map_nets f nets) (map_tree f t)
-side-map f nets t =
-    let inv = inverter nets.vdd nets.vss nets.dynamic nets.output in
-    append_cancel_right (map (map_device f) (styled_stage WithPrecharge nets t)) (styled_stage WithPrecharge (map_nets f nets) (map_tree f t)) (map (map_device f) inv)
-    (sym (map-append (map_device f) (styled_stage WithPrecharge nets t) inv)
-    ∙ ap (map (map_device f)) (sym (styled_cell-parts WithPrecharge nets t))
-    ∙ styled_cell-map_tree f WithPrecharge nets t
-    ∙ styled_cell-parts WithPrecharge (map_nets f nets) (map_tree f t))
 
 side_is : (k : CellSide) (c : DynamicStage) → styled_stage WithPrecharge (law.net_cell k c) (map_tree gate_net c.tree) ≡ law.side_cards WithPrecharge k c
 side_is k c = refl
@@ -97,7 +86,7 @@ module _ (pins outs : List (List ℕ)) where
   left_named leaf_count k clock t some =
       let c = left_stage (cell_shape (length pins) leaf_count clock (Simple t)) in
       ap₂ (styled_stage WithPrecharge) (same_nets pins outs leaf_count k (record { tree = t; clock = clock }) some) (tree_name pins outs leaf_count t)
-      ∙ sym (side-map name (law.net_cell (left_side k) c) (map_tree gate_net c.tree))
+      ∙ sym (styled_stage-map_tree name WithPrecharge (law.net_cell (left_side k) c) (map_tree gate_net c.tree))
       ∙ ap by_name (side_is (left_side k) c)
 
   right_named : (leaf_count k clock : ℕ) (t : Tree ℕ) → 1 ≤ clock
@@ -105,7 +94,7 @@ module _ (pins outs : List (List ℕ)) where
   right_named leaf_count k clock t some =
       let c = left_stage (cell_shape (length pins) leaf_count clock (Simple t)) in
       ap₂ (styled_stage WithPrecharge) (right_nets k clock c.tree some) (tree_name pins outs leaf_count t)
-      ∙ sym (side-map name (law.net_cell (right_side k) c) (map_tree gate_net c.tree))
+      ∙ sym (styled_stage-map_tree name WithPrecharge (law.net_cell (right_side k) c) (map_tree gate_net c.tree))
       ∙ ap by_name (side_is (right_side k) c)
 
   cell_named : (leaf_count k clock : ℕ) (c : CellTrees) → 1 ≤ clock

@@ -25,7 +25,8 @@ use Rattle.net_flatten.proofs.Kept.{network_kept}
 use Rattle.switch_model.specs.LinksData.{is_first, links_of}
 use Rattle.dual_rail.proofs.Zips.{get_some}
 use Rattle.gate_decompose.specs.Sinks.{leaf_count}
-use Rattle.port_runs.specs.Environment.{Together, World}
+use Rattle.port_runs.specs.Environment.{World}
+use Rattle.port_runs.specs.declared.clocking.Clocking.TheVariants.{Together}
 use Rattle.port_runs.specs.Periods.{vdd_port, vss_port}
 use Rattle.domino_cell.specs.declared.style.Style.TheVariants.{Precharge as WithPrecharge}
 use Rattle.domino_law.specs.DominoDeck.{IsLooseDominoDeck}

@@ -6,7 +6,7 @@ use Rattle.sp_network.specs.Tree.{EachLeaf, Leaf, Parallel, Series, Tree}
 use Rattle.network.specs.NetworkData.{NetworkData}
 use Rattle.clock_phase.specs.Levels.{clock_of}
 use Rattle.network.proofs.Lists.{get_map, get_of_map}
-use Rattle.port_runs.specs.Environment.{Together}
+use Rattle.port_runs.specs.declared.clocking.Clocking.TheVariants.{Together}
 use Rattle.compound_plan.specs.Plans.{CellTrees, Compound, Simple}
 use Rattle.domino_law.specs.Nets.{DeckSignal, FromDynamic, FromOutput, Gate, High, Left, Low, Minus, Plus, Right, Side, left_side}
 use Rattle.domino_law.specs.OwnRun.{bit_at, cell_bit, cell_bits, gate_bit, next_state, outputs_of, signal_bit}

@@ -1,34 +1,23 @@
 -- The deck of an Or of two inputs, of one compound cell, is a planned deck of its network.
-use Rattle.std.specs.Prelude.{All, Contains, codes, nat_lt, ◌==◌, ◌&&◌, slice_index_or}
-use Rattle.std.proofs.Common.{◌≡◌, Bool, List, Some, [], ap, arith, false, inl, inr, length, not, refl, slice_get, subst, suc, sym, true, zero, eqb-true, ltb-true, ℕ, ◌+◌, ◌<◌, ◌∙◌, ◌∷◌, map}
-use Rattle.std.specs.List.{IsDistinct, AllPairs, list_all}
-use Rattle.std.proofs.lemmas.Bool.{and_parts}
+use Rattle.std.specs.Prelude.{All, codes, nat_lt, slice_index_or}
+use Rattle.std.proofs.Common.{◌≡◌, List, Some, [], ap, arith, false, length, refl, slice_get, subst, suc, sym, true, zero, ltb-true, ℕ, ◌+◌, ◌<◌, ◌∙◌, ◌∷◌, map}
+use Rattle.std.specs.List.{IsDistinct, list_all}
 use Rattle.std.proofs.lemmas.List.Elements.{All-cons, All-nil}
 use Rattle.std.proofs.lemmas.Option.{same_Some}
-use Rattle.dom_base.proofs.Lists.{All-from_test, Contains-slice_get}
+use Rattle.dom_base.proofs.Lists.{All-from_test}
 use Rattle.blif_read.proofs.PrintReadsBackNames.{name-test}
 use Rattle.blif_ast.specs.Good.{IsGoodName}
 use Rattle.network.specs.NetworkData.{NetTableData}
 use Rattle.network.specs.Networks.{IsNetTable, IsNetwork}
 use Rattle.gate_decompose.specs.GateNodes.{AreGatesOf, AreOperands, Input, Made, Operand, folded}
-use Rattle.gate_decompose.specs.GatesData.{GatesData}
-use Rattle.gate_decompose.specs.Needed.{AreNeeded, IsGateNode, IsNeeded, Precedes, gate, leaf}
 use Rattle.gate_decompose.specs.Terms.{table_term}
-use Rattle.gate_decompose.specs.declared.gates.Node.TheVariants.{Not as not_node, Or as or_node}
-use Rattle.gate_decompose.specs.declared.gates.Ref.{Ref}
-use Rattle.gate_decompose.specs.declared.gates.Ref.TheVariants.{Leaf as leaf_ref, Node as node_ref}
-use Rattle.gate_decompose.proofs.NeededSets.{HoldsAsked, HoldsRef, held_where_needed}
-use Rattle.dual_rail.specs.ForestData.{ForestData}
-use Rattle.dual_rail.specs.Forests.{IsEndOf, IsForestOf}
 use Rattle.dual_rail.specs.declared.forest.Arm.TheVariants.{Literal}
-use Rattle.dual_rail.specs.declared.forest.End.{End}
-use Rattle.dual_rail.specs.declared.forest.End.TheVariants.{FromDynamic}
-use Rattle.dual_rail.specs.declared.forest.Pair.TheVariants.{Or}
 use Rattle.compound_plan.specs.PlanTrees.{is_kept, literal, IsFree}
 use Rattle.compound_plan.specs.Plans.{AreWithin, Compound, IsPlan, compound_costs}
 use Rattle.clock_phase.specs.Levels.{AreLevels, cells_read, greatest}
 use Rattle.compound_cell.specs.CompoundCells.{whole_tree}
 use Rattle.compound_law.specs.Laws.{AreByteNames}
+use Rattle.deck_law.proofs.OneGates.{forest, gates, is_forest}
 use Rattle.compound_law.specs.WorkedDeck.{OrDeckIsPlanned, or_cells, or_network}
 use Rattle.sp_network.specs.Tree.{Leaf, Parallel, Tree}
 use Rattle.blif_ast.specs.declared.letter.Letter.{Letter}
@@ -63,9 +52,6 @@ is_network = record {
   few_sinks = omega arith;
 }
 
-unfoldable pub gates : GatesData
-gates = record { leaves = 2; nodes = or_node (leaf_ref 0) (leaf_ref 1) ∷ []; sinks = node_ref 0 ∷ [] }
-
 operand : ℕ → Operand
 operand zero = Input 0
 operand (suc zero) = Input 1
@@ -83,84 +69,11 @@ are_operands = record {
     leaves (suc zero) lt = refl
     leaves (suc (suc n)) lt = absurd (omega arith)
 
-pub are_gates : AreGatesOf or_network gates
+pub are_gates : AreGatesOf or_network (gates true)
 unfolding gates operand
 are_gates = record { of = operand; are_operands = are_operands; leaves_are = refl; nodes_are = refl; sinks_are = refl }
 
-unfoldable pub forest : ForestData
-forest = record {
-  leaves = 2;
-  pairs = Or (Literal (record { leaf = 0; plus = true })) (Literal (record { leaf = 1; plus = true })) ∷ [];
-  origin = (0, true) ∷ [];
-  uses = 1 ∷ [];
-  ends = FromDynamic 0 ∷ [];
-}
-
--- the one pair that is needed
-wanted : ℕ → Bool → Bool
-wanted m t = (m == 0) && t
-
-holds_asked : HoldsAsked gates (true ∷ []) wanted
-unfolding gates wanted
-holds_asked = record { sinks = sinks; nots = nots; gates_left = left; gates_right = right }
-  where
-    sinks : (k : ℕ) (r : Ref) (sign : Bool) → slice_get (node_ref 0 ∷ []) k ≡ Some r → slice_get (true ∷ []) k ≡ Some sign → HoldsRef wanted r sign
-    sinks zero r sign e f = subst (λ x. HoldsRef wanted x sign) (same_Some _ r e) (subst (λ b. wanted 0 b ≡ true) (same_Some _ sign f) refl)
-    sinks (suc k) r sign e f = absurd (cc)
-
-    nots : (n : ℕ) (s : Bool) (a : Ref) → wanted n s ≡ true → slice_get gates.nodes n ≡ Some (not_node a) → HoldsRef wanted a (not s)
-    nots zero s a held e = absurd (cc)
-    nots (suc n) s a held e = absurd (cc)
-
-    left : (n : ℕ) (s : Bool) (a b : Ref) → wanted n s ≡ true → IsGateNode gates.nodes n a b → HoldsRef wanted a s
-    left zero s a b held (inl e) = absurd (cc)
-    left zero s a b held (inr e) = let same : leaf_ref 0 ≡ a = cc in subst (λ x. HoldsRef wanted x s) same tt
-    left (suc n) s a b held (inl e) = absurd (cc)
-    left (suc n) s a b held (inr e) = absurd (cc)
-
-    right : (n : ℕ) (s : Bool) (a b : Ref) → wanted n s ≡ true → IsGateNode gates.nodes n a b → HoldsRef wanted b s
-    right zero s a b held (inl e) = absurd (cc)
-    right zero s a b held (inr e) = let same : leaf_ref 1 ≡ b = cc in subst (λ x. HoldsRef wanted x s) same tt
-    right (suc n) s a b held (inl e) = absurd (cc)
-    right (suc n) s a b held (inr e) = absurd (cc)
-
-are_needed : AreNeeded gates (true ∷ []) ((0, true) ∷ [])
-unfolding gates wanted
-are_needed = record { in_order = in_order; needed = λ n s. (there n s, back n s) }
-  where
-    in_order : AllPairs Precedes ((0, true) ∷ [])
-    in_order i j d lt high = absurd (omega arith)
-
-    there : (n : ℕ) (s : Bool) → Contains {X = ℕ × Bool} ((0, true) ∷ []) (n, s) → IsNeeded gates (true ∷ []) n s
-    there n s (zero, lt, e) = λ holds closed. subst (λ (p : ℕ × Bool). holds p.0 p.1 ≡ true) e (closed.sinks 0 (node_ref 0) true 0 true refl refl (gate (inr refl)))
-    there n s (suc k, lt, e) = absurd (omega arith)
-
-    back : (n : ℕ) (s : Bool) → IsNeeded gates (true ∷ []) n s → Contains {X = ℕ × Bool} ((0, true) ∷ []) (n, s)
-    back n s needed =
-        let held = and_parts (n == 0) s (held_where_needed gates (true ∷ []) wanted holds_asked n s needed) in
-        let first : n ≡ 0 = eqb-true n 0 held.0 in
-        Contains-slice_get {X = ℕ × Bool} ((0, true) ∷ []) 0 (n, s) (λ i. Some (sym first i, sym held.1 i))
-
-pub is_forest : IsForestOf gates (true ∷ []) forest
-unfolding gates forest
-is_forest = record {
-  leaves_are = refl;
-  origin_is = are_needed;
-  pairs_are = ((leaf_ref 0, leaf_ref 1, refl, leaf, leaf), tt);
-  uses_are = refl;
-  signs_are = refl;
-  ends_count = refl;
-  ends_are = ends;
-}
-  where
-    ends : (k : ℕ) (r : Ref) (sign : Bool) (end : End) → slice_get (node_ref 0 ∷ []) k ≡ Some r → slice_get (true ∷ []) k ≡ Some sign → slice_get (FromDynamic 0 ∷ []) k ≡ Some end
-        → IsEndOf gates.nodes ((0, true) ∷ []) r sign end
-    ends zero r sign end e f g =
-        subst (IsEndOf gates.nodes ((0, true) ∷ []) r sign) (same_Some _ end g)
-        (subst (λ x. IsEndOf gates.nodes ((0, true) ∷ []) x sign (FromDynamic 0)) (same_Some _ r e) (sym (same_Some _ sign f), (0, true), refl, gate (inr refl)))
-    ends (suc k) r sign end e f g = absurd (cc)
-
-pub is_plan : IsPlan compound_costs forest 1 1 (false ∷ []) (true ∷ []) or_cells
+pub is_plan : IsPlan compound_costs (forest true) 1 1 (false ∷ []) (true ∷ []) or_cells
 unfolding forest
 is_plan = record {
   one_each = refl;
@@ -171,7 +84,7 @@ is_plan = record {
   within = All-cons (AreWithin 1 1) (Compound (Leaf 0) (Leaf 2)) [] ((omega arith, omega arith), (omega arith, omega arith)) (All-nil (AreWithin 1 1));
 }
   where
-    free : (place : ℕ) → is_kept (false ∷ []) place ≡ true → IsFree forest place
+    free : (place : ℕ) → is_kept (false ∷ []) place ≡ true → IsFree (forest true) place
     free zero e = absurd (cc)
     free (suc n) e = absurd (cc)
 
@@ -199,15 +112,15 @@ or_deck_is_planned = (
   is_network,
   byte_names,
   record {
-    gates = gates;
+    gates = gates true;
     signs = true ∷ [];
-    forest = forest;
+    forest = forest true;
     kept = false ∷ [];
     split = true ∷ [];
     cells = or_cells;
     levels = 1 ∷ [];
     are_gates = are_gates;
-    is_forest = is_forest;
+    is_forest = is_forest true;
     is_plan = is_plan;
     levels_are = levels_are;
     circuit_is = refl;

@@ -16,7 +16,8 @@ use Rattle.network.specs.Networks.{IsNetwork}
 use Rattle.gate_decompose.specs.Needed.{HasSize}
 use Rattle.phase_assign.specs.Signs.{AreSettled}
 use Rattle.switch_model.specs.LinksData.{is_first, links_of}
-use Rattle.port_runs.specs.Environment.{Together, World}
+use Rattle.port_runs.specs.Environment.{World}
+use Rattle.port_runs.specs.declared.clocking.Clocking.TheVariants.{Together}
 use Rattle.port_runs.specs.Periods.{vdd_port, vss_port}
 use Rattle.compound_plan.specs.Plans.{IsLeastPlan, compound_costs, cost}
 use Rattle.domino_law.specs.DominoDeck.{IsLooseDominoDeck}

@@ -1,6 +1,7 @@
 -- The nets of a circuit to which devices are appended: those of before keep their numbers, and new ones stand behind them.
-use Rattle.std.proofs.Common.{◌≡◌, ℕ, ◌<◌, ◌≤◌, ◌&&◌, false, not, true, List, [], ◌++◌, length, map, sym, ap, ◌∙◌, arith, nat_eq, nat_lt}
-use Rattle.std.specs.Prelude.{Contains, codes}
+use Rattle.std.proofs.Common.{◌≡◌, ℕ, ◌<◌, ◌≤◌, ◌&&◌, false, not, true, List, [], ◌++◌, length, map, sym, ap, ◌∙◌, inl, inr, arith, nat_eq, nat_lt}
+use Rattle.std.specs.Prelude.{◌⊎◌, Contains, codes}
+use Rattle.std.specs.Cmp.Lexicographic.{pointwise}
 use Rattle.std.specs.List.{starts_with}
 use Rattle.std.proofs.lemmas.List.Elements.{recursion_from_All}
 use Rattle.std.proofs.lemmas.Option.{get_or_from_slice_get, slice_get_within}
@@ -13,9 +14,13 @@ use Rattle.deck.specs.Sources.{is_source}
 use Rattle.deck.specs.declared.device.Device.{Device}
 use Rattle.deck.proofs.CircuitGrowth.{with_devices-devices, with_devices-grew}
 use Rattle.deck.proofs.DeviceNumbers.{IsCircuit-in_range, IsCircuit-ports}
-use Rattle.deck.proofs.NetNumbers.{HasNumber-append, HasNumber-below, net_number-append, net_number-behind}
+use Rattle.deck.proofs.NetNumbers.{HasNumber-append, HasNumber-below, net_number-append, net_number-behind, number_cases}
 use Rattle.domino_cell.specs.PushedNames.{IsNewNet, IsPort}
 use Rattle.domino_cell.proofs.NamedCells.{is_source-inside, is_source-port, map_numbered_device}
+
+-- a name is that of a net, or new
+pub kept_or_new : (c : CircuitData) (name : List ℕ) → HasNumber c.nets name ⊎ IsNewNet c name
+kept_or_new c name = elim (number_cases (pointwise nat_eq name) c.nets) [ inl h ↦ inl (HasNumber-below c.nets name h.1) | inr h ↦ inr h.0 ]
 
 module _ (c : CircuitData) (cards : List (NamedDevice (List ℕ))) (circuit : IsCircuit c.ports c.nets c.devices) where
   abbrev pub appended : CircuitData

@@ -13,7 +13,8 @@ use Rattle.sp_network.specs.Tree.{Tree, inner_count}
 use Rattle.domino_cell.specs.Cell.{CellNets, inverter}
 use Rattle.domino_cell.specs.Spelling.{spell}
 use Rattle.domino_cell.specs.declared.style.Style.{Style}
-use Rattle.domino_cell.specs.StyledCells.{behind_precharge, styled_cell}
+use Rattle.domino_cell.specs.StyledCells.{behind_precharge, styled_cell, styled_stage}
+use Rattle.domino_cell.proofs.StyledCells.{styled_cell-parts}
 
 pub with_devices-append : (c : CircuitData) (xs ys : List (NamedDevice (List ℕ))) → with_devices c (xs ++ ys) ≡ with_devices (with_devices c xs) ys
 with_devices-append c [] ys = refl
@@ -34,13 +35,12 @@ count_with c ds =
     let f = numbered_device (with_devices c ds).nets in
     ap length (with_devices-devices c ds) ∙ length-append c.devices (map f ds) ∙ ap (λ n. length c.devices + n) (length-map ds f)
 
--- the devices of a cell, appended part by part
-pub cell_devices_pushed : (style : Style) (old a b c d new : CircuitData) (nets : CellNets (List ℕ)) (tree : Tree (List ℕ))
+-- the devices of a stage, appended part by part
+pub stage_devices_pushed : (style : Style) (old a b c new : CircuitData) (nets : CellNets (List ℕ)) (tree : Tree (List ℕ))
     → a ≡ pushed old pch nets.dynamic nets.clock nets.vdd → b ≡ with_devices a (behind_precharge style nets (inner_count tree))
-    → c ≡ with_devices b (spell nch nets.inner tree nets.dynamic nets.foot 0) → d ≡ pushed c nch nets.foot nets.clock nets.vss
-    → new ≡ with_devices d (inverter nets.vdd nets.vss nets.dynamic nets.output) → new ≡ with_devices old (styled_cell style nets tree)
-cell_devices_pushed style old a b c d new nets tree one two three four five =
-    let inv : List (NamedDevice (List ℕ)) = inverter nets.vdd nets.vss nets.dynamic nets.output in
+    → c ≡ with_devices b (spell nch nets.inner tree nets.dynamic nets.foot 0) → new ≡ pushed c nch nets.foot nets.clock nets.vss
+    → new ≡ with_devices old (styled_stage style nets tree)
+stage_devices_pushed style old a b c new nets tree one two three four =
     let spelled : List (NamedDevice (List ℕ)) = spell nch nets.inner tree nets.dynamic nets.foot 0 in
     let foot : NamedDevice (List ℕ) = record { kind = nch; drain = nets.foot; gate = nets.clock; source = nets.vss } in
     let first : NamedDevice (List ℕ) = record { kind = pch; drain = nets.dynamic; gate = nets.clock; source = nets.vdd } in
@@ -48,8 +48,18 @@ cell_devices_pushed style old a b c d new nets tree one two three four five =
     let kept : CircuitData = with_devices old (first ∷ behind) in
     let b_is : b ≡ kept = two ∙ ap (λ x. with_devices x behind) one in
     let c_is : c ≡ with_devices kept spelled = three ∙ ap (λ x. with_devices x spelled) b_is in
-    let d_is : d ≡ with_devices kept (spelled ++ foot ∷ []) = four ∙ ap (λ x. pushed x nch nets.foot nets.clock nets.vss) c_is ∙ sym (with_devices-append kept spelled (foot ∷ [])) in
-    five
-    ∙ ap (λ x. with_devices x inv) d_is
-    ∙ sym (with_devices-append kept (spelled ++ foot ∷ []) inv)
-    ∙ sym (with_devices-append old (first ∷ behind) ((spelled ++ foot ∷ []) ++ inv))
+    four
+    ∙ ap (λ x. pushed x nch nets.foot nets.clock nets.vss) c_is
+    ∙ sym (with_devices-append kept spelled (foot ∷ []))
+    ∙ sym (with_devices-append old (first ∷ behind) (spelled ++ foot ∷ []))
+
+-- and those of a cell: its stage, and the inverter
+pub cell_devices_pushed : (style : Style) (old between new : CircuitData) (nets : CellNets (List ℕ)) (tree : Tree (List ℕ))
+    → between ≡ with_devices old (styled_stage style nets tree) → new ≡ with_devices between (inverter nets.vdd nets.vss nets.dynamic nets.output)
+    → new ≡ with_devices old (styled_cell style nets tree)
+cell_devices_pushed style old between new nets tree one two =
+    let inv : List (NamedDevice (List ℕ)) = inverter nets.vdd nets.vss nets.dynamic nets.output in
+    two
+    ∙ ap (λ x. with_devices x inv) one
+    ∙ sym (with_devices-append old (styled_stage style nets tree) inv)
+    ∙ ap (with_devices old) (sym (styled_cell-parts style nets tree))

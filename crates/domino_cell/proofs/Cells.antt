@@ -1,4 +1,4 @@
--- Paths in a circuit that holds a domino cell.
+-- Paths in a circuit that holds the dynamic stage of a domino cell.
 use Rattle.std.proofs.Common.{◌≡◌, ℕ, zero, suc, ◌+◌, ◌<◌, Bool, true, false, cond, eqb, List, [], ◌∷◌, ◌++◌, map, refl, sym, ap, subst, ◌∙◌, inl, inr, arith}
 use Rattle.std.specs.Prelude.{◌⊎◌, ◌↔◌, All, Contains}
 use Rattle.std.specs.List.{AllByRecursion}
@@ -13,10 +13,10 @@ use Rattle.deck.specs.declared.device.Device.{Device}
 use Rattle.deck.specs.Paths.{Ends}
 use Rattle.deck.specs.Switches.{value_of}
 use Rattle.deck.specs.NamedDevices.{NamedDevice, device_of}
-use Rattle.domino_cell.specs.Cell.{CellNets, IsStageNet, inverter}
-use Rattle.domino_cell.specs.HeldCells.{IsCell}
+use Rattle.domino_cell.specs.Cell.{CellNets, IsStageNet}
+use Rattle.domino_cell.specs.HeldCells.{IsDynamicStage}
 use Rattle.domino_cell.specs.declared.style.Style.{Style}
-use Rattle.domino_cell.specs.StyledCells.{behind_precharge, pull_down_cards, styled_cell, styled_stage}
+use Rattle.domino_cell.specs.StyledCells.{behind_precharge, pull_down_cards, styled_stage}
 use Rattle.domino_cell.specs.Stage.{Spot, Top, Inside, IsSpot, Branch}
 use Rattle.domino_cell.specs.Tapped.{IsTapped, Tap, tap_branch, ways}
 use Rattle.sp_network.specs.Tree.{Tree, inner_count, joins, tree_conduction}
@@ -32,7 +32,7 @@ use Rattle.sp_network.proofs.TreeTests.{joins-conduction}
 use Rattle.domino_cell.specs.TreeColours.{IsIn, IsOutside, Paints, painting}
 use Rattle.domino_cell.proofs.Trees.{and_true, Paints-painting, Reach-spell, spell-ends, spell-kind}
 
-module _ (style : Style) (devices : List Device) (is_source : ℕ → Bool) (nets : CellNets ℕ) (tree : Tree ℕ) (is : IsCell style devices is_source nets tree) where
+module _ (style : Style) (devices : List Device) (is_source : ℕ → Bool) (nets : CellNets ℕ) (tree : Tree ℕ) (is : IsDynamicStage style devices is_source nets tree) where
   abbrev branches : List Branch
   branches = pull_down nets tree ∷ []
 
@@ -71,13 +71,7 @@ module _ (style : Style) (devices : List Device) (is_source : ℕ → Bool) (net
 
   -- the cards of the dynamic stage stand
   stage_there : AllByRecursion (λ c. Contains devices (device_of c)) (styled_stage style nets tree)
-  stage_there =
-      let There = λ (c : NamedDevice ℕ). Contains devices (device_of c) in
-      let inv = inverter nets.vdd nets.vss nets.dynamic nets.output in
-      let all : AllByRecursion There (to_vdd style nets tree ++ (pull_down_cards nets tree ++ inv)) = recursion_from_All There (styled_cell style nets tree) is.there in
-      let front = AllByRecursion-left There (to_vdd style nets tree) (pull_down_cards nets tree ++ inv) all in
-      let back = AllByRecursion-left There (pull_down_cards nets tree) inv (AllByRecursion-right There (to_vdd style nets tree) (pull_down_cards nets tree ++ inv) all) in
-      AllByRecursion-append There (to_vdd style nets tree) (pull_down_cards nets tree) front back
+  stage_there = recursion_from_All (λ (c : NamedDevice ℕ). Contains devices (device_of c)) (styled_stage style nets tree) is.there
 
   -- its devices: those towards vdd, and those towards ground
   stage_devices : map device_of (styled_stage style nets tree) ≡ map device_of (to_vdd style nets tree) ++ map device_of (pull_down_cards nets tree)

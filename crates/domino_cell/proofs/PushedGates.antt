@@ -1,7 +1,6 @@
 -- A static gate that is appended to a circuit is a stage of it, and one supply alone drives its output.
-use Rattle.std.proofs.Common.{◌≡◌, ℕ, zero, suc, ◌<◌, ◌≤◌, ◌^◌, Bool, true, false, List, [], ◌∷◌, ◌++◌, length, map, refl, sym, ap, ◌∙◌, subst, inl, inr, arith, nat_eq, append-nil, append_assoc, length-append, ap₂, All, Some, slice_get}
+use Rattle.std.proofs.Common.{◌≡◌, ℕ, zero, suc, ◌<◌, ◌≤◌, ◌^◌, Bool, true, false, List, [], ◌∷◌, ◌++◌, length, map, refl, sym, ap, ◌∙◌, subst, inl, inr, arith, append-nil, append_assoc, length-append, ap₂, All, Some, slice_get}
 use Rattle.std.specs.Prelude.{◌⊎◌, ◌≢◌, Contains, codes}
-use Rattle.std.specs.Cmp.Lexicographic.{pointwise}
 use Rattle.std.specs.Fmt.{decimal}
 use Rattle.std.specs.List.{AllByRecursion}
 use Rattle.std.proofs.lemmas.Fmt.{decimal_injective, decimal_nonempty}
@@ -21,20 +20,20 @@ use Rattle.deck.specs.Sources.{is_source}
 use Rattle.deck.specs.Switches.{value_of}
 use Rattle.deck.specs.declared.device.Device.{Device}
 use Rattle.deck.proofs.CircuitGrowth.{with_devices-numbered}
-use Rattle.deck.proofs.NetNumbers.{HasNumber-below, number_cases, same_number}
+use Rattle.deck.proofs.NetNumbers.{same_number}
 use Rattle.sp_network.specs.Known.{is_not_zero, is_one}
 use Rattle.sp_network.specs.Tree.{Tree, dual, inner_count, leaves, map_tree, tree_conduction}
 use Rattle.sp_network.proofs.Duals.{one_conducts, tree_conduction-dual}
 use Rattle.sp_network.proofs.TreeImages.{inner_count-map_tree, leaves-map_tree, tree_conduction-map_tree}
 use Rattle.sp_network.proofs.TreeTests.{IsTest-is_not_zero, IsTest-is_one, is_not_zero-true, joins-conduction}
 use Rattle.domino_cell.specs.NamedTrees.{inner_net, named_tree}
-use Rattle.domino_cell.specs.PushedNames.{HasRoomForGate, IsNewNet, lower_front, static_gate, upper_front}
+use Rattle.domino_cell.specs.PushedNames.{HasRoomForGate, IsUndriven, lower_front, static_gate, upper_front}
 use Rattle.domino_cell.specs.PushedPaths.{IsDrivenByTree, named_value}
 use Rattle.domino_cell.specs.Spelling.{spell}
 use Rattle.domino_cell.specs.Stage.{Branch, IsSpot, IsStage, Spot, Inside, Top, stage}
 use Rattle.domino_cell.specs.Steps.{IsStep, IsStrongStep}
 use Rattle.domino_cell.specs.Tapped.{IsTapped, ways}
-use Rattle.domino_cell.proofs.AppendedNets.{HasNumber-old, HasNumber-port, behind_no_source, devices_behind, new_behind, old_in_range, old_number, old_source, port_is_source}
+use Rattle.domino_cell.proofs.AppendedNets.{HasNumber-old, HasNumber-port, behind_no_source, devices_behind, kept_or_new, new_behind, old_in_range, old_number, old_source, port_is_source}
 use Rattle.domino_cell.proofs.CellCircuits.{with_devices-append}
 use Rattle.domino_cell.proofs.CellNetNames.{first_apart, supplies_apart}
 use Rattle.domino_cell.proofs.NamedCells.{spell-inner, spell-top}
@@ -192,25 +191,18 @@ module _ (c : CircuitData) (out : List ℕ) (tree : Tree (List ℕ)) (circuit : 
   names_apart (Inside zero j) (Inside (suc (suc i)) k) ha hb z = absurd (no_more i k hb)
   names_apart (Inside (suc zero) j) (Inside (suc (suc i)) k) ha hb z = absurd (no_more i k hb)
 
-  -- an inner net is behind the nets of before
-  inside_behind : (i j : ℕ) → length c.nets ≤ at (Inside i j)
-  inside_behind zero j = new_behind c cards circuit (inner_net (upper_front out) j) (room.upper j)
-  inside_behind (suc i) j = new_behind c cards circuit (inner_net (lower_front out) j) (room.lower j)
-
-  -- the output is a net of before, or new
-  abbrev IsKeptOrNew : Type 0
-  IsKeptOrNew = HasNumber c.nets out ⊎ IsNewNet c out
-
-  kept_or_new : IsKeptOrNew
-  kept_or_new = elim (number_cases (pointwise nat_eq out) c.nets) [ inl h ↦ inl (HasNumber-below c.nets out h.1) | inr h ↦ inr h.0 ]
+  -- nothing drove any of them
+  undriven : (a : Spot) → IsUndriven c (spot_name a)
+  undriven Top = room.output
+  undriven (Inside zero j) = room.upper j
+  undriven (Inside (suc i) j) = room.lower j
 
   free : (a : Spot) → is_source e (at a) ≡ false
-  free Top =
-      elim kept_or_new [
-        | inl kept ↦ old_source c cards circuit out kept ∙ room.no_source
-        | inr new ↦ behind_no_source c cards circuit (number out) (new_behind c cards circuit out new)
+  free a =
+      elim (kept_or_new c (spot_name a)) [
+        | inl kept ↦ old_source c cards circuit (spot_name a) kept ∙ (undriven a).0
+        | inr new ↦ behind_no_source c cards circuit (at a) (new_behind c cards circuit (spot_name a) new)
       ]
-  free (Inside i j) = behind_no_source c cards circuit (at (Inside i j)) (inside_behind i j)
 
   out_of_range : (d : Device) → Contains c.devices d → (n : ℕ) → length c.nets ≤ n → (d.drain ≡ n) ⊎ (d.source ≡ n) → ⊥
   out_of_range d old n behind (inl z) = omega (arith, z, behind, (old_in_range c cards circuit d old).drain)
@@ -218,15 +210,14 @@ module _ (c : CircuitData) (out : List ℕ) (tree : Tree (List ℕ)) (circuit : 
 
   -- no device of before ends at one of them
   old_away : (d : Device) → Contains c.devices d → (a : Spot) → (d.drain ≡ at a) ⊎ (d.source ≡ at a) → ⊥
-  old_away d old Top ends =
-      elim kept_or_new [
+  old_away d old a ends =
+      elim (kept_or_new c (spot_name a)) [
         | inl kept ↦
-            let same = old_number c cards circuit out kept in
-            let none = room.none_ends d old in
+            let same = old_number c cards circuit (spot_name a) kept in
+            let none = (undriven a).1 d old in
             elim ends [ inl z ↦ none.0 (z ∙ same) | inr z ↦ none.1 (z ∙ same) ]
-        | inr new ↦ out_of_range d old (number out) (new_behind c cards circuit out new) ends
+        | inr new ↦ out_of_range d old (at a) (new_behind c cards circuit (spot_name a) new) ends
       ]
-  old_away d old (Inside i j) ends = out_of_range d old (at (Inside i j)) (inside_behind i j) ends
 
   -- the gate is a stage of the circuit
   IsStage-gate : IsStage e.devices (is_source e) at bs

@@ -7,7 +7,7 @@ use Rattle.deck.specs.Worked.{and_devices}
 use Rattle.deck.specs.declared.device.Device.{Device}
 use Rattle.deck.specs.NamedDevices.{device_of}
 use Rattle.dom_base.specs.declared.kind.Kind.TheVariants.{N as nch, P as pch, Keep}
-use Rattle.domino_cell.specs.Cell.{IsStageNet, cell, dynamic_stage}
+use Rattle.domino_cell.specs.Cell.{IsStageNet, dynamic_stage, inverter}
 use Rattle.domino_cell.specs.Worked.{AndHoldsCell, AndIsSpelled, ThreeInSeries, and_nets, and_tree}
 use Rattle.sp_network.specs.Tree.{inner_count}
 use Rattle.dom_base.proofs.Lists.{AllByRecursion-contains}
@@ -74,8 +74,8 @@ own = (
 there_at : (k : ℕ) → k < 9 → (d : Device) → slice_index_or and_devices k d ≡ d → Contains and_devices d
 there_at k lt d e = (k, lt, e)
 
-there : AllByRecursion (λ c. Contains and_devices (device_of c)) (cell and_nets and_tree)
-there = (
+stage_there : AllByRecursion (λ c. Contains and_devices (device_of c)) (dynamic_stage and_nets and_tree)
+stage_there = (
   there_at 0 (omega arith) (record { kind = pch; drain = 12; gate = 2; source = 0 }) refl,
   (
     there_at 1 (omega arith) (record { kind = Keep; drain = 12; gate = 13; source = 0 }) refl,
@@ -83,16 +83,16 @@ there = (
       there_at 2 (omega arith) (record { kind = nch; drain = 12; gate = 9; source = 14 }) refl,
       (
         there_at 3 (omega arith) (record { kind = nch; drain = 14; gate = 10; source = 15 }) refl,
-        (
-          there_at 4 (omega arith) (record { kind = nch; drain = 15; gate = 2; source = 1 }) refl,
-          (
-            there_at 5 (omega arith) (record { kind = pch; drain = 13; gate = 12; source = 0 }) refl,
-            (there_at 6 (omega arith) (record { kind = nch; drain = 13; gate = 12; source = 1 }) refl, tt),
-          ),
-        ),
+        (there_at 4 (omega arith) (record { kind = nch; drain = 15; gate = 2; source = 1 }) refl, tt),
       ),
     ),
   ),
+)
+
+inverter_there : AllByRecursion (λ c. Contains and_devices (device_of c)) (inverter and_nets.vdd and_nets.vss and_nets.dynamic and_nets.output)
+inverter_there = (
+  there_at 5 (omega arith) (record { kind = pch; drain = 13; gate = 12; source = 0 }) refl,
+  (there_at 6 (omega arith) (record { kind = nch; drain = 13; gate = 12; source = 1 }) refl, tt),
 )
 
 free : (n : ℕ) → IsStageNet and_nets and_tree n → nat_lt n 11 ≡ false
@@ -117,13 +117,16 @@ inners_apart i j a b = omega arith
 pub and_holds_cell : AndHoldsCell
 and_holds_cell =
     record {
-      vdd_is = refl;
-      vss_is = refl;
-      supplies = λ e. omega arith;
-      free = free;
-      foot_apart = λ e. omega arith;
-      inner_apart = inner_apart;
-      inners_apart = λ i j a b e. inners_apart i j a b;
-      there = All-from_recursion (λ c. Contains and_devices (device_of c)) (cell and_nets and_tree) there;
-      alone = alone;
+      stage = record {
+        vdd_is = refl;
+        vss_is = refl;
+        supplies = λ e. omega arith;
+        free = free;
+        foot_apart = λ e. omega arith;
+        inner_apart = inner_apart;
+        inners_apart = λ i j a b e. inners_apart i j a b;
+        there = All-from_recursion (λ c. Contains and_devices (device_of c)) (dynamic_stage and_nets and_tree) stage_there;
+        alone = alone;
+      };
+      inverter_there = All-from_recursion (λ c. Contains and_devices (device_of c)) (inverter and_nets.vdd and_nets.vss and_nets.dynamic and_nets.output) inverter_there;
     }

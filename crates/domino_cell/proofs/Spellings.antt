@@ -1,12 +1,10 @@
 -- Spellings over other nets: of each net's image, and with other inner nets.
-use Rattle.std.proofs.Common.{◌≡◌, ℕ, ◌+◌, ◌<◌, ◌++◌, length, map, refl, ap, ◌∙◌, arith, add-zero, length-append}
+use Rattle.std.proofs.Common.{◌≡◌, ℕ, ◌+◌, ◌<◌, length, map, refl, ◌∙◌, arith, add-zero, length-append}
 use Rattle.std.proofs.lemmas.List.{map-append}
 use Rattle.dom_base.specs.declared.kind.Kind.{Kind}
-use Rattle.dom_base.specs.declared.kind.Kind.TheVariants.{N as nch}
 use Rattle.deck.specs.NamedDevices.{map_device}
 use Rattle.sp_network.specs.Tree.{Tree, Leaf, Series, Parallel, inner_count, leaves, map_tree}
 use Rattle.sp_network.proofs.TreeImages.{inner_count-map_tree}
-use Rattle.domino_cell.specs.Cell.{CellNets, cell, dynamic_stage, inverter, map_nets}
 use Rattle.domino_cell.specs.Spelling.{spell}
 
 -- the images of the cards are the cards of the image
@@ -17,17 +15,6 @@ spell-map_tree f kind inner (Series l r) top bottom k =
     rw (map-append, spell-map_tree f kind inner l, spell-map_tree f kind inner r, inner_count-map_tree f l) refl
 spell-map_tree f kind inner (Parallel l r) top bottom k =
     rw (map-append, spell-map_tree f kind inner l, spell-map_tree f kind inner r, inner_count-map_tree f l) refl
-
-pub dynamic_stage-map_tree : {Net Image : Type 0} (f : Net → Image) (nets : CellNets Net) (t : Tree Net)
-    → map (map_device f) (dynamic_stage nets t) ≡ dynamic_stage (map_nets f nets) (map_tree f t)
-dynamic_stage-map_tree f nets t =
-    rw (map-append (map_device f) (spell nch nets.inner t nets.dynamic nets.foot 0), spell-map_tree f nch nets.inner t) refl
-
-pub cell-map_tree : {Net Image : Type 0} (f : Net → Image) (nets : CellNets Net) (t : Tree Net)
-    → map (map_device f) (cell nets t) ≡ cell (map_nets f nets) (map_tree f t)
-cell-map_tree f nets t =
-    map-append (map_device f) (dynamic_stage nets t) (inverter nets.vdd nets.vss nets.dynamic nets.output)
-    ∙ ap (λ cs. cs ++ inverter (f nets.vdd) (f nets.vss) (f nets.dynamic) (f nets.output)) (dynamic_stage-map_tree f nets t)
 
 -- a spelling depends on the inner nets that the tree takes alone
 pub spell-same : {Net : Type 0} (kind : Kind) (inner inner' : ℕ → Net) (t : Tree Net) (top bottom : Net) (k l : ℕ)

@@ -1,5 +1,4 @@
 pub mod Cell
-pub mod CellNames
 pub mod HeldCells
 pub mod HeldNames
 pub mod Laws

@@ -61,11 +61,16 @@ pub record HasRoomForCell (c : CircuitData) (nets : CellNets (List ℕ)) : Type 
   pub foot : IsNewNet c nets.foot
   pub inner : (j : ℕ) → IsNewNet c (nets.inner j)
 
--- the supplies are ports, the output is no source, no device ends at it, and the inner nets are new
+-- the net of this name is no source, and no device ends at it
+abbrev pub IsUndriven : CircuitData → List ℕ → Type 0
+IsUndriven c name =
+    (is_source c (net_number c.nets name) ≡ false)
+    × ((d : Device) → Contains c.devices d → (d.drain ≢ net_number c.nets name) × (d.source ≢ net_number c.nets name))
+
+-- the supplies are ports, and nothing drives the output or an inner net
 pub record HasRoomForGate (c : CircuitData) (out : List ℕ) : Type 0 where
   pub vdd : IsPort c (codes "vdd")
   pub vss : IsPort c (codes "vss")
-  pub no_source : is_source c (net_number c.nets out) ≡ false
-  pub none_ends : (d : Device) → Contains c.devices d → (d.drain ≢ net_number c.nets out) × (d.source ≢ net_number c.nets out)
-  pub upper : (j : ℕ) → IsNewNet c (inner_net (upper_front out) j)
-  pub lower : (j : ℕ) → IsNewNet c (inner_net (lower_front out) j)
+  pub output : IsUndriven c out
+  pub upper : (j : ℕ) → IsUndriven c (inner_net (upper_front out) j)
+  pub lower : (j : ℕ) → IsUndriven c (inner_net (lower_front out) j)

@@ -12,12 +12,16 @@ use Rattle.deck.specs.Switches.{value_of}
 use Rattle.sp_network.specs.Known.{IsKnown}
 use Rattle.sp_network.specs.Tree.{Tree, EachLeaf, map_tree, tree_conduction}
 use Rattle.domino_cell.specs.Cell.{CellNets, map_nets}
-use Rattle.domino_cell.specs.HeldCells.{IsCell}
+use Rattle.domino_cell.specs.HeldCells.{IsCell, IsDynamicStage}
 use Rattle.domino_cell.specs.declared.style.Style.{Style}
 
 -- the value of a net by its name
 abbrev pub named_value : CircuitData → List Tri → List ℕ → Tri
 named_value c values name = value_of values (net_number c.nets name)
+
+-- the dynamic stage of these nets and this style stands in the circuit
+abbrev pub HoldsStage : Style → CircuitData → CellNets (List ℕ) → Tree (List ℕ) → Type 0
+HoldsStage style c nets tree = IsDynamicStage style c.devices (is_source c) (map_nets (net_number c.nets) nets) (map_tree (net_number c.nets) tree)
 
 -- the cell of these nets and this style stands in the circuit
 abbrev pub HoldsCell : Style → CircuitData → CellNets (List ℕ) → Tree (List ℕ) → Type 0

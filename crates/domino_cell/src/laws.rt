@@ -8,8 +8,8 @@ ghost use Rattle.domino_cell.specs.Laws.{
   PullsDownWhereOne,
 };
 
-/// In a circuit that holds a domino cell, at all values of its nets: a definite strong path from
-/// the dynamic net to ground is there exactly where the clock and the tree are `One`, a possible
+/// In a circuit that holds the dynamic stage of a domino cell, at all values of its nets: a definite
+/// strong path from the dynamic net to ground is there exactly where the clock and the tree are `One`, a possible
 /// one exactly where neither is `Zero`. Where one of them is `Zero` no path at all joins the two,
 /// not even a weak one.
 pub fn cell_pulls_down()

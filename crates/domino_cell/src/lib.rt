@@ -3,6 +3,7 @@
 //! Integrated Circuits: dynamic logic).
 #![tactic(auto)]
 
+mod dynamic_stage;
 mod inverter;
 mod laws;
 mod names;
@@ -13,9 +14,10 @@ mod style;
 mod tree;
 mod worked;
 
+pub use dynamic_stage::push_stage;
 pub use inverter::push_inverter;
 pub use laws::{cell_pulls_down, tree_joins_foot};
-pub use names::CellNames;
+pub use names::{CellNames, CellNetsAt};
 pub use numbers::{number_of, set_number};
 pub use push::{push_domino, push_numbered_domino, push_static};
 pub use style::Style;

@@ -14,13 +14,13 @@ ghost use Rattle.domino_cell.specs.PushedPaths.{HoldsCell, IsDrivenByTree, Joins
 ghost use Rattle.domino_cell.specs.StyledCells.{around_tree, styled_cell};
 
 use crate::Style;
+use crate::dynamic_stage::push_stage;
 use crate::inverter::push_inverter;
 use crate::names::{CellNames, GateNames};
 use crate::numbers::keep_number;
-use crate::precharge::push_behind_precharge;
 use crate::tree::{TreeNames, inner_names};
-use deck::{Circuit, NetAt, push_held};
-use dom_base::{Kind, NetName, OutOfMemory, ToVdd, ToVss};
+use deck::{Circuit, NetAt};
+use dom_base::{NetName, OutOfMemory, ToVdd, ToVss};
 use sp_network::{GatePlan, Sp};
 use std::alloc::Global;
 
@@ -119,27 +119,14 @@ fn push_cell(
     ensures numbers { OnOk result (AreNumbersAt circuit.new.nets names.now numbers.new) }
     ensures grew { Grew circuit.old circuit.new }
 {
-    let inner = inner_names(alloc, nets.front.as_bytes(), &plan.tree)?;
     let cell = nets.nets_at(circuit, plan.clock);
-    let precharge = push_held(circuit, Kind::P, cell.dynamic, cell.clock, cell.vdd)?;
-    let first = match style {
-        Style::Keeper => None,
-        Style::Precharge => u32::try_from(circuit.nets.len()).ok(),
-    };
-    let tree = TreeNames {
-        gates: names,
-        inner: &inner,
-        first,
-    };
-    let dynamic = cell.dynamic.at(precharge.drain);
-    let held = push_behind_precharge(circuit, style, nets, &inner, cell, dynamic)?;
+    let tree = &plan.tree;
+    let (number, held) = push_stage(alloc, circuit, style, tree, names, nets, cell, numbers)?;
+    let dynamic = cell.dynamic.at(number);
     let output = NetAt {
         name: &nets.output,
         number: held,
     };
-    let (_, number) = tree.push(circuit, &plan.tree, dynamic, cell.foot, 0, numbers)?;
-    let foot = cell.foot.at(number);
-    push_held(circuit, Kind::N, foot, cell.clock, cell.vss)?;
     let last = push_inverter(circuit, dynamic, output, cell.vdd, cell.vss)?;
     keep_number(numbers, names, gate, &nets.output, last.drain);
     Ok(())

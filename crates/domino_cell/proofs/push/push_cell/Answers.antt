@@ -1,142 +1,45 @@
-use Rattle.std.proofs.Common.{ap, arith, length, subst, sym, ◌∙◌}
+use Rattle.std.proofs.Common.{Some, ap, sym, ◌∙◌}
 use Rattle.deck.specs.NamedDevices.{with_devices}
-use Rattle.deck.specs.Nets.{net_name}
-use Rattle.deck.specs.Pushes.{pushed}
 use Rattle.deck.proofs.CircuitGrowth.{Grew-then}
-use Rattle.deck.proofs.NetsAt.{StandsAt-grew, slice_get-grew}
-use Rattle.dom_base.specs.declared.kind.Kind.TheVariants.{N as nch, P as pch}
 use Rattle.sp_network.specs.TypedTree.{tree_of}
-use Rattle.sp_network.proofs.TreeImages.{inner_count-map_tree}
 use Rattle.domino_cell.specs.Cell.{inverter}
 use Rattle.domino_cell.specs.HeldNames.{held_nets}
-use Rattle.domino_cell.specs.NamedTrees.{AreInnerNames, named_tree}
-use Rattle.domino_cell.specs.Spelling.{spell}
-use Rattle.domino_cell.specs.StyledCells.{behind_precharge}
+use Rattle.domino_cell.specs.NamedTrees.{named_tree}
 use Rattle.domino_cell.proofs.CellCircuits.{cell_devices_pushed}
 use Rattle.domino_cell.proofs.NetsAt.{AreNumbersAt-grew, StandInCircuit-grew}
-use Rattle.domino_cell.proofs.PushedTrees.{inner_count-below, spell_named}
 use Rattle.domino_cell.proofs.push.push_cell.Goals as goal
 
-pub inner_names-requires-clause-few : goal.inner_names-requires-clause-few
-inner_names-requires-clause-few c = omega (arith, c.requires.room, inner_count-below (tree_of c.args.plan.now.tree))
+pub push_stage-requires-clause-named : goal.push_stage-requires-clause-named
+push_stage-requires-clause-named c = c.nets_at-cell.ensures.named
 
-pub push-requires-clause-inner_few : goal.push-requires-clause-inner_few
-push-requires-clause-inner_few c = omega (arith, c.requires.room, inner_count-below (tree_of c.args.plan.now.tree))
-
-pub returns-in_err-precharge-clause-grew : goal.returns-in_err-precharge-clause-grew
-returns-in_err-precharge-clause-grew c = c.push_held.ensures.grew
-
-pub returns-in_err-held-clause-grew : goal.returns-in_err-held-clause-grew
-returns-in_err-held-clause-grew c = Grew-then c.push_held.ensures.grew c.push_behind_precharge.ensures.grew
-
-pub returns-in_err-number-clause-grew : goal.returns-in_err-number-clause-grew
-returns-in_err-number-clause-grew c =
-    let kept = Grew-then c.push_held.ensures.grew c.push_behind_precharge.ensures.grew in
-    Grew-then kept c.push.ensures.grew
-
-pub returns-in_err-push_held-clause-grew : goal.returns-in_err-push_held-clause-grew
-returns-in_err-push_held-clause-grew c =
-    let kept = Grew-then c.push_held.ensures.grew c.push_behind_precharge.ensures.grew in
-    let with_tree = Grew-then kept c.push.ensures.grew in
-    Grew-then with_tree c.push_held-2.ensures.grew
+pub push_stage-requires-clause-stand : goal.push_stage-requires-clause-stand
+push_stage-requires-clause-stand c = c.nets_at-cell.ensures.stand
 
 pub returns-in_err-last-clause-grew : goal.returns-in_err-last-clause-grew
-returns-in_err-last-clause-grew c =
-    let kept = Grew-then c.push_held.ensures.grew c.push_behind_precharge.ensures.grew in
-    let with_tree = Grew-then kept c.push.ensures.grew in
-    let footed = Grew-then with_tree c.push_held-2.ensures.grew in
-    Grew-then footed c.push_inverter.ensures.grew
+returns-in_err-last-clause-grew c = Grew-then c.push_stage.ensures.grew c.push_inverter.ensures.grew
 
 pub returns-clause-grew : goal.returns-clause-grew
-returns-clause-grew c =
-    let kept = Grew-then c.push_held.ensures.grew c.push_behind_precharge.ensures.grew in
-    let with_tree = Grew-then kept c.push.ensures.grew in
-    let footed = Grew-then with_tree c.push_held-2.ensures.grew in
-    Grew-then footed c.push_inverter.ensures.grew
-
-pub push_held-requires-clause-drain : goal.push_held-requires-clause-drain
-push_held-requires-clause-drain c = c.nets_at-cell.ensures.stand.dynamic
-
-pub push_held-requires-clause-gate : goal.push_held-requires-clause-gate
-push_held-requires-clause-gate c = c.nets_at-cell.ensures.stand.clock
-
-pub push_held-requires-clause-source : goal.push_held-requires-clause-source
-push_held-requires-clause-source c = c.nets_at-cell.ensures.stand.vdd
-
-pub push_behind_precharge-requires-clause-named : goal.push_behind_precharge-requires-clause-named
-push_behind_precharge-requires-clause-named c = c.nets_at-cell.ensures.named
-
-pub push_behind_precharge-requires-clause-stand : goal.push_behind_precharge-requires-clause-stand
-push_behind_precharge-requires-clause-stand c =
-    StandInCircuit-grew c.args.circuit.now c.push_held.new.circuit c.nets_at-cell.result c.push_held.ensures.grew c.nets_at-cell.ensures.stand
-
-pub push_behind_precharge-requires-clause-dynamic_is : goal.push_behind_precharge-requires-clause-dynamic_is
-push_behind_precharge-requires-clause-dynamic_is c = c.at-dynamic.ensures.name ∙ c.nets_at-cell.ensures.named.dynamic
-
-pub push_behind_precharge-requires-clause-dynamic : goal.push_behind_precharge-requires-clause-dynamic
-push_behind_precharge-requires-clause-dynamic c = c.at-dynamic.ensures.stands c.push_held.new.circuit.nets c.in_ok-precharge.ensures.ends.drain
-
-pub push-requires-clause-top : goal.push-requires-clause-top
-push-requires-clause-top c =
-    c.at-dynamic.ensures.stands c.push_behind_precharge.new.circuit.nets
-    (slice_get-grew c.push_held.new.circuit c.push_behind_precharge.new.circuit _ c.nets_at-cell.result.dynamic.name.now c.push_behind_precharge.ensures.grew c.in_ok-precharge.ensures.ends.drain)
-
-pub push-requires-clause-bottom : goal.push-requires-clause-bottom
-push-requires-clause-bottom c =
-    let grew = Grew-then c.push_held.ensures.grew c.push_behind_precharge.ensures.grew in
-    (StandInCircuit-grew c.args.circuit.now c.push_behind_precharge.new.circuit c.nets_at-cell.result grew c.nets_at-cell.ensures.stand).foot
-
-pub push-requires-clause-numbers : goal.push-requires-clause-numbers
-push-requires-clause-numbers c =
-    let grew = Grew-then c.push_held.ensures.grew c.push_behind_precharge.ensures.grew in
-    AreNumbersAt-grew c.args.circuit.now c.push_behind_precharge.new.circuit c.args.names.now c.args.numbers.now grew c.requires.numbers
-
-pub push_held-requires-2-clause-drain : goal.push_held-requires-2-clause-drain
-push_held-requires-2-clause-drain c = c.at-foot.ensures.stands c.push.new.circuit.nets c.in_ok-number.ensures.stands
-
-pub push_held-requires-2-clause-gate : goal.push_held-requires-2-clause-gate
-push_held-requires-2-clause-gate c =
-    let kept = Grew-then c.push_held.ensures.grew c.push_behind_precharge.ensures.grew in
-    let grew = Grew-then kept c.push.ensures.grew in
-    (StandInCircuit-grew c.args.circuit.now c.push.new.circuit c.nets_at-cell.result grew c.nets_at-cell.ensures.stand).clock
-
-pub push_held-requires-2-clause-source : goal.push_held-requires-2-clause-source
-push_held-requires-2-clause-source c =
-    let kept = Grew-then c.push_held.ensures.grew c.push_behind_precharge.ensures.grew in
-    let grew = Grew-then kept c.push.ensures.grew in
-    (StandInCircuit-grew c.args.circuit.now c.push.new.circuit c.nets_at-cell.result grew c.nets_at-cell.ensures.stand).vss
+returns-clause-grew c = Grew-then c.push_stage.ensures.grew c.push_inverter.ensures.grew
 
 pub push_inverter-requires-clause-gate : goal.push_inverter-requires-clause-gate
 push_inverter-requires-clause-gate c =
-    let with_tree = Grew-then c.push_behind_precharge.ensures.grew c.push.ensures.grew in
-    let grew = Grew-then with_tree c.push_held-2.ensures.grew in
-    c.at-dynamic.ensures.stands c.push_held-2.new.circuit.nets
-    (slice_get-grew c.push_held.new.circuit c.push_held-2.new.circuit _ c.nets_at-cell.result.dynamic.name.now grew c.in_ok-precharge.ensures.ends.drain)
+    c.at-dynamic.ensures.stands c.push_stage.new.circuit.nets (c.in_ok-number.ensures.dynamic ∙ ap Some (sym c.nets_at-cell.ensures.named.dynamic))
 
 pub push_inverter-requires-clause-out : goal.push_inverter-requires-clause-out
-push_inverter-requires-clause-out c =
-    let grew = Grew-then c.push.ensures.grew c.push_held-2.ensures.grew in
-    StandsAt-grew c.push_behind_precharge.new.circuit c.push_held-2.new.circuit c.in_ok-held.held c.args.nets.now.output grew c.in_ok-held.ensures.output
+push_inverter-requires-clause-out c = c.in_ok-number.ensures.output
 
 pub push_inverter-requires-clause-vdd : goal.push_inverter-requires-clause-vdd
 push_inverter-requires-clause-vdd c =
-    let kept = Grew-then c.push_held.ensures.grew c.push_behind_precharge.ensures.grew in
-    let with_tree = Grew-then kept c.push.ensures.grew in
-    let grew = Grew-then with_tree c.push_held-2.ensures.grew in
-    (StandInCircuit-grew c.args.circuit.now c.push_held-2.new.circuit c.nets_at-cell.result grew c.nets_at-cell.ensures.stand).vdd
+    (StandInCircuit-grew c.args.circuit.now c.push_stage.new.circuit c.nets_at-cell.result c.push_stage.ensures.grew c.nets_at-cell.ensures.stand).vdd
 
 pub push_inverter-requires-clause-vss : goal.push_inverter-requires-clause-vss
 push_inverter-requires-clause-vss c =
-    let kept = Grew-then c.push_held.ensures.grew c.push_behind_precharge.ensures.grew in
-    let with_tree = Grew-then kept c.push.ensures.grew in
-    let grew = Grew-then with_tree c.push_held-2.ensures.grew in
-    (StandInCircuit-grew c.args.circuit.now c.push_held-2.new.circuit c.nets_at-cell.result grew c.nets_at-cell.ensures.stand).vss
+    (StandInCircuit-grew c.args.circuit.now c.push_stage.new.circuit c.nets_at-cell.result c.push_stage.ensures.grew c.nets_at-cell.ensures.stand).vss
 
 pub returns-clause-numbers : goal.returns-clause-numbers
 returns-clause-numbers c =
-    let grew = Grew-then c.push_held-2.ensures.grew c.push_inverter.ensures.grew in
     c.keep_number.ensures c.push_inverter.new.circuit.nets
-    (AreNumbersAt-grew c.push.new.circuit c.push_inverter.new.circuit c.args.names.now c.push.new.numbers grew c.in_ok-number.ensures.numbers)
+    (AreNumbersAt-grew c.push_stage.new.circuit c.push_inverter.new.circuit c.args.names.now c.push_stage.new.numbers c.push_inverter.ensures.grew c.in_ok-number.ensures.numbers)
     c.in_ok-last.ensures.stands
 
 pub returns-clause-devices : goal.returns-clause-devices
@@ -145,19 +48,5 @@ returns-clause-devices c =
     let is = c.nets_at-cell.ensures.named in
     let nets = held_nets c.args.nets.now in
     let dynamic = c.at-dynamic.ensures.name ∙ is.dynamic in
-    let foot = c.at-foot.ensures.name ∙ is.foot in
-    let inner = c.deref.result.now in
-    let count = ap length c.deref.ensures.value ∙ c.in_ok-inner.ensures.count in
-    let count_behind = ap length c.deref-2.ensures.value ∙ c.in_ok-inner.ensures.count in
-    let named : AreInnerNames c.args.nets.now.front inner =
-    subst (λ front. AreInnerNames front inner) c.as_bytes.ensures.bytes
-    (subst (AreInnerNames c.as_bytes.result.now) (sym c.deref.ensures.value) c.in_ok-inner.ensures.names) in
-    let same = inner_count-map_tree (net_name c.args.names.now) (tree_of c.args.plan.now.tree) in
-    cell_devices_pushed c.args.style c.args.circuit.now c.push_held.new.circuit c.push_behind_precharge.new.circuit c.push.new.circuit c.push_held-2.new.circuit c.push_inverter.new.circuit nets tree
-    (c.in_ok-precharge.ensures.ok ∙ (λ i. pushed c.args.circuit.now pch (is.dynamic i) (is.clock i) (is.vdd i)))
-    (c.in_ok-held.ensures.devices ∙ ap (λ n. with_devices c.push_held.new.circuit (behind_precharge c.args.style nets n)) (count_behind ∙ sym same))
-    (c.in_ok-number.ensures.devices
-    ∙ (λ i. with_devices c.push_behind_precharge.new.circuit (spell nch (net_name inner) tree (dynamic i) (is.foot i) 0))
-    ∙ ap (with_devices c.push_behind_precharge.new.circuit) (spell_named c.args.nets.now.front inner tree nch nets.dynamic nets.foot (omega (arith, count, same)) named))
-    (c.in_ok-push_held.ensures.ok ∙ (λ i. pushed c.push.new.circuit nch (foot i) (is.clock i) (is.vss i)))
-    (c.in_ok-last.ensures.devices ∙ (λ i. with_devices c.push_held-2.new.circuit (inverter (is.vdd i) (is.vss i) (dynamic i) nets.output)))
+    cell_devices_pushed c.args.style c.args.circuit.now c.push_stage.new.circuit c.push_inverter.new.circuit nets tree c.in_ok-number.ensures.devices
+    (c.in_ok-last.ensures.devices ∙ (λ i. with_devices c.push_stage.new.circuit (inverter (is.vdd i) (is.vss i) (dynamic i) nets.output)))
