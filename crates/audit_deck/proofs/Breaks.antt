@@ -18,7 +18,8 @@ use Rattle.audit_deck.specs.Indexes.{HasEnd}
 use Rattle.audit_deck.proofs.Found.{first_end, one_device}
 
 module _ (ds : List Device) (roles : Roles) (nets : ℕ) where
-  pub front_break : (r n : ℕ) → Breaks ds roles nets r n → r ≡ 1 → IsDynamic ds roles n × ((clock out : ℕ) → HasFront ds roles n clock out → ⊥)
+  pub front_break : (r n : ℕ) → Breaks ds roles nets r n → r ≡ 1
+      → IsDynamic ds roles n × ((clock out : ℕ) → HasFront ds roles n clock out → ⊥)
   front_break r n (front d away) e = (d, away)
   front_break r n (output clock out d f away) e = absurd (omega (arith, e))
   front_break r n (tree clock out d f away) e = absurd (omega (arith, e))

@@ -1,7 +1,7 @@
 -- The tree of a cell is a network of its devices as links between the nets that were met.
 use Rattle.std.specs.Prelude.{Contains, Some, slice_get, ◌≢◌}
-use Rattle.std.proofs.Common.{List, ap, arith, get_or, inl, inr, length, refl, subst, sym, ℕ, ◌+◌, ◌<◌, ◌∙◌, ◌≡◌, ◌≤◌}
-use Rattle.std.proofs.lemmas.Option.{slice_get-get_or, slice_get_within}
+use Rattle.std.proofs.Common.{List, ap, arith, get_or, inl, inr, length, map, refl, subst, sym, ℕ, ◌+◌, ◌<◌, ◌∙◌, ◌≡◌, ◌≤◌}
+use Rattle.std.proofs.lemmas.Option.{get_or_from_slice_get, slice_get-get_or, slice_get_within}
 use Rattle.dom_base.specs.declared.kind.Kind.TheVariants.{N as nch}
 use Rattle.dom_base.proofs.Decided.{lt_or_ge}
 use Rattle.deck.specs.Paths.{Ends}
@@ -11,22 +11,24 @@ use Rattle.deck.specs.declared.role.Roles.{Roles}
 use Rattle.sp_network.specs.Tree.{Tree}
 use Rattle.sp_reduction.specs.Networks.{Has, Link, whole_height, whole_width}
 use Rattle.sp_reduction.specs.Reduction.{IsNetwork}
-use Rattle.link_reduce.specs.Parts.{links_of, part_link}
+use Rattle.link_reduce.specs.Parts.{IsOnce, IsSpelled, links_of, part_link}
 use Rattle.link_reduce.specs.Reductions.{given_part}
 use Rattle.link_reduce.specs.declared.part.Ends.{Ends as EndsData}
 use Rattle.link_reduce.proofs.Begun.{given_links, links_have}
+use Rattle.stage_law.proofs.Between.{Ends-swap}
 use Rattle.port_runs.specs.Periods.{vss_port}
 use Rattle.deck_audit.specs.Rules.{HasTree, IsInside}
 use Rattle.deck_audit.specs.Words.{IsFree, IsReachedDevice, Reached, here, link_at, step}
 use Rattle.audit_deck.specs.CellTrees.{AreLocal, HasBothMet, IsAtSource, IsFootAt, IsTreeAt}
-use Rattle.audit_deck.specs.Indexes.{AreThose, HasEnd, IsOnce}
+use Rattle.audit_deck.specs.Indexes.{AreThose, HasEnd}
 use Rattle.audit_deck.specs.Numberings.{IsMet}
 use Rattle.audit_deck.specs.Walks.{IsChannelAmong}
 use Rattle.audit_deck.specs.declared.trees.Foot.{Foot}
 use Rattle.audit_deck.proofs.Found.{first_end, one_device}
-use Rattle.audit_deck.proofs.Numberings.{once_short}
+use Rattle.link_reduce.proofs.ShortTrees.{once_short}
 use Rattle.audit_deck.proofs.Reaches.{ends_one}
-use Rattle.audit_deck.proofs.RenamedTrees.{IsOneToOne, IsRenamed, Renames, between_renamed, has_renamed, rename, renamed_has, renamed_height, renamed_width}
+use Rattle.audit_deck.proofs.RenamedTrees.{IsOneToOne, IsRenamed, Renames, between_renamed, has_renamed, rename, renamed_has}
+use Rattle.audit_deck.proofs.RenamedTrees.{renamed_height, renamed_numbers, renamed_width}
 
 -- two links with equal parts are one
 same_link : (e f : Link) → e.number ≡ f.number → e.from ≡ f.from → e.to ≡ f.to → e.width ≡ f.width → e.height ≡ f.height → e ≡ f
@@ -51,14 +53,10 @@ back_once xs once = record {
   from = λ a b i p q. let z : Some a ≡ Some b = sym p ∙ q in cc;
 }
 
-pub turned : (d : Device) (a b : ℕ) → Ends d a b → Ends d b a
-turned d a b (inl j) = inr (j.1, j.0)
-turned d a b (inr j) = inl (j.1, j.0)
-
 module _ (ds : List Device) (roles : Roles) (x : ℕ) (free : IsFree roles x) where
   -- a device that ends at `vss` ends at a source
   at_source : (p : ℕ) (d : Device) (n : ℕ) → slice_get ds p ≡ Some d → Ends d n vss_port → IsAtSource ds roles p
-  at_source p d n at ends = (d, at, vss_port, first_end d vss_port n (turned d n vss_port ends), (λ f. omega (arith, f)))
+  at_source p d n at ends = (d, at, vss_port, first_end d vss_port n (Ends-swap d n vss_port ends), (λ f. omega (arith, f)))
 
   pub reached_free : (n : ℕ) → Reached ds roles x n → IsFree roles n
   reached_free n here = free
@@ -145,7 +143,8 @@ module _ (ds : List Device) (roles : Roles) (x : ℕ) (free : IsFree roles x) wh
         Pairs e g = IsRenamed (At nets) (At rest) e g
 
         -- each link is that of a device, and the other way round
-        link_pair : (e : Link) → Contains (links_of links) e → (p : ℕ) × (d : Device) × IsMet rest p × (slice_get ds p ≡ Some d) × Pairs e (link_at p d)
+        link_pair : (e : Link) → Contains (links_of links) e
+            → (p : ℕ) × (d : Device) × IsMet rest p × (slice_get ds p ≡ Some d) × Pairs e (link_at p d)
         link_pair e c =
             let y = given_links 0 links e c in
             let i = y.0 in
@@ -162,7 +161,8 @@ module _ (ds : List Device) (roles : Roles) (x : ℕ) (free : IsFree roles x) wh
                   (record { number = at; from = l.from; to = l.to; width = refl; height = refl }),
             )
 
-        device_pair : (p : ℕ) (d : Device) → IsMet rest p → slice_get ds p ≡ Some d → (e : Link) × Contains (links_of links) e × Pairs e (link_at p d)
+        device_pair : (p : ℕ) (d : Device) → IsMet rest p → slice_get ds p ≡ Some d
+            → (e : Link) × Contains (links_of links) e × Pairs e (link_at p d)
         device_pair p d met at =
             let i = met.0 in
             let low = slice_get_within rest i p met.1 in
@@ -199,30 +199,35 @@ module _ (ds : List Device) (roles : Roles) (x : ℕ) (free : IsFree roles x) wh
         is_rest p d at r ne = others.full p (reached_place p d at r, ne)
 
         -- a network of the links is the tree of the cell
-        pub tree_found : ((n : ℕ) → IsMet nets n → n ≢ x → IsInside ds roles n) → (w h : ℕ) → IsNetwork (links_of links) a b w h
-            → IsTreeAt ds roles x clock (record { foot = foot.place; bottom = foot.bottom; width = w; height = h })
-        tree_found inside w h n = record {
+        pub tree_found : ((n : ℕ) → IsMet nets n → n ≢ x → IsInside ds roles n) → (w h : ℕ) (order : List ℕ)
+            → IsSpelled (links_of links) a b w h order
+            → IsTreeAt ds roles x clock (record { foot = foot.place; bottom = foot.bottom; width = w; height = h; order = map (λ n. get_or rest n 0) order })
+        tree_found inside w h order n = record {
           tree = u.0;
           has_tree = has_tree;
           foot_is = refl;
           width_is = sym (renamed_width (At nets) (At rest) n.tree u.0 u.1) ∙ n.width_is;
           height_is = sym (renamed_height (At nets) (At rest) n.tree u.0 u.1) ∙ n.height_is;
+          order_is = renamed_numbers (At nets) (At rest) (λ i. get_or rest i 0) (λ i p at. sym (get_or_from_slice_get rest i p 0 at)) n.tree u.0 u.1
+              ∙ ap (map (λ i. get_or rest i 0)) n.order_is;
         }
           where
             u : (v : Tree Link) × Renames (At nets) (At rest) n.tree v
-            u = rename (At nets) (At rest) n.tree (λ e c. let y = link_pair e ((n.links_are e).0 c) in (link_at y.0 y.1, y.4))
+            u = rename (At nets) (At rest) n.tree (λ e c. let y = link_pair e (n.from e c) in (link_at y.0 y.1, y.4))
 
-            to : (e : Link) → Has u.0 e → (p : ℕ) × (d : Device) × (slice_get ds p ≡ Some d) × IsReachedDevice ds roles x d × (p ≢ foot.place) × (e ≡ link_at p d)
+            to : (e : Link) → Has u.0 e
+                → (p : ℕ) × (d : Device) × (slice_get ds p ≡ Some d) × IsReachedDevice ds roles x d × (p ≢ foot.place) × (e ≡ link_at p d)
             to e c =
                 let o = renamed_has (At nets) (At rest) n.tree u.0 u.1 e c in
-                let y = link_pair o.0 ((n.links_are o.0).0 o.1) in
+                let y = link_pair o.0 (n.from o.0 o.1) in
                 let r = others.sound y.2.0 y.0 y.2.1 in
                 (y.0, y.1, y.3, place_reached y.0 y.1 y.3 r.0, r.1, one_image o.0 e (link_at y.0 y.1) o.2 y.4)
 
-            from : (e : Link) → (p : ℕ) × (d : Device) × (slice_get ds p ≡ Some d) × IsReachedDevice ds roles x d × (p ≢ foot.place) × (e ≡ link_at p d) → Has u.0 e
+            from : (e : Link)
+                → (p : ℕ) × (d : Device) × (slice_get ds p ≡ Some d) × IsReachedDevice ds roles x d × (p ≢ foot.place) × (e ≡ link_at p d) → Has u.0 e
             from e (p, d, at, r, ne, is) =
                 let y = device_pair p d (is_rest p d at r ne) at in
-                let z = has_renamed (At nets) (At rest) n.tree u.0 u.1 y.0 ((n.links_are y.0).1 y.1) in
+                let z = has_renamed (At nets) (At rest) n.tree u.0 u.1 y.0 (n.to y.0 y.1) in
                 subst (Has u.0) (one_image y.0 z.0 (link_at p d) z.2 y.2 ∙ sym is) z.1
 
             has_tree : HasTree ds roles x clock foot.bottom u.0
@@ -252,7 +257,7 @@ module _ (ds : List Device) (roles : Roles) (x : ℕ) (free : IsFree roles x) wh
           same_bottom : bottom ≡ foot.bottom
           same_bottom =
               let d : h.foot_device ≡ f.device = one_device ds foot.place h.foot_device f.device (subst (λ p. slice_get ds p ≡ Some h.foot_device) same_foot h.foot_there) f.there in
-              ends_one f.device vss_port bottom foot.bottom (turned f.device bottom vss_port (subst (λ e. Ends e bottom vss_port) d h.foot_is.2)) (turned f.device foot.bottom vss_port f.device_is.2)
+              ends_one f.device vss_port bottom foot.bottom (Ends-swap f.device bottom vss_port (subst (λ e. Ends e bottom vss_port) d h.foot_is.2)) (Ends-swap f.device foot.bottom vss_port f.device_is.2)
 
           origin : (e : Link) → Has tree e → (g : Link) × Contains (links_of links) g × Pairs g e
           origin e c =
@@ -300,7 +305,8 @@ module _ (ds : List Device) (roles : Roles) (x : ℕ) (free : IsFree roles x) wh
           )
 
     -- the foot of a cell that has a tree
-    pub foot_there : (clock bottom : ℕ) (tree : Tree Link) → HasTree ds roles x clock bottom tree → (g : Foot) × IsFootAt ds roles x clock places g
+    pub foot_there : (clock bottom : ℕ) (tree : Tree Link) → HasTree ds roles x clock bottom tree
+        → (g : Foot) × IsFootAt ds roles x clock places g
     foot_there clock bottom tree h =
         let y = reached_place h.foot h.foot_device h.foot_there (h.foot_is.0, bottom, h.bottom_reached, first_end h.foot_device bottom vss_port h.foot_is.2) in (
           record { place = h.foot; bottom = bottom },

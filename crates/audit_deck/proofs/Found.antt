@@ -65,7 +65,8 @@ two_alike (inr x) (inl y) (inl z) = inr (inr (y ∙ sym z))
 two_alike (inr x) (inl y) (inr z) = inr (inl (x ∙ sym z))
 
 -- where just two numbers have the property, the list has two
-count_two : (P : ℕ → Type 0) (l : List ℕ) → AreThose P l → (u v : ℕ) → P u → P v → (u ≡ v → ⊥) → ((p : ℕ) → P p → (p ≡ u) ⊎ (p ≡ v)) → length l ≡ 2
+count_two : (P : ℕ → Type 0) (l : List ℕ) → AreThose P l → (u v : ℕ) → P u → P v → (u ≡ v → ⊥) → ((p : ℕ) → P p → (p ≡ u) ⊎ (p ≡ v))
+    → length l ≡ 2
 count_two P [] are u v pu pv differ only = let y = (are.full u pu).1 in absurd cc
 count_two P (a ∷ []) are u v pu pv differ only =
     let y = are.full u pu in let z = are.full v pv in absurd (differ (one_of a y.0 u y.1 ∙ sym (one_of a z.0 v z.1)))
@@ -119,7 +120,8 @@ module _ (ds : List Device) (n : ℕ) (l : List ℕ) (are : AreThose (EndingAt d
     covers : (p : ℕ) → EndingAt ds n p → (p ≡ get_or l 0 0) ⊎ (p ≡ get_or l 1 0)
     covers p e = let y = are.full p e in two_of l two y.0 p y.1
 
-    inverts_by : (up down : ℕ) (i : Inverter) → ((p : ℕ) → EndingAt ds n p → (p ≡ up) ⊎ (p ≡ down)) → IsPairAt ds n up down i → IsInverterAt ds n i
+    inverts_by : (up down : ℕ) (i : Inverter) → ((p : ℕ) → EndingAt ds n p → (p ≡ up) ⊎ (p ≡ down)) → IsPairAt ds n up down i
+        → IsInverterAt ds n i
     inverts_by up down i both h = record {
       inverts = record {
         up = up;
@@ -142,7 +144,8 @@ module _ (ds : List Device) (n : ℕ) (l : List ℕ) (are : AreThose (EndingAt d
     pub turned_inverts : (i : Inverter) → IsPairAt ds n (get_or l 1 0) (get_or l 0 0) i → IsInverterAt ds n i
     turned_inverts i h = inverts_by (get_or l 1 0) (get_or l 0 0) i (λ p e. elim (covers p e) [ inl y ↦ inr y | inr y ↦ inl y ]) h
 
-    pub no_pair : ((i : Inverter) → IsPairAt ds n (get_or l 0 0) (get_or l 1 0) i → ⊥) → ((i : Inverter) → IsPairAt ds n (get_or l 1 0) (get_or l 0 0) i → ⊥)
+    pub no_pair : ((i : Inverter) → IsPairAt ds n (get_or l 0 0) (get_or l 1 0) i → ⊥)
+        → ((i : Inverter) → IsPairAt ds n (get_or l 1 0) (get_or l 0 0) i → ⊥)
         → (input : ℕ) → IsInverterOutput ds n input → ⊥
     no_pair none turned input i = by (covers i.up (up_ends ds n input i)) (covers i.down (down_ends ds n input i))
       where

@@ -1,12 +1,14 @@
 -- Lists of the numbers with a property, by net, where one number more is looked at.
 use Rattle.std.specs.Prelude.{Some, slice_get, ◌≢◌, ◌⊎◌}
-use Rattle.std.proofs.Common.{List, [], ap, arith, inl, inr, length, refl, replicate, subst, suc, sym, zero, ℕ, ◌++◌, ◌+◌, ◌<◌, ◌∙◌, ◌∷◌, ◌≡◌}
+use Rattle.std.proofs.Common.{List, [], ap, arith, inl, inr, length, refl, replicate, subst, suc, sym, zero, ℕ, ◌++◌, ◌+◌, ◌<◌, ◌∙◌, ◌∷◌}
+use Rattle.std.proofs.Common.{◌≡◌}
 use Rattle.dom_base.specs.Decided.{Decided}
 use Rattle.dom_base.proofs.Decided.{dec_nat, dec_or}
 use Rattle.dom_base.proofs.Lists.{slice_get-append, slice_get-push, slice_get-push_cases}
 use Rattle.deck.specs.Nets.{IsInRange}
 use Rattle.deck.specs.declared.device.Device.{Device}
 use Rattle.link_reduce.specs.Parts.{listed, with_number}
+use Rattle.link_reduce.proofs.Begun.{at_none}
 use Rattle.link_reduce.proofs.Listing.{more_other, more_same}
 use Rattle.link_reduce.proofs.Steps.{room_more}
 use Rattle.audit_deck.specs.Indexes.{AddsWhere, AreIndexed, AreListed, AreThose, EndingAt, GatedBy, HasEnd}
@@ -32,7 +34,8 @@ module _ (P : ℕ → Type 0) (bound : ℕ) (numbers : List ℕ) (h : AreThose (
     once = λ j k p at there. only j k p (slice_get-push_cases numbers bound j p at) (slice_get-push_cases numbers bound k p there);
   }
     where
-      only : (j k p : ℕ) → (slice_get numbers j ≡ Some p) ⊎ ((j ≡ length numbers) × (bound ≡ p)) → (slice_get numbers k ≡ Some p) ⊎ ((k ≡ length numbers) × (bound ≡ p)) → j ≡ k
+      only : (j k p : ℕ) → (slice_get numbers j ≡ Some p) ⊎ ((j ≡ length numbers) × (bound ≡ p))
+          → (slice_get numbers k ≡ Some p) ⊎ ((k ≡ length numbers) × (bound ≡ p)) → j ≡ k
       only j k p (inl y) (inl z) = h.once j k p y z
       only j k p (inr y) (inr z) = y.0 ∙ sym z.0
       only j k p (inl y) (inr z) = absurd (past j (y ∙ ap Some (sym z.1)))
@@ -50,7 +53,8 @@ module _ (P : ℕ → Type 0) (bound : ℕ) (numbers : List ℕ) (h : AreThose (
   }
 
 -- where all numbers with the property were looked at, the list has those
-pub all_those : (P : ℕ → Type 0) (bound : ℕ) (numbers : List ℕ) → ((p : ℕ) → P p → p < bound) → AreThose (Below P bound) numbers → AreThose P numbers
+pub all_those : (P : ℕ → Type 0) (bound : ℕ) (numbers : List ℕ) → ((p : ℕ) → P p → p < bound) → AreThose (Below P bound) numbers
+    → AreThose P numbers
 all_those P bound numbers low h = record {
   sound = λ j p at. (h.sound j p at).1;
   full = λ p has. h.full p (low p has, has);
@@ -58,11 +62,6 @@ all_those P bound numbers low h = record {
 }
 
 -- no number was looked at
-at_none : (nets n j p : ℕ) → slice_get (listed (replicate nets []) n) j ≡ Some p → ⊥
-at_none zero n j p h = absurd cc
-at_none (suc nets) zero j p h = absurd cc
-at_none (suc nets) (suc n) j p h = at_none nets n j p h
-
 length_none : (nets : ℕ) → length (replicate {A = List ℕ} nets []) ≡ nets
 length_none zero = refl
 length_none (suc nets) = omega (arith, length_none nets)
@@ -124,7 +123,8 @@ module _ (ds : List Device) (nets place : ℕ) (d : Device) (there : slice_get d
   here_is : (e : Device) → slice_get ds place ≡ Some e → d ≡ e
   here_is e at = cc
 
-  pub ends_more : AreListed (EndingAt ds) nets place lists → AddsWhere (HasEnd d) place lists lists' → AreListed (EndingAt ds) nets (place + 1) lists'
+  pub ends_more : AreListed (EndingAt ds) nets place lists → AddsWhere (HasEnd d) place lists lists'
+      → AreListed (EndingAt ds) nets (place + 1) lists'
   ends_more h adds = listed_more (EndingAt ds) nets place lists lists'
       (λ n. elim (dec_or (dec_nat d.drain n) (dec_nat d.source n)) [
         | inl y ↦ inl (d, there, y)
@@ -135,7 +135,8 @@ module _ (ds : List Device) (nets place : ℕ) (d : Device) (there : slice_get d
         away = λ n ne. adds.away n (λ e. ne (d, there, e));
       })
 
-  pub gates_more : AreListed (GatedBy ds) nets place lists → AddsWhere (λ n. d.gate ≡ n) place lists lists' → AreListed (GatedBy ds) nets (place + 1) lists'
+  pub gates_more : AreListed (GatedBy ds) nets place lists → AddsWhere (λ n. d.gate ≡ n) place lists lists'
+      → AreListed (GatedBy ds) nets (place + 1) lists'
   gates_more h adds = listed_more (GatedBy ds) nets place lists lists'
       (λ n. elim (dec_nat d.gate n) [
         | inl y ↦ inl (d, there, y)
@@ -147,7 +148,8 @@ module _ (ds : List Device) (nets place : ℕ) (d : Device) (there : slice_get d
       })
 
 -- all devices were put into the lists
-pub are_indexed : (ds : List Device) (nets place : ℕ) (ending gating : List (List ℕ)) → AreListed (EndingAt ds) nets place ending → AreListed (GatedBy ds) nets place gating
+pub are_indexed : (ds : List Device) (nets place : ℕ) (ending gating : List (List ℕ)) → AreListed (EndingAt ds) nets place ending
+    → AreListed (GatedBy ds) nets place gating
     → place ≡ length ds → ((p : ℕ) (d : Device) → slice_get ds p ≡ Some d → IsInRange nets d) → AreIndexed ds ending gating
 are_indexed ds nets place ending gating ends gates all in_range =
     let same : nets ≡ length ending = sym ends.count in

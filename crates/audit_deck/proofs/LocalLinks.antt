@@ -1,13 +1,15 @@
 -- Devices as links by the numbers of nets, one after another; and places but for one.
 use Rattle.std.specs.Prelude.{Some, slice_get, ◌≢◌, ◌⊎◌}
-use Rattle.std.proofs.Common.{List, [], ap, arith, get_or, inl, inr, length, length-append, subst, sym, ℕ, ◌++◌, ◌+◌, ◌<◌, ◌∙◌, ◌∷◌, ◌≡◌, ◌≤◌}
+use Rattle.std.proofs.Common.{List, [], ap, arith, get_or, inl, inr, length, length-append, subst, sym, ℕ, ◌++◌, ◌+◌, ◌<◌, ◌∙◌, ◌∷◌, ◌≡◌}
+use Rattle.std.proofs.Common.{◌≤◌}
 use Rattle.std.proofs.lemmas.Option.{slice_get-get_or, slice_get_within}
 use Rattle.dom_base.proofs.Decided.{lt_or_ge}
 use Rattle.dom_base.proofs.Lists.{slice_get-append, slice_get-push, slice_get-push_cases}
 use Rattle.deck.specs.declared.device.Device.{Device}
 use Rattle.link_reduce.specs.declared.part.Ends.{Ends}
 use Rattle.audit_deck.specs.CellTrees.{AreLocal, IsLocal}
-use Rattle.audit_deck.specs.Indexes.{AreThose, IsOnce}
+use Rattle.link_reduce.specs.Parts.{IsOnce}
+use Rattle.audit_deck.specs.Indexes.{AreThose}
 use Rattle.audit_deck.specs.Numberings.{IsMet}
 
 module _ (ds : List Device) (nets places : List ℕ) (links : List Ends) (h : AreLocal ds nets places links) (p : ℕ) (e : Ends) (is : IsLocal ds nets p e) where
@@ -17,14 +19,16 @@ module _ (ds : List Device) (nets places : List ℕ) (links : List Ends) (h : Ar
     each = λ i q g at there. by i q g (slice_get-push_cases places p i q at) (slice_get-push_cases links e i g there);
   }
     where
-      by : (i q : ℕ) (g : Ends) → (slice_get places i ≡ Some q) ⊎ ((i ≡ length places) × (p ≡ q)) → (slice_get links i ≡ Some g) ⊎ ((i ≡ length links) × (e ≡ g)) → IsLocal ds nets q g
+      by : (i q : ℕ) (g : Ends) → (slice_get places i ≡ Some q) ⊎ ((i ≡ length places) × (p ≡ q))
+          → (slice_get links i ≡ Some g) ⊎ ((i ≡ length links) × (e ≡ g)) → IsLocal ds nets q g
       by i q g (inl y) (inl z) = h.each i q g y z
       by i q g (inr y) (inr z) = subst (λ x. IsLocal ds nets x g) y.1 (subst (IsLocal ds nets p) z.1 is)
       by i q g (inl y) (inr z) = let low = slice_get_within places i q y in absurd (omega (arith, low, z.0, h.count))
       by i q g (inr y) (inl z) = let low = slice_get_within links i g z in absurd (omega (arith, low, y.0, h.count))
 
 -- the ends of a link are numbers of nets
-pub local_low : (ds : List Device) (nets places : List ℕ) (links : List Ends) → AreLocal ds nets places links → (k : ℕ) (d : Ends) → k < length links
+pub local_low : (ds : List Device) (nets places : List ℕ) (links : List Ends) → AreLocal ds nets places links → (k : ℕ) (d : Ends)
+    → k < length links
     → ((get_or links k d).from < length nets) × ((get_or links k d).to < length nets)
 local_low ds nets places links h k d lt =
     let e : Ends = get_or links k d in
@@ -72,7 +76,8 @@ module _ (places : List ℕ) (once : IsOnce places) (one i q : ℕ) (at : slice_
     once = λ j k p there here. only j k p (slice_get-push_cases rest q j p there) (slice_get-push_cases rest q k p here);
   }
     where
-      only : (j k p : ℕ) → (slice_get rest j ≡ Some p) ⊎ ((j ≡ length rest) × (q ≡ p)) → (slice_get rest k ≡ Some p) ⊎ ((k ≡ length rest) × (q ≡ p)) → j ≡ k
+      only : (j k p : ℕ) → (slice_get rest j ≡ Some p) ⊎ ((j ≡ length rest) × (q ≡ p))
+          → (slice_get rest k ≡ Some p) ⊎ ((k ≡ length rest) × (q ≡ p)) → j ≡ k
       only j k p (inl y) (inl z) = h.once j k p y z
       only j k p (inr y) (inr z) = y.0 ∙ sym z.0
       only j k p (inl y) (inr z) = absurd (not_yet j (y ∙ ap Some (sym z.1)))

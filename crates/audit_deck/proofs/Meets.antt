@@ -4,7 +4,8 @@ use Rattle.std.proofs.Common.{List, [], ap, arith, inl, inr, length, subst, sym,
 use Rattle.std.proofs.lemmas.Option.{slice_get_within}
 use Rattle.dom_base.proofs.Decided.{lt_or_ge}
 use Rattle.dom_base.proofs.Lists.{slice_get-append, slice_get-push, slice_get-push_cases}
-use Rattle.audit_deck.specs.Indexes.{AreThose, IsOnce}
+use Rattle.link_reduce.specs.Parts.{IsOnce}
+use Rattle.audit_deck.specs.Indexes.{AreThose}
 use Rattle.audit_deck.specs.Numberings.{AddsOne, IsMet}
 use Rattle.audit_deck.specs.Walks.{MeetsThose}
 
@@ -20,7 +21,8 @@ meets_added before after n (inr (new, same)) = subst (MeetsThose (λ m. m ≡ n)
   full = λ m e. (length before, slice_get-push before n ∙ ap Some (sym e));
 })
 
-pub meets_same : (P Q : ℕ → Type 0) (before after : List ℕ) → ((m : ℕ) → P m → Q m) → ((m : ℕ) → Q m → P m) → MeetsThose P before after → MeetsThose Q before after
+pub meets_same : (P Q : ℕ → Type 0) (before after : List ℕ) → ((m : ℕ) → P m → Q m) → ((m : ℕ) → Q m → P m) → MeetsThose P before after
+    → MeetsThose Q before after
 meets_same P Q before after to from h = record {
   kept = h.kept;
   sound = λ m there. elim (h.sound m there) [ inl y ↦ inl y | inr y ↦ inr (to m y) ];
@@ -69,7 +71,8 @@ module _ (Q : ℕ → ℕ → Type 0) (numbers : List ℕ) where
       ]
 
   pub upto_all : (i : ℕ) (P : ℕ → Type 0) (a b : List ℕ) → length numbers ≤ i → MeetsThose (Upto Q numbers i) a b
-      → ((m j p : ℕ) → slice_get numbers j ≡ Some p → Q p m → P m) → ((m : ℕ) → P m → (j : ℕ) × (p : ℕ) × (slice_get numbers j ≡ Some p) × Q p m)
+      → ((m j p : ℕ) → slice_get numbers j ≡ Some p → Q p m → P m)
+      → ((m : ℕ) → P m → (j : ℕ) × (p : ℕ) × (slice_get numbers j ≡ Some p) × Q p m)
       → MeetsThose P a b
   upto_all i P a b done h to from =
       meets_same (Upto Q numbers i) P a b

@@ -8,7 +8,8 @@ use Rattle.deck.specs.Paths.{Ends}
 use Rattle.deck.specs.declared.device.Device.{Device}
 use Rattle.deck.specs.declared.role.Roles.{Roles}
 use Rattle.deck_audit.specs.Words.{IsFree, Reached, here, step}
-use Rattle.audit_deck.specs.Indexes.{AreThose, HasKind, IsOnce}
+use Rattle.link_reduce.specs.Parts.{IsOnce}
+use Rattle.audit_deck.specs.Indexes.{AreThose, HasKind}
 use Rattle.audit_deck.specs.Numberings.{AddsOne, IsMet}
 use Rattle.audit_deck.specs.Walks.{IsNext, IsNextBy, MeetsThose}
 use Rattle.audit_deck.proofs.Found.{one_device}
@@ -23,7 +24,8 @@ ends_one d a b c (inr x) (inl y) = sym x.1 ∙ y.0 ∙ sym x.0 ∙ y.1
 
 module _ (ds : List Device) (roles : Roles) where
   -- the far end of an `nch` is met
-  pub end_met : (m p far : ℕ) (d : Device) → slice_get ds p ≡ Some d → HasKind ds nch p → Ends d m far → IsFree roles far → (before after : List ℕ)
+  pub end_met : (m p far : ℕ) (d : Device) → slice_get ds p ≡ Some d → HasKind ds nch p → Ends d m far → IsFree roles far
+      → (before after : List ℕ)
       → AddsOne before far after → MeetsThose (IsNextBy ds roles m p) before after
   end_met m p far d at kind ends free before after adds =
       meets_same (λ n. n ≡ far) (IsNextBy ds roles m p) before after to from (meets_added before after far adds)

@@ -1,8 +1,14 @@
 -- Trees of links whose nets and numbers are renamed one to one.
-use Rattle.std.proofs.Common.{ap₂, inl, inr, max, refl, subst, sym, ℕ, ◌+◌, ◌≡◌}
+use Rattle.std.proofs.lemmas.List.{map-append}
+use Rattle.std.proofs.Common.{[], ap, ap₂, inl, inr, map, max, refl, subst, sym, ℕ, ◌++◌, ◌+◌, ◌∙◌, ◌∷◌, ◌≡◌}
 use Rattle.sp_network.specs.Tree.{Leaf, Parallel, Series, Tree}
 use Rattle.sp_reduction.specs.Networks.{Apart, Between, EndsAt, Has, Joins, Link, Touches, whole_height, whole_width}
+use Rattle.link_reduce.specs.Parts.{numbers_of}
 use Rattle.sp_reduction.proofs.Facts.{bottom_touched}
+
+both : (g : ℕ → ℕ) (l r m n : Tree Link) → numbers_of m ≡ map g (numbers_of l) → numbers_of n ≡ map g (numbers_of r)
+    → numbers_of m ++ numbers_of n ≡ map g (numbers_of l ++ numbers_of r)
+both g l r m n x y = ap₂ ◌++◌ x y ∙ sym (map-append g (numbers_of l) (numbers_of r))
 
 -- a relation that is one to one
 pub record IsOneToOne (N : ℕ → ℕ → Type 0) : Type 0 where
@@ -54,6 +60,12 @@ module _ (N Q : ℕ → ℕ → Type 0) where
   has_renamed t u (series {l} {r} {m} {n} x y) e (inr c) = let z = has_renamed r n y e c in (z.0, inr z.1, z.2)
   has_renamed t u (parallel {l} {r} {m} {n} x y) e (inl c) = let z = has_renamed l m x e c in (z.0, inl z.1, z.2)
   has_renamed t u (parallel {l} {r} {m} {n} x y) e (inr c) = let z = has_renamed r n y e c in (z.0, inr z.1, z.2)
+
+  -- the numbers of a renamed tree, where a function renames them
+  pub renamed_numbers : (g : ℕ → ℕ) → ((i n : ℕ) → Q i n → n ≡ g i) → (t u : Tree Link) → Renames t u → numbers_of u ≡ map g (numbers_of t)
+  renamed_numbers g is t u (leaf {e} {f} x) = ap (λ n. n ∷ []) (is e.number f.number x.number)
+  renamed_numbers g is t u (series {l} {r} {m} {n} x y) = both g l r m n (renamed_numbers g is l m x) (renamed_numbers g is r n y)
+  renamed_numbers g is t u (parallel {l} {r} {m} {n} x y) = both g l r m n (renamed_numbers g is l m x) (renamed_numbers g is r n y)
 
   -- a net that a renamed tree touches is a renamed one that the tree touches, and the other way round
   renamed_touched : (t u : Tree Link) → Renames t u → (y : ℕ) → Touches u y → (x : ℕ) × N x y × Touches t x

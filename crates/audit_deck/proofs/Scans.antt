@@ -1,10 +1,10 @@
 -- Which numbers in a list have a property, as far as a scan has come.
-use Rattle.std.specs.Prelude.{Err, IfNone, IfSome, None, Ok, OnOk, Option, Result, Some, false, slice_get, true, ◌⊎◌}
-use Rattle.std.specs.Option.{IsSome, is_some}
-use Rattle.std.proofs.Common.{List, ap, arith, inl, inr, length, refl, subst, sym, ℕ, ◌+◌, ◌<◌, ◌∙◌, ◌≡◌, ◌≤◌}
+use Rattle.std.specs.Prelude.{IfNone, IfSome, None, Option, Some, false, slice_get, true, ◌⊎◌}
+use Rattle.std.specs.Option.{is_some}
+use Rattle.std.proofs.Common.{List, ap, arith, inl, inr, length, subst, sym, ℕ, ◌+◌, ◌<◌, ◌∙◌, ◌≡◌, ◌≤◌}
 use Rattle.std.proofs.lemmas.Option.{slice_get_within}
 use Rattle.dom_base.proofs.Decided.{lt_or_ge}
-use Rattle.audit_deck.specs.Indexes.{IsOnce}
+use Rattle.link_reduce.specs.Parts.{IsOnce}
 use Rattle.audit_deck.specs.Scans.{AllBefore, IsOnlyIn}
 
 -- of the first numbers none has the property
@@ -17,33 +17,9 @@ IsOnlyBefore Q numbers i None = NoneBefore Q numbers i
 IsOnlyBefore Q numbers i (Some x) =
     ((k : ℕ) × (k < i) × (slice_get numbers k ≡ Some x)) × Q x × ((j p : ℕ) → j < i → slice_get numbers j ≡ Some p → Q p → p ≡ x)
 
-pub on_ok : {T E : Type 0} {A B : Type 0} (r : Result T E) → (A → B) → OnOk r A → OnOk r B
-on_ok (Ok x) f h = f h
-on_ok (Err e) f h = tt
-
-pub some_weaker : {X : Type 0} (o : Option X) (P Q : X → Type 0) → ((x : X) → P x → Q x) → IfSome o P → IfSome o Q
-some_weaker None P Q f h = tt
-some_weaker (Some x) P Q f h = f x h
-
-pub none_weaker : {X : Type 0} (o : Option X) (P Q : Type 0) → (P → Q) → IfNone o P → IfNone o Q
-none_weaker None P Q f h = f h
-none_weaker (Some x) P Q f h = tt
-
 pub none_of : {X : Type 0} (o : Option X) (P : Type 0) → is_some o ≡ false → IfNone o P → P
 none_of None P e h = h
 none_of (Some x) P e h = absurd cc
-
-pub some_of : {X : Type 0} (o : Option X) (P : Type 0) → IfNone o (P → ⊥) → P → IsSome o
-some_of None P h p = absurd (h p)
-some_of (Some x) P h p = refl
-
-pub some_is : {X : Type 0} (o : Option X) (x : X) (P : X → Type 0) → o ≡ Some x → IfSome o P → P x
-some_is None x P e h = absurd cc
-some_is (Some y) x P e h = let z : y ≡ x = cc in subst P z h
-
-pub none_is : {X : Type 0} (o : Option X) (P : Type 0) → o ≡ None → IfNone o P → P
-none_is None P e h = h
-none_is (Some x) P e h = absurd cc
 
 module _ (Q : ℕ → Type 0) (numbers : List ℕ) (i p : ℕ) (at : slice_get numbers i ≡ Some p) where
   here_or_before : (j q : ℕ) → j < i + 1 → slice_get numbers j ≡ Some q → (q ≡ p) ⊎ (j < i)
@@ -75,7 +51,8 @@ module _ (Q : ℕ → Type 0) (numbers : List ℕ) (i p : ℕ) (at : slice_get n
   scan_first (Some x) none has h = absurd cc
 
   -- a second one: none is the only one
-  pub scan_second : (o : Option ℕ) → is_some o ≡ true → Q p → IsOnlyBefore Q numbers i o → IsOnce numbers → (y : ℕ) → IsOnlyIn Q numbers y → ⊥
+  pub scan_second : (o : Option ℕ) → is_some o ≡ true → Q p → IsOnlyBefore Q numbers i o → IsOnce numbers → (y : ℕ)
+      → IsOnlyIn Q numbers y → ⊥
   scan_second None some has h once y one = absurd cc
   scan_second (Some x) some has h once y one =
       let same : x ≡ p = one.only h.0.0 x h.0.2 h.1 ∙ sym (one.only i p at has) in

@@ -5,6 +5,7 @@ use Rattle.deck.specs.declared.device.Device.{Device}
 use Rattle.deck.specs.declared.role.Roles.{Roles}
 use Rattle.sp_network.specs.Tree.{Tree}
 use Rattle.sp_reduction.specs.Networks.{Link, whole_height, whole_width}
+use Rattle.link_reduce.specs.Parts.{numbers_of}
 use Rattle.link_reduce.specs.declared.part.Ends.{Ends}
 use Rattle.port_runs.specs.Periods.{vss_port}
 use Rattle.deck_audit.specs.Rules.{HasTree}
@@ -13,8 +14,15 @@ use Rattle.audit_deck.specs.Indexes.{AreThose, HasEnd}
 use Rattle.audit_deck.specs.Numberings.{IsMet}
 use Rattle.audit_deck.specs.Scans.{IsOnlyIn}
 use Rattle.audit_deck.specs.Walks.{IsChannelAmong}
-use Rattle.audit_deck.specs.declared.trees.CellTree.{CellTree}
 use Rattle.audit_deck.specs.declared.trees.Foot.{Foot}
+
+-- the foot of a cell and the lower end of its tree, how wide and how high that is, and the places of its devices in order
+pub record CellTreeData : Type 0 where
+  pub foot : ℕ
+  pub bottom : ℕ
+  pub width : ℕ
+  pub height : ℕ
+  pub order : List ℕ
 
 -- the nets and the devices that are reached from a net, no source, were met
 pub record IsMetCell (ds : List Device) (roles : Roles) (x : ℕ) (nets places : List ℕ) : Type 0 where
@@ -52,10 +60,11 @@ pub record HasBothMet (ds : List Device) (nets : List ℕ) (p : ℕ) : Type 0 wh
   pub drain : IsMet nets device.drain
   pub source : IsMet nets device.source
 
--- the tree of a cell has this foot, width and height
-pub record IsTreeAt (ds : List Device) (roles : Roles) (x clock : ℕ) (t : CellTree) : Type 0 where
+-- the tree of a cell has this foot, width and height, and its devices in this order
+pub record IsTreeAt (ds : List Device) (roles : Roles) (x clock : ℕ) (t : CellTreeData) : Type 0 where
   pub tree : Tree Link
   pub has_tree : HasTree ds roles x clock t.bottom tree
   pub foot_is : has_tree.foot ≡ t.foot
   pub width_is : whole_width tree ≡ t.width
   pub height_is : whole_height tree ≡ t.height
+  pub order_is : numbers_of tree ≡ t.order

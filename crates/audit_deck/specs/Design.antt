@@ -9,16 +9,21 @@
 --   1  `front`: the only `pch` and the only keeper at a dynamic net.
 --   2  `output`: the two devices at the net that gates the keeper are an inverter.
 --   3  `tree`: `reach` meets the nets below the dynamic net, `meet_channels` their devices; the one device at a source is the foot, and
---      `shape_of` reduces the others. Cells that share a net both break the rule, so no net is met twice before the pass ends.
+--      `spelled_of` reduces the others and spells them in order. Cells that share a net both break the rule, so no net is met twice
+--      before the pass ends.
+-- `first_broken` is these three passes.
 --
 -- To come, in this order.
---   4  A group is found from its master in steps of constant size, since just two or three devices end at each of its nets and just two
---      are gated by its master. `groups` has for each net the group that it is of, and each net at a control gate must have one. That a
---      net has no second group follows from the devices that end at it: their gates tell which net of a group it is.
+--   4  Both halves of a latch have one shape: from a top net a `pch` and an `nch` with two given gates lead to two inner nets, from which
+--      a `pch` to `vdd` and an `nch` to `vss` with one gate lead on, and nothing else ends at the inner nets. `half` finds it from the top
+--      in steps of constant size. A group is found from its master: its half has the data as gate; the two devices that the master gates
+--      lead to the output, whose half they are, and at which the reset alone ends besides. A pass over nets finds the groups and gives
+--      each of their own nets its group; each net at a control gate must have one. That a net has no second group follows from the
+--      devices that end at it: their gates tell which net of a group it is, and that tells the other nets.
 --   5  Marks by net: cell output, dynamic, in a cell, of a group, latch data, complement. A complement is taken at the smallest net of its
 --      input, by one pass over nets. Then one pass over nets and one over devices, and the smaller of both answers.
 --   6  The gates of each tree are looked up in these marks. Cells are put in order by `put_in_order` of graph_order over the lists of
 --      cells that each reads; where that fails `circle_marks` tells the smallest net that leads back to itself.
--- Yes. The order is for each cell in that order its front, its tree as it is spelled, its foot and its inverter; then complements, groups
--- and sinks. link_reduce keeps of each part the two that were joined (`made`), from which `IsSpelled` is read by a stack of its own.
--- `audit` then answers `Audit::Yes { order, cells, width, height }` or `Audit::No { rule, net }`, with `IsAudit` of the answer as contract.
+-- Yes. The order is for each cell in that order its front, its tree in the order that `tree` has, its foot and its inverter; then
+-- complements, groups and sinks. `audit` then answers `Audit::Yes { order, cells, width, height }` or `Audit::No { rule, net }`, with
+-- `IsAudit` of the answer as contract; the order is a struct over its `Vec`, since an enum has no model of its own.

@@ -3,7 +3,7 @@ use Rattle.std.specs.Prelude.{List, Some, [], length, slice_get, ℕ, ◌++◌, 
 use Rattle.dom_base.specs.declared.kind.Kind.{Kind}
 use Rattle.deck.specs.Nets.{IsInRange}
 use Rattle.deck.specs.declared.device.Device.{Device}
-use Rattle.link_reduce.specs.Parts.{listed}
+use Rattle.link_reduce.specs.Parts.{IsOnce, listed}
 
 pub record IndexData : Type 0 where
   pub devices : List Device
@@ -19,10 +19,6 @@ EndingAt ds n p = (d : Device) × (slice_get ds p ≡ Some d) × HasEnd d n
 
 abbrev pub GatedBy : List Device → ℕ → ℕ → Type 0
 GatedBy ds n p = (d : Device) × (slice_get ds p ≡ Some d) × (d.gate ≡ n)
-
--- no number stands twice in a list
-abbrev pub IsOnce : List ℕ → Type 0
-IsOnce numbers = (j k p : ℕ) → slice_get numbers j ≡ Some p → slice_get numbers k ≡ Some p → j ≡ k
 
 -- a list has the numbers with a property, each once
 pub record AreThose (P : ℕ → Type 0) (numbers : List ℕ) : Type 0 where

@@ -1,6 +1,6 @@
 //! Nets that are met, by number.
 ghost use Rattle.std.specs.Prelude.{◌≡◌, ◌<◌, ◌≤◌, ◌^◌, [], All, IfNone, IfOk, IfSome, OnOk, Some, length, slice_get, ℕ};
-ghost use Rattle.audit_deck.specs.Indexes.{IsOnce};
+ghost use Rattle.link_reduce.specs.Parts.{IsOnce};
 ghost use Rattle.audit_deck.specs.Numberings.{AddsOne, IsMet};
 
 use dom_base::OutOfMemory;
@@ -17,7 +17,7 @@ pub struct Numbering {
 
 impl Model for Numbering {
     ghost use Rattle.std.specs.Prelude.{length};
-    ghost use Rattle.audit_deck.specs.Indexes.{IsOnce};
+    ghost use Rattle.link_reduce.specs.Parts.{IsOnce};
     ghost use Rattle.audit_deck.specs.Numberings.{IsNumbering, NumberingData};
 
     ghost Value = { NumberingData };

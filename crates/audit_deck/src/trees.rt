@@ -1,10 +1,11 @@
 //! Rule 3: the foot of a cell, and the tree of its other devices.
-ghost use Rattle.std.specs.Prelude.{◌≡◌, ◌≢◌, ◌<◌, ◌≤◌, ◌^◌, All, IfNone, IfOk, IfSome, false, length, true, ℕ};
+ghost use Rattle.std.specs.Prelude.{◌≡◌, ◌≢◌, ◌<◌, ◌≤◌, ◌^◌, All, IfNone, IfOk, IfSome, false, length, map, slice_index_or, true, ℕ};
 ghost use Rattle.deck.specs.PortLayout.{first_output};
 ghost use Rattle.sp_network.specs.Tree.{Tree};
 ghost use Rattle.sp_reduction.specs.Networks.{Link};
 ghost use Rattle.audit_deck.specs.CellTrees.{AreLocal, HasBothMet, IsAtSource, IsFootAt, IsLocal, IsMetCell, IsTreeAt};
-ghost use Rattle.audit_deck.specs.Indexes.{AreThose, IsOnce};
+ghost use Rattle.link_reduce.specs.Parts.{IsOnce};
+ghost use Rattle.audit_deck.specs.Indexes.{AreThose};
 ghost use Rattle.audit_deck.specs.Numberings.{IsMet};
 ghost use Rattle.audit_deck.specs.Scans.{IsOnlyIn};
 ghost use Rattle.deck_audit.specs.Rules.{HasTree, IsInside};
@@ -16,8 +17,9 @@ use crate::numbering::Numbering;
 use crate::ports::{VSS, ends_at, far_end, is_free, is_inner};
 use deck::Roles;
 use dom_base::{Kind, OutOfMemory};
-use link_reduce::{Ends, shape_of};
+use link_reduce::{Ends, spelled_of};
 use std::alloc::Global;
+use std::marker::Model;
 
 /// The device of a cell that its clock gates, between `vss` and the lower end of its tree.
 #[derive(Clone, Copy)]
@@ -34,13 +36,23 @@ pub struct Top {
     pub clock: u32,
 }
 
-/// What rule 3 finds: the place of the foot, the lower end of the tree, its width and its height.
-#[derive(Clone, Copy)]
+/// What rule 3 finds: the place of the foot, the lower end of the tree, its width and its height, and the
+/// places of its devices in the order in which it is spelled from the dynamic net.
+#[derive(Drop)]
 pub struct CellTree {
     pub foot: u32,
     pub bottom: u32,
     pub width: u32,
     pub height: u32,
+    pub order: Vec<u32>,
+}
+
+impl Model for CellTree {
+    ghost use Rattle.audit_deck.specs.CellTrees.{CellTreeData};
+
+    ghost Value = { CellTreeData };
+
+    ghost view = { λ t. record { foot = t.foot; bottom = t.bottom; width = t.width; height = t.height; order = t.order.items } };
 }
 
 impl<'a> Index<'a> {
@@ -210,14 +222,16 @@ impl<'a> Index<'a> {
         let count = nets.nets().len() as u32;
         let upper = nets.number(top.net).unwrap();
         let lower = nets.number(foot.bottom).unwrap();
-        let Some(shape) = shape_of(alloc, links.as_slice(), count, upper, lower)? else {
+        let Some(spelled) = spelled_of(alloc, links.as_slice(), count, upper, lower)? else {
             return Ok(None);
         };
+        let order = places_of(alloc, rest.as_slice(), spelled.order.as_slice())?;
         Ok(Some(CellTree {
             foot: foot.place,
             bottom: foot.bottom,
-            width: shape.width,
-            height: shape.height,
+            width: spelled.width,
+            height: spelled.height,
+            order,
         }))
     }
 
@@ -266,4 +280,16 @@ fn others(alloc: Global, places: &[u32], one: u32) -> Result<Vec<u32>, OutOfMemo
         }
     }
     Ok(rest)
+}
+
+/// The places with some numbers. The one error is out of memory.
+fn places_of(alloc: Global, places: &[u32], numbers: &[u32]) -> Result<Vec<u32>, OutOfMemory>
+    requires { All (λ n. n < length places.now) numbers.now }
+    ensures { IfOk result (λ named. named.items ≡ map (λ n. slice_index_or places.now n 0) numbers.now) }
+{
+    let mut named = Vec::with_capacity(alloc, numbers.len())?;
+    for number in numbers {
+        named.push(places[*number as usize])?;
+    }
+    Ok(named)
 }

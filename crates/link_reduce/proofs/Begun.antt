@@ -1,13 +1,13 @@
 -- A reduction of the given links, before any step.
-use Rattle.std.specs.Prelude.{Contains, Some, false, slice_get, true, ◌≢◌, ◌⊎◌}
-use Rattle.std.proofs.Common.{List, [], ap, arith, get_or, inl, inr, length, length-append, map, refl, replicate, set, subst, suc, sym, zero, ℕ, ◌++◌, ◌+◌, ◌<◌, ◌∙◌, ◌∷◌, ◌≡◌, ◌≤◌}
+use Rattle.std.specs.Prelude.{Contains, Some, false, slice_get, true, ◌≢◌}
+use Rattle.std.proofs.Common.{List, [], ap, arith, get_or, inl, inr, length, length-append, map, refl, replicate, set, subst, suc, sym, zero, ℕ, ◌++◌, ◌+◌, ◌<◌, ◌∙◌, ◌∷◌, ◌≡◌}
 use Rattle.std.proofs.lemmas.List.{replicate-append-replicate}
 use Rattle.std.proofs.lemmas.List.Elements.{Contains-append_left, Contains-append_right, Contains-push_cases}
 use Rattle.std.proofs.lemmas.Option.{get_or_from_slice_get, slice_get_within}
 use Rattle.dom_base.proofs.Decided.{dec_any, dec_nat}
 use Rattle.dom_base.proofs.Lists.{Contains-first, Contains-later, map-push, slice_get-push_cases}
 use Rattle.sp_network.specs.Tree.{Leaf, Tree}
-use Rattle.sp_reduction.specs.Networks.{Apart, EndsAt, Has, Link, Touches}
+use Rattle.sp_reduction.specs.Networks.{EndsAt, Has, Link}
 use Rattle.sp_reduction.specs.Reduction.{IsNetwork}
 use Rattle.sp_reduction.proofs.Facts.{link_proper}
 use Rattle.link_reduce.specs.Parts.{PartEndsAt, links_from, links_of, listed, part_link, with_number}
@@ -125,7 +125,8 @@ set_past : {X : Type 0} (xs : List X) (y : X) → set xs (length xs) y ≡ xs
 set_past [] y = refl
 set_past (x ∷ xs) y = ap (λ l. x ∷ l) (set_past xs y)
 
-at_none : (count n j i : ℕ) → slice_get (listed (replicate count []) n) j ≡ Some i → ⊥
+-- at none of so many nets a number is listed
+pub at_none : (count n j i : ℕ) → slice_get (listed (replicate count []) n) j ≡ Some i → ⊥
 at_none zero n j i h = absurd cc
 at_none (suc count) zero j i h = absurd cc
 at_none (suc count) (suc n) j i h = at_none count n j i h

@@ -1,9 +1,9 @@
 -- What becomes of a net that is looked at.
 use Rattle.std.specs.Prelude.{Contains, Some, slice_get, ◌≢◌, ◌⊎◌}
-use Rattle.std.proofs.Common.{List, [], ap, arith, inl, inr, length, refl, subst, sym, ℕ, ◌<◌, ◌∙◌, ◌∷◌, ◌≡◌}
+use Rattle.std.proofs.Common.{List, [], arith, inl, inr, length, refl, subst, sym, ℕ, ◌<◌, ◌∙◌, ◌∷◌, ◌≡◌}
 use Rattle.dom_base.proofs.Lists.{Contains-first, Contains-later}
 use Rattle.link_reduce.specs.Parts.{PartEndsAt, listed}
-use Rattle.link_reduce.specs.Reductions.{Holds, IsListed, IsSettled, LeadsTo, LiveLink, ReductionData, Settles, with_at, with_listed}
+use Rattle.link_reduce.specs.Reductions.{Holds, IsListed, LeadsTo, ReductionData, Settles, with_at, with_listed}
 use Rattle.link_reduce.specs.declared.part.Part.{Part}
 use Rattle.link_reduce.proofs.LiveLinks.{cons_cases}
 use Rattle.link_reduce.proofs.Listing.{no_number}

@@ -1,18 +1,21 @@
 -- What is known where no step is left: the links are a network exactly where one part is left, and that joins the ends.
 use Rattle.std.specs.Prelude.{Contains, Some, slice_get, true}
-use Rattle.std.proofs.Common.{List, [], ap, arith, get_or, inl, inr, length, refl, subst, sym, ℕ, ◌<◌, ◌∙◌, ◌≡◌}
+use Rattle.std.proofs.Common.{List, [], ap, arith, get_or, inl, inr, length, refl, subst, ℕ, ◌<◌, ◌∙◌, ◌≡◌, ◌≤◌}
 use Rattle.std.proofs.lemmas.Option.{slice_get-get_or, slice_get_within}
 use Rattle.sp_network.specs.Tree.{Tree}
 use Rattle.sp_reduction.specs.Networks.{Has, Joins, Link}
 use Rattle.sp_reduction.specs.Reduction.{IsNetwork}
+use Rattle.sp_reduction.proofs.Facts.{ends_differ}
 use Rattle.link_reduce.specs.Parts.{IsSpelled, PartJoins, links_of, numbers_of, part_link}
 use Rattle.link_reduce.specs.Reductions.{IsLive, IsOnlyLive, IsSettled, IsSound, LiveLink, ReductionData, Unfolds}
+use Rattle.link_reduce.specs.Spellings.{AreProper, HasShortTree}
 use Rattle.link_reduce.specs.declared.part.Ends.{Ends}
 use Rattle.link_reduce.specs.declared.part.Made.TheVariants.{Given}
 use Rattle.link_reduce.specs.declared.part.Part.{Part}
 use Rattle.link_reduce.proofs.Listing.{no_number}
 use Rattle.link_reduce.proofs.LiveLinks.{live_is, one_part}
 use Rattle.link_reduce.proofs.PartTrees.{read_tree}
+use Rattle.link_reduce.proofs.ShortTrees.{tree_short}
 use Rattle.link_reduce.proofs.Stuck.{settled_is_one}
 
 abbrev no_part : Part
@@ -76,7 +79,8 @@ module _ (ends : List Ends) (a b : ℕ) (r : ReductionData) (sound : IsSound end
       let same : y.0 ≡ i = one.only y.0 y.4.there in
       no_join (subst (λ q. PartJoins q a b) (one_part r.parts i y.1 p (subst (λ k. slice_get r.parts k ≡ Some y.1) same y.2) at) y.3)
 
-  pub some_network : (i : ℕ) (p : Part) → slice_get r.parts i ≡ Some p → IsOnlyLive r.live i → PartJoins p a b → IsNetwork (links_of ends) a b p.width p.height
+  pub some_network : (i : ℕ) (p : Part) → slice_get r.parts i ≡ Some p → IsOnlyLive r.live i → PartJoins p a b
+      → IsNetwork (links_of ends) a b p.width p.height
   some_network i p at one joins =
       let y = spelled i p (at, one.there) joins (λ j q l. one.only j l.1) in
       let s = y.2 (numbers_of y.0) refl in
@@ -84,3 +88,21 @@ module _ (ends : List Ends) (a b : ℕ) (r : ReductionData) (sound : IsSound end
 
   pub live_low : (i : ℕ) → IsOnlyLive r.live i → i < length r.parts
   live_low i one = omega (arith, slice_get_within r.live i true one.there, sound.kept.long)
+
+  -- the part that is left, to be spelled
+  module _ (i : ℕ) (p : Part) (at : slice_get r.parts i ≡ Some p) (one : IsOnlyLive r.live i) (joins : PartJoins p a b) where
+    left_tree : (t : Tree Link) × Unfolds r.parts i a b t × ((order : List ℕ) → numbers_of t ≡ order → IsSpelled (links_of ends) a b p.width p.height order)
+    left_tree = spelled i p (at, one.there) joins (λ j q l. one.only j l.1)
+
+    pub left_short : HasShortTree r.parts (record { part = i; from = a }) (length ends)
+    left_short =
+        let y = left_tree in
+        let s = y.2 (numbers_of y.0) refl in
+        (b, y.0, y.1, subst (λ l. length l ≤ length ends) s.order_is (tree_short ends s.tree a b s.between s.from))
+
+    pub spelled_whole : (order : List ℕ) → ((to : ℕ) (t : Tree Link) → Unfolds r.parts i a to t → numbers_of t ≡ order)
+        → IsSpelled (links_of ends) a b p.width p.height order
+    spelled_whole order is = let y = left_tree in y.2 order (is b y.0 y.1)
+
+  pub parts_proper : AreProper r.parts
+  parts_proper i p at = let t = sound.kept.tree_of i p at in ends_differ (sound.kept.trees i) p.from p.to t.between

@@ -1,18 +1,18 @@
 -- What is kept where two parts are joined.
-use Rattle.std.specs.Prelude.{Contains, Some, max, slice_get, ◌≢◌, ◌⊎◌}
+use Rattle.std.specs.Prelude.{Contains, Some, slice_get, ◌≢◌, ◌⊎◌}
 use Rattle.std.proofs.Common.{List, [], ap, arith, inl, inr, length, length-append, refl, set, subst, sym, ℕ, ◌++◌, ◌+◌, ◌<◌, ◌∙◌, ◌∷◌, ◌≡◌, ◌≤◌}
 use Rattle.std.proofs.lemmas.List.{length-set}
 use Rattle.std.proofs.lemmas.Option.{slice_get_within}
 use Rattle.dom_base.proofs.Decided.{dec_nat}
 use Rattle.dom_base.proofs.Lists.{slice_get-push, slice_get-push_cases}
 use Rattle.dom_base.specs.Decided.{Decided}
-use Rattle.sp_network.specs.Tree.{Leaf, Parallel, Series, Tree}
-use Rattle.sp_reduction.specs.Networks.{Apart, Between, EndsAt, Has, Link, Touches, whole_height, whole_width}
-use Rattle.sp_reduction.specs.Reduction.{InParallel, InSeries, IsNetwork}
+use Rattle.sp_network.specs.Tree.{Parallel, Series, Tree}
+use Rattle.sp_reduction.specs.Networks.{EndsAt, Has, Link}
+use Rattle.sp_reduction.specs.Reduction.{InParallel, InSeries}
 use Rattle.sp_reduction.proofs.Facts.{ends_differ}
 use Rattle.sp_reduction.proofs.Reduction.{steps_keep}
 use Rattle.link_reduce.specs.Parts.{PartEndsAt, PartJoins, links_of, listed, part_link}
-use Rattle.link_reduce.specs.Reductions.{AreApart, IsKept, IsLive, IsTreeOf, ReductionData, Unfolds, live_links, parallel, parallel_part, series, series_part, total, with_joined}
+use Rattle.link_reduce.specs.Reductions.{AreApart, IsKept, IsLive, IsTreeOf, ReductionData, live_links, parallel, parallel_part, series, series_part, with_joined}
 use Rattle.link_reduce.specs.declared.part.Ends.{Ends}
 use Rattle.link_reduce.specs.declared.part.Part.{Part}
 use Rattle.link_reduce.proofs.LiveLinks.{joined_long, joined_total, live_cases, live_is, live_once, merges, new_live, one_part, still_live}
@@ -35,6 +35,10 @@ swap_apart p q t u h = record {
   touch = λ x s v. let y = h.touch x v s in (y.1, y.0);
   numbers = λ g i c d z. h.numbers i g d c (sym z);
 }
+
+pub joins_ends : (p : Part) (a b : ℕ) → PartJoins p a b → PartEndsAt p a
+joins_ends p a b (inl j) = inl j.0
+joins_ends p a b (inr j) = inr j.0
 
 pub part_end_is : (p : Part) (a b x : ℕ) → PartJoins p a b → PartEndsAt p x → (x ≡ a) ⊎ (x ≡ b)
 part_end_is p a b x (inl j) (inl z) = inl (sym z ∙ j.0)

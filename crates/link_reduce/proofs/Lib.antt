@@ -5,10 +5,13 @@ pub mod Joins
 pub mod Listing
 pub mod LiveLinks
 pub mod OnlyLive
+pub mod Options
 pub mod PartTrees
 pub mod Popped
 pub mod Runs
 pub mod Settled
+pub mod ShortTrees
+pub mod Spellings
 pub mod Steps
 pub mod Stuck
 pub mod Taken

@@ -1,6 +1,6 @@
 -- Which part alone is left among the first ones.
 use Rattle.std.specs.Prelude.{Bool, None, Option, Some, false, slice_get, true, ◌⊎◌}
-use Rattle.std.proofs.Common.{List, ap, arith, inl, inr, sym, ℕ, ◌+◌, ◌<◌, ◌∙◌, ◌≡◌, ◌≤◌}
+use Rattle.std.proofs.Common.{List, ap, arith, inl, inr, sym, ℕ, ◌+◌, ◌<◌, ◌∙◌, ◌≡◌}
 use Rattle.dom_base.proofs.Decided.{lt_or_ge}
 use Rattle.link_reduce.specs.Reductions.{IsOnlyLive}
 

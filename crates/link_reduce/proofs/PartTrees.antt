@@ -1,11 +1,10 @@
 -- The trees of parts, read from either end.
-use Rattle.std.specs.Prelude.{Contains, Some, max, slice_get, ◌≢◌, ◌⊎◌}
-use Rattle.std.proofs.Common.{List, [], ap, arith, inl, inr, length, refl, subst, sym, ℕ, ◌++◌, ◌+◌, ◌∙◌, ◌∷◌, ◌≡◌}
+use Rattle.std.proofs.Common.{List, [], arith, inl, inr, refl, subst, sym, ℕ, ◌++◌, ◌∙◌, ◌∷◌, ◌≡◌}
 use Rattle.dom_base.proofs.Lists.{slice_get-append}
 use Rattle.sp_network.specs.Tree.{Leaf, Parallel, Series, Tree}
-use Rattle.sp_reduction.specs.Networks.{Apart, Between, EndsAt, Has, Link, Touches, whole_height, whole_width}
+use Rattle.sp_reduction.specs.Networks.{Between, Has, Link, Touches, whole_height, whole_width}
 use Rattle.sp_reduction.proofs.Facts.{swap_joins}
-use Rattle.link_reduce.specs.Parts.{PartEndsAt, PartJoins, links_of, part_link}
+use Rattle.link_reduce.specs.Parts.{PartJoins}
 use Rattle.link_reduce.specs.Reductions.{IsTreeOf, Unfolds, given, parallel, series, turned}
 use Rattle.link_reduce.specs.declared.part.Ends.{Ends}
 use Rattle.link_reduce.specs.declared.part.Part.{Part}

@@ -1,5 +1,5 @@
 -- What is kept where parts that are no more left are dropped from the list of a net.
-use Rattle.std.specs.Prelude.{Bool, Contains, Some, false, slice_get, true, ◌≢◌, ◌⊎◌}
+use Rattle.std.specs.Prelude.{Bool, Contains, Some, false, slice_get, true}
 use Rattle.std.proofs.Common.{List, [], ap, inl, inr, length, refl, set, subst, sym, ℕ, ◌++◌, ◌<◌, ◌∙◌, ◌∷◌, ◌≡◌}
 use Rattle.std.proofs.lemmas.List.{length-set}
 use Rattle.dom_base.proofs.Lists.{slice_get-push}

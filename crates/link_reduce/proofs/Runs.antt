@@ -1,9 +1,8 @@
 -- What becomes of a reduction where the next net is taken from those to look at.
-use Rattle.std.specs.Prelude.{Contains, ◌⊎◌}
-use Rattle.std.proofs.Common.{List, [], ap, arith, inl, inr, length, length-append, subst, sym, ℕ, ◌++◌, ◌+◌, ◌<◌, ◌∷◌, ◌≡◌, ◌≤◌}
+use Rattle.std.proofs.Common.{List, [], ap, arith, inl, inr, length, length-append, subst, sym, ℕ, ◌<◌, ◌∷◌, ◌≡◌}
 use Rattle.std.proofs.lemmas.List.Elements.{Contains-append_left, Contains-append_right, Contains-push_cases}
 use Rattle.dom_base.proofs.Lists.{Contains-first}
-use Rattle.link_reduce.specs.Reductions.{Holds, IsHolding, IsKept, IsSound, ReductionData, Settles, remaining, with_work}
+use Rattle.link_reduce.specs.Reductions.{IsHolding, IsSound, ReductionData, Settles, remaining, with_work}
 use Rattle.link_reduce.specs.declared.part.Ends.{Ends}
 use Rattle.link_reduce.proofs.Listing.{none_held}
 

@@ -1,15 +1,15 @@
 -- Which nets are settled: those that a step doesn't touch stay so.
-use Rattle.std.specs.Prelude.{Contains, Some, slice_get, ◌≢◌, ◌⊎◌}
-use Rattle.std.proofs.Common.{List, [], ap, inl, inr, length, refl, subst, sym, ℕ, ◌++◌, ◌∙◌, ◌∷◌, ◌≡◌}
+use Rattle.std.specs.Prelude.{Contains, Some, slice_get, ◌⊎◌}
+use Rattle.std.proofs.Common.{[], inl, inr, length, subst, sym, ℕ, ◌++◌, ◌∷◌, ◌≡◌}
 use Rattle.std.proofs.lemmas.List.Elements.{Contains-append_left, Contains-append_right}
 use Rattle.dom_base.proofs.Decided.{dec_nat}
 use Rattle.dom_base.proofs.Lists.{Contains-first}
-use Rattle.sp_reduction.specs.Networks.{EndsAt, Joins, Link}
+use Rattle.sp_reduction.specs.Networks.{EndsAt, Link}
 use Rattle.sp_reduction.proofs.Facts.{joins_first}
 use Rattle.link_reduce.specs.Parts.{PartEndsAt, part_link}
 use Rattle.link_reduce.specs.Reductions.{AreSettled, IsLive, IsSettled, LeadsToThree, LeadsToTwo, LiveLink, ReductionData, with_joined}
 use Rattle.link_reduce.specs.declared.part.Part.{Part}
-use Rattle.link_reduce.proofs.LiveLinks.{live_cases, still_live}
+use Rattle.link_reduce.proofs.LiveLinks.{live_cases, one_part, still_live}
 
 -- links at a net that stay
 module _ (P Q : Link → Type 0) (n : ℕ) (to : (g : Link) → EndsAt g n → P g → Q g) where
@@ -58,16 +58,13 @@ module _ (a b : ℕ) (r : ReductionData) (long : length r.live ≡ length r.part
       → IsSettled (LiveLink (with_joined r e f new)) a b n
   untouched n ne nf = settled_stay (LiveLink r) (LiveLink (with_joined r e f new)) n to a b from
     where
-      one_part_at : (i : ℕ) (p q : Part) → slice_get r.parts i ≡ Some p → slice_get r.parts i ≡ Some q → p ≡ q
-      one_part_at i p q x y = let z : Some p ≡ Some q = sym x ∙ y in cc
-
       to : (g : Link) → EndsAt g n → LiveLink r g → LiveLink (with_joined r e f new) g
       to g d (i, p, l, z) = (
         i,
         p,
         still_live r e f pe pf new long i p l
-            (λ w. ne (subst (λ q. PartEndsAt q n) (one_part_at e p pe (subst (λ k. slice_get r.parts k ≡ Some p) w l.0) le.0) (ends_as g i p n z d)))
-            (λ w. nf (subst (λ q. PartEndsAt q n) (one_part_at f p pf (subst (λ k. slice_get r.parts k ≡ Some p) w l.0) lf.0) (ends_as g i p n z d))),
+            (λ w. ne (subst (λ q. PartEndsAt q n) (one_part r.parts e p pe (subst (λ k. slice_get r.parts k ≡ Some p) w l.0) le.0) (ends_as g i p n z d)))
+            (λ w. nf (subst (λ q. PartEndsAt q n) (one_part r.parts f p pf (subst (λ k. slice_get r.parts k ≡ Some p) w l.0) lf.0) (ends_as g i p n z d))),
         z,
       )
 

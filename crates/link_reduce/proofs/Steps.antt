@@ -1,17 +1,17 @@
 -- Each step of a reduction keeps it sound.
 use Rattle.std.specs.Prelude.{Contains, Some, slice_get, true, ◌^◌, ◌≢◌, ◌⊎◌}
-use Rattle.std.proofs.Common.{List, [], ap, arith, inl, inr, length, length-append, refl, set, subst, sym, ℕ, ◌*◌, ◌++◌, ◌+◌, ◌<◌, ◌∙◌, ◌∷◌, ◌≡◌, ◌≤◌}
+use Rattle.std.proofs.Common.{List, [], ap, arith, inl, inr, length, length-append, refl, subst, sym, ℕ, ◌++◌, ◌+◌, ◌<◌, ◌∙◌, ◌∷◌, ◌≡◌, ◌≤◌}
 use Rattle.std.proofs.lemmas.List.{length-set}
 use Rattle.std.proofs.lemmas.List.Elements.{Contains-push_cases}
 use Rattle.std.proofs.lemmas.Option.{slice_get_within}
 use Rattle.dom_base.proofs.Lists.{Contains-first, Contains-later}
-use Rattle.sp_reduction.specs.Networks.{EndsAt, Joins, Link}
-use Rattle.sp_reduction.proofs.Facts.{ends_differ, joins_first}
+use Rattle.sp_reduction.specs.Networks.{EndsAt, Link}
+use Rattle.sp_reduction.proofs.Facts.{ends_differ}
 use Rattle.link_reduce.specs.Parts.{PartEndsAt, PartJoins, listed, part_link, with_number}
-use Rattle.link_reduce.specs.Reductions.{AreSettled, Holds, IsHolding, IsKept, IsListed, IsLive, IsSettled, IsSound, LeadsTo, LeadsToThree, LeadsToTwo, LiveLink, ReductionData, Settles, parallel_part, remaining, series_part, total, with_joined, with_listed}
+use Rattle.link_reduce.specs.Reductions.{Holds, IsHolding, IsKept, IsListed, IsLive, IsSettled, IsSound, LeadsTo, LeadsToThree, LeadsToTwo, LiveLink, ReductionData, Settles, parallel_part, remaining, series_part, with_joined, with_listed}
 use Rattle.link_reduce.specs.declared.part.Ends.{Ends}
 use Rattle.link_reduce.specs.declared.part.Part.{Part}
-use Rattle.link_reduce.proofs.Joins.{parallel_kept, part_end_is, series_kept}
+use Rattle.link_reduce.proofs.Joins.{joins_ends, parallel_kept, part_end_is, series_kept}
 use Rattle.link_reduce.proofs.Listing.{joined_listed, no_number, none_held, put_listed}
 use Rattle.link_reduce.proofs.LiveLinks.{cons_cases, joined_total, live_cases, one_part, two_fit}
 use Rattle.link_reduce.proofs.PartTrees.{read_tree}
@@ -20,10 +20,6 @@ use Rattle.link_reduce.proofs.Settled.{joined_settled}
 -- lists with a part more are as many
 pub room_more : (lists : List (List ℕ)) (place number : ℕ) → length (with_number lists place number) ≡ length lists
 room_more lists place number = length-set lists place (listed lists place ++ number ∷ [])
-
-first_of : (p : Part) (a b : ℕ) → PartJoins p a b → PartEndsAt p a
-first_of p a b (inl j) = inl j.0
-first_of p a b (inr j) = inr j.0
 
 second_of : (p : Part) (a b : ℕ) → PartJoins p a b → PartEndsAt p b
 second_of p a b (inl j) = inr j.1
@@ -106,19 +102,19 @@ module _ (ends : List Ends) (a b net : ℕ) (r : ReductionData) (e f : ℕ) (h :
     pub parallel_sound : IsSound ends a b (with_joined r e f (parallel_part e f pe pf net x))
     parallel_sound =
         let new = parallel_part e f pe pf net x in
-        let from = inside_part ends a b r h.kept e pe net at_e (first_of pe net x first) in
+        let from = inside_part ends a b r h.kept e pe net at_e (joins_ends pe net x first) in
         let to = inside_part ends a b r h.kept e pe x at_e (second_of pe net x first) in
         record {
           kept = parallel_kept ends a b r h.kept e f pe pf le lf differ net x first second from to;
           are_listed = joined_listed (f ∷ e ∷ []) net r h.are_listed h.kept.long e f pe pf new only
               (proper_part ends a b r h.kept e pe net x at_e first) from to;
-          settled = joined_settled a b r h.kept.long e f pe pf new le lf (λ n d. inl (old_end n d)) net (first_of pe net x first) h.settled
+          settled = joined_settled a b r h.kept.long e f pe pf new le lf (λ n d. inl (old_end n d)) net (joins_ends pe net x first) h.settled
               (λ n d away. absurd (elim d [ inl y ↦ away (new_end n (part_end_is pe net x n first y)) | inr y ↦ away (new_end n (part_end_is pf net x n second y)) ]));
           work_inside = joined_inside new from to;
         }
       where
         old_end : (n : ℕ) → PartEndsAt (parallel_part e f pe pf net x) n → PartEndsAt pe n
-        old_end n (inl z) = subst (PartEndsAt pe) z (first_of pe net x first)
+        old_end n (inl z) = subst (PartEndsAt pe) z (joins_ends pe net x first)
         old_end n (inr z) = subst (PartEndsAt pe) z (second_of pe net x first)
 
         new_end : (n : ℕ) → (n ≡ net) ⊎ (n ≡ x) → PartEndsAt (parallel_part e f pe pf net x) n
@@ -158,7 +154,7 @@ module _ (ends : List Ends) (a b net : ℕ) (r : ReductionData) (e f : ℕ) (h :
         record {
           kept = series_kept ends a b r h.kept e f pe pf le lf differ u net v swap second other not_top not_bottom no_third from to;
           are_listed = joined_listed (f ∷ e ∷ []) net r h.are_listed h.kept.long e f pe pf new only other from to;
-          settled = joined_settled a b r h.kept.long e f pe pf new le lf old_end net (first_of pe net u first) h.settled (λ n d away. here n (meets n d away));
+          settled = joined_settled a b r h.kept.long e f pe pf new le lf old_end net (joins_ends pe net u first) h.settled (λ n d away. here n (meets n d away));
           work_inside = joined_inside new from to;
         }
       where

@@ -1,6 +1,6 @@
 -- A network at whose nets no step is left is one link.
 use Rattle.std.specs.Prelude.{◌≢◌, ◌⊎◌}
-use Rattle.std.proofs.Common.{inl, inr, refl, sym, ℕ, ◌∙◌, ◌≡◌}
+use Rattle.std.proofs.Common.{inl, inr, sym, ℕ, ◌∙◌, ◌≡◌}
 use Rattle.sp_network.specs.Tree.{Leaf, Parallel, Series, Tree}
 use Rattle.sp_reduction.specs.Networks.{Between, EndsAt, Has, Joins, Link}
 use Rattle.sp_reduction.proofs.Facts.{bottom_touched, ends_differ, joins_first, link_proper, swap_joins, top_touched}

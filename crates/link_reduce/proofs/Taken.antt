@@ -1,11 +1,10 @@
 -- What is kept where parts are taken from the list of a net and put back.
-use Rattle.std.specs.Prelude.{Contains, Some, slice_get, ◌≢◌, ◌⊎◌}
-use Rattle.std.proofs.Common.{List, [], ap, arith, inl, inr, length, refl, set, subst, sym, ℕ, ◌+◌, ◌<◌, ◌∙◌, ◌∷◌, ◌≡◌, ◌≤◌}
+use Rattle.std.specs.Prelude.{Contains, ◌⊎◌}
+use Rattle.std.proofs.Common.{List, [], ap, arith, inl, inr, length, subst, sym, ℕ, ◌<◌, ◌∙◌, ◌∷◌, ◌≡◌}
 use Rattle.dom_base.proofs.Lists.{Contains-first, Contains-later}
-use Rattle.link_reduce.specs.Reductions.{EachNew, IsHolding, IsKept, IsListed, IsSettled, IsSound, LeadsTo, LiveLink, ReductionData, Settles, remaining, with_at, with_listed}
+use Rattle.link_reduce.specs.Reductions.{EachNew, IsHolding, IsKept, IsListed, IsSettled, LiveLink, ReductionData, Settles, remaining, with_at, with_listed}
 use Rattle.link_reduce.specs.declared.part.Ends.{Ends}
 use Rattle.link_reduce.proofs.LiveLinks.{cons_cases}
-use Rattle.link_reduce.proofs.Listing.{no_number}
 use Rattle.link_reduce.proofs.Steps.{put_all, put_holding, room_more}
 
 kept_at : (ends : List Ends) (a b : ℕ) (r : ReductionData) (at : List (List ℕ)) → length at ≡ length r.at → IsKept ends a b r → IsKept ends a b (with_at r at)

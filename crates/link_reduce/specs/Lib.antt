@@ -1,2 +1,3 @@
 pub mod Parts
 pub mod Reductions
+pub mod Spellings

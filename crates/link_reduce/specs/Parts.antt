@@ -1,6 +1,6 @@
 -- The links of a network and the parts that they are joined to (Valdes, Tarjan, Lawler, The recognition of series parallel digraphs,
 -- 1982).
-use Rattle.std.specs.Prelude.{Contains, List, Some, [], length, slice_get, slice_index_or, slice_set, ℕ, ◌++◌, ◌+◌, ◌∷◌, ◌≡◌, ◌⊎◌}
+use Rattle.std.specs.Prelude.{Contains, List, Some, [], slice_get, slice_index_or, slice_set, ℕ, ◌++◌, ◌+◌, ◌∷◌, ◌≡◌, ◌⊎◌}
 use Rattle.sp_network.specs.Tree.{Leaf, Parallel, Series, Tree}
 use Rattle.sp_reduction.specs.Networks.{Between, Has, Link, whole_height, whole_width}
 use Rattle.link_reduce.specs.declared.part.Ends.{Ends}
@@ -19,6 +19,10 @@ abbrev pub numbers_of : Tree Link → List ℕ
 numbers_of (Leaf e) = e.number ∷ []
 numbers_of (Series l r) = numbers_of l ++ numbers_of r
 numbers_of (Parallel l r) = numbers_of l ++ numbers_of r
+
+-- no number stands twice in a list
+abbrev pub IsOnce : List ℕ → Type 0
+IsOnce numbers = (j k p : ℕ) → slice_get numbers j ≡ Some p → slice_get numbers k ≡ Some p → j ≡ k
 
 -- a tree of the links between two nets spells their numbers in this order, and is so wide and so high
 pub record IsSpelled (links : List Link) (a b w h : ℕ) (order : List ℕ) : Type 0 where

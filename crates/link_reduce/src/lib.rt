@@ -5,8 +5,9 @@
 mod part;
 mod reduce;
 mod reduction;
+mod spelling;
 mod stacks;
 
 pub use part::Ends;
-pub use reduce::{Shape, shape_of};
+pub use reduce::{Shape, Spelled, shape_of, spelled_of};
 pub use stacks::Stacks;

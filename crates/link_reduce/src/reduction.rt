@@ -1,13 +1,14 @@
 //! The reduction of links, step by step.
 ghost use Rattle.std.specs.Prelude.{◌≡◌, ◌<◌, ◌≤◌, ◌+◌, ◌^◌, ◌∷◌, ◌≢◌, All, IfNone, IfOk, IfSome, List, OnOk, Some, [], length, slice_get, slice_set, true, false, ℕ, ◌++◌};
-ghost use Rattle.link_reduce.specs.Parts.{PartEndsAt, links_of, listed};
+ghost use Rattle.link_reduce.specs.Parts.{IsSpelled, PartEndsAt, links_of, listed};
 ghost use Rattle.link_reduce.specs.Reductions.{Holds, IsBegun, IsListed, IsOnlyLive, LeadsTo, IsSound, Settles, nothing, with_at, with_listed, with_part, with_work, without};
 ghost use Rattle.link_reduce.specs.declared.part.Ends.{Ends as EndsData};
 ghost use Rattle.sp_reduction.specs.Reduction.{IsNetwork};
 ghost use Rattle.link_reduce.specs.declared.part.Part.{Part as PartData};
 
 use crate::part::{Ends, Made, Part};
-use crate::reduce::Shape;
+use crate::reduce::{Shape, Spelled};
+use crate::spelling::{Step, spell};
 use crate::stacks::Stacks;
 use dom_base::OutOfMemory;
 use std::alloc::Global;
@@ -341,5 +342,40 @@ impl Reduction {
         } else {
             None
         }
+    }
+
+    /// The shape of the one part that is left, where it joins these two nets, with its links in order. There
+    /// are so many links. The one error is out of memory.
+    pub fn spelled(
+        &self,
+        alloc: Global,
+        top: u32,
+        bottom: u32,
+        count: usize,
+    ) -> Result<Option<Spelled>, OutOfMemory>
+        requires sound { (ends : List EndsData) × (length ends ≤ 2 ^ 24) × (length ends ≡ count) × IsSound ends top bottom self.now }
+        requires done { self.now.work ≡ [] }
+        ensures some { IfOk result (λ spelled. IfSome spelled (λ s. (ends : List EndsData) → IsSound ends top bottom self.now
+            → IsSpelled (links_of ends) top bottom s.width s.height s.order)) }
+        ensures none { IfOk result (λ spelled. IfNone spelled ((ends : List EndsData) → IsSound ends top bottom self.now
+            → (w h : ℕ) → IsNetwork (links_of ends) top bottom w h → ⊥)) }
+    {
+        let Some(last) = self.only_live() else {
+            return Ok(None);
+        };
+        let part = self.part(last);
+        if !part.joins(top, bottom) {
+            return Ok(None);
+        }
+        let whole = Step {
+            part: last,
+            from: top,
+        };
+        let order = spell(alloc, self.parts.as_slice(), whole, count)?;
+        Ok(Some(Spelled {
+            width: part.width,
+            height: part.height,
+            order,
+        }))
     }
 }

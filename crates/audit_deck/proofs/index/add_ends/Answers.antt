@@ -2,7 +2,7 @@ use Rattle.std.proofs.Common.{ap, subst, sym, ◌∙◌}
 use Rattle.link_reduce.specs.Parts.{with_number}
 use Rattle.audit_deck.specs.Indexes.{AddsWhere, HasEnd}
 use Rattle.audit_deck.proofs.Listings.{adds_ends, adds_ends_once}
-use Rattle.audit_deck.proofs.Scans.{on_ok}
+use Rattle.link_reduce.proofs.Options.{on_ok}
 use Rattle.audit_deck.proofs.index.add_ends.Goals as goal
 
 pub returns-then-device : goal.returns-then-device

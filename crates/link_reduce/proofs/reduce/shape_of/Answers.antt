@@ -1,19 +1,10 @@
-use Rattle.std.specs.Prelude.{IfNone, IfSome, None, Option, Some}
 use Rattle.std.proofs.Common.{ℕ}
 use Rattle.sp_reduction.specs.Reduction.{IsNetwork}
 use Rattle.link_reduce.specs.Parts.{links_of}
 use Rattle.link_reduce.specs.Reductions.{IsSound}
-use Rattle.link_reduce.specs.declared.reduce.Shape.{Shape}
 use Rattle.link_reduce.proofs.Begun.{begun_sound}
+use Rattle.link_reduce.proofs.Options.{none_weaker, some_weaker}
 use Rattle.link_reduce.proofs.reduce.shape_of.Goals as goal
-
-some_weaker : (o : Option Shape) (P Q : Shape → Type 0) → ((x : Shape) → P x → Q x) → IfSome o P → IfSome o Q
-some_weaker None P Q f h = tt
-some_weaker (Some x) P Q f h = f x h
-
-none_weaker : (o : Option Shape) (P Q : Type 0) → (P → Q) → IfNone o P → IfNone o Q
-none_weaker None P Q f h = f h
-none_weaker (Some x) P Q f h = tt
 
 pub run-requires : goal.run-requires
 run-requires c = record {

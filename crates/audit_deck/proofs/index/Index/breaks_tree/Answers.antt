@@ -6,7 +6,7 @@ use Rattle.deck_audit.specs.Audits.{tree}
 use Rattle.deck_audit.specs.Rules.{HasTree}
 use Rattle.audit_deck.specs.CellTrees.{IsTreeAt}
 use Rattle.audit_deck.proofs.Breaks.{one_front, tree_break}
-use Rattle.audit_deck.proofs.Scans.{none_is, some_is}
+use Rattle.link_reduce.proofs.Options.{none_is, some_is}
 use Rattle.audit_deck.proofs.index.Index.breaks_tree.Goals as goal
 
 pub returns-in_default-clause-no : goal.returns-in_default-clause-no

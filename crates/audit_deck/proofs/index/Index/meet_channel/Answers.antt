@@ -2,7 +2,7 @@ use Rattle.std.proofs.Common.{subst, sym, ◌≡◌}
 use Rattle.dom_base.specs.declared.kind.Kind.TheVariants.{N as nch}
 use Rattle.audit_deck.specs.Indexes.{HasKind}
 use Rattle.audit_deck.proofs.Meets.{meets_added, meets_same}
-use Rattle.audit_deck.proofs.Scans.{on_ok}
+use Rattle.link_reduce.proofs.Options.{on_ok}
 use Rattle.audit_deck.proofs.index.Index.meet_channel.Goals as goal
 
 pub returns-clause-met : goal.returns-clause-met

@@ -1,5 +1,5 @@
 use Rattle.audit_deck.proofs.Reaches.{end_met}
-use Rattle.audit_deck.proofs.Scans.{on_ok}
+use Rattle.link_reduce.proofs.Options.{on_ok}
 use Rattle.audit_deck.proofs.index.Index.meet_end.Goals as goal
 
 pub returns-clause-met : goal.returns-clause-met

@@ -1,5 +1,5 @@
 use Rattle.std.proofs.Common.{get_or, length, subst, ◌<◌}
-use Rattle.audit_deck.specs.Indexes.{IsOnce}
+use Rattle.link_reduce.specs.Parts.{IsOnce}
 use Rattle.audit_deck.specs.Numberings.{NumberingData}
 use Rattle.audit_deck.proofs.Numberings.{numbering_once, numbering_within}
 use Rattle.audit_deck.proofs.numbering.Numbering.nets.Goals as goal

@@ -1,4 +1,4 @@
-use Rattle.std.specs.Prelude.{◌≢◌, ◌⊎◌}
+use Rattle.std.specs.Prelude.{◌⊎◌}
 use Rattle.std.proofs.Common.{[], ap, arith, inl, inr, length, subst, sym, ◌<◌, ◌∙◌, ◌∷◌, ◌≡◌}
 use Rattle.std.proofs.lemmas.Result.{on_ok_weaker}
 use Rattle.dom_base.proofs.Lists.{Contains-first, Contains-later}
