@@ -7,7 +7,8 @@ use Rattle.deck.specs.declared.role.Roles.{Roles}
 use Rattle.switch_model.specs.LinksData.{LinksData, links_of}
 use Rattle.switch_model.specs.Power.{power_values}
 use Rattle.deck.specs.PortLayout.{first_clock, first_pin}
-use Rattle.port_runs.specs.Environment.{Capture, Evaluation, Fall, Move, Open, Overlapping, Rise, Step, Take, World, after_move, bit, fallen_with, is_over}
+use Rattle.port_runs.specs.Environment.{Capture, Evaluation, Fall, Move, Open, Rise, Step, Take, World, after_move, bit, fallen_with, is_over}
+use Rattle.port_runs.specs.declared.clocking.Clocking.TheVariants.{Overlapping}
 use Rattle.port_runs.specs.Moves.{set_from}
 use Rattle.port_runs.specs.PortRuns.{power_world}
 use Rattle.deck.specs.CircuitData.{CircuitData}
@@ -20,10 +21,10 @@ use Rattle.domino_law.proofs.PowerStates.{power_is_power}
 use Rattle.event_sim.specs.Orders.{By}
 use Rattle.event_sim.specs.declared.event.Event.{Event}
 use Rattle.trace_tool.specs.Courses.{LeadsTo, State}
-use Rattle.trace_tool.specs.Moves.{power_moves}
+use Rattle.trace_tool.specs.Moves.{overlapping_moves, power_moves, rises_and_falls}
 use Rattle.trace_tool.proofs.PortWalks.{AreAllowed, after_moves, at_values, settings_from}
 use Rattle.chosen_law.specs.Chosen.{IsReadyForPins, IsSettled, Passes, at_reading}
-use Rattle.chosen_law.specs.Overlapping.{OverlappingEvaluationIsLegal, OverlappingReadsOwnRun, overlapping_moves, rises_and_falls}
+use Rattle.chosen_law.specs.Overlapping.{OverlappingEvaluationIsLegal, OverlappingReadsOwnRun}
 use Rattle.chosen_law.proofs.Chosen.{walked}
 use Rattle.chosen_law.proofs.OwnReadings.{Came, came_on, evaluated_run, powered_to}
 

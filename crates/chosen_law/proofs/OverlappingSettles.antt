@@ -2,7 +2,8 @@
 use Rattle.std.proofs.Common.{Bool, List, ap, arith, length, subst, ℕ, ◌++◌, ◌+◌, ◌-◌, ◌∙◌, ◌≡◌}
 use Rattle.deck.specs.declared.role.Roles.{Roles}
 use Rattle.switch_model.specs.LinksData.{LinksData, links_of}
-use Rattle.port_runs.specs.Environment.{Evaluation, Open, Overlapping, Take, World, after_move}
+use Rattle.port_runs.specs.Environment.{Evaluation, Open, Take, World, after_move}
+use Rattle.port_runs.specs.declared.clocking.Clocking.TheVariants.{Overlapping}
 use Rattle.port_runs.specs.PortRuns.{power_world}
 use Rattle.domino_law.specs.Nets.{Net}
 use Rattle.domino_law.specs.Runs.{clocked_deck}
@@ -10,12 +11,12 @@ use Rattle.domino_law.specs.Settings.{HasPorts}
 use Rattle.domino_law.specs.Shape.{Shape}
 use Rattle.domino_law.proofs.PortRunLaws.{power, power_set}
 use Rattle.event_sim.specs.Orders.{By}
-use Rattle.trace_tool.specs.Moves.{latching_moves}
+use Rattle.trace_tool.specs.Moves.{latching_moves, overlapping_moves}
 use Rattle.trace_tool.proofs.CycleMoves.{from_reading, latching_allowed}
 use Rattle.trace_tool.proofs.FailedCourses.{Fails, fails}
 use Rattle.trace_tool.proofs.PortWalks.{AreAllowed, after_moves, allowed-append, settings-append, settings_from}
 use Rattle.chosen_law.specs.Chosen.{IsReadyForPins}
-use Rattle.chosen_law.specs.Overlapping.{OverlappingCycleNeverUnsettled, overlapping_moves}
+use Rattle.chosen_law.specs.Overlapping.{OverlappingCycleNeverUnsettled}
 use Rattle.chosen_law.proofs.NeverUnsettled.{never_fails}
 use Rattle.chosen_law.proofs.Overlapping.{falls_end, overlapping_allowed, overlapping_came, overlapping_is, overlapping_reading}
 

@@ -1,15 +1,13 @@
--- The chosen run of a deck whose clocks overlap: each clock but the last falls once the rise of the next one has settled, and what
--- it reads (Harris and Horowitz, Skew-tolerant domino circuits).
-use Rattle.std.specs.Prelude.{Bool, List, [], length, suc, zero, ℕ, ◌++◌, ◌+◌, ◌-◌, ◌∷◌, ◌≡◌}
+-- The chosen run of a deck whose clocks overlap, in which each clock but the last falls once the rise of the next one has settled, and
+-- what it reads (Harris and Horowitz, Skew-tolerant domino circuits).
+use Rattle.std.specs.Prelude.{Bool, List, length, ℕ, ◌++◌, ◌≡◌}
 use Rattle.std.specs.List.{AllByRecursion}
-use Rattle.dom_base.specs.declared.tri.Tri.TheVariants.{One, Zero}
 use Rattle.deck.specs.CircuitData.{CircuitData}
-use Rattle.deck.specs.PortLayout.{first_clock, first_pin}
 use Rattle.deck.specs.declared.role.Roles.{Roles}
 use Rattle.switch_model.specs.LinksData.{LinksData, links_of}
 use Rattle.switch_model.specs.Power.{power_values}
-use Rattle.port_runs.specs.Environment.{Overlapping, Step, World, is_over}
-use Rattle.port_runs.specs.Moves.{PortValue, set_from}
+use Rattle.port_runs.specs.Environment.{Step, World, is_over}
+use Rattle.port_runs.specs.declared.clocking.Clocking.TheVariants.{Overlapping}
 use Rattle.domino_law.specs.Laws.{HasOwnValues}
 use Rattle.domino_law.specs.LooseDeck.{IsLooseDeck}
 use Rattle.domino_law.specs.Nets.{Net}
@@ -19,17 +17,8 @@ use Rattle.domino_law.specs.Shape.{Shape}
 use Rattle.event_sim.specs.Orders.{By}
 use Rattle.event_sim.specs.declared.event.Event.{Event}
 use Rattle.trace_tool.specs.Courses.{EndsWithin, LeadsTo, State}
-use Rattle.trace_tool.specs.Moves.{latching_moves, power_moves, set_bits}
+use Rattle.trace_tool.specs.Moves.{latching_moves, overlapping_moves, power_moves}
 use Rattle.chosen_law.specs.Chosen.{IsReadyForPins, IsSettled, Passes, at_reading}
-
--- from clock k on, so many times: the next clock rises, then this one falls
-abbrev pub rises_and_falls : ℕ → ℕ → List (List PortValue)
-rises_and_falls k zero = []
-rises_and_falls k (suc n) = set_from (first_clock + (k + 1)) (One ∷ []) ∷ set_from (first_clock + k) (Zero ∷ []) ∷ rises_and_falls (k + 1) n
-
--- a cycle up to its reading: the pins take their bits, the first clock rises, and so on
-abbrev pub overlapping_moves : Roles → List Bool → List (List PortValue)
-overlapping_moves roles pins = set_bits (first_pin roles) pins ∷ set_from first_clock (One ∷ []) ∷ rises_and_falls 0 (roles.clocks - 1)
 
 -- it is a legal run to a reading
 abbrev pub OverlappingEvaluationIsLegal : Type 0

@@ -9,7 +9,8 @@ use Rattle.deck.specs.Switches.{IsNotOff, IsOn, value_of}
 use Rattle.deck.specs.declared.device.Device.{Device}
 use Rattle.deck.specs.declared.role.Roles.{Roles}
 use Rattle.switch_model.specs.LinksData.{is_first, links_of}
-use Rattle.port_runs.specs.Environment.{Happens, Step, Together, World}
+use Rattle.port_runs.specs.Environment.{Happens, Step, World}
+use Rattle.port_runs.specs.declared.clocking.Clocking.TheVariants.{Together}
 use Rattle.port_runs.specs.Periods.{vdd_port, vss_port}
 use Rattle.port_runs.specs.PortRuns.{Runs, power_world}
 use Rattle.port_runs.specs.Readings.{HasResetBy}

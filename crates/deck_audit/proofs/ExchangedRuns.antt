@@ -15,7 +15,8 @@ use Rattle.circuit_law.specs.Exchanged.{HasDevicesOf}
 use Rattle.circuit_law.proofs.ExchangedTargets.{events_agree, targets_agree}
 use Rattle.circuit_law.proofs.ExchangedTargets.{twin_in}
 use Rattle.deck_audit.proofs.Twins.{Twins, definite_strong, not_off_twins, possible_strong, twin_path, weak_twins}
-use Rattle.port_runs.specs.Environment.{Evaluation, Fall, Happens, Moves, Open, Rise, Step, Take, Together, World}
+use Rattle.port_runs.specs.Environment.{Evaluation, Fall, Happens, Moves, Open, Rise, Step, Take, World}
+use Rattle.port_runs.specs.declared.clocking.Clocking.TheVariants.{Together}
 use Rattle.port_runs.specs.Periods.{IsDominoOutput, IsDynamicNet, IsInEvaluation, IsOnce, vdd_port, vss_port}
 use Rattle.port_runs.specs.PortRuns.{Does, Leads, Rests, Runs, power_world}
 use Rattle.port_runs.specs.Readings.{HasResetBy, IsLaunchedBy, IsReadBy, IsReading}

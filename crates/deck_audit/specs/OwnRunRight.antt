@@ -13,7 +13,8 @@ use Rattle.deck.specs.declared.device.Device.{Device}
 use Rattle.deck.specs.declared.role.Roles.{Roles}
 use Rattle.domino_cell.specs.Stage.{Top}
 use Rattle.switch_model.specs.LinksData.{is_first}
-use Rattle.port_runs.specs.Environment.{Launched, Released, Reset, Step, Together, World, bit, stream_of}
+use Rattle.port_runs.specs.Environment.{Launched, Released, Reset, Step, World, bit, stream_of}
+use Rattle.port_runs.specs.declared.clocking.Clocking.TheVariants.{Together}
 use Rattle.port_runs.specs.Periods.{vdd_port, vss_port}
 use Rattle.port_runs.specs.PortRuns.{Rests, Runs}
 use Rattle.port_runs.specs.Readings.{HasResetBy, IsReading}

@@ -8,7 +8,7 @@ use Rattle.domino_cell.specs.Stage.{Inside, Top}
 use Rattle.domino_law.specs.Nets.{At, Clock, Complement, Dynamic, FromDynamic, FromPin, Lm, Lmb, Ls, Lsb, Master, Net, Next, Output, Pin, Plus, Rs, Rsb, Sink, Slave, Vdd, Vss}
 use Rattle.domino_law.specs.Shape.{Shape}
 use Rattle.domino_cell.specs.declared.style.Style.TheVariants.{Keeper as WithKeeper}
-use Rattle.port_runs.specs.Environment.{Together}
+use Rattle.port_runs.specs.declared.clocking.Clocking.TheVariants.{Together}
 use Rattle.deck_audit.specs.Audits.{IsYes}
 
 abbrev pub and_roles : Roles

@@ -6,7 +6,8 @@ use Rattle.dom_base.specs.declared.tri.Tri.TheVariants.{One, Zero}
 use Rattle.dom_base.proofs.Decided.{dec_nat, lt_or_ge}
 use Rattle.sp_network.specs.Known.{IsKnown}
 use Rattle.switch_model.proofs.Searches.{first-false, first-true}
-use Rattle.port_runs.specs.Environment.{Capture, Captured, Evaluation, Overlapping, Place, Precharge, fallen_with, none_fallen}
+use Rattle.port_runs.specs.Environment.{Capture, Captured, Evaluation, Place, Precharge, fallen_with, none_fallen}
+use Rattle.port_runs.specs.declared.clocking.Clocking.TheVariants.{Overlapping}
 use Rattle.domino_law.specs.Honest.{HasPreviousFallen}
 use Rattle.domino_law.specs.Places.{AfterFall, AreClocksAt, BeforeRise, ClockState, IsStateAt, Raised, clock_value, fallen_state, risen_state, up_at}
 use Rattle.domino_law.specs.Shape.{Shape}

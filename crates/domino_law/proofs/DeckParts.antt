@@ -15,7 +15,8 @@ use Rattle.sp_network.proofs.TreeImages.{inner_count-map_tree}
 use Rattle.domino_cell.specs.Stage.{Branch, Inside, IsSpot, IsStage, Spot, Top}
 use Rattle.domino_cell.specs.Tapped.{IsTapped, Tap}
 use Rattle.domino_cell.proofs.Untapped.{untapped}
-use Rattle.port_runs.specs.Environment.{Place, bit, Overlapping, Precharge}
+use Rattle.port_runs.specs.Environment.{Place, bit, Precharge}
+use Rattle.port_runs.specs.declared.clocking.Clocking.TheVariants.{Overlapping}
 use Rattle.domino_law.specs.Branches.{HasBranches, dynamic, dynamic_taps, master, numbered, slave, static_branches}
 use Rattle.domino_law.specs.Honest.{IsDynamicSpot, IsHonest, IsHonestFrame, cell_conduction, HasPreviousFallen, gate_value, static_value}
 use Rattle.domino_law.specs.LooseDeck.{HoldsDeck, IsPart, IsSpotOf}

@@ -11,7 +11,8 @@ use Rattle.sp_network.specs.Known.{IsKnown}
 use Rattle.sp_network.specs.Tree.{EachLeaf, Leaf}
 use Rattle.domino_cell.specs.Stage.{Spot, Top, Inside}
 use Rattle.dom_base.proofs.Decided.{dec_nat}
-use Rattle.port_runs.specs.Environment.{Place, Overlapping}
+use Rattle.port_runs.specs.Environment.{Place}
+use Rattle.port_runs.specs.declared.clocking.Clocking.TheVariants.{Overlapping}
 use Rattle.domino_law.specs.Honest.{IsDynamicSpot, IsHonest, cell_conduction, HasPreviousFallen, IsHeldCell, static_value}
 use Rattle.domino_law.specs.LooseDeck.{HoldsDeck}
 use Rattle.domino_law.specs.Nets.{At, Clock, Complement, Dynamic, FromDynamic, FromOutput, Gate, High, Low, Minus, Net, Output, Plus, Vdd, Vss, gate_net, own, CellSide, left_side}

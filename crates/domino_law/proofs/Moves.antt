@@ -9,7 +9,8 @@ use Rattle.deck.specs.declared.device.Device.{Device}
 use Rattle.domino_cell.specs.Stage.{Spot, Top}
 use Rattle.switch_model.specs.Targets.{IsAtRest}
 use Rattle.dom_base.proofs.Decided.{dec_nat}
-use Rattle.port_runs.specs.Environment.{Capture, Captured, Evaluation, Launch, Launched, Pins, Place, Precharge, Released, Reset, bit, Overlapping, fallen_with, none_fallen}
+use Rattle.port_runs.specs.Environment.{Capture, Captured, Evaluation, Launch, Launched, Pins, Place, Precharge, Released, Reset, bit, fallen_with, none_fallen}
+use Rattle.port_runs.specs.declared.clocking.Clocking.TheVariants.{Overlapping}
 use Rattle.domino_law.specs.Honest.{AreHonestCells, IsHonest, HasPreviousFallen, IsHeldCell, IsHonestOutput, IsHonestSide}
 use Rattle.domino_law.specs.LooseDeck.{HoldsDeck, IsPart, IsSpotOf}
 use Rattle.domino_law.specs.Nets.{At, Clock, Lm, Lmb, Ls, Lsb, Master, Net, Next, Part, Rs, Rsb, Slave, Vdd, Vss, CellSide, Output, left_side}

@@ -11,7 +11,8 @@ use Rattle.sp_network.specs.Known.{IsKnown}
 use Rattle.sp_network.specs.Tree.{joins, EachLeaf, Leaf, Parallel, Series, Tree, inner_count, both}
 use Rattle.domino_cell.specs.Stage.{Spot, Top, Branch, Inside, IsSpot}
 use Rattle.switch_model.specs.Targets.{IsAtRest}
-use Rattle.port_runs.specs.Environment.{Evaluation, bit, Overlapping}
+use Rattle.port_runs.specs.Environment.{Evaluation, bit}
+use Rattle.port_runs.specs.declared.clocking.Clocking.TheVariants.{Overlapping}
 use Rattle.domino_law.specs.Honest.{IsHonest, HasPreviousFallen, IsHeldCell, cell_conduction, gate_value, static_value}
 use Rattle.domino_law.specs.LooseDeck.{HoldsDeck, IsSpotOf}
 use Rattle.domino_law.specs.Nets.{At, Clock, Complement, Dynamic, FromDynamic, FromLatch, FromOutput, FromPin, Gate, High, Low, Minus, Net, Next, Output, Part, Pin, Plus, DeckSignal, Sink, Vdd, Vss, gate_net, own, CellSide, left_side, right_side}

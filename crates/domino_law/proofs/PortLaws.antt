@@ -12,7 +12,9 @@ use Rattle.domino_cell.specs.Stage.{Top}
 use Rattle.switch_model.specs.LinksData.{is_first, links_of}
 use Rattle.event_sim.specs.Settling.{most_events}
 use Rattle.circuit_law.specs.Counts.{Gates}
-use Rattle.port_runs.specs.Environment.{Capture, Captured, Clocking, Evaluation, Fall, Happens, Moves, Open, Overlapping, Place, Step, Together, World, stream_of}
+use Rattle.port_runs.specs.Environment.{Capture, Captured, Evaluation, Fall, Happens, Moves, Open, Place, Step, World, stream_of}
+use Rattle.port_runs.specs.declared.clocking.Clocking.{Clocking}
+use Rattle.port_runs.specs.declared.clocking.Clocking.TheVariants.{Overlapping, Together}
 use Rattle.port_runs.specs.Periods.{IsClockPort, IsDominoOutput, IsDynamicNet, IsInPeriod, vdd_port, vss_port}
 use Rattle.port_runs.specs.PortRuns.{LeadsBy, Rests, Runs, RunsBy, power_world}
 use Rattle.port_runs.specs.Readings.{HasResetBy, IsLaunchedBy, IsReadBy}

@@ -11,7 +11,9 @@ use Rattle.deck.specs.declared.role.Roles.{Roles}
 use Rattle.switch_model.specs.LinksData.{is_first, links_of}
 use Rattle.event_sim.specs.Settling.{most_events}
 use Rattle.circuit_law.specs.Counts.{Gates}
-use Rattle.port_runs.specs.Environment.{Clocking, Evaluation, Happens, Overlapping, Step, Together, World, stream_of}
+use Rattle.port_runs.specs.Environment.{Evaluation, Happens, Step, World, stream_of}
+use Rattle.port_runs.specs.declared.clocking.Clocking.{Clocking}
+use Rattle.port_runs.specs.declared.clocking.Clocking.TheVariants.{Overlapping, Together}
 use Rattle.port_runs.specs.Periods.{IsDominoOutput, IsDynamicNet, IsInEvaluation, IsInPeriodBy, IsOnce, vdd_port, vss_port}
 use Rattle.port_runs.specs.PortRuns.{LeadsBy, Rests, RunsBy}
 use Rattle.port_runs.specs.Readings.{HasResetBy, IsLaunchedBy, IsReadBy}

@@ -2,7 +2,8 @@
 use Rattle.domino_cell.specs.declared.style.Style.{Style}
 use Rattle.domino_cell.specs.declared.style.Style.TheVariants.{Keeper as WithKeeper, Precharge as WithPrecharge}
 use Rattle.std.specs.Prelude.{Bool, Contains, List, Some, slice_get, ℕ, ◌+◌, ◌<◌, ◌≡◌, ◌⊎◌, None, Option}
-use Rattle.port_runs.specs.Environment.{Clocking, Overlapping}
+use Rattle.port_runs.specs.declared.clocking.Clocking.{Clocking}
+use Rattle.port_runs.specs.declared.clocking.Clocking.TheVariants.{Overlapping}
 use Rattle.sp_network.specs.Tree.{EachLeaf, Tree, Leaf, Series}
 use Rattle.domino_law.specs.Nets.{FromDynamic, FromLatch, FromOutput, FromPin, Gate, High, Low, Minus, Plus, DeckSignal, At, CellSide, Dynamic, Left, Net, Right, Side, gate_net, left_side, right_side}
 use Rattle.domino_cell.specs.Stage.{Top}

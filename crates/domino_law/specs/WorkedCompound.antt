@@ -6,7 +6,8 @@ use Rattle.dom_base.specs.declared.tri.Tri.TheVariants.{One, Unknown, Zero}
 use Rattle.sp_network.specs.Tree.{Leaf, Parallel}
 use Rattle.domino_cell.specs.Stage.{Inside, Top}
 use Rattle.switch_model.specs.LinksData.{LinksData}
-use Rattle.port_runs.specs.Environment.{Reset, Together, World, none_fallen}
+use Rattle.port_runs.specs.Environment.{Reset, World, none_fallen}
+use Rattle.port_runs.specs.declared.clocking.Clocking.TheVariants.{Together}
 use Rattle.domino_law.specs.Nets.{At, Clock, Complement, Dynamic, FromDynamic, FromPin, Left, Lm, Lmb, Ls, Lsb, Master, Net, Next, Output, Pin, Plus, Right, Rs, Rsb, Side, Sink, Slave, Vdd, Vss}
 use Rattle.domino_law.specs.OwnRun.{outputs_of}
 use Rattle.domino_law.specs.Runs.{IsPower}

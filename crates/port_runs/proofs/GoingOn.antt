@@ -4,7 +4,9 @@ use Rattle.std.proofs.Common.{List, [], append_assoc, refl, subst, sym, ◌++◌
 use Rattle.dom_base.proofs.Lists.{AllByRecursion-append}
 use Rattle.deck.specs.CircuitData.{CircuitData}
 use Rattle.deck.specs.declared.role.Roles.{Roles}
-use Rattle.port_runs.specs.Environment.{Capture, Captured, Clocking, Evaluation, Fall, Happens, IsNext, Launch, Launched, Moves, Open, Pins, Place, Precharge, Released, Reset, Rise, Step, Take, Together, World}
+use Rattle.port_runs.specs.Environment.{Capture, Captured, Evaluation, Fall, Happens, IsNext, Launch, Launched, Moves, Open, Pins, Place, Precharge, Released, Reset, Rise, Step, Take, World}
+use Rattle.port_runs.specs.declared.clocking.Clocking.{Clocking}
+use Rattle.port_runs.specs.declared.clocking.Clocking.TheVariants.{Together}
 use Rattle.port_runs.specs.Laws.{PeriodsLast, RunsGoOn, world_after}
 use Rattle.port_runs.specs.Periods.{IsInPeriod}
 use Rattle.port_runs.specs.PortRuns.{DoesBy, Rests, Runs, RunsBy, SetsPorts, clocked_ports, power_world}

@@ -2,7 +2,8 @@
 use Rattle.std.specs.List.{AllByRecursion}
 use Rattle.std.specs.Prelude.{◌≢◌, ◌⊎◌}
 use Rattle.std.proofs.Common.{Bool, List, [], ap, append_assoc, append-nil, arith, inl, inr, length, length-append, refl, subst, suc, sym, ℕ, ◌++◌, ◌+◌, ◌<◌, ◌∙◌, ◌∷◌, ◌≡◌}
-use Rattle.port_runs.specs.Environment.{Capture, Captured, Evaluation, Fall, Happens, IsNext, Launch, Launched, Moves, Open, Pins, Place, Precharge, Released, Reset, Rise, Step, Take, World, after_move, is_over, risen_at, stream_of, Clocking}
+use Rattle.port_runs.specs.Environment.{Capture, Captured, Evaluation, Fall, Happens, IsNext, Launch, Launched, Moves, Open, Pins, Place, Precharge, Released, Reset, Rise, Step, Take, World, after_move, is_over, risen_at, stream_of}
+use Rattle.port_runs.specs.declared.clocking.Clocking.{Clocking}
 use Rattle.port_runs.specs.Order.{Proceeds, StandsAfter, risen_before}
 
 -- a place is opened

@@ -4,7 +4,8 @@ use Rattle.std.proofs.lemmas.List.{length-set}
 use Rattle.dom_base.specs.declared.tri.Tri.{Tri}
 use Rattle.deck.specs.CircuitData.{CircuitData}
 use Rattle.deck.specs.declared.role.Roles.{Roles}
-use Rattle.port_runs.specs.Environment.{Clocking, Fall, Happens, Move, Moves, Open, Rise, Step, Take, World, after_move, settings_of}
+use Rattle.port_runs.specs.Environment.{Fall, Happens, Move, Moves, Open, Rise, Step, Take, World, after_move, settings_of}
+use Rattle.port_runs.specs.declared.clocking.Clocking.{Clocking}
 use Rattle.port_runs.specs.Laws.{RunsAreCutAnywhere, RunsStandInOrder}
 use Rattle.port_runs.specs.LegalSteps.{ClockedLinks, LeadsIn, MayMoveIn, RestsIn}
 use Rattle.port_runs.specs.Moves.{PortValue, set_all}

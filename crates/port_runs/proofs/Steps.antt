@@ -5,7 +5,9 @@ use Rattle.std.proofs.Common.{Bool, List, [], ap, false, map, refl, subst, sym, 
 use Rattle.dom_base.specs.declared.tri.Tri.{Tri}
 use Rattle.deck.specs.CircuitData.{CircuitData}
 use Rattle.deck.specs.declared.role.Roles.{Roles}
-use Rattle.port_runs.specs.Environment.{Clocking, Fall, Happens, Moves, Open, Rise, Step, Take, Together, World, stream_of, Evaluation, Move, Overlapping, Place, fallen_at}
+use Rattle.port_runs.specs.Environment.{Fall, Happens, Moves, Open, Rise, Step, Take, World, stream_of, Evaluation, Move, Place, fallen_at}
+use Rattle.port_runs.specs.declared.clocking.Clocking.{Clocking}
+use Rattle.port_runs.specs.declared.clocking.Clocking.TheVariants.{Overlapping, Together}
 use Rattle.port_runs.specs.LegalSteps.{ClockedLinks, DoesIn, LeadsIn, MayMoveIn}
 use Rattle.port_runs.specs.PortRuns.{Does, DoesBy, Leads, LeadsBy, SetsPorts, clocked_ports}
 

@@ -6,6 +6,8 @@ use Rattle.dom_base.specs.declared.tri.Tri.TheVariants.{One, Zero}
 use Rattle.deck.specs.PortLayout.{first_clock, first_pin, master_pair, reset_pair, slave_pair}
 use Rattle.deck.specs.declared.role.Roles.{Roles}
 use Rattle.port_runs.specs.Moves.{PortValue, set_from}
+use Rattle.port_runs.specs.declared.clocking.Clocking.{Clocking}
+use Rattle.port_runs.specs.declared.clocking.Clocking.TheVariants.{Overlapping, Together}
 
 pub data Place : Type 0 where
   Reset : Place
@@ -22,12 +24,6 @@ pub data Place : Type 0 where
 abbrev pub bit : Bool → Tri
 bit false = Zero
 bit true = One
-
--- How the clocks of a cycle fall: together, when precharge is opened; or each at some rest of evaluation once the next clock has
--- risen, and those that are still up when precharge is opened (Harris and Horowitz, Skew-tolerant domino circuits).
-pub data Clocking : Type 0 where
-  Together : Clocking
-  Overlapping : Clocking
 
 -- where a run stands: its place, how many clocks have risen in evaluation and which have fallen in it, the pins of the earlier cycles
 -- and of this one, and the values of the nets

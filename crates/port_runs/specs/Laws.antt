@@ -7,7 +7,9 @@ use Rattle.deck.specs.PortLayout.{source_count}
 use Rattle.deck.specs.declared.role.Roles.{Roles}
 use Rattle.switch_model.specs.LinksData.{is_first}
 use Rattle.switch_model.specs.Targets.{EventAt}
-use Rattle.port_runs.specs.Environment.{Capture, Captured, Clocking, Evaluation, Fall, Happens, Launch, Launched, Move, Moves, Open, Overlapping, Pins, Precharge, Released, Reset, Rise, Step, Take, World, after_move, settings_of, stream_of}
+use Rattle.port_runs.specs.Environment.{Capture, Captured, Evaluation, Fall, Happens, Launch, Launched, Move, Moves, Open, Pins, Precharge, Released, Reset, Rise, Step, Take, World, after_move, settings_of, stream_of}
+use Rattle.port_runs.specs.declared.clocking.Clocking.{Clocking}
+use Rattle.port_runs.specs.declared.clocking.Clocking.TheVariants.{Overlapping}
 use Rattle.port_runs.specs.Moves.{set_all}
 use Rattle.port_runs.specs.Order.{StandsAfter}
 use Rattle.port_runs.specs.Periods.{IsInEvaluation}

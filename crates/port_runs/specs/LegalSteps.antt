@@ -3,7 +3,9 @@ use Rattle.std.specs.Prelude.{List, [], false, length, ℕ, ◌+◌, ◌<◌, �
 use Rattle.dom_base.specs.declared.tri.Tri.{Tri}
 use Rattle.switch_model.specs.LinksData.{LinksData, is_first}
 use Rattle.switch_model.specs.Targets.{EventAt, IsAtRest}
-use Rattle.port_runs.specs.Environment.{Capture, Clocking, Evaluation, Fall, Happens, IsNext, Launched, Move, Moves, Open, Overlapping, Released, Rise, Step, Take, World, after_move}
+use Rattle.port_runs.specs.Environment.{Capture, Evaluation, Fall, Happens, IsNext, Launched, Move, Moves, Open, Released, Rise, Step, Take, World, after_move}
+use Rattle.port_runs.specs.declared.clocking.Clocking.{Clocking}
+use Rattle.port_runs.specs.declared.clocking.Clocking.TheVariants.{Overlapping}
 
 -- a circuit without names, with so many clocks that fall so, and so many pins
 pub record ClockedLinks : Type 0 where

@@ -1,7 +1,9 @@
 -- The order of the environment's moves in a run, whatever the values of the nets are.
 use Rattle.std.specs.Prelude.{Bool, List, [], false, length, ℕ, ◌++◌, ◌+◌, ◌<◌, ◌∷◌, ◌≡◌, ◌≤◌, ◌⊎◌}
 use Rattle.dom_base.specs.declared.tri.Tri.{Tri}
-use Rattle.port_runs.specs.Environment.{Capture, Evaluation, Happens, Fall, IsNext, Launched, Move, Moves, Open, Pins, Place, Released, Reset, Rise, Step, Take, World, after_move, Clocking, Overlapping}
+use Rattle.port_runs.specs.Environment.{Capture, Evaluation, Happens, Fall, IsNext, Launched, Move, Moves, Open, Pins, Place, Released, Reset, Rise, Step, Take, World, after_move}
+use Rattle.port_runs.specs.declared.clocking.Clocking.{Clocking}
+use Rattle.port_runs.specs.declared.clocking.Clocking.TheVariants.{Overlapping}
 
 -- what a move needs but for rest, with so many clocks and pins
 abbrev pub Allows : Clocking → ℕ → ℕ → Move → World → Type 0

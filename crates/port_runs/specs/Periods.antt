@@ -10,7 +10,8 @@ use Rattle.deck.specs.Switches.{value_of}
 use Rattle.deck.specs.declared.device.Device.{Device}
 use Rattle.deck.specs.declared.role.Roles.{Roles}
 use Rattle.switch_model.specs.LinksData.{LinksData, links_of}
-use Rattle.port_runs.specs.Environment.{Clocking, Evaluation, Fall, Happens, Moves, Open, Precharge, Step, World}
+use Rattle.port_runs.specs.Environment.{Evaluation, Fall, Happens, Moves, Open, Precharge, Step, World}
+use Rattle.port_runs.specs.declared.clocking.Clocking.{Clocking}
 use Rattle.port_runs.specs.LegalSteps.{HasEvent}
 use Rattle.port_runs.specs.PortRuns.{Runs, RunsBy}
 

@@ -6,7 +6,9 @@ use Rattle.deck.specs.CircuitData.{CircuitData}
 use Rattle.deck.specs.declared.role.Roles.{Roles}
 use Rattle.switch_model.specs.LinksData.{links_of}
 use Rattle.switch_model.specs.Power.{power_values}
-use Rattle.port_runs.specs.Environment.{Clocking, Move, Reset, Step, Together, World, none_fallen, settings_of}
+use Rattle.port_runs.specs.Environment.{Move, Reset, Step, World, none_fallen, settings_of}
+use Rattle.port_runs.specs.declared.clocking.Clocking.{Clocking}
+use Rattle.port_runs.specs.declared.clocking.Clocking.TheVariants.{Together}
 use Rattle.port_runs.specs.LegalSteps.{ClockedLinks, DoesIn, LeadsIn, MayMoveIn, RestsIn}
 use Rattle.port_runs.specs.Moves.{set_all}
 

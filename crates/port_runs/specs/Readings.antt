@@ -3,7 +3,8 @@ use Rattle.std.specs.Prelude.{Bool, List, ℕ, ◌≡◌, ◌≢◌, ◌⊎◌}
 use Rattle.deck.specs.CircuitData.{CircuitData}
 use Rattle.deck.specs.declared.role.Roles.{Roles}
 use Rattle.switch_model.specs.LinksData.{LinksData, links_of}
-use Rattle.port_runs.specs.Environment.{Clocking, Evaluation, Launched, Reset, Step, World, stream_of}
+use Rattle.port_runs.specs.Environment.{Evaluation, Launched, Reset, Step, World, stream_of}
+use Rattle.port_runs.specs.declared.clocking.Clocking.{Clocking}
 use Rattle.port_runs.specs.LegalSteps.{RestsIn}
 use Rattle.port_runs.specs.PortRuns.{Rests, RunsBy}
 

@@ -8,7 +8,7 @@ use Rattle.deck.specs.Roles.{ports_of}
 use Rattle.port_runs.specs.Environment.{bit}
 use Rattle.trace_tool.specs.Comparisons.{ComparesReading, Decides, IsWrongAt, Passes, StopsAt}
 use Rattle.trace_tool.specs.Courses.{Course, IsCourse, Settled, State, Unsettled}
-use Rattle.trace_tool.specs.Moves.{evaluation_moves, latching_moves}
+use Rattle.trace_tool.specs.Moves.{evaluation_by, latching_moves}
 use Rattle.trace_tool.specs.RunData.{RunData, Runs}
 use Rattle.trace_tool.specs.SetupData.{SetupData}
 use Rattle.trace_tool.specs.Traces.{outputs}
@@ -48,7 +48,7 @@ cycle_weaker order setup s cycle pins wanted Follows Follows' v f (evaluated, re
 
 module _ {F : Type 0} (P : F → ℕ → ℕ → ℕ → Type 0) where
   -- the moves up to the reading ended unsettled
-  pub unevaluated : (s t now : RunData F) (number : ℕ) (pins wanted : List Bool) (halt : Halt) → Runs P (evaluation_moves s.setup.roles pins) s (Err halt) t
+  pub unevaluated : (s t now : RunData F) (number : ℕ) (pins wanted : List Bool) (halt : Halt) → Runs P (evaluation_by s.setup.clocking s.setup.roles pins) s (Err halt) t
       → ComparesReading P number pins wanted s (Err halt) now
   unevaluated s t now number pins wanted (halts.Unsettled count) (events, last, ran, counted) =
       (Unsettled events last, t.state, ran.course_is, ap (λ (n : ℕ). verdicts.Unsettled number n) counted)
@@ -56,7 +56,7 @@ module _ {F : Type 0} (P : F → ℕ → ℕ → ℕ → Type 0) where
 
   -- an output of the reading isn't its bit
   pub differs : (s t : RunData F) (number : ℕ) (pins wanted : List Bool) (m index : ℕ) (pin : List ℕ) (one : Bool) (value : Tri)
-      → Runs P (evaluation_moves s.setup.roles pins) s (Ok m) t
+      → Runs P (evaluation_by s.setup.clocking s.setup.roles pins) s (Ok m) t
       → IsWrongAt wanted (outputs t.setup.roles t.state.values) index
       → slice_get (drop (first_output t.setup.roles) (ports_of t.setup.circuit)) index ≡ Some pin
       → slice_get wanted index ≡ Some one → slice_get (outputs t.setup.roles t.state.values) index ≡ Some value
@@ -85,7 +85,7 @@ module _ {F : Type 0} (P : F → ℕ → ℕ → ℕ → Type 0) where
 
   -- all outputs of the reading are their bits, and then the moves of the latches have a course
   latched : (s r : RunData F) (t : State) (number : ℕ) (pins wanted : List Bool) (m : ℕ) (course : Course) (verdict : Verdict) (Follows : State → Type 0)
-      → Runs P (evaluation_moves s.setup.roles pins) s (Ok m) r → outputs r.setup.roles r.state.values ≡ map bit wanted
+      → Runs P (evaluation_by s.setup.clocking s.setup.roles pins) s (Ok m) r → outputs r.setup.roles r.state.values ≡ map bit wanted
       → IsCourse (P r.pick) r.setup r.state (latching_moves r.setup.roles) course t → IsAfter number course (Follows t) verdict
       → IsCycleVerdict (P s.pick) s.setup s.state number pins wanted Follows verdict
   latched s r t number pins wanted m course verdict Follows (events, ran, counted, few) same is after = (
@@ -105,7 +105,7 @@ module _ {F : Type 0} (P : F → ℕ → ℕ → ℕ → Type 0) where
   )
 
   pub unlatched : (s r t : RunData F) (number : ℕ) (pins wanted : List Bool) (m : ℕ) (halt : Halt)
-      → Runs P (evaluation_moves s.setup.roles pins) s (Ok m) r → outputs r.setup.roles r.state.values ≡ map bit wanted
+      → Runs P (evaluation_by s.setup.clocking s.setup.roles pins) s (Ok m) r → outputs r.setup.roles r.state.values ≡ map bit wanted
       → Runs P (latching_moves r.setup.roles) r (Err halt) t → ComparesReading P number pins wanted s (Err halt) t
   unlatched s r t number pins wanted m (halts.Unsettled count) evaluated same (events, last, ran, counted) =
       latched s r t.state number pins wanted m (Unsettled events last) (verdicts.Unsettled number count) (λ x. ⊥) evaluated same ran.course_is
@@ -113,7 +113,7 @@ module _ {F : Type 0} (P : F → ℕ → ℕ → ℕ → Type 0) where
   unlatched s r t number pins wanted m halts.Memory evaluated same ran = tt
 
   pub passes : (s r t : RunData F) (number : ℕ) (pins wanted : List Bool) (m k : ℕ)
-      → Runs P (evaluation_moves s.setup.roles pins) s (Ok m) r → outputs r.setup.roles r.state.values ≡ map bit wanted
+      → Runs P (evaluation_by s.setup.clocking s.setup.roles pins) s (Ok m) r → outputs r.setup.roles r.state.values ≡ map bit wanted
       → Runs P (latching_moves r.setup.roles) r (Ok k) t → Passes P number pins wanted s t
   passes s r t number pins wanted m k (d, first, c, f) same (e, ran, counted, few) = record {
     follows = λ verdict. latched s r t.state number pins wanted m (Settled e) verdict (λ last. last ≡ t.state) (d, first, c, f) same ran.course_is refl;

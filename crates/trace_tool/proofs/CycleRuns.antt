@@ -6,7 +6,7 @@ use Rattle.stim_text.specs.CycleLines.{cycle_line}
 use Rattle.stim_text.specs.CycleRowData.{CycleRowData}
 use Rattle.trace_tool.specs.Courses.{IsCourse, Settled, State, Unsettled}
 use Rattle.port_runs.specs.Moves.{PortValue}
-use Rattle.trace_tool.specs.Moves.{cycle_moves, evaluation_moves, latching_moves, power_moves}
+use Rattle.trace_tool.specs.Moves.{cycle_moves, evaluation_by, latching_moves, power_moves}
 use Rattle.trace_tool.specs.RunData.{EndsCycle, HaltsCycle, IsHalted, IsPrinted, Ran, RunData, Runs, RunsCycle, RunsPower, with_line}
 use Rattle.trace_tool.specs.TraceLines.{event_lines, power_line, unsettled_line}
 use Rattle.trace_tool.specs.Traces.{outputs, row_line}
@@ -58,12 +58,12 @@ module _ {F : Type 0} (P : F → ℕ → ℕ → ℕ → Type 0) where
 
   -- a cycle whose two halves settled
   pub cycle-settled : (s r t now : RunData F) (cycle : ℕ) (pins : List Bool) (row : CycleRowData) (m n : ℕ)
-      → Runs P (evaluation_moves s.setup.roles pins) s (Ok m) r → Runs P (latching_moves r.setup.roles) r (Ok n) t → now ≡ with_line t (cycle_line row)
+      → Runs P (evaluation_by s.setup.clocking s.setup.roles pins) s (Ok m) r → Runs P (latching_moves r.setup.roles) r (Ok n) t → now ≡ with_line t (cycle_line row)
       → row ≡ record { cycle = cycle; pins = pins; outs = outputs r.setup.roles r.state.values; events = Some (m + n) }
       → RunsCycle P cycle pins s true now
   cycle-settled s r t now cycle pins row m n (d, h, counted, few) (e, k, counted', few') is row_is =
       let moves = ap (λ (c : SetupData). latching_moves c.roles) h.same_setup in
-      let all = ran-more P s r t (evaluation_moves s.setup.roles pins) (latching_moves s.setup.roles) d (Settled e) h
+      let all = ran-more P s r t (evaluation_by s.setup.clocking s.setup.roles pins) (latching_moves s.setup.roles) d (Settled e) h
       (subst (λ (l : List (List PortValue)). Ran P l (Settled e) r t) moves k) in
       let number : m + n ≡ length (d ++ e) = (λ i. counted i + counted' i) ∙ sym (length-append d e) in
       let line : cycle_line row ≡ row_line s.setup cycle pins r.state (length (d ++ e)) =
@@ -74,29 +74,29 @@ module _ {F : Type 0} (P : F → ℕ → ℕ → ℕ → Type 0) where
         record {
           evaluated = Settled d;
           evaluation = h.course_is;
-          whole = subst (λ (x : State). IsCourse (P s.pick) s.setup s.state (cycle_moves s.setup.roles pins) (Settled (d ++ e)) x)
+          whole = subst (λ (x : State). IsCourse (P s.pick) s.setup s.state (cycle_moves s.setup.clocking s.setup.roles pins) (Settled (d ++ e)) x)
               (sym (ap (λ (x : RunData F). x.state) is)) all.course_is;
         },
-        printed-settled s t now (cycle_moves s.setup.roles pins) (d ++ e) cycle (row_line s.setup cycle pins r.state) all
+        printed-settled s t now (cycle_moves s.setup.clocking s.setup.roles pins) (d ++ e) cycle (row_line s.setup cycle pins r.state) all
             (is ∙ ap (λ (l : List ℕ). with_line t l) line),
       )
 
   -- a cycle that ended unsettled before its reading, and behind it
   pub cycle-unread : (s t : RunData F) (pins : List Bool) (halt : Halt)
-      → Runs P (evaluation_moves s.setup.roles pins) s (Err halt) t → HaltsCycle P pins s halt t
+      → Runs P (evaluation_by s.setup.clocking s.setup.roles pins) s (Err halt) t → HaltsCycle P pins s halt t
   cycle-unread s t pins (halts.Unsettled count) (events, last, h, counted) = (
     events,
     last,
     Unsettled events last,
     t.state,
     h.course_is,
-    ran-before P s t (evaluation_moves s.setup.roles pins) (latching_moves s.setup.roles) events last h,
+    ran-before P s t (evaluation_by s.setup.clocking s.setup.roles pins) (latching_moves s.setup.roles) events last h,
     counted,
   )
   cycle-unread s t pins halts.Memory h = tt
 
   pub cycle-read : (s r t : RunData F) (pins : List Bool) (m : ℕ) (halt : Halt)
-      → Runs P (evaluation_moves s.setup.roles pins) s (Ok m) r → Runs P (latching_moves r.setup.roles) r (Err halt) t
+      → Runs P (evaluation_by s.setup.clocking s.setup.roles pins) s (Ok m) r → Runs P (latching_moves r.setup.roles) r (Err halt) t
       → HaltsCycle P pins s halt t
   cycle-read s r t pins m (halts.Unsettled count) (d, h, counted, few) (e, last, k, counted') = (
     d ++ e,
@@ -104,7 +104,7 @@ module _ {F : Type 0} (P : F → ℕ → ℕ → ℕ → Type 0) where
     Settled d,
     r.state,
     h.course_is,
-    ran-more P s r t (evaluation_moves s.setup.roles pins) (latching_moves s.setup.roles) d (Unsettled e last) h
+    ran-more P s r t (evaluation_by s.setup.clocking s.setup.roles pins) (latching_moves s.setup.roles) d (Unsettled e last) h
         (subst (λ (l : List (List PortValue)). Ran P l (Unsettled e last) r t) (ap (λ (c : SetupData). latching_moves c.roles) h.same_setup) k),
     counted',
   )
@@ -118,10 +118,10 @@ module _ {F : Type 0} (P : F → ℕ → ℕ → ℕ → Type 0) where
     record {
       evaluated = evaluated;
       evaluation = half;
-      whole = subst (λ (x : State). IsCourse (P s.pick) s.setup s.state (cycle_moves s.setup.roles pins) (Unsettled events last) x)
+      whole = subst (λ (x : State). IsCourse (P s.pick) s.setup s.state (cycle_moves s.setup.clocking s.setup.roles pins) (Unsettled events last) x)
           (sym (ap (λ (r : RunData F). r.state) is)) h.course_is;
     },
-    printed-halted s t now (cycle_moves s.setup.roles pins) events last cycle count settled (row_line s.setup cycle pins read) h counted is off,
+    printed-halted s t now (cycle_moves s.setup.clocking s.setup.roles pins) events last cycle count settled (row_line s.setup cycle pins read) h counted is off,
   )
   cycle-halted s t now cycle pins halts.Memory settled h is off = absurd is
 
@@ -133,5 +133,5 @@ module _ {F : Type 0} (P : F → ℕ → ℕ → ℕ → Type 0) where
 
   -- a cycle up to its reading, with these pins
   pub with-pins : (s t : RunData F) (bits pins : List Bool) (result : Result ℕ Halt) → bits ≡ pins
-      → Runs P (evaluation_moves s.setup.roles bits) s result t → Runs P (evaluation_moves s.setup.roles pins) s result t
-  with-pins s t bits pins result same h = subst (λ (l : List Bool). Runs P (evaluation_moves s.setup.roles l) s result t) same h
+      → Runs P (evaluation_by s.setup.clocking s.setup.roles bits) s result t → Runs P (evaluation_by s.setup.clocking s.setup.roles pins) s result t
+  with-pins s t bits pins result same h = subst (λ (l : List Bool). Runs P (evaluation_by s.setup.clocking s.setup.roles l) s result t) same h

@@ -22,6 +22,7 @@ pub mod OutputPorts
 pub mod PortCounts
 pub mod PortValues
 pub mod PortWalks
+pub mod RaisedClocks
 pub mod SettlingRuns
 pub mod SetupNets
 pub mod ToldEdges

@@ -17,12 +17,14 @@ use Rattle.stim_text.specs.declared.fault.StimKind.{StimKind}
 use Rattle.stim_text.proofs.OneAnswer.{one_answer as stimulus_answer}
 use Rattle.trace_tool.specs.declared.fault.TraceFault.{TraceFault}
 use Rattle.trace_tool.specs.declared.fault.TraceFault.TheVariants.{Blif, Flat, Deck, Ports, NoNet, Stim, Memory}
+use Rattle.port_runs.specs.declared.clocking.Clocking.{Clocking}
+use Rattle.port_runs.specs.declared.clocking.Clocking.TheVariants.{Together}
 use Rattle.trace_tool.specs.declared.options.ProbeWord.{ProbeWord}
 use Rattle.trace_tool.specs.Probes.{AreNets}
 use Rattle.trace_tool.specs.Laws.{AnswerIsOne}
 use Rattle.trace_tool.specs.Refusals.{HasBadPorts, HasBadStimulus, HasNoNet, IsFirstNoNet, IsRefused}
 use Rattle.trace_tool.specs.TraceData.{TraceData, TraceOptionsData}
-use Rattle.trace_tool.specs.Traces.{IsRun, IsTraceOf, picked_place, setup_of}
+use Rattle.trace_tool.specs.Traces.{IsRun, IsTraceBy, picked_place, setup_of}
 use Rattle.trace_tool.proofs.FirstNoNet.{first_is_none, first_is_one}
 use Rattle.trace_tool.proofs.OneTrace.{trace_is_one}
 
@@ -53,18 +55,18 @@ roles_same deck c d r q x y h k =
     AreRoles-same (ports_of c) r q h
     (subst (λ (e : CircuitData). AreRoles (ports_of e) q) (IsDeckOf-unique deck d c y x) k)
 
-trace_same : (deck stim : List ℕ) (options : TraceOptionsData) (a b : TraceData)
-    → IsTraceOf deck stim options a → IsTraceOf deck stim options b → a ≡ b
-trace_same deck stim options a b x y =
+trace_same : (clocking : Clocking) (deck stim : List ℕ) (options : TraceOptionsData) (a b : TraceData)
+    → IsTraceBy clocking deck stim options a → IsTraceBy clocking deck stim options b → a ≡ b
+trace_same clocking deck stim options a b x y =
     let circuits = IsDeckOf-unique deck y.circuit x.circuit y.is_deck x.is_deck in
     let roles = roles_same deck y.circuit x.circuit y.roles x.roles y.is_deck x.is_deck y.are_roles x.are_roles in
     let cycles = stimulus_same x.roles.pins stim y.cycles x.cycles
     (subst (λ (r : Roles). IsStimulusOf r.pins stim y.cycles) roles y.is_stimulus) x.is_stimulus in
     let order = By (picked_place options.order options.seed) in
-    trace_is_one (picked_place options.order options.seed) (setup_of x.circuit x.roles options) x.cycles a b x.is_run
-    (subst (λ (l : List (List Bool)). IsRun order (setup_of x.circuit x.roles options) l b) cycles
-    (subst (λ (r : Roles). IsRun order (setup_of x.circuit r options) y.cycles b) roles
-    (subst (λ (c : CircuitData). IsRun order (setup_of c y.roles options) y.cycles b) circuits y.is_run)))
+    trace_is_one (picked_place options.order options.seed) (setup_of clocking x.circuit x.roles options) x.cycles a b x.is_run
+    (subst (λ (l : List (List Bool)). IsRun order (setup_of clocking x.circuit x.roles options) l b) cycles
+    (subst (λ (r : Roles). IsRun order (setup_of clocking x.circuit r options) y.cycles b) roles
+    (subst (λ (c : CircuitData). IsRun order (setup_of clocking c y.roles options) y.cycles b) circuits y.is_run)))
 
 -- ports that leave every order are no deck's whose ports are in order
 pub bad_ports_apart : (deck : List ℕ) (place : ℕ) (circuit : CircuitData) (roles : Roles) → HasBadPorts deck place → IsDeckOf deck circuit → AreRoles (ports_of circuit) roles → ⊥
@@ -134,17 +136,20 @@ cause_same deck stim probes (Stim line kind) (Stim line' kind') p q x y =
     let same = bad_stimulus_same deck stim probes line line' kind kind' x y in
     ap (λ (n : ℕ). Stim n kind) same.0 ∙ ap (λ (k : StimKind). Stim line' k) same.1
 
-trace_or_cause : (deck stim : List ℕ) (options : TraceOptionsData) (a : TraceData) (b : TraceFault) → b ≢ Memory
-    → IsTraceOf deck stim options a → IsRefused deck stim options.probes b → ⊥
-trace_or_cause deck stim options a Memory q x y = q refl
-trace_or_cause deck stim options a (Blif line kind) q x y = y
-trace_or_cause deck stim options a (Flat fault) q x y = y
-trace_or_cause deck stim options a (Deck line kind) q x y = no_circuit deck line kind x.circuit y x.is_deck
-trace_or_cause deck stim options a (Ports place) q x y = bad_ports_apart deck place x.circuit x.roles y x.is_deck x.are_roles
-trace_or_cause deck stim options a (NoNet name) q x y = no_net_apart deck options.probes name x.circuit y x.is_deck x.are_nets
-trace_or_cause deck stim options a (Stim line kind) q x y =
+trace_or_cause : (clocking : Clocking) (deck stim : List ℕ) (options : TraceOptionsData) (a : TraceData) (b : TraceFault) → b ≢ Memory
+    → IsTraceBy clocking deck stim options a → IsRefused deck stim options.probes b → ⊥
+trace_or_cause clocking deck stim options a Memory q x y = q refl
+trace_or_cause clocking deck stim options a (Blif line kind) q x y = y
+trace_or_cause clocking deck stim options a (Flat fault) q x y = y
+trace_or_cause clocking deck stim options a (Deck line kind) q x y = no_circuit deck line kind x.circuit y x.is_deck
+trace_or_cause clocking deck stim options a (Ports place) q x y = bad_ports_apart deck place x.circuit x.roles y x.is_deck x.are_roles
+trace_or_cause clocking deck stim options a (NoNet name) q x y = no_net_apart deck options.probes name x.circuit y x.is_deck x.are_nets
+trace_or_cause clocking deck stim options a (Stim line kind) q x y =
     let roles = roles_same deck y.circuit x.circuit y.roles x.roles y.is_deck x.is_deck y.are_roles x.are_roles in
     no_stimulus x.roles.pins stim line kind x.cycles (subst (λ (r : Roles). IsStimFaultAt r.pins stim line kind) roles y.fault) x.is_stimulus
 
-pub answer_is_one : AnswerIsOne
-answer_is_one = record { trace = trace_same; cause = cause_same; apart = trace_or_cause }
+pub answer_by : (clocking : Clocking) → AnswerIsOne clocking
+answer_by clocking = record { trace = trace_same clocking; cause = cause_same; apart = trace_or_cause clocking }
+
+pub answer_is_one : AnswerIsOne Together
+answer_is_one = answer_by Together

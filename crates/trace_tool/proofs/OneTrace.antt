@@ -3,7 +3,7 @@ use Rattle.std.proofs.Common.{◌≡◌, ℕ, ◌+◌, Bool, List, [], ◌∷◌
 use Rattle.event_sim.specs.Orders.{By}
 use Rattle.trace_tool.specs.Courses.{Course, Settled, State, Unsettled}
 use Rattle.trace_tool.specs.Laws.{TraceIsOne}
-use Rattle.trace_tool.specs.Moves.{cycle_moves, evaluation_moves, power_moves}
+use Rattle.trace_tool.specs.Moves.{cycle_moves, evaluation_by, power_moves}
 use Rattle.trace_tool.specs.TraceData.{TraceData}
 use Rattle.trace_tool.specs.TraceLines.{lines_of, power_line}
 use Rattle.trace_tool.specs.Traces.{AreCycles, IsCycle, IsTraceFrom, power_state, row_line}
@@ -14,8 +14,8 @@ use Rattle.trace_tool.proofs.OneCourse.{course_is_one}
 cycle_is_one : (place : ℕ → ℕ → ℕ) (setup : SetupData) (s : State) (pins : List Bool) (c d : Course) (read last read' last' : State)
     → IsCycle (By place) setup s pins c read last → IsCycle (By place) setup s pins d read' last' → (c ≡ d) × (read ≡ read') × (last ≡ last')
 cycle_is_one place setup s pins c d read last read' last' x y =
-    let half = course_is_one place setup s (evaluation_moves setup.roles pins) x.evaluated y.evaluated read read' x.evaluation y.evaluation in
-    let all = course_is_one place setup s (cycle_moves setup.roles pins) c d last last' x.whole y.whole in
+    let half = course_is_one place setup s (evaluation_by setup.clocking setup.roles pins) x.evaluated y.evaluated read read' x.evaluation y.evaluation in
+    let all = course_is_one place setup s (cycle_moves setup.clocking setup.roles pins) c d last last' x.whole y.whole in
     (all.0, half.1, all.1)
 
 -- two traces that begin with one course are the same where what follows is

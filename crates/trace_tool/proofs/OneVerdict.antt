@@ -8,7 +8,7 @@ use Rattle.network.specs.NetworkData.{NetworkData}
 use Rattle.net_run.specs.Runs.{Cycle}
 use Rattle.event_sim.specs.Orders.{By}
 use Rattle.trace_tool.specs.Courses.{Course, IsCourse, Settled, State, Unsettled}
-use Rattle.trace_tool.specs.Moves.{evaluation_moves, latching_moves, power_moves}
+use Rattle.trace_tool.specs.Moves.{evaluation_by, latching_moves, power_moves}
 use Rattle.trace_tool.specs.SetupData.{SetupData, silent}
 use Rattle.trace_tool.specs.Traces.{outputs, power_state}
 use Rattle.trace_tool.specs.Verdicts.{IsAfter, IsCycleVerdict, IsReadingVerdict, IsRunVerdict, IsVerdict, IsVerdictFrom, network_ports, pins_and_outputs}
@@ -50,7 +50,7 @@ module _ (place : ℕ → ℕ → ℕ) (setup : SetupData) (cycle : ℕ) where
       → ((r : State) → Follows r → Follows' r → a ≡ b)
       → IsCycleVerdict (By place) setup s cycle pins wanted Follows a → IsCycleVerdict (By place) setup s cycle pins wanted Follows' b → a ≡ b
   cycle_same s pins wanted Follows Follows' a b one (c, read, is, x) (d, read', is', y) =
-      course_same s (evaluation_moves setup.roles pins) (λ r. IsReadingVerdict setup cycle wanted r (Latched (By place) setup cycle a Follows r) a) (λ r. IsReadingVerdict setup cycle wanted r (Latched (By place) setup cycle b Follows' r) b) a b c d read read'
+      course_same s (evaluation_by setup.clocking setup.roles pins) (λ r. IsReadingVerdict setup cycle wanted r (Latched (By place) setup cycle a Follows r) a) (λ r. IsReadingVerdict setup cycle wanted r (Latched (By place) setup cycle b Follows' r) b) a b c d read read'
       (λ r p q. read_same setup cycle wanted r (Latched (By place) setup cycle a Follows r) (Latched (By place) setup cycle b Follows' r) a b
       (λ (k, last, k_is, v) (l, last', l_is, w). course_same r (latching_moves setup.roles) Follows Follows' a b k l last last' one k_is v l_is w) p q)
       is x is' y

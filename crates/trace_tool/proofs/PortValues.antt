@@ -1,12 +1,9 @@
--- Ports that take values: one after the other, and some before others.
+-- Ports that take values, one after the other.
 use Rattle.std.proofs.Common.{◌≡◌, ℕ, Bool, suc, ◌+◌, ◌-◌, ◌<◌, ◌≤◌, List, [], ◌∷◌, ◌++◌, length, map, replicate, take, get_or, slice_set, refl, sym, ap, ◌∙◌, arith}
 use Rattle.std.proofs.lemmas.List.{length-map, length-replicate, length-take-le, map-append, replicate-append-replicate, take_more}
-use Rattle.std.specs.List.{enumerate_from}
-use Rattle.std.proofs.lemmas.List.FromFn.{length-enumerate_from}
 use Rattle.dom_base.specs.declared.tri.Tri.{Tri}
-use Rattle.dom_base.specs.declared.tri.Tri.TheVariants.{One}
 use Rattle.event_sim.specs.SimData.{SimData, with_value}
-use Rattle.trace_tool.specs.RunData.{rises, with_move}
+use Rattle.trace_tool.specs.RunData.{with_move}
 use Rattle.port_runs.specs.Environment.{bit}
 use Rattle.port_runs.specs.Moves.{PortValue, set_all, set_from}
 use Rattle.trace_tool.specs.Moves.{set_bits}
@@ -49,30 +46,3 @@ set-more {F} s now new port n bits on d value lt at of was is =
           ∙ set_all-append s.values (set_bits port (take n bits)) (port_value (port + n) (bit on) ∷ [])) i;
       step = s.step;
     })
-
--- the first of some ports rise, and then the others
-pub rises-split : (port k n : ℕ) → k ≤ n → rises port n ≡ rises port k ++ rises (port + k) (n - k)
-rises-split port k n le =
-    let e : n ≡ k + (n - k) = omega (arith, le) in
-    let ones : replicate n One ≡ replicate k One ++ replicate (n - k) One = ap (λ (m : ℕ). replicate m One) e ∙ sym (replicate-append-replicate k (n - k) One) in
-    ap (λ (l : List Tri). map (λ (s : PortValue). s ∷ []) (set_from port l)) ones
-    ∙ ap (map (λ (s : PortValue). s ∷ [])) (set_from-append port (replicate k One) (replicate (n - k) One))
-    ∙ map-append (λ (s : PortValue). s ∷ []) (set_from port (replicate k One)) (set_from (port + length (replicate k One)) (replicate (n - k) One))
-    ∙ ap (λ (m : ℕ). rises port k ++ rises (port + m) (n - k)) (length-replicate k One)
-
-pub rises-one : (port k : ℕ) → rises port (k + 1) ≡ rises port k ++ rises (port + k) 1
-rises-one port k =
-    let e : k + 1 - k ≡ 1 = omega arith in
-    rises-split port k (k + 1) (omega arith) ∙ ap (λ (m : ℕ). rises port k ++ rises (port + k) m) e
-
--- some ports have risen, then the next, and then the others
-pub rises-through : (port k n : ℕ) → k < n → rises port k ++ (set_from (port + k) (One ∷ []) ∷ []) ++ rises (port + (k + 1)) (n - (k + 1)) ≡ rises port n
-rises-through port k n lt =
-    ap (λ (l : List (List PortValue)). l ++ rises (port + (k + 1)) (n - (k + 1))) (sym (rises-one port k)) ∙ sym (rises-split port (k + 1) n (omega (arith, lt)))
-
--- there are as many moves as ports
-pub length-rises : (port n : ℕ) → length (rises port n) ≡ n
-length-rises port n =
-    length-map (set_from port (replicate n One)) (λ (s : PortValue). s ∷ [])
-    ∙ length-map (enumerate_from port (replicate n One)) (λ (p : ℕ × Tri). port_value p.0 p.1)
-    ∙ length-enumerate_from port (replicate n One) ∙ length-replicate n One

@@ -4,8 +4,9 @@ use Rattle.std.proofs.lemmas.List.{drop_more}
 use Rattle.deck.specs.CircuitData.{CircuitData}
 use Rattle.deck.specs.declared.role.Roles.{Roles}
 use Rattle.event_sim.specs.Orders.{By, Follows}
+use Rattle.port_runs.specs.declared.clocking.Clocking.{Clocking}
 use Rattle.trace_tool.specs.Courses.{Course, Settled, State, Unsettled}
-use Rattle.trace_tool.specs.Moves.{cycle_moves, evaluation_moves, power_moves}
+use Rattle.trace_tool.specs.Moves.{cycle_moves, evaluation_by, power_moves}
 use Rattle.trace_tool.specs.RunData.{HasCycles, IsPrinted, RunData, RunsCycle, RunsPower, power_run}
 use Rattle.trace_tool.specs.TraceData.{TraceData, TraceOptionsData}
 use Rattle.trace_tool.specs.TraceLines.{lines_of, power_line}
@@ -157,12 +158,12 @@ module _ (place : ℕ → ℕ → ℕ) (order : ℕ → ℕ → ℕ → Type 0) 
   cycles-by s short cycle (pins ∷ more) trace (course, read, last, one, from) =
       let by : IsCycle (By place) setup s pins course read last = record {
         evaluated = one.evaluated;
-        evaluation = course-by place order setup s read (evaluation_moves setup.roles pins) one.evaluated follows short.0 short.1 one.evaluation;
-        whole = course-by place order setup s last (cycle_moves setup.roles pins) course follows short.0 short.1 one.whole;
+        evaluation = course-by place order setup s read (evaluation_by setup.clocking setup.roles pins) one.evaluated follows short.0 short.1 one.evaluation;
+        whole = course-by place order setup s last (cycle_moves setup.clocking setup.roles pins) course follows short.0 short.1 one.whole;
       } in
       let after : IsShort last = (
-        course-fits order setup s last (cycle_moves setup.roles pins) course short.0 one.whole,
-        omega (arith, short.1, course-length order setup s last (cycle_moves setup.roles pins) course one.whole),
+        course-fits order setup s last (cycle_moves setup.clocking setup.roles pins) course short.0 one.whole,
+        omega (arith, short.1, course-length order setup s last (cycle_moves setup.clocking setup.roles pins) course one.whole),
       ) in (
         course,
         read,
@@ -206,10 +207,10 @@ module _ {F : Type 0} (P : F → ℕ → ℕ → ℕ → Type 0) where
       (run-halted P pick setup new cycles settled (subst (λ (r : RunData F). RunsPower P r settled new) is power) off))
 
 -- a run with the options
-pub run_is : (circuit : CircuitData) (roles : Roles) (read options : TraceOptionsData) (cycles items : List (List Bool)) (trace : TraceData)
+pub run_is : (clocking : Clocking) (circuit : CircuitData) (roles : Roles) (read options : TraceOptionsData) (cycles items : List (List Bool)) (trace : TraceData)
     → read ≡ options → cycles ≡ items
-    → IsRun (By (picked_place read.order read.seed)) (setup_of circuit roles read) cycles trace
-    → IsRun (By (picked_place options.order options.seed)) (setup_of circuit roles options) items trace
-run_is circuit roles read options cycles items trace o c run =
-    subst (λ (all : List (List Bool)). IsRun (By (picked_place options.order options.seed)) (setup_of circuit roles options) all trace) c
-    (subst (λ (x : TraceOptionsData). IsRun (By (picked_place x.order x.seed)) (setup_of circuit roles x) cycles trace) o run)
+    → IsRun (By (picked_place read.order read.seed)) (setup_of clocking circuit roles read) cycles trace
+    → IsRun (By (picked_place options.order options.seed)) (setup_of clocking circuit roles options) items trace
+run_is clocking circuit roles read options cycles items trace o c run =
+    subst (λ (all : List (List Bool)). IsRun (By (picked_place options.order options.seed)) (setup_of clocking circuit roles options) all trace) c
+    (subst (λ (x : TraceOptionsData). IsRun (By (picked_place x.order x.seed)) (setup_of clocking circuit roles x) cycles trace) o run)

@@ -7,7 +7,7 @@ use Rattle.net_run.specs.Runs.{Cycle, IsNetworkRun, IsNetworkRunFrom, start}
 use Rattle.port_runs.specs.Moves.{PortValue}
 use Rattle.trace_tool.specs.Comparisons.{ComparesAll, StopsAt}
 use Rattle.trace_tool.specs.Courses.{Course, IsCourse, Settled, State, Unsettled}
-use Rattle.trace_tool.specs.Moves.{evaluation_moves, latching_moves, power_moves}
+use Rattle.trace_tool.specs.Moves.{evaluation_by, latching_moves, power_moves}
 use Rattle.trace_tool.specs.RunData.{RunData, Runs, power_run}
 use Rattle.trace_tool.specs.SetupData.{SetupData}
 use Rattle.trace_tool.specs.Traces.{power_state}
@@ -34,10 +34,10 @@ module _ (place : ℕ → ℕ → ℕ) (order : ℕ → ℕ → ℕ → Type 0) 
       → ((t : State) → IsShort t → Rest t → Rest' t)
       → IsCycleVerdict order setup s cycle pins wanted Rest v → IsCycleVerdict (By place) setup s cycle pins wanted Rest' v
   cycle-by s short cycle pins wanted Rest Rest' v f (evaluated, read, is, more) =
-      let half = short_after s read (evaluation_moves setup.roles pins) evaluated short is in (
+      let half = short_after s read (evaluation_by setup.clocking setup.roles pins) evaluated short is in (
         evaluated,
         read,
-        by_course s read (evaluation_moves setup.roles pins) evaluated short is,
+        by_course s read (evaluation_by setup.clocking setup.roles pins) evaluated short is,
         after_weaker cycle evaluated (IsReadingVerdict setup cycle wanted read (Latched order setup cycle v Rest read) v) (IsReadingVerdict setup cycle wanted read (Latched (By place) setup cycle v Rest' read) v) v
             (read_weaker setup cycle wanted read (Latched order setup cycle v Rest read) (Latched (By place) setup cycle v Rest' read) v
             (λ (latched, last, latches, rest). (

@@ -1,8 +1,9 @@
 -- Runs: what the code's run holds, and what its calls do.
 use Rattle.std.specs.Prelude.{ℕ, ◌≡◌, ◌≤◌, ◌<◌, ◌*◌, ◌^◌, Bool, true, false, List, [], ◌∷◌, ◌++◌, length, map}
-use Rattle.std.specs.Prelude.{replicate, take, drop, Result, Ok, Err}
+use Rattle.std.specs.Prelude.{suc, zero, ◌+◌, take, drop, Result, Ok, Err}
 use Rattle.dom_base.specs.declared.tri.Tri.{Tri}
-use Rattle.dom_base.specs.declared.tri.Tri.TheVariants.{One}
+use Rattle.dom_base.specs.declared.tri.Tri.TheVariants.{One, Zero}
+use Rattle.deck.specs.PortLayout.{first_clock}
 use Rattle.deck.specs.Roles.{AreRoles, ports_of}
 use Rattle.switch_model.specs.LinksData.{links_of}
 use Rattle.event_sim.specs.Chains.{IsChosen}
@@ -12,9 +13,11 @@ use Rattle.event_sim.specs.SimData.{SimData}
 use Rattle.event_sim.specs.declared.event.Event.{Event}
 use Rattle.trace_tool.specs.Courses.{Course, IsCourse, Settled, State, Unsettled, after, moved}
 use Rattle.port_runs.specs.Moves.{PortValue, set_all, set_from}
-use Rattle.trace_tool.specs.Moves.{cycle_moves, evaluation_moves, power_moves}
+use Rattle.trace_tool.specs.Moves.{cycle_moves, evaluation_by, power_moves}
 use Rattle.trace_tool.specs.TraceLines.{event_lines, lines_of, power_line, unsettled_line}
 use Rattle.trace_tool.specs.Traces.{AreCycles, IsCycle, power_state, row_line}
+use Rattle.port_runs.specs.declared.clocking.Clocking.{Clocking}
+use Rattle.port_runs.specs.declared.clocking.Clocking.TheVariants.{Overlapping, Together}
 use Rattle.trace_tool.specs.declared.halt.Halt.{Halt}
 use Rattle.trace_tool.specs.declared.halt.Halt.TheVariants as halts
 use Rattle.trace_tool.specs.SetupData.{SetupData}
@@ -23,9 +26,16 @@ use Rattle.trace_tool.specs.SetupData.{SetupData}
 abbrev pub values_from : ℕ → ℕ → List Tri → List Tri
 values_from net count values = take count (drop net values)
 
--- so many ports from one on rise one after the other
-abbrev pub rises : ℕ → ℕ → List (List PortValue)
-rises port count = map (λ s. s ∷ []) (set_from port (replicate count One))
+-- clock k rises; where clocks overlap, then the one before it falls
+abbrev pub clock_moves : Clocking → ℕ → List (List PortValue)
+clock_moves Together k = set_from (first_clock + k) (One ∷ []) ∷ []
+clock_moves Overlapping zero = set_from (first_clock + 0) (One ∷ []) ∷ []
+clock_moves Overlapping (suc k) = set_from (first_clock + suc k) (One ∷ []) ∷ set_from (first_clock + k) (Zero ∷ []) ∷ []
+
+-- so many clocks from one on, in turn
+abbrev pub raised : Clocking → ℕ → ℕ → List (List PortValue)
+raised clocking k zero = []
+raised clocking k (suc n) = clock_moves clocking k ++ raised clocking (k + 1) n
 
 -- a run: its setup, who picks, the state of the nets, and the text so far
 pub record RunData (F : Type 0) : Type 0 where
@@ -136,8 +146,8 @@ module _ {F : Type 0} where
   abbrev pub HaltsCycle : (F → ℕ → ℕ → ℕ → Type 0) → List Bool → RunData F → Halt → RunData F → Type 0
   HaltsCycle P pins before (halts.Unsettled count) now =
       (events last : List Event) × (evaluated : Course) × (read : State)
-      × IsCourse (P before.pick) before.setup before.state (evaluation_moves before.setup.roles pins) evaluated read
-      × Ran P (cycle_moves before.setup.roles pins) (Unsettled events last) before now × (count ≡ length last)
+      × IsCourse (P before.pick) before.setup before.state (evaluation_by before.setup.clocking before.setup.roles pins) evaluated read
+      × Ran P (cycle_moves before.setup.clocking before.setup.roles pins) (Unsettled events last) before now × (count ≡ length last)
   HaltsCycle P pins before halts.Memory now = Unit {0}
 
   -- a cycle settled, and has its lines; or it halted

@@ -10,12 +10,14 @@ use Rattle.switch_model.specs.Power.{power_values}
 use Rattle.event_sim.specs.Orders.{By, first_place, last_place, seeded_place}
 use Rattle.stim_text.specs.CycleLines.{cycle_line}
 use Rattle.stim_text.specs.Stimuli.{IsStimulusOf}
+use Rattle.port_runs.specs.declared.clocking.Clocking.{Clocking}
+use Rattle.port_runs.specs.declared.clocking.Clocking.TheVariants.{Overlapping, Together}
 use Rattle.trace_tool.specs.declared.options.Order.{Order}
 use Rattle.trace_tool.specs.declared.options.Order.TheVariants.{First, Last, Seed}
 use Rattle.trace_tool.specs.SetupData.{SetupData}
 use Rattle.trace_tool.specs.Probes.{AreNets}
 use Rattle.trace_tool.specs.Courses.{Course, IsCourse, Settled, State, Unsettled}
-use Rattle.trace_tool.specs.Moves.{cycle_moves, evaluation_moves, power_moves}
+use Rattle.trace_tool.specs.Moves.{cycle_moves, evaluation_by, power_moves}
 use Rattle.trace_tool.specs.TraceData.{TraceData, TraceOptionsData}
 use Rattle.trace_tool.specs.TraceLines.{lines_of, power_line}
 
@@ -32,8 +34,8 @@ row_line setup cycle pins read events =
 pub record IsCycle (order : ℕ → ℕ → ℕ → Type 0) (setup : SetupData) (s : State) (pins : List Bool)
     (course : Course) (read last : State) : Type 0 where
   pub evaluated : Course
-  pub evaluation : IsCourse order setup s (evaluation_moves setup.roles pins) evaluated read
-  pub whole : IsCourse order setup s (cycle_moves setup.roles pins) course last
+  pub evaluation : IsCourse order setup s (evaluation_by setup.clocking setup.roles pins) evaluated read
+  pub whole : IsCourse order setup s (cycle_moves setup.clocking setup.roles pins) course last
 
 -- a trace that begins with a course in a cycle, which has a line of its own: after a course that settled another trace
 -- follows, and after one that ended unsettled nothing
@@ -67,14 +69,14 @@ picked_place First seed = first_place
 picked_place Last seed = last_place
 picked_place Seed seed = seeded_place seed
 
--- the setup of a circuit in which the events are told that the options ask for
-abbrev pub setup_of : CircuitData → Roles → TraceOptionsData → SetupData
-setup_of circuit roles options =
-    record { circuit = circuit; roles = roles; events = options.events; probes = options.probes }
+-- the setup of a circuit whose clocks fall so, in which the events are told that the options ask for
+abbrev pub setup_of : Clocking → CircuitData → Roles → TraceOptionsData → SetupData
+setup_of clocking circuit roles options =
+    record { circuit = circuit; roles = roles; clocking = clocking; events = options.events; probes = options.probes }
 
--- the trace of a deck over a stimulus: its circuit has its ports in order and a net of each probe word's name, and is run over
--- the cycles
-pub record IsTraceOf (deck stim : List ℕ) (options : TraceOptionsData) (trace : TraceData) : Type 0 where
+-- the trace of a deck over a stimulus, where its clocks fall so: its circuit has its ports in order and a net of each probe word's name,
+-- and is run over the cycles
+pub record IsTraceBy (clocking : Clocking) (deck stim : List ℕ) (options : TraceOptionsData) (trace : TraceData) : Type 0 where
   pub circuit : CircuitData
   pub roles : Roles
   pub cycles : List (List Bool)
@@ -82,4 +84,11 @@ pub record IsTraceOf (deck stim : List ℕ) (options : TraceOptionsData) (trace 
   pub are_roles : AreRoles (ports_of circuit) roles
   pub are_nets : AreNets circuit.nets options.probes
   pub is_stimulus : IsStimulusOf roles.pins stim cycles
-  pub is_run : IsRun (By (picked_place options.order options.seed)) (setup_of circuit roles options) cycles trace
+  pub is_run : IsRun (By (picked_place options.order options.seed)) (setup_of clocking circuit roles options) cycles trace
+
+-- where they fall together, and where they overlap
+abbrev pub IsTraceOf : List ℕ → List ℕ → TraceOptionsData → TraceData → Type 0
+IsTraceOf deck stim options trace = IsTraceBy Together deck stim options trace
+
+abbrev pub IsOverlappingTraceOf : List ℕ → List ℕ → TraceOptionsData → TraceData → Type 0
+IsOverlappingTraceOf deck stim options trace = IsTraceBy Overlapping deck stim options trace

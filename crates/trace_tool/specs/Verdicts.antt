@@ -16,7 +16,7 @@ use Rattle.port_runs.specs.Environment.{bit}
 use Rattle.stim_text.specs.Stimuli.{IsStimulusOf}
 use Rattle.trace_tool.specs.CosimRefusals.{HasNetworkOf}
 use Rattle.trace_tool.specs.Courses.{Course, IsCourse, Settled, State, Unsettled}
-use Rattle.trace_tool.specs.Moves.{evaluation_moves, latching_moves, power_moves}
+use Rattle.trace_tool.specs.Moves.{evaluation_by, latching_moves, power_moves}
 use Rattle.trace_tool.specs.SetupData.{SetupData, silent}
 use Rattle.trace_tool.specs.Traces.{picked_place, outputs, power_state}
 use Rattle.trace_tool.specs.declared.options.Order.{Order}
@@ -67,7 +67,7 @@ IsReadingVerdict setup cycle wanted read Follows verdict =
 -- in which the cycle ends
 abbrev pub IsCycleVerdict : (ℕ → ℕ → ℕ → Type 0) → SetupData → State → ℕ → List Bool → List Bool → (State → Type 0) → Verdict → Type 0
 IsCycleVerdict order setup s cycle pins wanted Follows verdict =
-    (evaluated : Course) × (read : State) × IsCourse order setup s (evaluation_moves setup.roles pins) evaluated read
+    (evaluated : Course) × (read : State) × IsCourse order setup s (evaluation_by setup.clocking setup.roles pins) evaluated read
     × IsAfter cycle evaluated (IsReadingVerdict setup cycle wanted read
     ((latched : Course) × (last : State) × IsCourse order setup read (latching_moves setup.roles) latched last
     × IsAfter cycle latched (Follows last) verdict) verdict) verdict

@@ -7,7 +7,7 @@ ghost use Rattle.trace_tool.specs.declared.fault.TraceFault.{TraceFault as Fault
 use crate::ordered::compared_by;
 use crate::port_names::different_port;
 use crate::setup::Setup;
-use crate::{Order, TraceFault, Verdict};
+use crate::{Clocking, Order, TraceFault, Verdict};
 use deck::roles;
 use net_flatten::{Network, flatten};
 use std::alloc::Global;
@@ -40,6 +40,7 @@ pub fn cosim(
     let setup = Setup {
         circuit,
         roles,
+        clocking: Clocking::Together,
         events: false,
         probes: &[],
         asked: Vec::new(alloc),

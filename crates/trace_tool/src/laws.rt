@@ -1,4 +1,5 @@
 //! What holds of each deck and stimulus, of their trace and of their verdict.
+ghost use Rattle.port_runs.specs.declared.clocking.Clocking.{Clocking};
 ghost use Rattle.trace_tool.specs.Laws.{AnswerIsOne, EdgesAreTold, TraceIsOne, TraceIsThere};
 ghost use Rattle.trace_tool.specs.VerdictLaws.{VerdictIsOne, VerdictIsThere};
 
@@ -7,16 +8,16 @@ pub fn trace_is_one()
     ensures { TraceIsOne }
 {}
 
-/// A deck and a stimulus have at most one trace for each choice of options, or are refused for at most one cause,
-/// and never both.
+/// A deck and a stimulus have at most one trace for each choice of options, where the clocks fall together and
+/// where they overlap, or are refused for at most one cause, and never both.
 pub fn answer_is_one()
-    ensures { AnswerIsOne }
+    ensures { (clocking : Clocking) → AnswerIsOne clocking }
 {}
 
-/// A deck whose ports are in the order of roles has a trace over each stimulus for its pins, for all
-/// options whose probe words name nets of the deck.
+/// A deck whose ports are in the order of roles has a trace over each stimulus for its pins, where the clocks
+/// fall together and where they overlap, for all options whose probe words name nets of the deck.
 pub fn trace_is_there()
-    ensures { TraceIsThere }
+    ensures { (clocking : Clocking) → TraceIsThere clocking }
 {}
 
 /// In an order of events a text of BLIF, a deck and a stimulus have at most one verdict, or are refused

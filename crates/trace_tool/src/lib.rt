@@ -27,6 +27,7 @@ pub use laws::{
     answer_is_one, edges_are_told, trace_is_one, trace_is_there, verdict_is_one, verdict_is_there,
 };
 pub use options::{Order, ProbeWord, TraceOptions};
-pub use simulation::sim;
+pub use port_runs::Clocking;
+pub use simulation::{sim, sim_skew};
 pub use trace::Trace;
 pub use verdict::Verdict;

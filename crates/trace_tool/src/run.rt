@@ -12,12 +12,12 @@ ghost use Rattle.trace_tool.specs.RunData.{Runs, Settles, StepsOnce, IsHalted, p
 ghost use Rattle.trace_tool.specs.TraceLines.{power_line};
 ghost use Rattle.trace_tool.specs.Traces.{outputs as outputs_of};
 
-use crate::Trace;
 use crate::halt::Halt;
 use crate::lines::{append_event, append_power, append_unsettled};
 use crate::names::copied;
 use crate::ports::{read_ports, set_ports};
 use crate::setup::Setup;
+use crate::{Clocking, Trace};
 use deck::Roles;
 use dom_base::{NetName, OutOfMemory, Tri};
 use event_sim::{Chooser, Sim};
@@ -79,9 +79,17 @@ impl<'a, F: Fn(u64, u64) -> u64, L: Ledger> Run<'a, F, L> {
     /// What the ports are for.
     pub fn roles(&self) -> Roles
         ensures roles { result ≡ self.now.setup.roles }
+        ensures some { 1 ≤ result.clocks }
         ensures few { result.clocks ≤ 4 }
     {
         self.setup.roles()
+    }
+
+    /// How the clocks fall.
+    pub fn clocking(&self) -> Clocking
+        ensures { result ≡ self.now.setup.clocking }
+    {
+        self.setup.clocking()
     }
 
     /// Gives the ports from one on the values of these bits, one each, with no event between them.

@@ -2,19 +2,20 @@
 ghost use Rattle.std.specs.Prelude.{◌≡◌, ◌<◌, [], length, slice_index_or};
 ghost use Rattle.trace_tool.specs.Probes.{is_told};
 
-use crate::ProbeWord;
 use crate::asked::Asked;
+use crate::{Clocking, ProbeWord};
 use deck::{Circuit, Roles};
 use dom_base::NetName;
 use event_sim::Event;
 use std::marker::Model;
 
-/// A circuit with the roles of its ports, whether every event is told, and the probe words, with the
-/// edges that they ask for at each net.
+/// A circuit with the roles of its ports and how its clocks fall, whether every event is told, and the probe
+/// words, with the edges that they ask for at each net.
 #[derive(Drop)]
 pub struct Setup<'a> {
     pub circuit: Circuit,
     pub roles: Roles,
+    pub clocking: Clocking,
     pub events: bool,
     pub probes: &'a [ProbeWord],
     pub asked: Vec<Asked>,
@@ -26,7 +27,7 @@ impl<'a> Model for Setup<'a> {
 
     ghost Value = { SetupData };
 
-    ghost view = { λ s. record { circuit = s.circuit; roles = s.roles; events = s.events; probes = s.probes.now } };
+    ghost view = { λ s. record { circuit = s.circuit; roles = s.roles; clocking = s.clocking; events = s.events; probes = s.probes.now } };
 
     ghost invariant = { λ s. AreAsked s.probes.now s.circuit.nets s.asked.items };
 }
@@ -37,6 +38,13 @@ impl<'a> Setup<'a> {
         ensures { result ≡ self.now.roles }
     {
         self.roles
+    }
+
+    /// How the clocks fall.
+    pub fn clocking(&self) -> Clocking
+        ensures { result ≡ self.now.clocking }
+    {
+        self.clocking
     }
 
     /// The name of a net.

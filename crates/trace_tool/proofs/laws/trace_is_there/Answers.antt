@@ -1,5 +1,5 @@
-use Rattle.trace_tool.proofs.TraceThere.{trace_is_there}
+use Rattle.trace_tool.proofs.TraceThere.{there_by}
 use Rattle.trace_tool.proofs.laws.trace_is_there.Goals as goal
 
 pub returns : goal.returns
-returns c = trace_is_there
+returns c = there_by

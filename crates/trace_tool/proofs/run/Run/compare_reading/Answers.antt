@@ -1,6 +1,6 @@
 use Rattle.std.proofs.Common.{ap, arith, false, slice_index_or}
 use Rattle.std.proofs.lemmas.Option.{slice_get-get_or, slice_get_within}
-use Rattle.trace_tool.specs.Moves.{evaluation_moves}
+use Rattle.trace_tool.specs.Moves.{evaluation_by}
 use Rattle.trace_tool.specs.SetupData.{SetupData}
 use Rattle.trace_tool.proofs.ComparedCycles.{differs, passes, reads_by, unevaluated, unlatched}
 use Rattle.trace_tool.proofs.MoveRuns.{runs-setup}
@@ -21,7 +21,7 @@ output_name-requires g c =
       c.requires.outputs,
       ap (λ (s : SetupData). s.roles.outs)
           (runs-setup (λ pick step count place. g.F.Fn.post pick (step, (count, tt)) place) c.args.self.now c.evaluate.new.self
-          (evaluation_moves c.args.self.now.setup.roles c.args.pins.now) c.in_ok-evaluate.field-0 c.in_ok-evaluate.ensures.runs),
+          (evaluation_by c.args.self.now.setup.clocking c.args.self.now.setup.roles c.args.pins.now) c.in_ok-evaluate.field-0 c.in_ok-evaluate.ensures.runs),
     )
 
 pub bounds-wanted-index : goal.bounds-wanted-index
@@ -35,7 +35,7 @@ output-requires g c =
       c.requires.outputs,
       ap (λ (s : SetupData). s.roles.outs)
           (runs-setup (λ pick step count place. g.F.Fn.post pick (step, (count, tt)) place) c.args.self.now c.evaluate.new.self
-          (evaluation_moves c.args.self.now.setup.roles c.args.pins.now) c.in_ok-evaluate.field-0 c.in_ok-evaluate.ensures.runs),
+          (evaluation_by c.args.self.now.setup.clocking c.args.self.now.setup.roles c.args.pins.now) c.in_ok-evaluate.field-0 c.in_ok-evaluate.ensures.runs),
     )
 
 pub returns-in-Some : goal.returns-in-Some

@@ -8,7 +8,7 @@ use Rattle.trace_tool.specs.Traces.{IsRun, picked_place}
 use Rattle.trace_tool.specs.declared.options.ProbeWord.{ProbeWord}
 use Rattle.trace_tool.proofs.TraceCauses.{stimulus_refused, unnamed_refused}
 use Rattle.trace_tool.proofs.TraceRuns.{run_is}
-use Rattle.trace_tool.proofs.simulation.sim.Goals as goal
+use Rattle.trace_tool.proofs.simulation.trace_of.Goals as goal
 
 pub returns-in_err-asked-clause-refused : goal.returns-in_err-asked-clause-refused
 returns-in_err-asked-clause-refused c why is =
@@ -42,10 +42,10 @@ returns-clause-trace c =
       are_nets = subst (λ (o : TraceOptionsData). AreNets c.in_ok-circuit.circuit.nets o.probes) c.options.view_is
           (subst (AreNets c.in_ok-circuit.circuit.nets) c.deref.ensures.value c.in_ok-asked.ensures.nets);
       is_stimulus = c.in_ok-cycles.ensures.stimulus;
-      is_run = run_is c.in_ok-circuit.circuit c.in_ok-roles.roles read c.args.options.now c.deref-2.result.now c.in_ok-cycles.cycles.items c.in_ok-trace.trace
+      is_run = run_is c.args.clocking c.in_ok-circuit.circuit c.in_ok-roles.roles read c.args.options.now c.deref-2.result.now c.in_ok-cycles.cycles.items c.in_ok-trace.trace
           c.options.view_is c.deref-2.ensures.value
           (subst
           (λ (l : List ProbeWord). IsRun (By (picked_place c.options.inside.order c.options.inside.seed))
-          (record { circuit = c.in_ok-circuit.circuit; roles = c.in_ok-roles.roles; events = c.options.inside.events; probes = l }) c.deref-2.result.now c.in_ok-trace.trace)
+          (record { circuit = c.in_ok-circuit.circuit; roles = c.in_ok-roles.roles; clocking = c.args.clocking; events = c.options.inside.events; probes = l }) c.deref-2.result.now c.in_ok-trace.trace)
           c.as_slice.ensures.value c.in_ok-trace.ensures);
     }
