@@ -1,7 +1,7 @@
 -- Shapes with chains of buffers, whose clocks are numbered from 0 (Harris and Horowitz, Skew-tolerant domino circuits).
 use Rattle.std.specs.Prelude.{Bool, List, None, [], false, map, nat_eq, ℕ, ◌++◌, ◌-◌, ◌∷◌, ◌||◌}
 use Rattle.sp_network.specs.Tree.{Leaf, Parallel, Series, Tree, map_tree}
-use Rattle.port_runs.specs.Environment.{Overlapping}
+use Rattle.port_runs.specs.declared.clocking.Clocking.TheVariants.{Overlapping}
 use Rattle.domino_law.specs.Nets.{FromDynamic, FromOutput, Gate}
 use Rattle.domino_law.specs.Shape.{DominoCell, Latch, Shape}
 use Rattle.phase_buffer.specs.Chains.{Cells, end_at, with_chains}

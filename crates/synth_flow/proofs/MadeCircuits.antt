@@ -1,11 +1,10 @@
 -- The circuit that the code makes of a network is its deck.
 use Rattle.domino_cell.specs.declared.style.Style.{Style}
-use Rattle.std.proofs.Common.{◌≡◌, ℕ, ◌+◌, ◌*◌, ◌<◌, Bool, List, [], ◌∷◌, ◌++◌, length, map, zip, filter, refl, sym, ap, ap₂, ◌∙◌, subst, arith, Some, slice_get, All}
+use Rattle.std.proofs.Common.{◌≡◌, ℕ, ◌+◌, ◌*◌, ◌<◌, Bool, List, [], ◌∷◌, ◌++◌, length, map, zip, filter, refl, sym, ap, ap₂, ◌∙◌, subst, arith, Some, slice_get}
 use Rattle.std.specs.Prelude.{codes, slice_index_or}
 use Rattle.std.specs.List.{AllByRecursion, range_with_len}
 use Rattle.std.proofs.lemmas.List.{length-map}
 use Rattle.std.proofs.lemmas.List.FromFn.{get_or-map-range_with_len, length-map-range_with_len}
-use Rattle.std.proofs.lemmas.List.Elements.{recursion_from_All}
 use Rattle.dom_base.proofs.Lists.{head_same, tail_same}
 use Rattle.deck.specs.Escapes.{escaped}
 use Rattle.deck.specs.NamedDevices.{with_devices}
@@ -15,7 +14,6 @@ use Rattle.dual_rail.specs.declared.forest.End.TheVariants.{Const, Literal, From
 use Rattle.sp_network.specs.Tree.{Tree, EachLeaf}
 use Rattle.sp_network.specs.TypedTree.{tree_of}
 use Rattle.sp_network.specs.declared.plan.GatePlan.{GatePlan}
-use Rattle.clock_phase.specs.Levels.{clock_of, greatest}
 use Rattle.gate_decompose.specs.Sinks.{leaf_count}
 use Rattle.network.specs.NetworkData.{NetworkData}
 use Rattle.network.specs.declared.network.NetLatch.{NetLatch}
@@ -24,7 +22,7 @@ use Rattle.tree_map.specs.Plans.{cell_of}
 use Rattle.synth_flow.specs.BareDecks.{cell_plan, made_devices, named_leaves}
 use Rattle.deck_form.specs.ChosenDecks.{end_at_cell}
 use Rattle.deck_form.specs.DeckNets.{OfDynamic, OfOutput, data_net, named_devices, sink_nets}
-use Rattle.deck_form.specs.DominoDecks.{cells_of, deck_circuit, outs_of, phases_of_sinks, pins_of, starts_of}
+use Rattle.deck_form.specs.DominoDecks.{deck_circuit, outs_of, phases_of_sinks, pins_of, starts_of}
 use Rattle.synth_flow.specs.MadeCircuits.{made_deck, sinks_of}
 use Rattle.synth_flow.specs.MadeDecks.{port_net}
 use Rattle.deck_form.specs.NamedDecks.{names_complement}
@@ -78,17 +76,3 @@ made_is_circuit style network phases signs plans ends numbers earlier =
     (λ i. with_devices (new_circuit (escaped network.name) (map phase_of_sink (zip (nets i) signs)) phases pins outs) (made_devices style pins (sinks i) starts plans ends numbers))
     ∙ (λ i. with_devices (new_circuit (escaped network.name) (phases_of_sinks network signs) phases pins outs) (named i))
     ∙ (λ i. with_devices (new_circuit (escaped network.name) (phases_of_sinks network signs) phases pins outs) (named_devices style pins outs starts (map cell_plan plans) (leaves i) (map (end_in numbers) ends)))
-
--- the circuit is the deck of these trees, levels, signs and ends
-pub made_is_deck : (style : Style) (network : NetworkData) (phases : ℕ) (signs : List Bool) (plans : List GatePlan) (levels : List ℕ) (ends : List End) (kept : List Bool)
-    → map (λ (p : GatePlan). p.clock) plans ≡ map (clock_of phases (greatest levels)) levels → All (IsEndThere (length kept)) ends
-    → ((k : ℕ) (p : GatePlan) → slice_get plans k ≡ Some p → EachLeaf (λ gate. gate < 2 * leaf_count network + k) (tree_of p.tree))
-    → made_deck style network phases signs plans ends (map (cell_of kept) (range_with_len 0 (length kept)))
-    ≡ deck_circuit style network phases (cells_of phases levels (plan_trees plans)) signs (map (end_at_cell kept) ends)
-made_is_deck style network phases signs plans levels ends kept clocks low earlier =
-    let numbers = map (cell_of kept) (range_with_len 0 (length kept)) in
-    let cells : map cell_plan plans ≡ cells_of phases levels (plan_trees plans) = cells_same (clock_of phases (greatest levels)) plans levels clocks in
-    let taken = ends_same kept ends (recursion_from_All (IsEndThere (length kept)) ends low) in
-    made_is_circuit style network phases signs plans ends numbers earlier ∙ (λ i. deck_circuit style network phases (cells i) signs (taken i))
-
-pub ruleset made_circuits = (made_is_deck)

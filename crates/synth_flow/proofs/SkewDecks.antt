@@ -10,14 +10,9 @@ use Rattle.deck_form.specs.DominoDecks.{cells_of, deck_circuit}
 use Rattle.deck_form.specs.NamedDecks.{IsEndIn}
 use Rattle.deck_form.proofs.DeckForms.{planned_deck}
 use Rattle.domino_cell.specs.declared.style.Style.TheVariants.{Keeper as WithKeeper}
-use Rattle.dual_rail.proofs.Zips.{all_from}
 use Rattle.dual_rail.specs.ForestData.{ForestData}
-use Rattle.dual_rail.specs.ForestOrder.{IsForest}
-use Rattle.dual_rail.specs.Forests.{IsForestOf}
 use Rattle.dual_rail.specs.Uses.{IsEndThere}
 use Rattle.dual_rail.specs.declared.forest.End.{End}
-use Rattle.gate_decompose.specs.GateNodes.{AreGatesOf}
-use Rattle.gate_decompose.specs.GatesData.{GatesData}
 use Rattle.gate_decompose.specs.Sinks.{leaf_count}
 use Rattle.network.specs.NetworkData.{NetworkData}
 use Rattle.sp_network.specs.Tree.{EachLeaf, Tree, leaves}
@@ -33,11 +28,10 @@ use Rattle.phase_buffer.proofs.PlanReaders.{plans_read_earlier}
 use Rattle.phase_buffer.proofs.PlanSizes.{plans_few, plans_small}
 use Rattle.synth_flow.specs.BareDecks.{ArePlans}
 use Rattle.synth_flow.specs.BufferedDecks.{buffered_circuit, cells_taken, new_end, plan_of, renumbered}
-use Rattle.synth_flow.specs.ClockedPlans.{IsClockedCover}
 use Rattle.synth_flow.specs.MadeCircuits.{made_deck}
 use Rattle.synth_flow.specs.SinkParts.{end_in}
 use Rattle.synth_flow.specs.TakenCells.{AreTaken}
-use Rattle.synth_flow.proofs.ClockedCovers.{cells_are, cheap_plans, clocks_are_few, each_reads_earlier, ends_are, ends_at, few_plans, is_deck_in, leaves_are}
+use Rattle.synth_flow.proofs.ClockedCovers.{NetworkCover, cells_are, cheap_plans, clocks_are_few, deck_in, each_reads_earlier, ends_are, ends_at, few_plans, is_deck_in, leaves_are}
 use Rattle.synth_flow.proofs.MadeCircuits.{made_is_circuit}
 use Rattle.synth_flow.proofs.SynthFacts.{read_earlier}
 use Rattle.synth_flow.proofs.TakenCells.{few_so_far, taken_below}
@@ -50,88 +44,86 @@ devices_are_cost (p ∷ plans) =
     let b = sum_by-cons (tree_cost_by (costs_of WithKeeper)) (tree_of p.tree) (plan_trees plans) in
     omega (arith, a, b, devices_are_cost plans)
 
-module _ (network : NetworkData) (gates : GatesData) (signs : List Bool) (forest : ForestData) (are : AreGatesOf network gates) (is_forest : IsForestOf gates signs forest)
-    (is : IsForest forest) (w h phases : ℕ) (some : 1 ≤ phases) (few : phases ≤ 4) (kept : List Bool) (cells : List ℕ) (plans : List GatePlan)
-    (cover : IsClockedCover forest w h phases kept cells plans) (taken : List ℕ) (numbered : List End) (take : AreTaken cells forest.ends taken numbered) where
-  abbrev ends : List SinkEnd
-  ends = ends_at network gates signs forest are is_forest is w h phases some kept cells plans cover
-
+module _ {network : NetworkData} {signs : List Bool} {forest : ForestData} {w h phases : ℕ} {kept : List Bool} {cells : List ℕ}
+    {plans : List GatePlan} (m : NetworkCover network signs forest w h phases kept cells plans)
+    (taken : List ℕ) (numbered : List End) (take : AreTaken cells forest.ends taken numbered) where
   abbrev trees : List (Tree ℕ)
   trees = plan_trees plans
 
   abbrev plan : DeckPlan
-  plan = plan_of network phases trees cover.levels ends
+  plan = plan_of network phases trees m.cover.levels (ends_at m)
 
-  leaf_total : forest.leaves ≡ leaf_count network
-  leaf_total = leaves_are network gates signs forest are is_forest is w h phases some kept cells plans cover
-
-  taken_are : taken ≡ cells_taken ends
-  taken_are = take.taken_are ∙ ap cells_taken (ends_are network gates signs forest are is_forest is w h phases some kept cells plans cover)
+  taken_are : taken ≡ cells_taken (ends_at m)
+  taken_are = take.taken_are ∙ ap cells_taken (ends_are m)
 
   -- sinks take from the cells of the plan
   pub taken_there : All (λ cell. cell < length plans) taken
   taken_there =
-      let deck = planned (is_deck_in network gates signs forest are is_forest is w h phases some kept cells plans cover WithKeeper) in
-      let there = (planned_deck network _ _ deck some few is.in_place.in_order is.in_place.has_leaves is.in_place.has_ends).ends_are in
-      let below = taken_below (leaf_count network) (length trees) ends (recursion_from_All (IsEndIn (leaf_count network) (length trees)) ends there) in
+      let deck = planned (is_deck_in m WithKeeper (deck_in m WithKeeper) refl) in
+      let place = m.whole.in_place in
+      let there = (planned_deck network _ _ deck m.some_phase m.few_phases place.in_order place.has_leaves place.has_ends).ends_are in
+      let below = taken_below (leaf_count network) (length trees) (ends_at m)
+      (recursion_from_All (IsEndIn (leaf_count network) (length trees)) (ends_at m) there) in
       subst (λ n. All (λ cell. cell < n) taken) (length-map plans (λ (p : GatePlan). tree_of p.tree))
-      (subst (All (λ cell. cell < length trees)) (sym taken_are) (All-from_recursion (λ cell. cell < length trees) (cells_taken ends) below))
+      (subst (All (λ cell. cell < length trees)) (sym taken_are)
+      (All-from_recursion (λ cell. cell < length trees) (cells_taken (ends_at m)) below))
 
-  pub few_cells_taken : length taken ≤ 8192
-  few_cells_taken = omega (arith, few_so_far cells forest.ends taken numbered take, is.few_ends)
+  few_cells_taken : length taken ≤ 8192
+  few_cells_taken = omega (arith, few_so_far cells forest.ends taken numbered take, m.whole.few_ends)
 
   pub one_end : length numbered ≡ length forest.ends
   one_end =
       let same = ap length (take.names (λ n. n)) in
-      omega (arith, same, length-map numbered (end_in (map (λ n. n) taken)), length-map (map (end_in cells) forest.ends) (renumbered (λ n. n)), length-map forest.ends (end_in cells))
+      omega (
+        arith,
+        same,
+        length-map numbered (end_in (map (λ n. n) taken)),
+        length-map (map (end_in cells) forest.ends) (renumbered (λ n. n)),
+        length-map forest.ends (end_in cells),
+      )
 
   module _ (new : List GatePlan) (place last : List ℕ) (b : AreBuffered forest.leaves phases plans taken new place last) where
-    clocks : HaveClocksUpTo phases plans
-    clocks = clocks_are_few network gates signs forest are is_forest is w h phases some kept cells plans cover
-
     plan_is : plan_of_gates forest.leaves phases plans taken ≡ plan
-    plan_is =
-        let same = cells_are network gates signs forest are is_forest is w h phases some kept cells plans cover in
-        λ i. record { leaves = leaf_total i; clocks = phases; cells = same i; sinks = taken_are i }
+    plan_is = λ i. record { leaves = leaves_are m i; clocks = phases; cells = cells_are m i; sinks = taken_are i }
 
     reads : HaveClocksUpTo phases new × ReadEarlierCells forest.leaves (trees_of new)
     reads =
-        plans_read_earlier forest.leaves phases plans taken new place last few clocks
-        (each_reads_earlier network gates signs forest are is_forest is w h phases some kept cells plans cover) b
+        plans_read_earlier forest.leaves phases plans taken new place last m.few_phases (clocks_are_few m) (each_reads_earlier m) b
 
     pub new_clocks : HaveClocksUpTo phases new
     new_clocks = reads.0
 
     pub new_plans : ArePlans WithKeeper (leaf_count network) new
     new_plans =
-        let old_few = few_plans network gates signs forest are is_forest is w h phases some kept cells plans cover in
-        let old_cheap = cheap_plans network gates signs forest are is_forest is w h phases some kept cells plans cover WithKeeper in
-        let count = plans_few forest.leaves phases plans taken new place last few clocks b in
-        let devices = plans_small forest.leaves phases plans taken new place last few clocks b in
+        let old_few = few_plans m in
+        let old_cheap = cheap_plans m WithKeeper in
+        let count = plans_few forest.leaves phases plans taken new place last m.few_phases (clocks_are_few m) b in
+        let devices = plans_small forest.leaves phases plans taken new place last m.few_phases (clocks_are_few m) b in
         record {
           few = omega (arith, count, old_few, few_cells_taken);
           cheap = omega (arith, devices, devices_are_cost new, devices_are_cost plans, old_cheap, old_few, few_cells_taken);
-          earlier = subst (λ n. (k : ℕ) (p : GatePlan) → slice_get new k ≡ Some p → EachLeaf (λ gate. gate < 2 * n + k) (tree_of p.tree)) leaf_total
-              (read_earlier forest.leaves (plan_trees new) new refl reads.1);
+          earlier = subst (λ n. (k : ℕ) (p : GatePlan) → slice_get new k ≡ Some p → EachLeaf (λ gate. gate < 2 * n + k) (tree_of p.tree))
+              (leaves_are m) (read_earlier forest.leaves (plan_trees new) new refl reads.1);
         }
 
     pub new_ends_there : All (IsEndThere (length last)) numbered
     new_ends_there =
         let same = ap length b.ends_are in
-        let count : length last ≡ length taken = omega (arith, same, length-map taken (end_at (plan_cells (plan_of_gates forest.leaves phases plans taken)))) in
+        let count : length last ≡ length taken =
+        omega (arith, same, length-map taken (end_at (plan_cells (plan_of_gates forest.leaves phases plans taken)))) in
         subst (λ n. All (IsEndThere n) numbered) (sym count) take.there
 
-    new_ends : map (end_in last) numbered ≡ map (new_end plan) ends
+    new_ends : map (end_in last) numbered ≡ map (new_end plan) (ends_at m)
     new_ends =
-        ap (λ l. map (end_in l) numbered) b.ends_are ∙ take.names (end_at (plan_cells (plan_of_gates forest.leaves phases plans taken)))
-        ∙ ap (map (renumbered (end_at (plan_cells (plan_of_gates forest.leaves phases plans taken)))))
-        (ends_are network gates signs forest are is_forest is w h phases some kept cells plans cover)
-        ∙ ap (λ (q : DeckPlan). map (new_end q) ends) plan_is
+        let number = end_at (plan_cells (plan_of_gates forest.leaves phases plans taken)) in
+        ap (λ l. map (end_in l) numbered) b.ends_are ∙ take.names number ∙ ap (map (renumbered number)) (ends_are m)
+        ∙ ap (λ (q : DeckPlan). map (new_end q) (ends_at m)) plan_is
 
     new_cells : map cell_plan new ≡ with_chains (plan_cells plan) 0 plan.cells
     new_cells = b.cells_are ∙ ap (λ (q : DeckPlan). with_chains (plan_cells q) 0 q.cells) plan_is
 
-    pub is_buffered_circuit : made_deck WithKeeper network phases signs new numbered last ≡ buffered_circuit network phases signs ends plan
+    pub is_buffered_circuit : made_deck WithKeeper network phases signs new numbered last
+        ≡ buffered_circuit network phases signs (ends_at m) plan
     is_buffered_circuit =
         made_is_circuit WithKeeper network phases signs new numbered last new_plans.earlier
         ∙ (λ i. deck_circuit WithKeeper network phases (new_cells i) signs (new_ends i))

@@ -1,6 +1,7 @@
 pub mod BareDecks
 pub mod BufferedDecks
 pub mod CellCounts
+pub mod ChosenForests
 pub mod ClockedPlans
 pub mod GroupEnds
 pub mod MadeCircuits

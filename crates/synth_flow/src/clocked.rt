@@ -12,7 +12,7 @@ use tree_map::{Bounds, Cover, cover};
 
 /// The plans with the clocks of their levels, of so many clocks.
 #[tactic(auto, using(crate::proofs::SynthFacts::synth_facts))]
-pub fn clocked(
+fn clocked(
     alloc: Global,
     plans: Vec<GatePlan>,
     leaves: u32,

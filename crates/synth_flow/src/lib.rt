@@ -6,6 +6,7 @@ mod bare;
 mod both;
 mod cell_counts;
 mod cells;
+mod chosen;
 mod clocked;
 mod complements;
 mod counts;

@@ -6,15 +6,14 @@ ghost use Rattle.gate_decompose.specs.GatesData.{GatesData};
 ghost use Rattle.synth_flow.specs.BufferedDecks.{IsBufferedDeckOfSigns, IsChosenBufferedDeck, skew_options};
 
 use crate::bare::deck_of;
+use crate::chosen::{ChosenForest, chosen_forest};
 use crate::clocked::clocked_cover;
 use crate::taken::{TakenCells, taken_cells};
 use deck::Circuit;
 use dom_base::OutOfMemory;
 use domino_cell::Style;
-use dual_rail::{Forest, rails};
-use gate_decompose::decompose;
+use dual_rail::Forest;
 use network::Network;
-use phase_assign::assign;
 use phase_buffer::{Buffered, buffer};
 use std::alloc::Global;
 use tree_map::{Bounds, Cover};
@@ -85,10 +84,7 @@ pub fn synth_skew(
     requires few_phases { phases ≤ 4 }
     ensures { IfOk result (IsChosenBufferedDeck network.now (skew_options bounds phases)) }
 {
-    let gates = decompose(alloc, network)?;
-    let signs = assign(alloc, &gates)?;
-    let forest = rails(alloc, &gates, signs.as_slice())?;
-    drop(gates);
+    let ChosenForest { signs, forest } = chosen_forest(alloc, network)?;
     let circuit = buffered_deck_of_forest(
         alloc,
         network,

@@ -8,17 +8,17 @@ ghost use Rattle.deck_form.specs.ChosenDecks.{AreGiven, IsChosenDeck, IsDeckOfSi
 ghost use Rattle.deck_form.specs.AskedOptions.{deck_options};
 
 use crate::bare::deck_of;
-use crate::clocked::clocked;
+use crate::chosen::{ChosenForest, chosen_forest};
+use crate::clocked::clocked_cover;
 use deck::Circuit;
 use deck_form::SynthOptions;
 use dom_base::OutOfMemory;
 use dual_rail::{Forest, rails};
 use gate_decompose::decompose;
 use network::Network;
-use phase_assign::assign;
 use sp_network::GatePlan;
 use std::alloc::Global;
-use tree_map::{Cover, cover};
+use tree_map::Cover;
 
 /// A circuit, and the plans of its cells.
 #[derive(Drop)]
@@ -54,9 +54,13 @@ fn deck_of_forest(
         → (is : IsDeckOfSigns (λ g s. (g ≡ gates) × (s ≡ signs.now)) network.now (deck_options options) made.circuit)
         × (is.forest ≡ forest.now) × (is.trees ≡ plan_trees made.plans.items)) }
 {
-    let Cover { kept, cells, plans } = cover(alloc, forest, options.bounds)?;
+    let Cover { kept, cells, plans } = clocked_cover(
+        alloc,
+        forest,
+        options.bounds,
+        options.phases,
+    )?;
     drop(kept);
-    let plans = clocked(alloc, plans, forest.leaves, options.phases)?;
     let circuit = deck_of(
         alloc,
         network,
@@ -114,10 +118,7 @@ pub fn chosen_deck(
     ensures { IfOk result (λ made. (is : IsChosenDeck network.now (deck_options options) made.circuit)
         × (is.forest ≡ made.forest) × (is.trees ≡ plan_trees made.plans.items)) }
 {
-    let gates = decompose(alloc, network)?;
-    let signs = assign(alloc, &gates)?;
-    let forest = rails(alloc, &gates, signs.as_slice())?;
-    drop(gates);
+    let ChosenForest { signs, forest } = chosen_forest(alloc, network)?;
     let PlannedCircuit { circuit, plans } = deck_of_forest(
         alloc,
         network,

@@ -5,17 +5,13 @@ use Rattle.domino_cell.specs.declared.style.Style.TheVariants.{Keeper as WithKee
 use Rattle.dual_rail.specs.ForestData.{ForestData}
 use Rattle.dual_rail.specs.ForestOrder.{IsForest}
 use Rattle.dual_rail.specs.Uses.{IsEndThere}
-use Rattle.dual_rail.specs.declared.forest.End.{End}
 use Rattle.gate_decompose.specs.Sinks.{leaf_count}
-use Rattle.network.specs.NetworkData.{NetworkData}
-use Rattle.sp_network.specs.declared.plan.GatePlan.{GatePlan}
 use Rattle.phase_buffer.specs.BufferedPlans.{AreBuffered, HaveClocksUpTo}
 use Rattle.synth_flow.specs.BareDecks.{ArePlans}
-use Rattle.synth_flow.specs.ClockedPlans.{IsClockedCover}
 use Rattle.synth_flow.specs.MadeCircuits.{made_deck}
 use Rattle.synth_flow.specs.TakenCells.{AreTaken}
-use Rattle.synth_flow.proofs.ClockedCovers.{clocks_are_few, each_reads_earlier, ends_there, few_plans, is_deck_in}
-use Rattle.synth_flow.proofs.SkewDecks.{few_cells_taken, is_buffered_circuit, new_clocks, new_ends_there, new_plans, one_end, taken_there}
+use Rattle.synth_flow.proofs.ClockedCovers.{NetworkCover, clocks_are_few, deck_in, each_reads_earlier, ends_there, few_plans, is_deck_in}
+use Rattle.synth_flow.proofs.SkewDecks.{is_buffered_circuit, new_clocks, new_ends_there, new_plans, one_end, taken_there}
 use Rattle.synth_flow.proofs.skew.buffered_deck_of_forest.Goals as goal
 
 pub taken_cells-requires-clause-there : goal.taken_cells-requires-clause-there
@@ -24,19 +20,21 @@ taken_cells-requires-clause-there c =
     let signs = c.args.signs.now in
     let forest = c.args.forest.now in
     let phases = c.args.phases in
-    let w = c.args.bounds.w in
-    let h = c.args.bounds.h in
-    let is = subst IsForest c.forest.view_is c.forest.invariant in
-    let some = c.requires.some_phase in
-    let gates = c.requires.forest.0 in
-    let are = c.requires.forest.1 in
-    let of = c.requires.forest.2 in
-    let kept = c.in_ok-kept.field-0.kept.items in
     let cells = c.in_ok-kept.field-0.cells.items in
     let plans = c.in_ok-kept.field-0.plans.items in
-    let cover : IsClockedCover forest w h phases kept cells plans = c.in_ok-kept.ensures in
+    let m : NetworkCover network signs forest c.args.bounds.w c.args.bounds.h phases c.in_ok-kept.field-0.kept.items cells plans =
+    record {
+      gates = c.requires.forest.0;
+      are_gates = c.requires.forest.1;
+      is_forest = c.requires.forest.2;
+      whole = subst IsForest c.forest.view_is c.forest.invariant;
+      some_phase = c.requires.some_phase;
+      few_phases = c.requires.few_phases;
+      cover = c.in_ok-kept.ensures;
+    } in
     let all_ends : c.as_slice-2.result.now ≡ forest.ends = c.as_slice-2.ensures.value ∙ ap (λ (f : ForestData). f.ends) c.forest.view_is in
-    subst (λ l. All (IsEndThere (length l)) c.as_slice-2.result.now) (sym c.as_slice.ensures.value) (subst (All (IsEndThere (length cells))) (sym all_ends) (ends_there network gates signs forest are of is w h phases some kept cells plans cover))
+    subst (λ l. All (IsEndThere (length l)) c.as_slice-2.result.now) (sym c.as_slice.ensures.value)
+    (subst (All (IsEndThere (length cells))) (sym all_ends) (ends_there m))
 
 pub taken_cells-requires-clause-few : goal.taken_cells-requires-clause-few
 taken_cells-requires-clause-few c =
@@ -44,19 +42,20 @@ taken_cells-requires-clause-few c =
     let signs = c.args.signs.now in
     let forest = c.args.forest.now in
     let phases = c.args.phases in
-    let w = c.args.bounds.w in
-    let h = c.args.bounds.h in
-    let is = subst IsForest c.forest.view_is c.forest.invariant in
-    let some = c.requires.some_phase in
-    let gates = c.requires.forest.0 in
-    let are = c.requires.forest.1 in
-    let of = c.requires.forest.2 in
-    let kept = c.in_ok-kept.field-0.kept.items in
     let cells = c.in_ok-kept.field-0.cells.items in
     let plans = c.in_ok-kept.field-0.plans.items in
-    let cover : IsClockedCover forest w h phases kept cells plans = c.in_ok-kept.ensures in
+    let m : NetworkCover network signs forest c.args.bounds.w c.args.bounds.h phases c.in_ok-kept.field-0.kept.items cells plans =
+    record {
+      gates = c.requires.forest.0;
+      are_gates = c.requires.forest.1;
+      is_forest = c.requires.forest.2;
+      whole = subst IsForest c.forest.view_is c.forest.invariant;
+      some_phase = c.requires.some_phase;
+      few_phases = c.requires.few_phases;
+      cover = c.in_ok-kept.ensures;
+    } in
     let all_ends : c.as_slice-2.result.now ≡ forest.ends = c.as_slice-2.ensures.value ∙ ap (λ (f : ForestData). f.ends) c.forest.view_is in
-    omega (arith, ap length all_ends, is.few_ends)
+    omega (arith, ap length all_ends, m.whole.few_ends)
 
 pub buffer-requires-clause-room : goal.buffer-requires-clause-room
 buffer-requires-clause-room c =
@@ -64,19 +63,20 @@ buffer-requires-clause-room c =
     let signs = c.args.signs.now in
     let forest = c.args.forest.now in
     let phases = c.args.phases in
-    let w = c.args.bounds.w in
-    let h = c.args.bounds.h in
-    let is = subst IsForest c.forest.view_is c.forest.invariant in
-    let some = c.requires.some_phase in
-    let gates = c.requires.forest.0 in
-    let are = c.requires.forest.1 in
-    let of = c.requires.forest.2 in
-    let kept = c.in_ok-kept.field-0.kept.items in
     let cells = c.in_ok-kept.field-0.cells.items in
     let plans = c.in_ok-kept.field-0.plans.items in
-    let cover : IsClockedCover forest w h phases kept cells plans = c.in_ok-kept.ensures in
+    let m : NetworkCover network signs forest c.args.bounds.w c.args.bounds.h phases c.in_ok-kept.field-0.kept.items cells plans =
+    record {
+      gates = c.requires.forest.0;
+      are_gates = c.requires.forest.1;
+      is_forest = c.requires.forest.2;
+      whole = subst IsForest c.forest.view_is c.forest.invariant;
+      some_phase = c.requires.some_phase;
+      few_phases = c.requires.few_phases;
+      cover = c.in_ok-kept.ensures;
+    } in
     let leaves : c.forest.inside.leaves ≡ forest.leaves = ap (λ (f : ForestData). f.leaves) c.forest.view_is in
-    omega (arith, leaves, is.few_leaves, ap length c.as_slice-3.ensures.value, few_plans network gates signs forest are of is w h phases some kept cells plans cover)
+    omega (arith, leaves, m.whole.few_leaves, ap length c.as_slice-3.ensures.value, few_plans m)
 
 pub buffer-requires-clause-clocks : goal.buffer-requires-clause-clocks
 buffer-requires-clause-clocks c =
@@ -84,18 +84,19 @@ buffer-requires-clause-clocks c =
     let signs = c.args.signs.now in
     let forest = c.args.forest.now in
     let phases = c.args.phases in
-    let w = c.args.bounds.w in
-    let h = c.args.bounds.h in
-    let is = subst IsForest c.forest.view_is c.forest.invariant in
-    let some = c.requires.some_phase in
-    let gates = c.requires.forest.0 in
-    let are = c.requires.forest.1 in
-    let of = c.requires.forest.2 in
-    let kept = c.in_ok-kept.field-0.kept.items in
     let cells = c.in_ok-kept.field-0.cells.items in
     let plans = c.in_ok-kept.field-0.plans.items in
-    let cover : IsClockedCover forest w h phases kept cells plans = c.in_ok-kept.ensures in
-    subst (HaveClocksUpTo phases) (sym c.as_slice-3.ensures.value) (clocks_are_few network gates signs forest are of is w h phases some kept cells plans cover)
+    let m : NetworkCover network signs forest c.args.bounds.w c.args.bounds.h phases c.in_ok-kept.field-0.kept.items cells plans =
+    record {
+      gates = c.requires.forest.0;
+      are_gates = c.requires.forest.1;
+      is_forest = c.requires.forest.2;
+      whole = subst IsForest c.forest.view_is c.forest.invariant;
+      some_phase = c.requires.some_phase;
+      few_phases = c.requires.few_phases;
+      cover = c.in_ok-kept.ensures;
+    } in
+    subst (HaveClocksUpTo phases) (sym c.as_slice-3.ensures.value) (clocks_are_few m)
 
 pub buffer-requires-clause-earlier : goal.buffer-requires-clause-earlier
 buffer-requires-clause-earlier c =
@@ -103,20 +104,21 @@ buffer-requires-clause-earlier c =
     let signs = c.args.signs.now in
     let forest = c.args.forest.now in
     let phases = c.args.phases in
-    let w = c.args.bounds.w in
-    let h = c.args.bounds.h in
-    let is = subst IsForest c.forest.view_is c.forest.invariant in
-    let some = c.requires.some_phase in
-    let gates = c.requires.forest.0 in
-    let are = c.requires.forest.1 in
-    let of = c.requires.forest.2 in
-    let kept = c.in_ok-kept.field-0.kept.items in
     let cells = c.in_ok-kept.field-0.cells.items in
     let plans = c.in_ok-kept.field-0.plans.items in
-    let cover : IsClockedCover forest w h phases kept cells plans = c.in_ok-kept.ensures in
+    let m : NetworkCover network signs forest c.args.bounds.w c.args.bounds.h phases c.in_ok-kept.field-0.kept.items cells plans =
+    record {
+      gates = c.requires.forest.0;
+      are_gates = c.requires.forest.1;
+      is_forest = c.requires.forest.2;
+      whole = subst IsForest c.forest.view_is c.forest.invariant;
+      some_phase = c.requires.some_phase;
+      few_phases = c.requires.few_phases;
+      cover = c.in_ok-kept.ensures;
+    } in
     let leaves : c.forest.inside.leaves ≡ forest.leaves = ap (λ (f : ForestData). f.leaves) c.forest.view_is in
     subst (λ l. ReadEarlierCells c.forest.inside.leaves (trees_of l)) (sym c.as_slice-3.ensures.value)
-    (subst (λ n. ReadEarlierCells n (trees_of plans)) (sym leaves) (each_reads_earlier network gates signs forest are of is w h phases some kept cells plans cover))
+    (subst (λ n. ReadEarlierCells n (trees_of plans)) (sym leaves) (each_reads_earlier m))
 
 pub buffer-requires-clause-sinks : goal.buffer-requires-clause-sinks
 buffer-requires-clause-sinks c =
@@ -124,25 +126,26 @@ buffer-requires-clause-sinks c =
     let signs = c.args.signs.now in
     let forest = c.args.forest.now in
     let phases = c.args.phases in
-    let w = c.args.bounds.w in
-    let h = c.args.bounds.h in
-    let is = subst IsForest c.forest.view_is c.forest.invariant in
-    let some = c.requires.some_phase in
-    let gates = c.requires.forest.0 in
-    let are = c.requires.forest.1 in
-    let of = c.requires.forest.2 in
-    let kept = c.in_ok-kept.field-0.kept.items in
     let cells = c.in_ok-kept.field-0.cells.items in
     let plans = c.in_ok-kept.field-0.plans.items in
-    let cover : IsClockedCover forest w h phases kept cells plans = c.in_ok-kept.ensures in
+    let m : NetworkCover network signs forest c.args.bounds.w c.args.bounds.h phases c.in_ok-kept.field-0.kept.items cells plans =
+    record {
+      gates = c.requires.forest.0;
+      are_gates = c.requires.forest.1;
+      is_forest = c.requires.forest.2;
+      whole = subst IsForest c.forest.view_is c.forest.invariant;
+      some_phase = c.requires.some_phase;
+      few_phases = c.requires.few_phases;
+      cover = c.in_ok-kept.ensures;
+    } in
     let all_ends : c.as_slice-2.result.now ≡ forest.ends = c.as_slice-2.ensures.value ∙ ap (λ (f : ForestData). f.ends) c.forest.view_is in
     let taken = c.in_ok-cells.field-0.cells.items in
     let numbered = c.in_ok-cells.field-0.ends.items in
     let take : AreTaken cells forest.ends taken numbered =
-    subst (λ l. AreTaken l forest.ends taken numbered) c.as_slice.ensures.value (subst (λ l. AreTaken c.as_slice.result.now l taken numbered) all_ends c.in_ok-cells.ensures) in
-    let few = c.requires.few_phases in
+    subst (λ l. AreTaken l forest.ends taken numbered) c.as_slice.ensures.value
+    (subst (λ l. AreTaken c.as_slice.result.now l taken numbered) all_ends c.in_ok-cells.ensures) in
     subst (λ l. All (λ cell. cell < length l) c.as_slice-4.result.now) (sym c.as_slice-3.ensures.value)
-    (subst (All (λ cell. cell < length plans)) (sym c.as_slice-4.ensures.value) (taken_there network gates signs forest are of is w h phases some few kept cells plans cover taken numbered take))
+    (subst (All (λ cell. cell < length plans)) (sym c.as_slice-4.ensures.value) (taken_there m taken numbered take))
 
 pub deck_of-requires-clause-plans : goal.deck_of-requires-clause-plans
 deck_of-requires-clause-plans c =
@@ -150,32 +153,34 @@ deck_of-requires-clause-plans c =
     let signs = c.args.signs.now in
     let forest = c.args.forest.now in
     let phases = c.args.phases in
-    let w = c.args.bounds.w in
-    let h = c.args.bounds.h in
-    let is = subst IsForest c.forest.view_is c.forest.invariant in
-    let some = c.requires.some_phase in
-    let gates = c.requires.forest.0 in
-    let are = c.requires.forest.1 in
-    let of = c.requires.forest.2 in
-    let kept = c.in_ok-kept.field-0.kept.items in
     let cells = c.in_ok-kept.field-0.cells.items in
     let plans = c.in_ok-kept.field-0.plans.items in
-    let cover : IsClockedCover forest w h phases kept cells plans = c.in_ok-kept.ensures in
+    let m : NetworkCover network signs forest c.args.bounds.w c.args.bounds.h phases c.in_ok-kept.field-0.kept.items cells plans =
+    record {
+      gates = c.requires.forest.0;
+      are_gates = c.requires.forest.1;
+      is_forest = c.requires.forest.2;
+      whole = subst IsForest c.forest.view_is c.forest.invariant;
+      some_phase = c.requires.some_phase;
+      few_phases = c.requires.few_phases;
+      cover = c.in_ok-kept.ensures;
+    } in
     let all_ends : c.as_slice-2.result.now ≡ forest.ends = c.as_slice-2.ensures.value ∙ ap (λ (f : ForestData). f.ends) c.forest.view_is in
     let taken = c.in_ok-cells.field-0.cells.items in
     let numbered = c.in_ok-cells.field-0.ends.items in
     let take : AreTaken cells forest.ends taken numbered =
-    subst (λ l. AreTaken l forest.ends taken numbered) c.as_slice.ensures.value (subst (λ l. AreTaken c.as_slice.result.now l taken numbered) all_ends c.in_ok-cells.ensures) in
+    subst (λ l. AreTaken l forest.ends taken numbered) c.as_slice.ensures.value
+    (subst (λ l. AreTaken c.as_slice.result.now l taken numbered) all_ends c.in_ok-cells.ensures) in
     let leaves : c.forest.inside.leaves ≡ forest.leaves = ap (λ (f : ForestData). f.leaves) c.forest.view_is in
     let new = c.in_ok-plans.field-0.plans.items in
     let place = c.in_ok-plans.field-0.place.items in
     let last = c.in_ok-plans.field-0.ends.items in
-    let few = c.requires.few_phases in
     let buffered : AreBuffered forest.leaves phases plans taken new place last =
     subst (λ n. AreBuffered n phases plans taken new place last) leaves
     (subst (λ l. AreBuffered c.forest.inside.leaves phases l taken new place last) c.as_slice-3.ensures.value
-    (subst (λ l. AreBuffered c.forest.inside.leaves phases c.as_slice-3.result.now l new place last) c.as_slice-4.ensures.value c.in_ok-plans.ensures)) in
-    subst (ArePlans WithKeeper (leaf_count network)) (sym c.as_slice-5.ensures.value) (new_plans network gates signs forest are of is w h phases some few kept cells plans cover taken numbered take new place last buffered)
+    (subst (λ l. AreBuffered c.forest.inside.leaves phases c.as_slice-3.result.now l new place last) c.as_slice-4.ensures.value
+    c.in_ok-plans.ensures)) in
+    subst (ArePlans WithKeeper (leaf_count network)) (sym c.as_slice-5.ensures.value) (new_plans m taken numbered take new place last buffered)
 
 pub deck_of-requires-clause-clocks_are : goal.deck_of-requires-clause-clocks_are
 deck_of-requires-clause-clocks_are c =
@@ -183,32 +188,34 @@ deck_of-requires-clause-clocks_are c =
     let signs = c.args.signs.now in
     let forest = c.args.forest.now in
     let phases = c.args.phases in
-    let w = c.args.bounds.w in
-    let h = c.args.bounds.h in
-    let is = subst IsForest c.forest.view_is c.forest.invariant in
-    let some = c.requires.some_phase in
-    let gates = c.requires.forest.0 in
-    let are = c.requires.forest.1 in
-    let of = c.requires.forest.2 in
-    let kept = c.in_ok-kept.field-0.kept.items in
     let cells = c.in_ok-kept.field-0.cells.items in
     let plans = c.in_ok-kept.field-0.plans.items in
-    let cover : IsClockedCover forest w h phases kept cells plans = c.in_ok-kept.ensures in
+    let m : NetworkCover network signs forest c.args.bounds.w c.args.bounds.h phases c.in_ok-kept.field-0.kept.items cells plans =
+    record {
+      gates = c.requires.forest.0;
+      are_gates = c.requires.forest.1;
+      is_forest = c.requires.forest.2;
+      whole = subst IsForest c.forest.view_is c.forest.invariant;
+      some_phase = c.requires.some_phase;
+      few_phases = c.requires.few_phases;
+      cover = c.in_ok-kept.ensures;
+    } in
     let all_ends : c.as_slice-2.result.now ≡ forest.ends = c.as_slice-2.ensures.value ∙ ap (λ (f : ForestData). f.ends) c.forest.view_is in
     let taken = c.in_ok-cells.field-0.cells.items in
     let numbered = c.in_ok-cells.field-0.ends.items in
     let take : AreTaken cells forest.ends taken numbered =
-    subst (λ l. AreTaken l forest.ends taken numbered) c.as_slice.ensures.value (subst (λ l. AreTaken c.as_slice.result.now l taken numbered) all_ends c.in_ok-cells.ensures) in
+    subst (λ l. AreTaken l forest.ends taken numbered) c.as_slice.ensures.value
+    (subst (λ l. AreTaken c.as_slice.result.now l taken numbered) all_ends c.in_ok-cells.ensures) in
     let leaves : c.forest.inside.leaves ≡ forest.leaves = ap (λ (f : ForestData). f.leaves) c.forest.view_is in
     let new = c.in_ok-plans.field-0.plans.items in
     let place = c.in_ok-plans.field-0.place.items in
     let last = c.in_ok-plans.field-0.ends.items in
-    let few = c.requires.few_phases in
     let buffered : AreBuffered forest.leaves phases plans taken new place last =
     subst (λ n. AreBuffered n phases plans taken new place last) leaves
     (subst (λ l. AreBuffered c.forest.inside.leaves phases l taken new place last) c.as_slice-3.ensures.value
-    (subst (λ l. AreBuffered c.forest.inside.leaves phases c.as_slice-3.result.now l new place last) c.as_slice-4.ensures.value c.in_ok-plans.ensures)) in
-    subst (HaveClocksUpTo phases) (sym c.as_slice-5.ensures.value) (new_clocks network gates signs forest are of is w h phases some few kept cells plans cover taken numbered take new place last buffered)
+    (subst (λ l. AreBuffered c.forest.inside.leaves phases c.as_slice-3.result.now l new place last) c.as_slice-4.ensures.value
+    c.in_ok-plans.ensures)) in
+    subst (HaveClocksUpTo phases) (sym c.as_slice-5.ensures.value) (new_clocks m taken numbered take new place last buffered)
 
 pub deck_of-requires-clause-ends : goal.deck_of-requires-clause-ends
 deck_of-requires-clause-ends c =
@@ -216,33 +223,35 @@ deck_of-requires-clause-ends c =
     let signs = c.args.signs.now in
     let forest = c.args.forest.now in
     let phases = c.args.phases in
-    let w = c.args.bounds.w in
-    let h = c.args.bounds.h in
-    let is = subst IsForest c.forest.view_is c.forest.invariant in
-    let some = c.requires.some_phase in
-    let gates = c.requires.forest.0 in
-    let are = c.requires.forest.1 in
-    let of = c.requires.forest.2 in
-    let kept = c.in_ok-kept.field-0.kept.items in
     let cells = c.in_ok-kept.field-0.cells.items in
     let plans = c.in_ok-kept.field-0.plans.items in
-    let cover : IsClockedCover forest w h phases kept cells plans = c.in_ok-kept.ensures in
+    let m : NetworkCover network signs forest c.args.bounds.w c.args.bounds.h phases c.in_ok-kept.field-0.kept.items cells plans =
+    record {
+      gates = c.requires.forest.0;
+      are_gates = c.requires.forest.1;
+      is_forest = c.requires.forest.2;
+      whole = subst IsForest c.forest.view_is c.forest.invariant;
+      some_phase = c.requires.some_phase;
+      few_phases = c.requires.few_phases;
+      cover = c.in_ok-kept.ensures;
+    } in
     let all_ends : c.as_slice-2.result.now ≡ forest.ends = c.as_slice-2.ensures.value ∙ ap (λ (f : ForestData). f.ends) c.forest.view_is in
     let taken = c.in_ok-cells.field-0.cells.items in
     let numbered = c.in_ok-cells.field-0.ends.items in
     let take : AreTaken cells forest.ends taken numbered =
-    subst (λ l. AreTaken l forest.ends taken numbered) c.as_slice.ensures.value (subst (λ l. AreTaken c.as_slice.result.now l taken numbered) all_ends c.in_ok-cells.ensures) in
+    subst (λ l. AreTaken l forest.ends taken numbered) c.as_slice.ensures.value
+    (subst (λ l. AreTaken c.as_slice.result.now l taken numbered) all_ends c.in_ok-cells.ensures) in
     let leaves : c.forest.inside.leaves ≡ forest.leaves = ap (λ (f : ForestData). f.leaves) c.forest.view_is in
     let new = c.in_ok-plans.field-0.plans.items in
     let place = c.in_ok-plans.field-0.place.items in
     let last = c.in_ok-plans.field-0.ends.items in
-    let few = c.requires.few_phases in
     let buffered : AreBuffered forest.leaves phases plans taken new place last =
     subst (λ n. AreBuffered n phases plans taken new place last) leaves
     (subst (λ l. AreBuffered c.forest.inside.leaves phases l taken new place last) c.as_slice-3.ensures.value
-    (subst (λ l. AreBuffered c.forest.inside.leaves phases c.as_slice-3.result.now l new place last) c.as_slice-4.ensures.value c.in_ok-plans.ensures)) in
+    (subst (λ l. AreBuffered c.forest.inside.leaves phases c.as_slice-3.result.now l new place last) c.as_slice-4.ensures.value
+    c.in_ok-plans.ensures)) in
     subst (λ l. All (IsEndThere (length l)) c.as_slice-6.result.now) (sym c.as_slice-7.ensures.value)
-    (subst (All (IsEndThere (length last))) (sym c.as_slice-6.ensures.value) (new_ends_there network gates signs forest are of is w h phases some few kept cells plans cover taken numbered take new place last buffered))
+    (subst (All (IsEndThere (length last))) (sym c.as_slice-6.ensures.value) (new_ends_there m taken numbered take new place last buffered))
 
 pub deck_of-requires-clause-one_end : goal.deck_of-requires-clause-one_end
 deck_of-requires-clause-one_end c =
@@ -250,24 +259,26 @@ deck_of-requires-clause-one_end c =
     let signs = c.args.signs.now in
     let forest = c.args.forest.now in
     let phases = c.args.phases in
-    let w = c.args.bounds.w in
-    let h = c.args.bounds.h in
-    let is = subst IsForest c.forest.view_is c.forest.invariant in
-    let some = c.requires.some_phase in
-    let gates = c.requires.forest.0 in
-    let are = c.requires.forest.1 in
-    let of = c.requires.forest.2 in
-    let kept = c.in_ok-kept.field-0.kept.items in
     let cells = c.in_ok-kept.field-0.cells.items in
     let plans = c.in_ok-kept.field-0.plans.items in
-    let cover : IsClockedCover forest w h phases kept cells plans = c.in_ok-kept.ensures in
+    let m : NetworkCover network signs forest c.args.bounds.w c.args.bounds.h phases c.in_ok-kept.field-0.kept.items cells plans =
+    record {
+      gates = c.requires.forest.0;
+      are_gates = c.requires.forest.1;
+      is_forest = c.requires.forest.2;
+      whole = subst IsForest c.forest.view_is c.forest.invariant;
+      some_phase = c.requires.some_phase;
+      few_phases = c.requires.few_phases;
+      cover = c.in_ok-kept.ensures;
+    } in
     let all_ends : c.as_slice-2.result.now ≡ forest.ends = c.as_slice-2.ensures.value ∙ ap (λ (f : ForestData). f.ends) c.forest.view_is in
     let taken = c.in_ok-cells.field-0.cells.items in
     let numbered = c.in_ok-cells.field-0.ends.items in
     let take : AreTaken cells forest.ends taken numbered =
-    subst (λ l. AreTaken l forest.ends taken numbered) c.as_slice.ensures.value (subst (λ l. AreTaken c.as_slice.result.now l taken numbered) all_ends c.in_ok-cells.ensures) in
-    let few = c.requires.few_phases in
-    ap length c.as_slice-6.ensures.value ∙ one_end network gates signs forest are of is w h phases some few kept cells plans cover taken numbered take ∙ of.ends_count ∙ sinks_of_network network gates are
+    subst (λ l. AreTaken l forest.ends taken numbered) c.as_slice.ensures.value
+    (subst (λ l. AreTaken c.as_slice.result.now l taken numbered) all_ends c.in_ok-cells.ensures) in
+    ap length c.as_slice-6.ensures.value ∙ one_end m taken numbered take ∙ m.is_forest.ends_count
+    ∙ sinks_of_network network m.gates m.are_gates
 
 pub returns : goal.returns
 returns c = λ gates are of.
@@ -275,33 +286,39 @@ returns c = λ gates are of.
     let signs = c.args.signs.now in
     let forest = c.args.forest.now in
     let phases = c.args.phases in
-    let w = c.args.bounds.w in
-    let h = c.args.bounds.h in
-    let is = subst IsForest c.forest.view_is c.forest.invariant in
-    let some = c.requires.some_phase in
-    let kept = c.in_ok-kept.field-0.kept.items in
     let cells = c.in_ok-kept.field-0.cells.items in
     let plans = c.in_ok-kept.field-0.plans.items in
-    let cover : IsClockedCover forest w h phases kept cells plans = c.in_ok-kept.ensures in
+    let m : NetworkCover network signs forest c.args.bounds.w c.args.bounds.h phases c.in_ok-kept.field-0.kept.items cells plans =
+    record {
+      gates = gates;
+      are_gates = are;
+      is_forest = of;
+      whole = subst IsForest c.forest.view_is c.forest.invariant;
+      some_phase = c.requires.some_phase;
+      few_phases = c.requires.few_phases;
+      cover = c.in_ok-kept.ensures;
+    } in
     let all_ends : c.as_slice-2.result.now ≡ forest.ends = c.as_slice-2.ensures.value ∙ ap (λ (f : ForestData). f.ends) c.forest.view_is in
     let taken = c.in_ok-cells.field-0.cells.items in
     let numbered = c.in_ok-cells.field-0.ends.items in
     let take : AreTaken cells forest.ends taken numbered =
-    subst (λ l. AreTaken l forest.ends taken numbered) c.as_slice.ensures.value (subst (λ l. AreTaken c.as_slice.result.now l taken numbered) all_ends c.in_ok-cells.ensures) in
+    subst (λ l. AreTaken l forest.ends taken numbered) c.as_slice.ensures.value
+    (subst (λ l. AreTaken c.as_slice.result.now l taken numbered) all_ends c.in_ok-cells.ensures) in
     let leaves : c.forest.inside.leaves ≡ forest.leaves = ap (λ (f : ForestData). f.leaves) c.forest.view_is in
     let new = c.in_ok-plans.field-0.plans.items in
     let place = c.in_ok-plans.field-0.place.items in
     let last = c.in_ok-plans.field-0.ends.items in
-    let few = c.requires.few_phases in
     let buffered : AreBuffered forest.leaves phases plans taken new place last =
     subst (λ n. AreBuffered n phases plans taken new place last) leaves
     (subst (λ l. AreBuffered c.forest.inside.leaves phases l taken new place last) c.as_slice-3.ensures.value
-    (subst (λ l. AreBuffered c.forest.inside.leaves phases c.as_slice-3.result.now l new place last) c.as_slice-4.ensures.value c.in_ok-plans.ensures)) in
+    (subst (λ l. AreBuffered c.forest.inside.leaves phases c.as_slice-3.result.now l new place last) c.as_slice-4.ensures.value
+    c.in_ok-plans.ensures)) in
     let new_plans_are = c.as_slice-5.ensures.value in
     let new_ends = c.as_slice-6.ensures.value in
     let lasts = c.as_slice-7.ensures.value in
     record {
-      plain = _;
-      of_signs = is_deck_in network gates signs forest are of is w h phases some kept cells plans cover WithKeeper;
-      circuit_is = c.in_ok-circuit.ensures ∙ (λ i. made_deck WithKeeper network phases signs (new_plans_are i) (new_ends i) (lasts i)) ∙ is_buffered_circuit network gates signs forest are of is w h phases some few kept cells plans cover taken numbered take new place last buffered;
+      plain = deck_in m WithKeeper;
+      of_signs = is_deck_in m WithKeeper (deck_in m WithKeeper) refl;
+      circuit_is = c.in_ok-circuit.ensures
+          ∙ (λ i. made_deck WithKeeper network phases signs (new_plans_are i) (new_ends i) (lasts i)) ∙ is_buffered_circuit m taken numbered take new place last buffered;
     }
