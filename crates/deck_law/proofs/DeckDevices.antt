@@ -19,8 +19,7 @@ use Rattle.deck_law.proofs.CellDevices.{same_nets}
 use Rattle.deck_law.proofs.GateNames.{complement_name, end_name, own_name, tree_name}
 use Rattle.domino_law.specs.Spelled as law
 use Rattle.domino_cell.specs.StyledCells.{styled_cell}
-use Rattle.domino_cell.proofs.StyledCells.{styled_cell-map_tree}
-use Rattle.deck_law.proofs.StyledCells.{styled_is}
+use Rattle.deck_law.proofs.StyledCells.{styled_cell-map_tree, styled_is}
 
 flat_map-append : {X Y : Type 0} (f : X → List Y) (xs ys : List X) → flat_map f (xs ++ ys) ≡ flat_map f xs ++ flat_map f ys
 flat_map-append f [] ys = refl

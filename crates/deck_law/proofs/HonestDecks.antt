@@ -14,7 +14,9 @@ use Rattle.switch_model.specs.LinksData.{links_of}
 use Rattle.network.specs.declared.network.NetLatch.{NetLatch}
 use Rattle.network.specs.NetworkData.{NetworkData}
 use Rattle.net_run.specs.Runs.{start}
-use Rattle.port_runs.specs.Environment.{Clocking, Released, Reset, Step, Together, World, bit}
+use Rattle.port_runs.specs.Environment.{Released, Reset, Step, World, bit}
+use Rattle.port_runs.specs.declared.clocking.Clocking.{Clocking}
+use Rattle.port_runs.specs.declared.clocking.Clocking.TheVariants.{Together}
 use Rattle.port_runs.specs.PortRuns.{Rests, RunsBy, power_world}
 use Rattle.port_runs.specs.Readings.{IsReading}
 use Rattle.domino_law.specs.DominoDeck.{IsLooseDominoDeck}
@@ -101,6 +103,11 @@ module _ {network : NetworkData} {circuit : CircuitData} {roles : Roles} {net : 
 
   pub honest_network : IsHonestDeck clocking style network circuit roles
   honest_network = record { net = net; shape = s; clocks_fall = fall; style_is = style_is; honest = honest; own = does.runs; starts = starts; reads = reads }
+
+  -- whose shape is this one
+  pub honest_shape : honest_network.shape ≡ s
+  unfolding honest_network
+  honest_shape = refl
 
 module _ {network : NetworkData} {options : DeckOptions} {circuit : CircuitData} (domino : IsDominoDeck network options circuit)
     (ok : IsCircuit circuit.ports circuit.nets circuit.devices) where

@@ -12,6 +12,7 @@ pub mod NamesApart
 pub mod NetworkDecks
 pub mod NetworkRuns
 pub mod Numbers
+pub mod OneGates
 pub mod OwnRun
 pub mod PortNumbers
 pub mod RightDecks

@@ -15,7 +15,8 @@ use Rattle.switch_model.specs.LinksData.{links_of}
 use Rattle.network.specs.declared.network.NetLatch.{NetLatch}
 use Rattle.network.specs.NetworkData.{NetworkData}
 use Rattle.net_run.specs.Runs.{Cycle, IsNetworkRun, IsNetworkRunFrom}
-use Rattle.port_runs.specs.Environment.{Clocking, Evaluation, Launched, Released, Reset, Step, World, bit, stream_of}
+use Rattle.port_runs.specs.Environment.{Evaluation, Launched, Released, Reset, Step, World, bit, stream_of}
+use Rattle.port_runs.specs.declared.clocking.Clocking.{Clocking}
 use Rattle.port_runs.specs.PortRuns.{RunsBy, power_world}
 use Rattle.port_runs.specs.Readings.{IsReading}
 use Rattle.port_runs.proofs.RunOrder.{runs_stand_in_order}

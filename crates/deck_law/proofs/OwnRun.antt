@@ -20,14 +20,14 @@ use Rattle.dual_rail.specs.declared.forest.End.{End}
 use Rattle.dual_rail.specs.declared.forest.End.TheVariants.{Const, FromDynamic as end_dynamic, FromOutput as end_output, Literal}
 use Rattle.dual_rail.specs.ForestData.{ForestData}
 use Rattle.dual_rail.specs.ForestValues.{ArePairValues, end_bit}
-use Rattle.dual_rail.specs.Forests.{end_uses, is_end_from}
+use Rattle.dual_rail.specs.Forests.{IsPairOf, end_uses, is_end_from}
 use Rattle.dual_rail.proofs.Zips.{all_zip_back, get_some}
-use Rattle.dual_rail.proofs.PairValues.{ends_have_values}
+use Rattle.dual_rail.proofs.PairValues.{ends_have_values, pairs_have_values}
 use Rattle.tree_map.specs.Plans.{IsTreeOf, cell_of, roots}
 use Rattle.tree_map.proofs.PlanValues.{trees_have_values}
 use Rattle.clock_phase.specs.Levels.{clock_of, greatest}
 use Rattle.domino_law.specs.Nets.{Gate, Minus, Plus, DeckSignal}
-use Rattle.domino_law.specs.OwnRun.{bit_at, cell_bit, cell_bits, gate_bit, next_state, outputs_of, signal_bit, sink_bit}
+use Rattle.domino_law.specs.OwnRun.{bit_at, cell_bit, cell_bits, gate_bit, next_state, outputs_of, own_bit, signal_bit, sink_bit}
 use Rattle.domino_law.specs.Shape.{DominoCell, Latch, Shape}
 use Rattle.domino_law.proofs.SimpleCells.{simple_bit}
 use Rattle.deck_form.specs.ChosenDecks.{IsPlannedDeck, end_at_cell}
@@ -282,6 +282,29 @@ module _ {network : NetworkData} {options : DeckOptions} {circuit : CircuitData}
       (λ g under. gate_same bits k (λ j less. cell_value n j (omega (arith, less, lt)) (omega (arith, less, low))) g under) t.low)
       ∙ trees_have_values is.forest is.kept value pair.0 gate forest_is.has_leaves pair.1 (gate_values is.forest is.kept value pair.0 one_each pair.2) t.place t.tree t.of_place
       ∙ ap pair.0 (sym t.root_is)
+
+  -- nodes have values in the cycle, and each cell has a root pair and the bit of the pair's node, with the pair's sign
+  pub root_values : (of : ℕ → Bool) × AreNodeValues is.gates value of
+      × ((k : ℕ) → k < length is.trees → (place : ℕ) × (p : ℕ × Bool) × (slice_get (roots is.kept) k ≡ Some place)
+      × (slice_get is.forest.origin place ≡ Some p) × (own_bit s (bit_at pins) (bit_at state) k ≡ signed p.1 (of p.0)))
+  root_values = (
+    node.0,
+    node.1,
+    λ k low.
+        let t = get_some is.trees k low in
+        let r = all_zip_back (IsTreeOf is.forest is.kept) (roots is.kept) is.trees k t.0 is.is_plan.trees_are t.1 in
+        let x = get_some is.forest.pairs r.0 (omega (arith, (root_of_cell is.kept k r.0 r.1).2, one_each)) in
+        let o = all_zip_back (IsPairOf is.gates.nodes is.forest.origin) is.forest.origin is.forest.pairs r.0 x.0 is.is_forest.pairs_are x.1 in (
+          r.0,
+          o.0,
+          r.1,
+          o.1,
+          ap (λ cs. bit_at (cell_bits signal cs []) k) cells_same
+              ∙ (cell_value (suc k) k (omega arith) low
+              ∙ (ap pair.0 (get_or_from_slice_get (roots is.kept) k r.0 (length is.kept) r.1)
+              ∙ pairs_have_values is.gates is.signs is.forest value node.0 pair.0 in_place is.is_forest node.1 pair.1 r.0 o.0 o.1)),
+        ),
+  )
 
   -- what a sink's inverter makes is the value of its end
   output_bit : (k place : ℕ) → slice_get is.forest.ends k ≡ Some (end_output place) → bit_at bits (cell_of is.kept place) ≡ pair.0 place

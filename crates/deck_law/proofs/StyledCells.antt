@@ -1,12 +1,14 @@
 -- Cells of either style, beside the cells of decks by numbers.
-use Rattle.std.proofs.Common.{◌≡◌, ℕ, ◌+◌, ◌<◌, List, [], ◌∷◌, ◌++◌, length, refl, sym, arith, length-append, append_assoc, None}
+use Rattle.std.proofs.Common.{◌≡◌, ℕ, ◌+◌, ◌<◌, List, [], ◌∷◌, ◌++◌, length, map, refl, sym, ap, ◌∙◌, arith, length-append, append_assoc, None}
 use Rattle.std.specs.List.{AllByRecursion}
+use Rattle.std.proofs.lemmas.List.{map-append}
 use Rattle.dom_base.specs.declared.kind.Kind.TheVariants.{N as nch, P as pch}
 use Rattle.dom_base.proofs.Lists.{AllByRecursion-right}
-use Rattle.deck.specs.NamedDevices.{NamedDevice}
+use Rattle.deck.specs.NamedDevices.{NamedDevice, map_device}
 use Rattle.deck.specs.NumberedDevices.{IsNumberedDevice}
-use Rattle.domino_cell.specs.Cell.{CellNets, cell, inverter}
+use Rattle.domino_cell.specs.Cell.{CellNets, cell, inverter, map_nets}
 use Rattle.domino_cell.specs.Spelling.{spell}
+use Rattle.domino_cell.proofs.StyledCells.{styled_cell-parts, styled_stage-map_tree}
 use Rattle.domino_law.specs.Nets.{Net, gate_net, left_side}
 use Rattle.domino_law.specs.Shape.{DominoCell, left_stage}
 use Rattle.domino_cell.specs.declared.style.Style.{Style}
@@ -14,7 +16,16 @@ use Rattle.domino_cell.specs.declared.style.Style.TheVariants.{Keeper as WithKee
 use Rattle.domino_law.specs.Spelled as law
 use Rattle.sp_network.specs.Tree.{Tree, inner_count, map_tree}
 use Rattle.deck_law.proofs.DeviceLists.{spell_longer}
-use Rattle.domino_cell.specs.StyledCells.{inner_precharges, behind_precharge, pull_down_cards, styled_cell}
+use Rattle.domino_cell.specs.StyledCells.{inner_precharges, behind_precharge, pull_down_cards, styled_cell, styled_stage}
+
+-- the images of a cell's cards are the cards of the image
+pub styled_cell-map_tree : {N Image : Type 0} (f : N → Image) (style : Style) (nets : CellNets N) (t : Tree N)
+    → map (map_device f) (styled_cell style nets t) ≡ styled_cell style (map_nets f nets) (map_tree f t)
+styled_cell-map_tree f style nets t =
+    ap (map (map_device f)) (styled_cell-parts style nets t)
+    ∙ map-append (map_device f) (styled_stage style nets t) (inverter nets.vdd nets.vss nets.dynamic nets.output)
+    ∙ ap (λ l. l ++ inverter (f nets.vdd) (f nets.vss) (f nets.dynamic) (f nets.output)) (styled_stage-map_tree f style nets t)
+    ∙ sym (styled_cell-parts style (map_nets f nets) (map_tree f t))
 
 -- the cards of a simple cell are those of the law
 pub styled_is : (style : Style) (k : ℕ) (c : DominoCell) → c.right ≡ None

@@ -12,7 +12,9 @@ use Rattle.domino_cell.specs.declared.style.Style.{Style}
 use Rattle.switch_model.specs.LinksData.{links_of}
 use Rattle.network.specs.NetworkData.{NetworkData}
 use Rattle.network.specs.Networks.{IsNetwork}
-use Rattle.port_runs.specs.Environment.{Clocking, Released, Reset, Step, Together, World, bit}
+use Rattle.port_runs.specs.Environment.{Released, Reset, Step, World, bit}
+use Rattle.port_runs.specs.declared.clocking.Clocking.{Clocking}
+use Rattle.port_runs.specs.declared.clocking.Clocking.TheVariants.{Together}
 use Rattle.port_runs.specs.PortRuns.{DoesBy, Rests, RunsBy}
 use Rattle.port_runs.specs.Readings.{HasResetBy, IsReading}
 use Rattle.domino_law.specs.DominoDeck.{IsLooseDominoDeck}

@@ -9,7 +9,7 @@ use Rattle.domino_law.specs.Nets.{At, Clock, Complement, Dynamic, FromDynamic, F
 use Rattle.domino_law.specs.Shape.{DominoCell, Latch, Shape}
 use Rattle.domino_cell.specs.declared.style.Style.{Style}
 use Rattle.deck_form.specs.DeckNets.{SinkEnd, Fixed, OfDynamic, OfLeaf, OfOutput, CellPlan, clock_net, complement_net, data_net, dynamic_net, output_net, vdd, vss}
-use Rattle.port_runs.specs.Environment.{Together}
+use Rattle.port_runs.specs.declared.clocking.Clocking.TheVariants.{Together}
 
 -- the number of a signal's leaf: pins first, then latches
 abbrev pub leaf_of : ℕ → DeckSignal → ℕ

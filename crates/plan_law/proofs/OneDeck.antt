@@ -65,7 +65,7 @@ module _ {AreSigns : GatesData → List Bool → Type 0} (network : NetworkData)
       levels_one (leaf_count network) y.trees below x.levels y.levels (subst (λ ts. AreLevels (leaf_count network) ts x.levels) trees x.levels_are) y.levels_are
 
   -- a network has one deck of signs that are one list: its signs, levels, trees, kept edges and forest are one
-  parts_one : HaveOneSigns AreSigns network → (a b : CircuitData) (x : IsDeckOfSigns AreSigns network options a) (y : IsDeckOfSigns AreSigns network options b)
+  pub parts_one : HaveOneSigns AreSigns network → (a b : CircuitData) (x : IsDeckOfSigns AreSigns network options a) (y : IsDeckOfSigns AreSigns network options b)
       → (x.signs ≡ y.signs) × (x.levels ≡ y.levels) × (x.trees ≡ y.trees) × (x.kept ≡ y.kept) × (x.forest ≡ y.forest)
   parts_one one a b x y =
       let order = networks_are_ordered network is in

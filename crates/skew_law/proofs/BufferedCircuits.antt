@@ -27,9 +27,8 @@ use Rattle.skew_law.proofs.NamedPlans.{complements_same, named_deck, the_plan, t
 use Rattle.skew_law.proofs.PlannedShapes.{leaves_are, planned_deck, planned_may_be_buffered}
 
 -- the shape is that of a planned deck but for its chains of buffers
-pub record HasBufferedShape (network : NetworkData) (options : SynthOptions) (circuit : CircuitData) : Type 0 where
-  pub plain : CircuitData
-  pub planned : IsPlannedDeck network (keeper_options options) plain
+pub record HasBufferedShape (network : NetworkData) (options : SynthOptions) (plain : CircuitData) (planned : IsPlannedDeck network (keeper_options options) plain)
+    (circuit : CircuitData) : Type 0 where
   pub named : IsNamedDeck WithKeeper circuit
   pub clocks_are : named.clocks ≡ options.phases
   pub pins_are : named.pins ≡ pins_of network
@@ -60,7 +59,7 @@ module _ (network : NetworkData) (options : SynthOptions) (plain : CircuitData) 
   abbrev circuit : CircuitData
   circuit = buffered_circuit network options.phases planned.signs ends p
 
-  plan_same : p ≡ the_plan plain d may
+  pub plan_same : p ≡ the_plan plain d may
   plan_same = λ i. record { leaves = sym (leaves_are network options plain planned net_is some few) i; clocks = options.phases; cells = cells; sinks = cells_taken ends }
 
   abbrev bare : CircuitData
@@ -76,10 +75,8 @@ module _ (network : NetworkData) (options : SynthOptions) (plain : CircuitData) 
   circuit_is = λ i. with_devices (new_circuit (sym (named_cards bare cards).0 i) (sym (named_cards bare cards).1 i) options.phases (pins_of network) (outs_of network))
       (named_devices WithKeeper (pins_of network) (outs_of network) (starts_of network) (with_chains (plan_cells (plan_same i)) 0 cells) (complements_same p ends i) (map (new_end (plan_same i)) ends))
 
-  pub buffered_shape : HasBufferedShape network options circuit
+  pub buffered_shape : HasBufferedShape network options plain planned circuit
   buffered_shape = record {
-    plain = plain;
-    planned = planned;
     named = named_deck plain d may circuit circuit_is;
     clocks_are = refl;
     pins_are = refl;
@@ -89,6 +86,6 @@ module _ (network : NetworkData) (options : SynthOptions) (plain : CircuitData) 
   }
 
 pub has_shape : (network : NetworkData) (options : SynthOptions) (circuit : CircuitData) → IsNetwork network → 1 ≤ options.phases → options.phases ≤ 4
-    → IsBufferedDeck network options circuit → HasBufferedShape network options circuit
+    → (is : IsBufferedDeck network options circuit) → HasBufferedShape network options is.plain is.planned circuit
 has_shape network options circuit net_is some few is =
-    subst (HasBufferedShape network options) (sym is.circuit_is) (buffered_shape network options is.plain is.planned net_is some few)
+    subst (HasBufferedShape network options is.plain is.planned) (sym is.circuit_is) (buffered_shape network options is.plain is.planned net_is some few)

@@ -10,7 +10,7 @@ use Rattle.std.proofs.lemmas.List.{drop-map, map-append, take-append-drop, take-
 use Rattle.sp_network.specs.Tree.{Leaf, Parallel, Series, Tree, map_tree}
 use Rattle.clock_phase.specs.Levels.{cells_read, greatest}
 use Rattle.deck_form.specs.DeckNets.{CellPlan, Fixed, OfDynamic, OfLeaf, OfOutput, SinkEnd}
-use Rattle.port_runs.specs.Environment.{Overlapping}
+use Rattle.port_runs.specs.declared.clocking.Clocking.TheVariants.{Overlapping}
 use Rattle.domino_law.specs.Nets.{FromDynamic, FromOutput}
 use Rattle.domino_law.specs.Shape.{DominoCell, Latch, Shape, overlapping}
 use Rattle.deck_law.specs.NetNames.{cell_shape, deck_shape, end_gate, gate_of, latch_shape, leaf_signal, rail_of}

@@ -37,7 +37,7 @@ each_back F f (Leaf gate) h = h
 each_back F f (Series l r) h = (each_back F f l h.0, each_back F f r h.1)
 each_back F f (Parallel l r) h = (each_back F f l h.0, each_back F f r h.1)
 
-each_at : {X : Type 0} (P : X → Type 0) (xs : List X) → AllByRecursion P xs → (k : ℕ) (x : X) → slice_get xs k ≡ Some x → P x
+pub each_at : {X : Type 0} (P : X → Type 0) (xs : List X) → AllByRecursion P xs → (k : ℕ) (x : X) → slice_get xs k ≡ Some x → P x
 each_at P [] h k x e = absurd (cc)
 each_at P (y ∷ xs) h zero x e = let z : y ≡ x = cc in subst P z h.0
 each_at P (y ∷ xs) h (suc k) x e = each_at P xs h.1 k x e

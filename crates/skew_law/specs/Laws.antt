@@ -9,11 +9,12 @@ use Rattle.net_flatten.specs.Flattening.{IsNetworkOf}
 use Rattle.network.specs.NetworkData.{NetworkData}
 use Rattle.network.specs.Networks.{IsNetwork}
 use Rattle.domino_cell.specs.declared.style.Style.TheVariants.{Keeper as WithKeeper}
-use Rattle.port_runs.specs.Environment.{Overlapping, Together}
+use Rattle.port_runs.specs.declared.clocking.Clocking.TheVariants.{Overlapping, Together}
 use Rattle.deck_form.specs.declared.options.SynthOptions.{SynthOptions}
 use Rattle.deck_law.specs.Headline.{IsRightInEveryRun, roles_of}
 use Rattle.deck_law.specs.HonestDecks.{IsHonestDeck}
 use Rattle.synth_flow.specs.BufferedDecks.{IsBufferedDeck}
+use Rattle.held_law.specs.HeldNets.{HeldNetsHoldTargets}
 use Rattle.skew_law.specs.BufferedDecks.{IsRightOverlappingDeck}
 
 -- the circuit of a network's plan with its chains of buffers is right in every run, where its clocks overlap and where all fall together
@@ -39,3 +40,11 @@ BufferedDecksAreHonest =
     (network : NetworkData) (options : SynthOptions) (circuit : CircuitData) → IsNetwork network → 1 ≤ options.phases → options.phases ≤ 4
     → IsBufferedDeck network options circuit → IsCircuit circuit.ports circuit.nets circuit.devices
     → IsHonestDeck Overlapping WithKeeper network circuit (roles_of network options.phases)
+
+-- from the fall of an early clock to that of the next, while the one is 0 and the other is 1, each net of each cell of the next holds its
+-- target in every state of its legal runs
+abbrev pub BufferedDecksHoldTargets : Type 0
+BufferedDecksHoldTargets =
+    (network : NetworkData) (options : SynthOptions) (circuit : CircuitData) → IsNetwork network → 1 ≤ options.phases → options.phases ≤ 4
+    → IsBufferedDeck network options circuit → IsCircuit circuit.ports circuit.nets circuit.devices
+    → HeldNetsHoldTargets circuit (roles_of network options.phases)

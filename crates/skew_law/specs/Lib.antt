@@ -1,2 +1,4 @@
 pub mod BufferedDecks
+pub mod DominoForms
 pub mod Laws
+pub mod RootPairs

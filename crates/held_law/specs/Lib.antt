@@ -1,0 +1,2 @@
+pub mod HeldNets
+pub mod Laws
