@@ -2,7 +2,7 @@
 use Rattle.std.specs.Prelude.{ℕ, ◌≤◌, List}
 use Rattle.deck.specs.CircuitData.{CircuitData}
 use Rattle.deck.specs.Whole.{IsWhole}
-use Rattle.deck.specs.DecksWithCalls.{IsDeckWithCalls}
+use Rattle.deck.specs.DeckText.{IsDeckOf}
 use Rattle.spice_text.specs.Cells.{HasCells, IsWrittenByCells}
 use Rattle.network.specs.NetworkData.{NetworkData}
 use Rattle.deck_form.specs.ChosenDecks.{IsPlannedDeck}
@@ -20,7 +20,7 @@ abbrev pub PlannedTextsReadBack : Type 0
 PlannedTextsReadBack =
     (network : NetworkData) (options : DeckOptions) (circuit : CircuitData) (is : IsPlannedDeck network options circuit) (text : List ℕ)
     → options.width ≤ 8 → options.height ≤ 6 → options.phases ≤ 4 → IsWhole circuit
-    → IsWrittenByCells circuit (group_places is) text → IsDeckWithCalls text circuit
+    → IsWrittenByCells circuit (group_places is) text → IsDeckOf text circuit
 
 -- so what synthesis gives with the ends of its groups can be written by cells
 abbrev pub GroupedDecksHaveCells : Type 0
@@ -33,4 +33,4 @@ abbrev pub GroupedTextsReadBack : Type 0
 GroupedTextsReadBack =
     (network : NetworkData) (options : DeckOptions) (circuit : CircuitData) (places text : List ℕ)
     → IsGroupedDeck network options circuit places → options.width ≤ 8 → options.height ≤ 6 → options.phases ≤ 4 → IsWhole circuit
-    → IsWrittenByCells circuit places text → IsDeckWithCalls text circuit
+    → IsWrittenByCells circuit places text → IsDeckOf text circuit

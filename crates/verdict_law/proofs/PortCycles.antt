@@ -6,7 +6,8 @@ use Rattle.deck.specs.declared.role.Roles.{Roles}
 use Rattle.switch_model.specs.LinksData.{links_of}
 use Rattle.switch_model.specs.Power.{power_values}
 use Rattle.event_sim.specs.declared.event.Event.{Event}
-use Rattle.port_runs.specs.Environment.{Evaluation, Open, Released, Step, Take, Together, World, after_move, stream_of}
+use Rattle.port_runs.specs.Environment.{Evaluation, Open, Released, Step, Take, World, after_move, stream_of}
+use Rattle.port_runs.specs.declared.clocking.Clocking.TheVariants.{Together}
 use Rattle.port_runs.specs.LegalSteps.{ClockedLinks}
 use Rattle.port_runs.specs.PortRuns.{Rests, Runs, SetsPorts, clocked_ports, power_world}
 use Rattle.port_runs.specs.Readings.{IsReading}

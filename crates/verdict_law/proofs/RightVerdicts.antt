@@ -17,7 +17,7 @@ use Rattle.network.specs.NetworkData.{NetworkData}
 use Rattle.network.specs.Networks.{IsNetwork}
 use Rattle.net_run.specs.Runs.{IsNetworkRun}
 use Rattle.event_sim.specs.Orders.{By}
-use Rattle.port_runs.specs.Environment.{Together}
+use Rattle.port_runs.specs.declared.clocking.Clocking.TheVariants.{Together}
 use Rattle.port_runs.proofs.RunOrder.{runs_stand_in_order}
 use Rattle.trace_tool.specs.CosimRefusals.{HasNetworkOf, IsCosimRefused}
 use Rattle.trace_tool.specs.Traces.{picked_place}
@@ -32,11 +32,10 @@ use Rattle.trace_tool.proofs.OneVerdictOrCause.{verdict_is_one}
 use Rattle.trace_tool.proofs.PortCounts.{are_outputs, counts_agree, pins_and_outputs_are}
 use Rattle.trace_tool.proofs.SetupNets.{outputs_within}
 use Rattle.trace_tool.proofs.VerdictThere.{verdict_is_there}
-use Rattle.deck_law.specs.Headline.{IsRightDeck, IsRightInEveryRun, input_ports, output_ports, roles_of}
+use Rattle.deck_law.specs.Headline.{IsRightInEveryRun, input_ports, output_ports, roles_of}
 use Rattle.stim_text.specs.Stimuli.{IsStimulusOf}
-use Rattle.deck_form.specs.DeckOptions.{DeckOptions}
 use Rattle.deck_form.specs.DominoDecks.{signal_name}
-use Rattle.verdict_law.specs.Laws.{IsSame, RealisedIsSame, RealisesInTime, RightDeckIsAccepted, RightDeckIsSame}
+use Rattle.verdict_law.specs.Laws.{IsRightTogether, IsSame, RealisedIsSame, RealisesInTime, RightDeckIsAccepted, RightDeckIsSame}
 use Rattle.verdict_law.proofs.SameVerdicts.{none_differ, same_run}
 
 pub realised_is_same : RealisedIsSame
@@ -72,29 +71,26 @@ realises network c roles are right = record {
       };
 }
 
-module _ (blif deck : List ℕ) (options : DeckOptions) (right : IsRightDeck blif options deck) where
+module _ (blif deck : List ℕ) (phases : ℕ) (right : IsRightTogether blif phases deck) where
   abbrev network : NetworkData
   network = right.network
 
   abbrev circuit : CircuitData
   circuit = right.circuit
 
-  has : HasNetworkOf blif network
-  has = record { file = right.file; accepted = right.is_file; network_is = right.is_network }
-
   is_network : IsNetwork network
-  is_network = text_network_kept blif network has
+  is_network = text_network_kept blif network right.has
 
   pins_named : map pin_name (take network.inputs network.names) ≡ input_ports network
   pins_named = sym (ranged pin_name [] network.names 0 network.inputs (omega (arith, is_network.count)))
 
-  are : AreRoles (ports_of circuit) (roles_of network options.phases)
+  are : AreRoles (ports_of circuit) (roles_of network phases)
   are = record {
     pins = input_ports network;
     outs = output_ports network;
     in_order = record {
-      some_clock = (right.is_deck).some_clock;
-      few_clocks = (right.is_deck).few_clocks;
+      some_clock = right.some_clock;
+      few_clocks = right.few_clocks;
       pins_are = subst (All IsPin) pins_named (pins_are_pins (take network.inputs network.names));
       outs_are = are_outputs (signal_name network) network.outputs;
       order = right.ports;
@@ -103,14 +99,14 @@ module _ (blif deck : List ℕ) (options : DeckOptions) (right : IsRightDeck bli
     out_count = length-map network.outputs (λ signal. output_name (signal_name network signal));
   }
 
-  ports_are : pins_and_outputs circuit (roles_of network options.phases) ≡ network_ports network
+  ports_are : pins_and_outputs circuit (roles_of network phases) ≡ network_ports network
   unfolding are
-  ports_are = pins_and_outputs_are circuit (roles_of network options.phases) are ∙ ap (λ l. l ++ output_ports network) (sym pins_named)
+  ports_are = pins_and_outputs_are circuit (roles_of network phases) are ∙ ap (λ l. l ++ output_ports network) (sym pins_named)
 
   right_same : (stim : List ℕ) (order : Order) (seed : ℕ) (verdict : Verdict) → (v : IsVerdictOf blif deck stim order seed verdict) → IsSame verdict (length v.stream)
   right_same stim order seed verdict v =
-      realised_is_same (picked_place order seed) network circuit (roles_of network options.phases) v.stream v.cycles verdict is_network are ports_are
-      (realises network circuit (roles_of network options.phases) are right.right)
+      realised_is_same (picked_place order seed) network circuit (roles_of network phases) v.stream v.cycles verdict is_network are ports_are
+      (realises network circuit (roles_of network phases) are right.right)
       (subst (λ (n : NetworkData). All (λ pins. length pins ≡ n.inputs) v.stream) networks (v.is_stimulus).widths_are)
       (subst (λ (n : NetworkData). IsNetworkRun n v.stream v.cycles) networks v.is_run)
       (subst (λ (r : Roles). IsVerdict (By (picked_place order seed)) network circuit r v.stream v.cycles verdict) roles
@@ -118,24 +114,27 @@ module _ (blif deck : List ℕ) (options : DeckOptions) (right : IsRightDeck bli
       (subst (λ (n : NetworkData). IsVerdict (By (picked_place order seed)) n v.circuit v.roles v.stream v.cycles verdict) networks v.is_verdict)))
     where
       networks : v.network ≡ network
-      networks = network_same blif v.network network v.has has
+      networks = network_same blif v.network network v.has right.has
 
       circuits : v.circuit ≡ circuit
       circuits = right.no_other v.circuit v.is_deck
 
-      roles : v.roles ≡ roles_of network options.phases
-      roles = AreRoles-same (ports_of circuit) v.roles (roles_of network options.phases) (subst (λ (c : CircuitData). AreRoles (ports_of c) v.roles) circuits v.are_roles) are
+      roles : v.roles ≡ roles_of network phases
+      roles = AreRoles-same (ports_of circuit) v.roles (roles_of network phases) (subst (λ (c : CircuitData). AreRoles (ports_of c) v.roles) circuits v.are_roles) are
 
-  some_verdict : (stim : List ℕ) (stream : List (List Bool)) (n : NetworkData) → HasNetworkOf blif n → IsStimulusOf n.inputs stim stream → (verdict : Verdict) × IsVerdictOf blif deck stim First 0 verdict
-  some_verdict stim stream n theirs stimulus = verdict_is_there blif deck stim First 0 n circuit (roles_of network options.phases) stream theirs right.reads_back are stimulus
+  -- it has a verdict over each stimulus
+  pub some_verdict : (stim : List ℕ) (order : Order) (seed : ℕ) (stream : List (List Bool)) (n : NetworkData) → HasNetworkOf blif n → IsStimulusOf n.inputs stim stream
+      → (verdict : Verdict) × IsVerdictOf blif deck stim order seed verdict
+  some_verdict stim order seed stream n theirs stimulus =
+      verdict_is_there blif deck stim order seed n circuit (roles_of network phases) stream theirs right.reads_back are stimulus
 
 pub right_deck_is_same : RightDeckIsSame
-right_deck_is_same = λ blif deck stim options order seed verdict right v. record {
+right_deck_is_same = λ blif deck stim phases order seed verdict right v. record {
   network = v.network;
   has = v.has;
   stream = v.stream;
   is_stimulus = v.is_stimulus;
-  is_same = right_same blif deck options right stim order seed verdict v;
+  is_same = right_same blif deck phases right stim order seed verdict v;
 }
 
 refused_none : (blif deck stim : List ℕ) (verdict : Verdict) (why : TraceFault) → IsVerdictOf blif deck stim First 0 verdict → IsCosimRefused blif deck stim why → why ≡ Memory
@@ -148,6 +147,6 @@ refused_none blif deck stim verdict (NoNet name) v r = absurd r
 refused_none blif deck stim verdict (Stim line kind) v r = absurd (verdict_is_one.apart blif deck stim First 0 verdict (Stim line kind) (λ e. cc) v r)
 
 pub right_deck_is_accepted : RightDeckIsAccepted
-right_deck_is_accepted = λ blif deck stim options n stream why right theirs stimulus refused.
-    let some = some_verdict blif deck options right stim stream n theirs stimulus in
+right_deck_is_accepted = λ blif deck stim phases n stream why right theirs stimulus refused.
+    let some = some_verdict blif deck phases right stim First 0 stream n theirs stimulus in
     refused_none blif deck stim some.0 why some.1 refused

@@ -1,8 +1,10 @@
 -- The verdict of a deck that realises the network of a text of BLIF, the Berkeley Logic Interchange Format: all is the same, in every
 -- order of events.
-use Rattle.std.specs.Prelude.{ℕ, ◌≡◌, ◌≤◌, All, Bool, List, length, map}
+use Rattle.std.specs.Prelude.{ℕ, ◌++◌, ◌≡◌, ◌≤◌, All, Bool, List, length, map, take}
 use Rattle.dom_base.specs.declared.tri.Tri.{Tri}
 use Rattle.deck.specs.CircuitData.{CircuitData}
+use Rattle.deck.specs.DeckText.{IsDeckOf}
+use Rattle.deck.specs.Ports.{leading_ports}
 use Rattle.deck.specs.Roles.{AreRoles, ports_of}
 use Rattle.deck.specs.declared.role.Roles.{Roles}
 use Rattle.switch_model.specs.LinksData.{links_of}
@@ -14,6 +16,7 @@ use Rattle.net_run.specs.Runs.{Cycle, IsNetworkRun}
 use Rattle.port_runs.specs.Environment.{Happens, Step, World, bit, stream_of}
 use Rattle.port_runs.specs.PortRuns.{Leads, Runs}
 use Rattle.port_runs.specs.Readings.{IsReading}
+use Rattle.port_runs.specs.declared.clocking.Clocking.TheVariants.{Together}
 use Rattle.stim_text.specs.Stimuli.{IsStimulusOf}
 use Rattle.trace_tool.specs.CosimRefusals.{HasNetworkOf, IsCosimRefused}
 use Rattle.trace_tool.specs.Traces.{outputs}
@@ -24,7 +27,7 @@ use Rattle.trace_tool.specs.declared.options.Order.{Order}
 use Rattle.trace_tool.specs.declared.verdict.Verdict.{Verdict}
 use Rattle.trace_tool.specs.declared.verdict.Verdict.TheVariants.{Same}
 use Rattle.deck_form.specs.DeckOptions.{DeckOptions}
-use Rattle.deck_law.specs.Headline.{IsCycleOf, IsRightDeck}
+use Rattle.deck_law.specs.Headline.{IsCycleOf, IsRightDeck, IsRightInEveryRun, input_ports, output_ports, roles_of}
 
 -- the outputs are those of the network in the cycle of the last pins that the steps took
 pub record HasOutputs (network : NetworkData) (roles : Roles) (steps : List Step) (values : List Tri) : Type 0 where
@@ -60,15 +63,43 @@ pub record IsSameOver (blif stim : List ℕ) (verdict : Verdict) : Type 0 where
   pub is_stimulus : IsStimulusOf network.inputs stim stream
   pub is_same : IsSame verdict (length stream)
 
--- a right deck of a text, in either style, has this verdict over each stimulus, in each order of events
+-- The bytes of a deck on so many clocks, for the bytes of a text: they read back as a circuit with the ports of the text's network that
+-- is right in every run in which all clocks fall together, whatever its cells are.
+pub record IsRightTogether (blif : List ℕ) (phases : ℕ) (deck : List ℕ) : Type 0 where
+  pub network : NetworkData
+  pub has : HasNetworkOf blif network
+  pub circuit : CircuitData
+  pub reads_back : IsDeckOf deck circuit
+  pub no_other : (other : CircuitData) → IsDeckOf deck other → other ≡ circuit
+  pub some_clock : 1 ≤ phases
+  pub few_clocks : phases ≤ 4
+  pub ports : take circuit.ports circuit.nets ≡ leading_ports phases ++ input_ports network ++ output_ports network
+  pub right : IsRightInEveryRun Together network circuit (roles_of network phases)
+
+-- as each right deck is
+abbrev pub right_together : {blif : List ℕ} {options : DeckOptions} {deck : List ℕ} → IsRightDeck blif options deck
+    → IsRightTogether blif options.phases deck
+right_together right = record {
+  network = right.network;
+  has = record { file = right.file; accepted = right.is_file; network_is = right.is_network };
+  circuit = right.circuit;
+  reads_back = right.reads_back;
+  no_other = right.no_other;
+  some_clock = (right.is_deck).some_clock;
+  few_clocks = (right.is_deck).few_clocks;
+  ports = right.ports;
+  right = right.right;
+}
+
+-- such a deck of a text, in either style, has this verdict over each stimulus, in each order of events
 abbrev pub RightDeckIsSame : Type 0
 RightDeckIsSame =
-    (blif deck stim : List ℕ) (options : DeckOptions) (order : Order) (seed : ℕ) (verdict : Verdict)
-    → IsRightDeck blif options deck → IsVerdictOf blif deck stim order seed verdict → IsSameOver blif stim verdict
+    (blif deck stim : List ℕ) (phases : ℕ) (order : Order) (seed : ℕ) (verdict : Verdict)
+    → IsRightTogether blif phases deck → IsVerdictOf blif deck stim order seed verdict → IsSameOver blif stim verdict
 
 -- and over a stimulus for the inputs of the text's network nothing is refused
 abbrev pub RightDeckIsAccepted : Type 0
 RightDeckIsAccepted =
-    (blif deck stim : List ℕ) (options : DeckOptions) (network : NetworkData) (stream : List (List Bool)) (why : TraceFault)
-    → IsRightDeck blif options deck → HasNetworkOf blif network → IsStimulusOf network.inputs stim stream
+    (blif deck stim : List ℕ) (phases : ℕ) (network : NetworkData) (stream : List (List Bool)) (why : TraceFault)
+    → IsRightTogether blif phases deck → HasNetworkOf blif network → IsStimulusOf network.inputs stim stream
     → IsCosimRefused blif deck stim why → why ≡ Memory

@@ -7,8 +7,8 @@ pub fn realised_is_same()
     ensures { RealisedIsSame }
 {}
 
-/// A right deck of a text has that verdict over each stimulus for the inputs of the text's network, and neither the text
-/// nor the deck nor the stimulus is refused.
+/// A deck of a text that is right where all clocks fall together, as right decks are and those whose clocks may overlap, has that
+/// verdict over each stimulus for the inputs of the text's network, and neither the text nor the deck nor the stimulus is refused.
 pub fn right_deck_is_same()
     ensures same { RightDeckIsSame }
     ensures accepted { RightDeckIsAccepted }
