@@ -1,5 +1,5 @@
 -- What an option gives, by the values that are found.
-use Rattle.std.proofs.Common.{◌≡◌, ℕ, List, [], ◌∷◌, Option, Some, None, ap, refl}
+use Rattle.std.proofs.Common.{◌≡◌, ℕ, List, [], ◌∷◌, Option, Some, None, ap}
 use Rattle.command_words.specs.Given.{given}
 use Rattle.command_words.specs.Items.{AreSeveral}
 

@@ -1,3 +1,4 @@
+pub mod AskedMethods
 pub mod AskedOnce
 pub mod Given
 pub mod Lists

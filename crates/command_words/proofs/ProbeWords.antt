@@ -1,6 +1,5 @@
 -- Probe words: names that are read in lower case, and the pieces of a value.
-use Rattle.std.proofs.Common.{◌≡◌, ◌≢◌, ◌⊎◌, ◌++◌, inl, inr, ℕ, ◌<◌, ◌≤◌, ◌+◌, ◌-◌, Some, None, true, false, List, [], ◌∷◌, length, map, take, drop, refl, sym, ap, ◌∙◌, subst, arith, rules}
-use Rattle.std.specs.Prelude.{All}
+use Rattle.std.proofs.Common.{◌≡◌, ◌≢◌, ◌⊎◌, ◌++◌, inl, inr, ℕ, ◌<◌, ◌≤◌, ◌+◌, ◌-◌, Some, None, true, false, List, [], ◌∷◌, length, map, take, drop, sym, ap, ◌∙◌, subst, arith, rules}
 use Rattle.std.specs.Char.{to_ascii_lowercase}
 use Rattle.std.specs.Str.{str_to_ascii_lowercase}
 use Rattle.std.specs.List.{filter_map, list_all, position_or_len, slice_split}

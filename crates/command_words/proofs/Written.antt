@@ -1,6 +1,5 @@
 -- Words in front of what is written behind them.
 use Rattle.std.proofs.Common.{◌≡◌, ℕ, List, true, false, refl}
-use Rattle.std.specs.Prelude.{codes}
 use Rattle.std.specs.List.{list_any}
 use Rattle.command_words.specs.Written.{Written, flag_names, in_front, is_dashed, is_equals, is_same, with_value_of}
 

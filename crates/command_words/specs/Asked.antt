@@ -7,7 +7,7 @@ abbrev pub asked_command : Read → Command
 asked_command (read.Synth file options method) = Synth file.now options method
 asked_command (read.Flat file) = Flat file.now
 asked_command (read.Run file stim) = Run file.now stim.now
-asked_command (read.Sim deck stim options) = Sim deck.now stim.now options
+asked_command (read.Sim deck stim options clocking) = Sim deck.now stim.now options clocking
 asked_command (read.Cosim file deck stim order seed) = Cosim file.now deck.now stim.now order seed
 asked_command (read.Report file options) = Report file.now options
 asked_command (read.Bench seed size options) = Bench seed size options

@@ -1,25 +1,26 @@
 -- The commands, and the words of a command line that ask for each.
 use Rattle.std.specs.Prelude.{ℕ, ◌-◌, ◌^◌, ◌≡◌, ◌≤◌, List, [], ◌∷◌, Option, Some, None, codes, if◌then◌else◌}
 use Rattle.std.specs.List.{list_all}
-use Rattle.std.specs.Option.{option_map}
+use Rattle.std.specs.Option.{option_and_then, option_map}
+use Rattle.port_runs.specs.declared.clocking.Clocking.{Clocking}
 use Rattle.trace_tool.specs.declared.options.Order.{Order}
 use Rattle.trace_tool.specs.TraceData.{TraceOptionsData}
 use Rattle.deck_form.specs.declared.options.SynthOptions.{SynthOptions}
 use Rattle.command_words.specs.Given.{of_one, of_three, of_two, with_three, with_two}
 use Rattle.command_words.specs.NumberWords.{number_from}
 use Rattle.command_words.specs.SynthOptionWords.{AreGoodOptions, method_of, deck_flag_names, deck_option_names, synth_option_names, synth_options}
-use Rattle.command_words.specs.TraceOptionWords.{order_of, order_option_names, seed_of, trace_flag_names, trace_option_names, trace_options}
+use Rattle.command_words.specs.TraceOptionWords.{clocking_of, order_of, order_option_names, seed_of, trace_flag_names, trace_option_names, trace_options}
 use Rattle.command_words.specs.declared.command.Method.{Method}
 use Rattle.command_words.specs.Written.{Written, is_same, plain_words, takes, written}
 
 -- what the program is asked for: the deck of a file, its network, the run of its network over a stimulus, the trace of a deck over a
--- stimulus, whether a deck does what the network of a file does over a stimulus, the figures of the deck of a file, or those of a
--- network that a seed and a size give
+-- stimulus where its clocks fall so, whether a deck does what the network of a file does over a stimulus, the figures of the deck of a
+-- file, or those of a network that a seed and a size give
 pub data Command : Type 0 where
   Synth : (file : List ℕ) → (options : SynthOptions) → (method : Method) → Command
   Flat : (file : List ℕ) → Command
   Run : (file stim : List ℕ) → Command
-  Sim : (deck stim : List ℕ) → (options : TraceOptionsData) → Command
+  Sim : (deck stim : List ℕ) → (options : TraceOptionsData) → (clocking : Clocking) → Command
   Cosim : (file deck stim : List ℕ) → (order : Order) → (seed : ℕ) → Command
   Report : (file : List ℕ) → (options : SynthOptions) → Command
   Bench : (seed size : ℕ) → (options : SynthOptions) → Command
@@ -29,7 +30,7 @@ abbrev pub files_of : Command → List (List ℕ)
 files_of (Synth file options method) = file ∷ []
 files_of (Flat file) = file ∷ []
 files_of (Run file stim) = file ∷ stim ∷ []
-files_of (Sim deck stim options) = deck ∷ stim ∷ []
+files_of (Sim deck stim options clocking) = deck ∷ stim ∷ []
 files_of (Cosim file deck stim order seed) = file ∷ deck ∷ stim ∷ []
 files_of (Report file options) = file ∷ []
 files_of (Bench seed size options) = []
@@ -44,7 +45,7 @@ abbrev pub HasGoodOptions : Command → Type 0
 HasGoodOptions (Synth file options method) = AreGoodOptions options
 HasGoodOptions (Flat file) = Unit {0}
 HasGoodOptions (Run file stim) = Unit {0}
-HasGoodOptions (Sim deck stim options) = Unit {0}
+HasGoodOptions (Sim deck stim options clocking) = Unit {0}
 HasGoodOptions (Cosim file deck stim order seed) = Unit {0}
 HasGoodOptions (Report file options) = AreGoodOptions options
 HasGoodOptions (Bench seed size options) = AreGoodOptions options × IsGoodSize size
@@ -53,9 +54,11 @@ HasGoodOptions (Bench seed size options) = AreGoodOptions options × IsGoodSize 
 abbrev pub taken : (valued flags : List (List ℕ)) → List Written → Option Command → Option Command
 taken valued flags words command = if list_all (takes valued flags) words then command else None
 
+abbrev pub synth_of : List Written → (file : List ℕ) → Option Command
+synth_of words file = option_and_then (λ options. option_map (Synth file options) (method_of options words)) (synth_options words)
+
 abbrev pub synth_in : List Written → Option Command
-synth_in words = taken deck_option_names deck_flag_names words
-    (of_one (λ file. with_two (Synth file) (synth_options words) (method_of words)) (plain_words words))
+synth_in words = taken deck_option_names deck_flag_names words (of_one (synth_of words) (plain_words words))
 
 abbrev pub flat_in : List Written → Option Command
 flat_in words = taken [] [] words (of_one (λ file. Some (Flat file)) (plain_words words))
@@ -65,7 +68,7 @@ run_in words = taken [] [] words (of_two (λ file stim. Some (Run file stim)) (p
 
 abbrev pub sim_in : List Written → Option Command
 sim_in words = taken trace_option_names trace_flag_names words
-    (of_two (λ deck stim. option_map (Sim deck stim) (trace_options words)) (plain_words words))
+    (of_two (λ deck stim. with_two (Sim deck stim) (trace_options words) (clocking_of words)) (plain_words words))
 
 abbrev pub cosim_in : List Written → Option Command
 cosim_in words = taken order_option_names [] words

@@ -1,12 +1,17 @@
 -- What an option gives, and several things that must all be there.
-use Rattle.std.specs.Prelude.{ℕ, List, [], ◌∷◌, Option, Some, None}
+use Rattle.std.specs.Prelude.{ℕ, Bool, true, false, List, [], ◌∷◌, Option, Some, None}
 use Rattle.std.specs.Option.{option_and_then, option_map}
+use Rattle.command_words.specs.Written.{Written, flags_of}
 
 -- what an option gives by its values: its default where it has none, and else what its one value gives; it isn't given twice
 abbrev pub given : {X : Type 0} → (List ℕ → Option X) → X → List (List ℕ) → Option X
 given read default [] = Some default
 given read default (value ∷ []) = read value
 given read default (value ∷ another ∷ values) = None
+
+-- whether an option without a value is given; it isn't given twice
+abbrev pub flag_given : List ℕ → List Written → Option Bool
+flag_given name words = given (λ found. Some true) false (flags_of name words)
 
 -- what a function gives of two things, of three, of four, where all are there
 abbrev pub with_two : {A B R : Type 0} → (A → B → R) → Option A → Option B → Option R

@@ -1,16 +1,16 @@
 -- The options of synthesis on the command line, and what they give.
-use Rattle.std.specs.Prelude.{ℕ, ◌≤◌, ◌==◌, Bool, true, false, List, [], ◌∷◌, ◌++◌, Option, Some, None, codes, if◌then◌else◌}
+use Rattle.std.specs.Prelude.{ℕ, ◌≤◌, ◌≡◌, ◌==◌, Bool, ◌&&◌, true, false, not, nat_lt, List, [], ◌∷◌, ◌++◌, Option, Some, None, codes, if◌then◌else◌}
 use Rattle.std.specs.Option.{option_and_then, option_map}
 use Rattle.deck_form.specs.declared.options.SynthOptions.{SynthOptions}
 use Rattle.deck_form.specs.declared.version.DeckVersion.{DeckVersion}
 use Rattle.deck_form.specs.declared.version.DeckVersion.TheVariants.{One as VersionOne, Two as VersionTwo}
 use Rattle.domino_cell.specs.declared.style.Style.{Style}
 use Rattle.domino_cell.specs.declared.style.Style.TheVariants.{Keeper as WithKeeper, Precharge as WithPrecharge}
-use Rattle.command_words.specs.Given.{given, with_four}
+use Rattle.command_words.specs.Given.{flag_given, given, with_four}
 use Rattle.command_words.specs.NumberWords.{number_from}
-use Rattle.command_words.specs.Written.{Written, flags_of, is_same, values_of}
+use Rattle.command_words.specs.Written.{Written, is_same, values_of}
 use Rattle.command_words.specs.declared.command.Method.{Method}
-use Rattle.command_words.specs.declared.command.Method.TheVariants.{Exact, Plain}
+use Rattle.command_words.specs.declared.command.Method.TheVariants.{Exact, Plain, Skew}
 
 abbrev pub synth_option_names : List (List ℕ)
 synth_option_names = codes "--width" ∷ codes "--height" ∷ codes "--phases" ∷ codes "--style" ∷ []
@@ -46,10 +46,13 @@ abbrev pub deck_option_names : List (List ℕ)
 deck_option_names = synth_option_names ++ codes "--deck" ∷ []
 
 abbrev pub deck_flag_names : List (List ℕ)
-deck_flag_names = codes "--exact" ∷ []
+deck_flag_names = codes "--exact" ∷ codes "--skew" ∷ []
 
 abbrev pub exact_of : List Written → Option Bool
-exact_of words = given (λ name. Some true) false (flags_of (codes "--exact") words)
+exact_of words = flag_given (codes "--exact") words
+
+abbrev pub skew_of : List Written → Option Bool
+skew_of words = flag_given (codes "--skew") words
 
 -- version 1 or 2, 1 where none is given
 abbrev pub version_numbered : ℕ → DeckVersion
@@ -58,15 +61,26 @@ version_numbered number = if number == 2 then VersionTwo else VersionOne
 abbrev pub version_of : List Written → Option DeckVersion
 version_of words = option_map version_numbered (given (number_from 1 2) 1 (values_of (codes "--deck") words))
 
--- exact signs have no version but version 1
-abbrev pub method_for : Bool → DeckVersion → Option Method
-method_for true VersionOne = Some Exact
-method_for true VersionTwo = None
-method_for false version = Some (Plain version)
+-- the style has keepers
+abbrev pub has_keepers : Style → Bool
+has_keepers WithKeeper = true
+has_keepers WithPrecharge = false
+
+-- clocks may overlap where there are several, and cells have keepers
+abbrev pub may_overlap : SynthOptions → Bool
+may_overlap options = not (nat_lt options.phases 2) && has_keepers options.style
+
+-- exact signs and clocks that overlap have no version but version 1, and not both are asked for
+abbrev pub method_for : SynthOptions → (exact skew : Bool) → DeckVersion → Option Method
+method_for options false false version = Some (Plain version)
+method_for options true false VersionOne = Some Exact
+method_for options false true VersionOne = if may_overlap options then Some Skew else None
+method_for options _ _ _ = None
 
 -- the plain method where none is named
-abbrev pub method_of : List Written → Option Method
-method_of words = option_and_then (λ exact. option_and_then (method_for exact) (version_of words)) (exact_of words)
+abbrev pub method_of : SynthOptions → List Written → Option Method
+method_of options words =
+    option_and_then (λ exact. option_and_then (λ skew. option_and_then (method_for options exact skew) (version_of words)) (skew_of words)) (exact_of words)
 
 -- options within the ranges of their values
 pub record AreGoodOptions (options : SynthOptions) : Type 0 where
@@ -76,3 +90,9 @@ pub record AreGoodOptions (options : SynthOptions) : Type 0 where
   pub few_high : options.bounds.h ≤ 6
   pub some_phase : 1 ≤ options.phases
   pub few_phases : options.phases ≤ 4
+
+-- options that suit a method: clocks that overlap are two to four, and the cells have keepers
+abbrev pub SuitsMethod : Method → SynthOptions → Type 0
+SuitsMethod (Plain version) options = Unit {0}
+SuitsMethod Exact options = Unit {0}
+SuitsMethod Skew options = (2 ≤ options.phases) × (options.phases ≤ 4) × (options.style ≡ WithKeeper)

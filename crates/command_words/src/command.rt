@@ -1,13 +1,14 @@
 //! What the program is asked for.
 use deck_form::{DeckVersion, SynthOptions};
-use trace_tool::{Order, TraceOptions};
+use trace_tool::{Clocking, Order, TraceOptions};
 
-/// How a deck is made: of the chosen signs of its sinks and in a version of the text, or of the signs that need the fewest
-/// pairs of all and in version 1.
+/// How a deck is made: of the chosen signs of its sinks and in a version of the text; of the signs that need the fewest
+/// pairs of all and in version 1; or of the chosen signs, for clocks that overlap and in version 1.
 #[derive(Clone, Copy)]
 pub enum Method {
     Plain(DeckVersion),
     Exact,
+    Skew,
 }
 
 /// What the words of the command line ask for, with the names of the files. A size is 1 to 30,000.
@@ -29,6 +30,7 @@ pub enum Command<'a> {
         deck: &'a str,
         stim: &'a str,
         options: TraceOptions,
+        clocking: Clocking,
     },
     Cosim {
         file: &'a str,

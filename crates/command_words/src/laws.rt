@@ -1,5 +1,5 @@
 //! What holds of each command line.
-ghost use Rattle.command_words.specs.Laws.{AskedIsInRange, AskedIsOne};
+ghost use Rattle.command_words.specs.Laws.{AskedIsInRange, AskedIsOne, AskedSuitsMethod};
 
 /// Words ask for at most one command.
 pub fn asked_is_one()
@@ -9,4 +9,10 @@ pub fn asked_is_one()
 /// The options of synthesis that words ask for, and the size, are within the ranges of their values.
 pub fn asked_is_in_range()
     ensures { AskedIsInRange }
+{}
+
+/// The options of synthesis that words ask for suit the method that they ask for: clocks that overlap are
+/// two to four, in cells with keepers.
+pub fn asked_suits_method()
+    ensures { AskedSuitsMethod }
 {}

@@ -11,5 +11,5 @@ mod values;
 mod words;
 
 pub use command::{Command, Method};
-pub use laws::{asked_is_in_range, asked_is_one};
+pub use laws::{asked_is_in_range, asked_is_one, asked_suits_method};
 pub use words::command_of;

@@ -1,12 +1,13 @@
 //! The options of synthesis on the command line.
 ghost use Rattle.std.specs.Prelude.{◌≡◌, map};
 ghost use Rattle.std.specs.String.{string_bytes};
-ghost use Rattle.command_words.specs.SynthOptionWords.{exact_of, method_for, method_of, style_named, style_of, synth_options, version_of};
+ghost use Rattle.command_words.specs.SynthOptionWords.{exact_of, has_keepers, may_overlap, method_for, method_of, skew_of};
+ghost use Rattle.command_words.specs.SynthOptionWords.{style_named, style_of, synth_options, version_of};
 ghost use Rattle.command_words.specs.Written.{written};
 
 use crate::command::Method;
 use crate::items::{Wanted, is_same, only_wanted};
-use crate::values::number_given;
+use crate::values::{flag_given, number_given};
 use deck_form::{DeckVersion, SynthOptions};
 use domino_cell::Style;
 use tree_map::Bounds;
@@ -54,21 +55,30 @@ fn style_named(word: &str) -> Option<Style>
     None
 }
 
-/// The method that words ask for: the plain one where they name none. Exact signs have no version but version 1.
-pub fn method_of(words: &[String]) -> Option<Method>
-    ensures { result ≡ method_of (written (map string_bytes words.now)) }
+/// The method that words ask for beside options: the plain one where they name none. Exact signs and clocks that
+/// overlap have no version but version 1, and not both are asked for; clocks overlap where there are several and cells
+/// have keepers.
+pub fn method_of(words: &[String], options: SynthOptions) -> Option<Method>
+    ensures { result ≡ method_of options (written (map string_bytes words.now)) }
 {
     let exact = exact_of(words)?;
+    let skew = skew_of(words)?;
     let version = version_of(words)?;
-    method_for(exact, version)
+    method_for(options, exact, skew, version)
 }
 
 /// Whether words ask for exact signs.
-#[tactic(auto, using(crate::proofs::Given::given_rules))]
 fn exact_of(words: &[String]) -> Option<bool>
     ensures { result ≡ exact_of (written (map string_bytes words.now)) }
 {
-    Some(only_wanted(words, Wanted::Flag("--exact"))?.is_some())
+    flag_given(words, "--exact")
+}
+
+/// Whether words ask for clocks that overlap.
+fn skew_of(words: &[String]) -> Option<bool>
+    ensures { result ≡ skew_of (written (map string_bytes words.now)) }
+{
+    flag_given(words, "--skew")
 }
 
 /// The version of the deck that words ask for, or version 1.
@@ -83,13 +93,36 @@ fn version_of(words: &[String]) -> Option<DeckVersion>
     })
 }
 
-/// The method of exact signs or of the chosen ones, and of a version.
-fn method_for(exact: bool, version: DeckVersion) -> Option<Method>
-    ensures { result ≡ method_for exact version }
+/// The method for options, of exact signs or of the chosen ones, for clocks that overlap or not, and of a version.
+fn method_for(
+    options: SynthOptions,
+    exact: bool,
+    skew: bool,
+    version: DeckVersion,
+) -> Option<Method>
+    ensures { result ≡ method_for options exact skew version }
 {
-    match (exact, version) {
-        (true, DeckVersion::One) => Some(Method::Exact),
-        (true, DeckVersion::Two) => None,
-        (false, version) => Some(Method::Plain(version)),
+    match (exact, skew, version) {
+        (false, false, version) => Some(Method::Plain(version)),
+        (true, false, DeckVersion::One) => Some(Method::Exact),
+        (false, true, DeckVersion::One) if may_overlap(options) => Some(Method::Skew),
+        _ => None,
+    }
+}
+
+/// Whether clocks may overlap: there are several, and cells have keepers.
+fn may_overlap(options: SynthOptions) -> bool
+    ensures { result ≡ may_overlap options }
+{
+    options.phases >= 2 && has_keepers(options.style)
+}
+
+/// Whether a style has keepers.
+fn has_keepers(style: Style) -> bool
+    ensures { result ≡ has_keepers style }
+{
+    match style {
+        Style::Keeper => true,
+        Style::Precharge => false,
     }
 }

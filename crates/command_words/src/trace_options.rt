@@ -1,15 +1,15 @@
 //! The options of a simulation on the command line.
 ghost use Rattle.std.specs.Prelude.{◌≡◌, IfOk, IsSome, MatchOption, None, OnErr, Some, map};
 ghost use Rattle.std.specs.String.{string_bytes};
-ghost use Rattle.command_words.specs.TraceOptionWords.{events_of, order_named, order_of, probes_of, seed_of, trace_options};
+ghost use Rattle.command_words.specs.TraceOptionWords.{clocking_for, clocking_of, events_of, order_named, order_of, probes_of, seed_of, trace_options};
 ghost use Rattle.command_words.specs.Written.{written};
 
 use crate::items::{Wanted, is_same, only_wanted};
 use crate::probes::probe_words;
-use crate::values::number_given;
+use crate::values::{flag_given, number_given};
 use dom_base::OutOfMemory;
 use std::alloc::Global;
-use trace_tool::{Order, ProbeWord, TraceOptions};
+use trace_tool::{Clocking, Order, ProbeWord, TraceOptions};
 
 /// The options of a simulation that words give.
 pub fn trace_options_of(
@@ -59,11 +59,29 @@ pub fn seed_of(words: &[String]) -> Option<u64>
 }
 
 /// Whether the words ask for every event.
-#[tactic(auto, using(crate::proofs::Given::given_rules))]
 fn events_of(words: &[String]) -> Option<bool>
     ensures { result ≡ events_of (written (map string_bytes words.now)) }
 {
-    Some(only_wanted(words, Wanted::Flag("--events"))?.is_some())
+    flag_given(words, "--events")
+}
+
+/// How the clocks fall that words ask for: together, or they overlap.
+pub fn clocking_of(words: &[String]) -> Option<Clocking>
+    ensures { result ≡ clocking_of (written (map string_bytes words.now)) }
+{
+    let overlap = flag_given(words, "--skew")?;
+    Some(clocking_for(overlap))
+}
+
+/// How clocks fall that overlap, or don't.
+fn clocking_for(overlap: bool) -> Clocking
+    ensures { result ≡ clocking_for overlap }
+{
+    if overlap {
+        Clocking::Overlapping
+    } else {
+        Clocking::Together
+    }
 }
 
 /// The nets whose changes words ask for.

@@ -1,7 +1,7 @@
 //! Values of options, and the numbers that words write.
 ghost use Rattle.std.specs.Prelude.{◌≡◌, map};
 ghost use Rattle.std.specs.String.{string_bytes};
-ghost use Rattle.command_words.specs.Given.{given};
+ghost use Rattle.command_words.specs.Given.{flag_given, given};
 ghost use Rattle.command_words.specs.NumberWords.{number_from};
 ghost use Rattle.command_words.specs.Written.{values_of, written};
 
@@ -27,4 +27,12 @@ pub fn number_given(words: &[String], name: &str, low: u64, high: u64, default: 
         Some(word) => number_from(word, low, high),
         None => Some(default),
     }
+}
+
+/// Whether an option without a value is given.
+#[tactic(auto, using(crate::proofs::Given::given_rules))]
+pub fn flag_given(words: &[String], name: &str) -> Option<bool>
+    ensures { result ≡ flag_given name.now (written (map string_bytes words.now)) }
+{
+    Some(only_wanted(words, Wanted::Flag(name))?.is_some())
 }

@@ -9,7 +9,7 @@ ghost use Rattle.command_words.specs.Written.{written};
 use crate::command::Command;
 use crate::items::{one_plain, takes_all, three_plain, two_plain};
 use crate::synth_options::{method_of, synth_options_of};
-use crate::trace_options::{order_of, seed_of, trace_options_of};
+use crate::trace_options::{clocking_of, order_of, seed_of, trace_options_of};
 use crate::values::number_from;
 use dom_base::OutOfMemory;
 use std::alloc::Global;
@@ -48,13 +48,13 @@ fn synth_of<'a>(words: &'a [String]) -> Option<Command<'a>>
     if !takes_all(
         words,
         &["--width", "--height", "--phases", "--style", "--deck"],
-        &["--exact"],
+        &["--exact", "--skew"],
     ) {
         return None;
     }
     let file = one_plain(words)?;
     let options = synth_options_of(words)?;
-    let method = method_of(words)?;
+    let method = method_of(words, options)?;
     Some(Command::Synth {
         file,
         options,
@@ -92,10 +92,17 @@ fn sim_of<'a>(alloc: Global, words: &'a [String]) -> Result<Option<Command<'a>>,
         (λ command. sim_in (written (map string_bytes words.now)) ≡ Some (asked_command command))) }
     ensures wanted { OnErr result (IsSome (sim_in (written (map string_bytes words.now)))) }
 {
-    if !takes_all(words, &["--order", "--seed", "--probe"], &["--events"]) {
+    if !takes_all(
+        words,
+        &["--order", "--seed", "--probe"],
+        &["--events", "--skew"],
+    ) {
         return Ok(None);
     }
     let Some((deck, stim)) = two_plain(words) else {
+        return Ok(None)
+    };
+    let Some(clocking) = clocking_of(words) else {
         return Ok(None)
     };
     let Some(options) = trace_options_of(alloc, words)? else {
@@ -105,6 +112,7 @@ fn sim_of<'a>(alloc: Global, words: &'a [String]) -> Result<Option<Command<'a>>,
         deck,
         stim,
         options,
+        clocking,
     }))
 }
 

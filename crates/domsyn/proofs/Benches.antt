@@ -32,6 +32,7 @@ use Rattle.trace_tool.specs.declared.options.Order.TheVariants.{First}
 use Rattle.trace_tool.specs.declared.verdict.Verdict.{Verdict}
 use Rattle.trace_tool.specs.declared.verdict.Verdict.TheVariants.{Same}
 use Rattle.trace_tool.proofs.NetworkTexts.{network_same, no_network_apart, text_network_kept}
+use Rattle.verdict_law.specs.Laws.{right_together}
 use Rattle.verdict_law.proofs.RightVerdicts.{right_deck_is_accepted}
 use Rattle.domsyn.specs.Benches.{IsBenchOf, IsOwnVerdict, IsSameBench, OfWholeDeck, bench_text, events_text, generated_text}
 use Rattle.domsyn.specs.Decks.{AreFigureLines, IsWholeText}
@@ -39,7 +40,7 @@ use Rattle.domsyn.specs.Endings.{ending_number, ending_of}
 use Rattle.domsyn.specs.declared.answer.Ending.{Ending}
 use Rattle.domsyn.specs.Outcomes.{IsBench, is_same_verdict}
 use Rattle.domsyn.proofs.OneSummary.{summaries_one}
-use Rattle.domsyn.proofs.RightTexts.{right_without_calls}
+use Rattle.domsyn.proofs.RightTexts.{text_is_right}
 use Rattle.domsyn.proofs.OwnVerdicts.{own_verdict_of, own_verdict_one, own_verdict_same, own_verdict_there}
 
 -- a text that is generated has a network
@@ -112,7 +113,7 @@ module _ (seed size : ℕ) (options : SynthOptions) where
   module _ (fits : AreGoodOptions options) (network : NetworkData) (has : HasNetworkOf (generated_text seed size) network) where
     right : (deck : List ℕ) → IsWholeText network options (Plain VersionOne) deck → IsRightDeck (generated_text seed size) (deck_options options) deck
     right deck is =
-        right_without_calls (Plain VersionOne) (generated_text seed size) deck has.file network options has.accepted has.network_is fits is refl
+        text_is_right (generated_text seed size) deck has.file network options has.accepted has.network_is fits (Plain VersionOne) is
 
     reads_back : (deck : List ℕ) → (is : IsWholeText network options (Plain VersionOne) deck) → IsDeckOf deck is.circuit
     reads_back deck is =
@@ -128,8 +129,8 @@ module _ (seed size : ℕ) (options : SynthOptions) where
         → why ≡ Memory
     bench_unrefused why (inl none) = none
     bench_unrefused why (inr own) =
-        right_deck_is_accepted (generated_text seed size) own.deck (stimulus_text seed network.inputs) (deck_options options) network
-        (stimulus_cycles seed network.inputs) why (right own.deck own.is_text) has (stimulus_reads seed network.inputs) own.holds
+        right_deck_is_accepted (generated_text seed size) own.deck (stimulus_text seed network.inputs) options.phases network
+        (stimulus_cycles seed network.inputs) why (right_together (right own.deck own.is_text)) has (stimulus_reads seed network.inputs) own.holds
 
     -- the figures, the events and the verdict that all is the same
     pub bench_made : (verdict : Verdict) (front text : List ℕ) (ending : Ending)

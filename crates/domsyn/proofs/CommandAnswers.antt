@@ -7,9 +7,10 @@ use Rattle.command_words.specs.declared.command.Method.{Method}
 use Rattle.network.specs.NetworkData.{NetworkData}
 use Rattle.net_flatten.specs.OneModel.{file_of}
 use Rattle.deck_form.specs.declared.options.SynthOptions.{SynthOptions}
+use Rattle.port_runs.specs.declared.clocking.Clocking.{Clocking}
 use Rattle.trace_tool.specs.CosimRefusals.{HasNetworkOf}
 use Rattle.trace_tool.specs.TraceData.{TraceOptionsData}
-use Rattle.trace_tool.specs.Traces.{IsTraceOf}
+use Rattle.trace_tool.specs.Traces.{IsTraceBy}
 use Rattle.trace_tool.specs.VerdictLines.{verdict_line}
 use Rattle.trace_tool.specs.Verdicts.{IsVerdictOf}
 use Rattle.trace_tool.specs.declared.options.Order.{Order}
@@ -66,10 +67,11 @@ module _ (files : Files) (file bytes text : List ℕ) (ending : Ending) (is_file
     status_is = well_number ending (is_same_verdict made.0) made.3;
   }
 
-pub sim_printed : (files : Files) (deck stim deck_bytes stim_bytes text : List ℕ) (ending : Ending) (options : TraceOptionsData) → IsFile files deck deck_bytes → IsFile files stim stim_bytes
-    → (settled : Bool) × IsTraceOf deck_bytes stim_bytes options (record { text = text; settled = settled }) × (ending ≡ ending_of settled)
-    → IsTrace files deck stim options (ending_number ending) text
-sim_printed files deck stim deck_bytes stim_bytes text ending options is_deck is_stim made = record {
+pub sim_printed : (files : Files) (deck stim deck_bytes stim_bytes text : List ℕ) (ending : Ending) (options : TraceOptionsData) (clocking : Clocking)
+    → IsFile files deck deck_bytes → IsFile files stim stim_bytes
+    → (settled : Bool) × IsTraceBy clocking deck_bytes stim_bytes options (record { text = text; settled = settled }) × (ending ≡ ending_of settled)
+    → IsTrace files deck stim options clocking (ending_number ending) text
+sim_printed files deck stim deck_bytes stim_bytes text ending options clocking is_deck is_stim made = record {
   deck_bytes = deck_bytes;
   stim_bytes = stim_bytes;
   settled = made.0;

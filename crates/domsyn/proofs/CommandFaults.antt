@@ -6,6 +6,7 @@ use Rattle.dom_io.specs.Held.{file_limit}
 use Rattle.command_words.specs.Commands.{Command, Synth, Flat as flat, Run as run, Sim, Cosim, Report, Bench, files_of}
 use Rattle.deck_form.specs.declared.options.SynthOptions.{SynthOptions}
 use Rattle.network.specs.NetworkData.{NetworkData}
+use Rattle.port_runs.specs.declared.clocking.Clocking.{Clocking}
 use Rattle.stim_text.specs.Stimuli.{IsStimFaultAt}
 use Rattle.stim_text.specs.declared.fault.StimFault.{StimFault}
 use Rattle.stim_text.specs.declared.fault.StimFault.TheVariants as stim_faults
@@ -18,7 +19,7 @@ use Rattle.trace_tool.specs.declared.fault.TraceFault.{TraceFault}
 use Rattle.trace_tool.specs.declared.fault.TraceFault.TheVariants as trace_fault
 use Rattle.trace_tool.specs.declared.options.Order.{Order}
 use Rattle.command_words.specs.declared.command.Method.{Method}
-use Rattle.command_words.specs.declared.command.Method.TheVariants.{Exact, Plain}
+use Rattle.command_words.specs.declared.command.Method.TheVariants.{Exact, Plain, Skew}
 use Rattle.domsyn.specs.declared.fault.Fault.{Fault}
 use Rattle.domsyn.specs.declared.fault.Fault.TheVariants as any_fault
 use Rattle.domsyn.specs.declared.fault.Fault.TheVariants.{Traced}
@@ -112,6 +113,7 @@ module _ (files : Files) (file bytes : List ℕ) (is_file : IsFile files file by
     refused = inr (count, is, sym (same_Some (TooManySinks count) why e));
     name_is = about_one file why;
   }
+  synth_fault options Skew (any_fault.TooManySinks count) is = absurd is
 
   pub flat_fault_of : (fault : TraceFault) → IsUnflattened bytes fault → IsCommandFault files (flat file) (Traced fault)
   flat_fault_of fault is = λ why e. has_none fault why is e
@@ -131,9 +133,9 @@ module _ (files : Files) (file bytes : List ℕ) (is_file : IsFile files file by
   })
 
 -- a deck and a stimulus without a trace
-pub sim_fault : (files : Files) (deck stim deck_bytes stim_bytes : List ℕ) (options : TraceOptionsData) (fault : TraceFault) → IsFile files deck deck_bytes → IsFile files stim stim_bytes
-    → IsRefused deck_bytes stim_bytes options.probes fault → IsCommandFault files (Sim deck stim options) (Traced fault)
-sim_fault files deck stim deck_bytes stim_bytes options fault is_deck is_stim is = λ why e. inr (record {
+pub sim_fault : (files : Files) (deck stim deck_bytes stim_bytes : List ℕ) (options : TraceOptionsData) (clocking : Clocking) (fault : TraceFault) → IsFile files deck deck_bytes
+    → IsFile files stim stim_bytes → IsRefused deck_bytes stim_bytes options.probes fault → IsCommandFault files (Sim deck stim options clocking) (Traced fault)
+sim_fault files deck stim deck_bytes stim_bytes options clocking fault is_deck is_stim is = λ why e. inr (record {
   deck_bytes = deck_bytes;
   stim_bytes = stim_bytes;
   is_deck = is_deck;
@@ -203,7 +205,7 @@ command_unfetched files (Synth file options method) Rises (failure.Refused name 
     record { bytes = none.bytes; holds = none.holds; refused = without_network method none.bytes why none.refused; name_is = none.name_is }
 command_unfetched files (flat file) Rises (failure.Refused name why) is = long_alone files file name.now why is.0 is.1
 command_unfetched files (run file stim) Rises (failure.Refused name why) is = inl is
-command_unfetched files (Sim deck stim options) Rises (failure.Refused name why) is = inl is
+command_unfetched files (Sim deck stim options clocking) Rises (failure.Refused name why) is = inl is
 command_unfetched files (Cosim file deck stim order seed) Rises (failure.Refused name why) is = inl is
 command_unfetched files (Report file options) Rises (failure.Refused name why) is = long_alone files file name.now why is.0 is.1
 command_unfetched files (Bench seed size options) Rises (failure.Refused name why) is = absurd is.1

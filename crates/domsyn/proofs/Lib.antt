@@ -6,7 +6,9 @@ pub mod CosimThere
 pub mod ExactDecks
 pub mod FetchedFiles
 pub mod FlatThere
+pub mod HeadlineClauses
 pub mod KnownFiles
+pub mod MethodTexts
 pub mod Methods
 pub mod NetworkCauses
 pub mod NetworkRuns

@@ -9,15 +9,15 @@ use Rattle.domsyn.specs.declared.refusal.Refusal.{Refusal}
 use Rattle.domsyn.specs.declared.refusal.Refusal.TheVariants.{TooLong}
 use Rattle.command_words.specs.Commands.{Command, Synth, Flat as flat, Run as run, Sim, Cosim, Report, Bench}
 use Rattle.command_words.specs.declared.command.Method.{Method}
-use Rattle.plan_law.proofs.OneDeck.{texts_of_signs_one}
-use Rattle.deck_form.specs.AskedOptions.{deck_options}
-use Rattle.deck_form.specs.DeckTexts.{IsTextInVersion}
 use Rattle.synth_flow.specs.Summaries.{IsSummaryOf}
 use Rattle.synth_flow.specs.SummaryLines.{summary_lines}
 use Rattle.deck_form.specs.declared.options.SynthOptions.{SynthOptions}
-use Rattle.domsyn.specs.Methods.{AreSignsOf, HasNoDeckFor, text_version}
-use Rattle.domsyn.proofs.Methods.{deck_causes_alike, deck_or_cause, method_one}
-use Rattle.domsyn.specs.Decks.{AreFiguresFor, IsDeckFor}
+use Rattle.port_runs.specs.declared.clocking.Clocking.{Clocking}
+use Rattle.port_runs.specs.declared.clocking.Clocking.TheVariants.{Together}
+use Rattle.domsyn.specs.Methods.{HasNoDeckFor}
+use Rattle.domsyn.proofs.Methods.{deck_causes_alike, deck_or_cause}
+use Rattle.domsyn.proofs.MethodTexts.{text_one}
+use Rattle.domsyn.specs.Decks.{AreFiguresFor, IsDeckFor, IsTextBy}
 use Rattle.domsyn.specs.Outcomes.{IsComparison, IsDeck, IsFile, IsFirstTooLong, IsFlat, HasNoDeck, HasNone, IsNoComparison, IsNoRun, IsNoTrace, IsOutcome, IsPrintedRun, IsFigureReport, IsTooLong, IsTrace, Outcome, Printed, Refused, is_same_verdict}
 use Rattle.domsyn.specs.Networks.{HasNetwork, IsNotRunFor, IsRunOf}
 use Rattle.domsyn.specs.Refusals.{HasNoNetworkFor, IsFaulty, about, refusal_of}
@@ -27,7 +27,7 @@ use Rattle.domsyn.proofs.OneSummary.{summaries_one}
 use Rattle.domsyn.proofs.NetworkCauses.{network_causes_alike, network_kept, network_or_cause, networks_alike, run_causes_alike, run_or_cause, runs_alike}
 use Rattle.trace_tool.specs.Refusals.{IsRefused}
 use Rattle.trace_tool.specs.TraceData.{TraceData, TraceOptionsData}
-use Rattle.trace_tool.specs.Traces.{IsTraceOf}
+use Rattle.trace_tool.specs.Traces.{IsTraceBy}
 use Rattle.trace_tool.specs.CosimRefusals.{IsCosimRefused}
 use Rattle.trace_tool.specs.VerdictLines.{verdict_line}
 use Rattle.trace_tool.specs.Verdicts.{IsVerdictOf}
@@ -36,7 +36,7 @@ use Rattle.trace_tool.specs.declared.fault.TraceFault.TheVariants.{Memory}
 use Rattle.trace_tool.specs.declared.options.Order.{Order}
 use Rattle.trace_tool.specs.declared.options.ProbeWord.{ProbeWord}
 use Rattle.trace_tool.specs.declared.verdict.Verdict.{Verdict}
-use Rattle.trace_tool.proofs.OneAnswer.{answer_is_one}
+use Rattle.trace_tool.proofs.OneAnswer.{answer_by}
 use Rattle.trace_tool.proofs.OneVerdictOrCause.{verdict_is_one}
 
 -- a file has one list of bytes
@@ -58,16 +58,16 @@ pub refused_alike : (f f' : List ℕ) (w w' : Refusal) → f ≡ f' → w ≡ w'
 refused_alike f f' w w' x y = λ i. Refused (x i) (y i)
 
 -- the trace of a deck over a stimulus
-sim_printed : (known : Pairs) (deck stim : List ℕ) (options : TraceOptionsData) (s s' : ℕ) (t t' : List ℕ)
-    → IsTrace (Some known) deck stim options s t → IsTrace (Some known) deck stim options s' t' → Printed s t ≡ Printed s' t'
-sim_printed known deck stim options s s' t t' x y =
+sim_printed : (known : Pairs) (deck stim : List ℕ) (options : TraceOptionsData) (clocking : Clocking) (s s' : ℕ) (t t' : List ℕ)
+    → IsTrace (Some known) deck stim options clocking s t → IsTrace (Some known) deck stim options clocking s' t' → Printed s t ≡ Printed s' t'
+sim_printed known deck stim options clocking s s' t t' x y =
     let decks = bytes_alike known deck y.deck_bytes x.deck_bytes y.is_deck.holds x.is_deck.holds in
     let stims = bytes_alike known stim y.stim_bytes x.stim_bytes y.is_stim.holds x.is_stim.holds in
     let first : TraceData = record { text = t; settled = x.settled } in
     let second : TraceData = record { text = t'; settled = y.settled } in
-    let moved : IsTraceOf x.deck_bytes x.stim_bytes options second =
-    subst (λ (b : List ℕ). IsTraceOf b x.stim_bytes options second) decks (subst (λ (b : List ℕ). IsTraceOf y.deck_bytes b options second) stims y.trace) in
-    let same : first ≡ second = answer_is_one.trace x.deck_bytes x.stim_bytes options first second x.trace moved in
+    let moved : IsTraceBy clocking x.deck_bytes x.stim_bytes options second =
+    subst (λ (b : List ℕ). IsTraceBy clocking b x.stim_bytes options second) decks (subst (λ (b : List ℕ). IsTraceBy clocking y.deck_bytes b options second) stims y.trace) in
+    let same : first ≡ second = (answer_by clocking).trace x.deck_bytes x.stim_bytes options first second x.trace moved in
     printed_alike s s' t t' (x.status_is ∙ (ap (λ (trace : TraceData). if trace.settled then 0 else 6) same ∙ sym y.status_is)) (ap (λ (trace : TraceData). trace.text) same)
 
 -- a fault that is reported as a cause isn't that it is out of memory
@@ -124,15 +124,15 @@ sim_refused known deck stim f f' probes w w' (inl x) (inl y) = refused_alike f f
 sim_refused known deck stim f f' probes w w' (inl x) (inr y) = absurd (no_long known deck stim f y.deck_bytes y.stim_bytes y.is_deck y.is_stim x.1)
 sim_refused known deck stim f f' probes w w' (inr x) (inl y) = absurd (no_long known deck stim f' x.deck_bytes x.stim_bytes x.is_deck x.is_stim y.1)
 sim_refused known deck stim f f' probes w w' (inr x) (inr y) =
-    faulty_alike (IsRefused x.deck_bytes x.stim_bytes probes) deck deck stim f f' w w' (answer_is_one.cause x.deck_bytes x.stim_bytes probes) x.faulty
+    faulty_alike (IsRefused x.deck_bytes x.stim_bytes probes) deck deck stim f f' w w' ((answer_by Together).cause x.deck_bytes x.stim_bytes probes) x.faulty
     (sim_refused_here known deck stim x.deck_bytes x.stim_bytes f' probes w' x.is_deck x.is_stim y)
 
-sim_apart : (known : Pairs) (deck stim f : List ℕ) (options : TraceOptionsData) (s : ℕ) (t : List ℕ) (w : Refusal)
-    → IsTrace (Some known) deck stim options s t → IsSimRefusal known deck stim options.probes f w → ⊥
-sim_apart known deck stim f options s t w x (inl y) = no_long known deck stim f x.deck_bytes x.stim_bytes x.is_deck x.is_stim y.1
-sim_apart known deck stim f options s t w x (inr y) =
+sim_apart : (known : Pairs) (deck stim f : List ℕ) (options : TraceOptionsData) (clocking : Clocking) (s : ℕ) (t : List ℕ) (w : Refusal)
+    → IsTrace (Some known) deck stim options clocking s t → IsSimRefusal known deck stim options.probes f w → ⊥
+sim_apart known deck stim f options clocking s t w x (inl y) = no_long known deck stim f x.deck_bytes x.stim_bytes x.is_deck x.is_stim y.1
+sim_apart known deck stim f options clocking s t w x (inr y) =
     let faulty = sim_refused_here known deck stim x.deck_bytes x.stim_bytes f options.probes w x.is_deck x.is_stim y in
-    answer_is_one.apart x.deck_bytes x.stim_bytes options (record { text = t; settled = x.settled }) faulty.fault (reported_fault faulty.fault w faulty.cause) x.trace faulty.refuses
+    (answer_by clocking).apart x.deck_bytes x.stim_bytes options (record { text = t; settled = x.settled }) faulty.fault (reported_fault faulty.fault w faulty.cause) x.trace faulty.refuses
 
 -- the verdict of a deck beside a file over a stimulus
 module _ (known : Pairs) (file deck stim : List ℕ) (order : Order) (seed : ℕ) where
@@ -190,9 +190,9 @@ module _ (known : Pairs) (file : List ℕ) (options : SynthOptions) (method : Me
       let same = bytes_alike known file y.bytes x.bytes y.is_file.holds x.is_file.holds in
       let deck = subst (λ b. IsDeckFor b options method t') same y.deck in
       let networks = networks_alike x.bytes deck.network x.deck.network deck.has x.deck.has in
-      let text = subst (λ n. IsTextInVersion (text_version method) (AreSignsOf method) t' n (deck_options options)) networks deck.is_text in
+      let text = subst (λ n. IsTextBy method n options t') networks deck.is_text in
       printed_alike s s' t t' (x.done ∙ sym y.done)
-      (texts_of_signs_one x.deck.network (network_kept x.bytes x.deck.network x.deck.has) (deck_options options) (text_version method) (method_one method x.deck.network) t t' x.deck.is_text text)
+      (text_one method x.deck.network (network_kept x.bytes x.deck.network x.deck.has) options t t' x.deck.is_text text)
 
   synth_apart : (f : List ℕ) (s : ℕ) (t : List ℕ) (w : Refusal) → IsDeck (Some known) file options method s t → HasNoDeck (Some known) file method f w → ⊥
   synth_apart f s t w x y =
@@ -276,10 +276,10 @@ one_outcome known (run file stim) (Printed s t) (Printed s' t') x y = run_printe
 one_outcome known (run file stim) (Printed s t) (Refused f w) x y = absurd (run_apart known file stim f s t w x y)
 one_outcome known (run file stim) (Refused f w) (Printed s t) x y = absurd (run_apart known file stim f s t w y x)
 one_outcome known (run file stim) (Refused f w) (Refused f' w') x y = run_refused known file stim f f' w w' x y
-one_outcome known (Sim deck stim options) (Printed s t) (Printed s' t') x y = sim_printed known deck stim options s s' t t' x y
-one_outcome known (Sim deck stim options) (Printed s t) (Refused f w) x y = absurd (sim_apart known deck stim f options s t w x y)
-one_outcome known (Sim deck stim options) (Refused f w) (Printed s t) x y = absurd (sim_apart known deck stim f options s t w y x)
-one_outcome known (Sim deck stim options) (Refused f w) (Refused f' w') x y = sim_refused known deck stim f f' options.probes w w' x y
+one_outcome known (Sim deck stim options clocking) (Printed s t) (Printed s' t') x y = sim_printed known deck stim options clocking s s' t t' x y
+one_outcome known (Sim deck stim options clocking) (Printed s t) (Refused f w) x y = absurd (sim_apart known deck stim f options clocking s t w x y)
+one_outcome known (Sim deck stim options clocking) (Refused f w) (Printed s t) x y = absurd (sim_apart known deck stim f options clocking s t w y x)
+one_outcome known (Sim deck stim options clocking) (Refused f w) (Refused f' w') x y = sim_refused known deck stim f f' options.probes w w' x y
 one_outcome known (Cosim file deck stim order seed) (Printed s t) (Printed s' t') x y = cosim_printed known file deck stim order seed s s' t t' x y
 one_outcome known (Cosim file deck stim order seed) (Printed s t) (Refused f w) x y = absurd (cosim_apart known file deck stim order seed f s t w x y)
 one_outcome known (Cosim file deck stim order seed) (Refused f w) (Printed s t) x y = absurd (cosim_apart known file deck stim order seed f s t w y x)

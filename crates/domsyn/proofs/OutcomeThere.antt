@@ -20,8 +20,8 @@ outcome_there known (flat file) good all = flat_there known file (All-head (IsKn
 outcome_there known (run file stim) good all =
     run_there known file stim (All-head (IsKnownFile known) file (stim ∷ []) all)
     (All-head (IsKnownFile known) stim [] (All-tail (IsKnownFile known) file (stim ∷ []) all))
-outcome_there known (Sim deck stim options) good all =
-    sim_there known deck stim options (All-head (IsKnownFile known) deck (stim ∷ []) all)
+outcome_there known (Sim deck stim options clocking) good all =
+    sim_there known deck stim options clocking (All-head (IsKnownFile known) deck (stim ∷ []) all)
     (All-head (IsKnownFile known) stim [] (All-tail (IsKnownFile known) deck (stim ∷ []) all))
 outcome_there known (Cosim file deck stim order seed) good all =
     let more = All-tail (IsKnownFile known) file (deck ∷ stim ∷ []) all in

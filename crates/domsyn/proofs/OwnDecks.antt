@@ -1,14 +1,13 @@
--- The outcome of `cosim` of a right deck of a text.
+-- The outcome of `cosim` of a right deck of a text, by any method.
 use Rattle.std.specs.Prelude.{Some}
 use Rattle.std.proofs.Common.{ℕ, List, Bool, length, refl, subst}
-use Rattle.deck_form.specs.DeckOptions.{DeckOptions}
+use Rattle.command_words.specs.declared.command.Method.{Method}
+use Rattle.command_words.specs.declared.command.Method.TheVariants.{Exact, Plain, Skew}
+use Rattle.deck_form.specs.declared.options.SynthOptions.{SynthOptions}
 use Rattle.dom_base.proofs.Faults.{answer_same}
-use Rattle.deck_law.specs.Laws.{roles_of_deck}
 use Rattle.network.specs.NetworkData.{NetworkData}
 use Rattle.stim_text.specs.Stimuli.{IsStimFaultAt, IsStimulusOf}
 use Rattle.stim_text.proofs.OneAnswer.{one_answer as stim_answer}
-use Rattle.deck_form.specs.NamedDecks.{IsNamedDeck}
-use Rattle.deck_form.proofs.DeckForms.{domino_decks_are_loose}
 use Rattle.trace_tool.specs.CosimRefusals.{HasNetworkOf}
 use Rattle.trace_tool.specs.VerdictLines.{same_line}
 use Rattle.trace_tool.specs.Verdicts.{IsVerdictOf}
@@ -16,28 +15,42 @@ use Rattle.trace_tool.specs.declared.options.Order.{Order}
 use Rattle.trace_tool.specs.declared.verdict.Verdict.{Verdict}
 use Rattle.trace_tool.specs.declared.verdict.Verdict.TheVariants.{Same}
 use Rattle.trace_tool.proofs.NetworkTexts.{network_same}
-use Rattle.trace_tool.proofs.VerdictThere.{verdict_is_there}
-use Rattle.verdict_law.specs.Laws.{IsSame}
-use Rattle.verdict_law.proofs.RightVerdicts.{right_deck_is_same}
-use Rattle.domsyn.proofs.OwnVerdicts.{roles_are}
+use Rattle.verdict_law.specs.Laws.{IsRightTogether, IsSame, right_together}
+use Rattle.verdict_law.proofs.RightVerdicts.{right_deck_is_same, some_verdict}
+use Rattle.domsyn.specs.Headline.{IsRightBy}
 use Rattle.domsyn.specs.Outcomes.{IsComparison}
 use Rattle.domsyn.specs.OwnDecks.{AreOwnFiles, OwnDeckIsSame}
 
-module _ (known : List (List ℕ × List ℕ)) (file deck stim : List ℕ) (order : Order) (seed : ℕ) (options : DeckOptions) (stream : List (List Bool))
-    (o : AreOwnFiles known file deck stim options stream) where
+-- by each method a right deck is right where all clocks fall together
+right_for : (bytes text : List ℕ) (options : SynthOptions) (method : Method) → IsRightBy method bytes options text → IsRightTogether bytes options.phases text
+right_for bytes text options (Plain version) right = right_together right
+right_for bytes text options Exact right = right_together right
+right_for bytes text options Skew right = record {
+  network = right.network;
+  has = record { file = right.file; accepted = right.is_file; network_is = right.is_network };
+  circuit = right.circuit;
+  reads_back = right.reads_back;
+  no_other = right.no_other;
+  some_clock = (right.form).some_clock;
+  few_clocks = (right.form).few_clocks;
+  ports = right.ports;
+  right = right.right_together;
+}
+
+module _ (known : List (List ℕ × List ℕ)) (file deck stim : List ℕ) (order : Order) (seed : ℕ) (options : SynthOptions) (method : Method) (stream : List (List Bool))
+    (o : AreOwnFiles known file deck stim options method stream) where
   has : HasNetworkOf o.bytes o.network
   has = record { file = o.has.file; accepted = o.has.accepted; network_is = o.has.network_is }
 
-  loose : IsNamedDeck options.style o.right.circuit
-  loose = domino_decks_are_loose o.right.network options o.right.circuit o.right.is_deck
+  right : IsRightTogether o.bytes options.phases o.deck_bytes
+  right = right_for o.bytes o.deck_bytes options method o.right
 
   some : (verdict : Verdict) × IsVerdictOf o.bytes o.deck_bytes o.stim_bytes order seed verdict
-  some = verdict_is_there o.bytes o.deck_bytes o.stim_bytes order seed o.network o.right.circuit (roles_of_deck options.style o.right.circuit loose) stream has
-      o.right.reads_back (roles_are options.style o.right.circuit loose) o.is_stimulus
+  some = some_verdict o.bytes o.deck_bytes options.phases right o.stim_bytes order seed stream o.network has o.is_stimulus
 
   same : IsSame some.0 (length stream)
   same =
-      let over = right_deck_is_same o.bytes o.deck_bytes o.stim_bytes options order seed some.0 o.right some.1 in
+      let over = right_deck_is_same o.bytes o.deck_bytes o.stim_bytes options.phases order seed some.0 right some.1 in
       let theirs = network_same o.bytes over.network o.network over.has has in
       let stimulus = subst (λ (n : NetworkData). IsStimulusOf n.inputs o.stim_bytes over.stream) theirs over.is_stimulus in
       let text = o.stim_bytes in
@@ -60,4 +73,4 @@ module _ (known : List (List ℕ × List ℕ)) (file deck stim : List ℕ) (orde
   }
 
 pub own_deck_same : OwnDeckIsSame
-own_deck_same known file deck stim order seed options stream o = compared known file deck stim order seed options stream o
+own_deck_same known file deck stim order seed options method stream o = compared known file deck stim order seed options method stream o

@@ -36,7 +36,7 @@ use Rattle.trace_tool.proofs.OneVerdict.{verdict_same}
 use Rattle.trace_tool.proofs.PortCounts.{counts_agree}
 use Rattle.trace_tool.proofs.TraceThere.{order-below}
 use Rattle.trace_tool.proofs.VerdictThere.{verdict_there}
-use Rattle.verdict_law.specs.Laws.{IsSame}
+use Rattle.verdict_law.specs.Laws.{IsSame, right_together}
 use Rattle.verdict_law.proofs.RightVerdicts.{right_deck_is_same}
 use Rattle.domsyn.specs.Benches.{IsOwnVerdict}
 
@@ -47,7 +47,7 @@ stimulus_same seed width stream is =
     answer_same (IsStimulusOf width text) (IsStimFaultAt width text) (IsStimFaultAt width text) (stim_answer width text) stream (stimulus_cycles seed width) is (stimulus_reads seed width)
 
 -- the ports of a deck stand in the order of roles
-pub roles_are : (style : Style) (circuit : CircuitData) (d : IsNamedDeck style circuit) → AreRoles (ports_of circuit) (roles_of_deck style circuit d)
+roles_are : (style : Style) (circuit : CircuitData) (d : IsNamedDeck style circuit) → AreRoles (ports_of circuit) (roles_of_deck style circuit d)
 roles_are style circuit d =
     let all = leading_ports d.clocks ++ d.pins ++ d.outs in
     let stand : ports_of circuit ≡ all = ap₂ (λ n l. take n l) (grew style circuit d).ports (grew style circuit d).nets ∙ take-append_seam all (grew style circuit d).more_nets in
@@ -103,7 +103,7 @@ module _ (seed : ℕ) (network : NetworkData) (is : IsNetwork network) where
     -- which is that all is the same in the four cycles, where the deck is right
     pub own_verdict_same : (options : DeckOptions) → IsRightDeck blif options deck → (events : ℕ) × (verdict ≡ Same 4 events)
     own_verdict_same options right =
-        let over = right_deck_is_same blif deck (stimulus_text seed network.inputs) options First 0 verdict right v in
+        let over = right_deck_is_same blif deck (stimulus_text seed network.inputs) options.phases First 0 verdict (right_together right) v in
         let theirs = network_same blif over.network network over.has has in
         let stream = stimulus_same seed network.inputs over.stream
         (subst (λ (n : NetworkData). IsStimulusOf n.inputs (stimulus_text seed network.inputs) over.stream) theirs over.is_stimulus) in

@@ -21,8 +21,9 @@ use Rattle.trace_tool.specs.declared.fault.TraceFault.TheVariants as trace_fault
 use Rattle.trace_tool.specs.declared.options.ProbeWord.{ProbeWord}
 use Rattle.trace_tool.specs.Probes.{AreNets}
 use Rattle.trace_tool.specs.Refusals.{IsFirstNoNet}
-use Rattle.trace_tool.proofs.TraceThere.{trace_is_there}
+use Rattle.trace_tool.proofs.TraceThere.{there_by}
 use Rattle.command_words.specs.Commands.{Sim}
+use Rattle.port_runs.specs.declared.clocking.Clocking.{Clocking}
 use Rattle.network_law.proofs.ListDecisions.{dec_contains, dec_list}
 use Rattle.domsyn.specs.declared.refusal.Refusal.{Refusal}
 use Rattle.domsyn.specs.declared.refusal.Refusal.TheVariants.{TooLong, Deck, Ports, NoNet, Stim}
@@ -65,9 +66,9 @@ named_or_not nets (word ∷ words) = by (dec_contains (dec_list dec_nat) nets wo
     )
 
 -- the trace of a deck over a stimulus, or the cause for which one of them is refused
-module _ (known : Pairs) (deck stim : List ℕ) (options : TraceOptionsData) (d : IsKnownFile known deck) (s : IsKnownFile known stim) where
+module _ (known : Pairs) (deck stim : List ℕ) (options : TraceOptionsData) (clocking : Clocking) (d : IsKnownFile known deck) (s : IsKnownFile known stim) where
   abbrev Traced : Type 0
-  Traced = HasOne known (Sim deck stim options)
+  Traced = HasOne known (Sim deck stim options clocking)
 
   module _ (short : length d.bytes ≤ file_limit) (few : length s.bytes ≤ file_limit) where
     no_trace : (why : Refusal) (fault : TraceFault) → refusal_of fault ≡ Some why → IsRefused d.bytes s.bytes options.probes fault → Traced
@@ -85,7 +86,7 @@ module _ (known : Pairs) (deck stim : List ℕ) (options : TraceOptionsData) (d 
     trace_of_cycles : (c : CircuitData) (roles : Roles) → IsDeckOf d.bytes c → AreRoles (ports_of c) roles → AreNets c.nets options.probes
         → HasOneAnswer (IsStimulusOf roles.pins s.bytes) (IsStimFaultAt roles.pins s.bytes) (IsStimFaultAt roles.pins s.bytes) → Traced
     trace_of_cycles c roles is are nets (inl a) =
-        let trace = trace_is_there d.bytes s.bytes options c roles a.0 is are nets a.1.is_answer in (
+        let trace = there_by clocking d.bytes s.bytes options c roles a.0 is are nets a.1.is_answer in (
           Printed (if trace.0.settled then 0 else 6) trace.0.text,
           record {
             deck_bytes = d.bytes;

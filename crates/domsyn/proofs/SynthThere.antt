@@ -6,14 +6,13 @@ use Rattle.command_words.specs.SynthOptionWords.{AreGoodOptions}
 use Rattle.command_words.specs.declared.command.Method.{Method}
 use Rattle.network.specs.NetworkData.{NetworkData}
 use Rattle.domsyn.specs.declared.refusal.Refusal.{Refusal}
-use Rattle.domsyn.specs.Methods.{HasNoDeckFor, IsSuited, text_version}
+use Rattle.domsyn.specs.Methods.{HasNoDeckFor, IsSuited}
 use Rattle.domsyn.specs.Networks.{HasNetwork}
-use Rattle.domsyn.proofs.Methods.{method_there, suited_or_not, without_network}
+use Rattle.domsyn.proofs.MethodTexts.{text_there}
+use Rattle.domsyn.proofs.Methods.{suited_or_not, without_network}
 use Rattle.domsyn.specs.declared.refusal.Refusal.TheVariants.{TooLong}
 use Rattle.domsyn.specs.Laws.{IsKnownFile}
 use Rattle.deck_form.specs.declared.options.SynthOptions.{SynthOptions}
-use Rattle.plan_law.proofs.DecksThere.{texts_of_signs_there}
-use Rattle.deck_form.specs.AskedOptions.{deck_options}
 use Rattle.domsyn.proofs.NetworkCauses.{network_kept}
 use Rattle.domsyn.specs.Outcomes.{Printed, Refused}
 use Rattle.domsyn.proofs.KnownFiles.{Pairs, HasOne, fits_or_not}
@@ -27,7 +26,7 @@ synth_there known file options method good is = by (fits_or_not is.bytes file_li
         → HasOne known (Synth file options method)
     decked fits network has (inl suited) =
         let kept = network_kept is.bytes network has in
-        let text = texts_of_signs_there network (deck_options options) kept good.some_width good.some_height (text_version method) (method_there method network kept) in (
+        let text = text_there network kept options good.some_width good.some_height method in (
           Printed 0 text.0,
           record {
             bytes = is.bytes;

@@ -5,28 +5,49 @@ use Rattle.deck.specs.Whole.{IsWhole}
 use Rattle.network.specs.NetworkData.{NetworkData}
 use Rattle.deck_form.specs.AskedOptions.{deck_options}
 use Rattle.deck_form.specs.ChosenDecks.{IsDeckOfSigns, planned}
-use Rattle.deck_form.specs.DeckTexts.{IsTextInVersion, IsWrittenAs}
+use Rattle.deck_form.specs.DeckTexts.{IsWrittenAs}
+use Rattle.spice_text.specs.Text.{IsWritten}
+use Rattle.synth_flow.specs.BufferedDecks.{IsChosenBufferedDeck, skew_options}
 use Rattle.synth_flow.specs.Summaries.{IsSummaryOf}
 use Rattle.synth_flow.specs.SummaryData.{SummaryData}
 use Rattle.synth_flow.specs.SummaryLines.{summary_lines}
 use Rattle.deck_form.specs.declared.options.SynthOptions.{SynthOptions}
 use Rattle.command_words.specs.declared.command.Method.{Method}
-use Rattle.domsyn.specs.Methods.{AreSignsOf, IsSuited, text_version}
+use Rattle.command_words.specs.declared.command.Method.TheVariants.{Plain, Skew}
+use Rattle.domsyn.specs.Methods.{AreSignsOf, IsSuited}
 use Rattle.domsyn.specs.Networks.{HasNetwork}
 
--- bytes with a network, which suits the method, and the text that synthesis gives of it by the method, with options
+-- the circuit that synthesis gives of a network by a method, with options: of the method's signs and the chosen plan, and with chains of
+-- buffers for clocks that overlap
+abbrev pub IsCircuitBy : Method → NetworkData → SynthOptions → CircuitData → Type 0
+IsCircuitBy Skew network options circuit = IsChosenBufferedDeck network (skew_options options.bounds options.phases) circuit
+IsCircuitBy method network options circuit = IsDeckOfSigns (AreSignsOf method) network (deck_options options) circuit
+
+-- its text: in the version that the method has, and else in version 1
+abbrev pub IsWrittenBy : (method : Method) (network : NetworkData) (options : SynthOptions) (circuit : CircuitData)
+    → IsCircuitBy method network options circuit → List ℕ → Type 0
+IsWrittenBy (Plain version) network options circuit is text = IsWrittenAs version (planned is) text
+IsWrittenBy method network options circuit is text = IsWritten circuit text
+
+-- the text that synthesis gives of a network by a method, with options
+pub record IsTextBy (method : Method) (network : NetworkData) (options : SynthOptions) (text : List ℕ) : Type 0 where
+  pub circuit : CircuitData
+  pub is_chosen : IsCircuitBy method network options circuit
+  pub written : IsWrittenBy method network options circuit is_chosen text
+
+-- bytes with a network, which suits the method, and that text of it
 pub record IsDeckFor (bytes : List ℕ) (options : SynthOptions) (method : Method) (text : List ℕ) : Type 0 where
   pub network : NetworkData
   pub has : HasNetwork bytes network
   pub suited : IsSuited method network
-  pub is_text : IsTextInVersion (text_version method) (AreSignsOf method) text network (deck_options options)
+  pub is_text : IsTextBy method network options text
 
--- that text of a network, of a circuit that is whole
+-- such a text, of a circuit that is whole
 pub record IsWholeText (network : NetworkData) (options : SynthOptions) (method : Method) (text : List ℕ) : Type 0 where
   pub circuit : CircuitData
-  pub is_chosen : IsDeckOfSigns (AreSignsOf method) network (deck_options options) circuit
+  pub is_chosen : IsCircuitBy method network options circuit
   pub whole : IsWhole circuit
-  pub written : IsWrittenAs (text_version method) (planned is_chosen) text
+  pub written : IsWrittenBy method network options circuit is_chosen text
 
 -- the text of the figures of the deck that synthesis gives of a network, with options
 pub record AreFigureLines (network : NetworkData) (options : SynthOptions) (text : List ℕ) : Type 0 where

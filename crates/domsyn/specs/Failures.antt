@@ -34,7 +34,7 @@ abbrev pub about_of : Command → Refusal → List ℕ
 about_of (Synth file options method) why = about file file file why
 about_of (Flat file) why = about file file file why
 about_of (Run file stim) why = about file file stim why
-about_of (Sim deck stim options) why = about deck deck stim why
+about_of (Sim deck stim options clocking) why = about deck deck stim why
 about_of (Cosim file deck stim order seed) why = about file deck stim why
 about_of (Report file options) why = about file file file why
 about_of (Bench seed size options) why = []

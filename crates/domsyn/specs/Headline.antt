@@ -1,27 +1,33 @@
 -- What is proved of the deck that `synth FILE` writes, with its options, on one page.
 -- The text of the file is read as Berkeley Logic Interchange Format, and the deck as a SPICE subcircuit of domino gates (Rabaey, Digital
 -- Integrated Circuits) at switch level (Bryant). `IsRightDeck` says it by the ports of the deck alone (`deck_law/specs/Headline`): for every
--- input stream and every order of net events. A deck of subcircuits that are called stands for such a circuit (`cell_decks/specs/RightTexts`).
-use Rattle.std.specs.Prelude.{ℕ, ◌≡◌, List}
-use Rattle.cell_decks.specs.RightTexts.{IsRightDeckWithCalls}
+-- input stream and every order of net events. The circuit of a deck whose subcircuits are called is its last one, its calls expanded
+-- (`deck/specs/DeckText`). Of a deck with chains of buffers `IsRightOverlappingDeck` says it where early clocks may fall while later ones
+-- still evaluate (Harris and Horowitz, Skew-tolerant domino circuits; `skew_law/specs/BufferedDecks`): its form, and that each cell has in
+-- each cycle the bit of its root pair in the network's run.
+use Rattle.std.specs.Prelude.{ℕ, List}
 use Rattle.command_words.specs.Commands.{Asks, Command, Synth, Flat, Run, Sim, Cosim, Report, Bench}
+use Rattle.command_words.specs.SynthOptionWords.{SuitsMethod}
 use Rattle.command_words.specs.declared.command.Method.{Method}
+use Rattle.command_words.specs.declared.command.Method.TheVariants.{Skew}
 use Rattle.deck_law.specs.Headline.{IsRightDeck}
 use Rattle.deck_form.specs.AskedOptions.{deck_options}
 use Rattle.deck_form.specs.declared.options.SynthOptions.{SynthOptions}
-use Rattle.deck_form.specs.declared.version.DeckVersion.TheVariants.{One as VersionOne}
 use Rattle.domsyn.specs.Benches.{IsSameBench}
-use Rattle.domsyn.specs.Methods.{HasSignsOf, text_version}
+use Rattle.domsyn.specs.Methods.{HasSignsOf}
 use Rattle.domsyn.specs.Outcomes.{Files, IsFile}
+use Rattle.skew_law.specs.BufferedDecks.{IsRightOverlappingDeck}
 
--- the text, in either version, is a right deck of the file's bytes, with options; by exact signs its phases are signs of which no others
--- need fewer pairs
+-- the text, in either version, is a right deck of the bytes, with options; for clocks that overlap it is one whose clocks may
+abbrev pub IsRightBy : Method → (bytes : List ℕ) → SynthOptions → (text : List ℕ) → Type 0
+IsRightBy Skew bytes options text = IsRightOverlappingDeck bytes options text
+IsRightBy method bytes options text = IsRightDeck bytes (deck_options options) text
+
+-- the text is a right deck of the file's bytes, with options; by exact signs its phases are signs of which no others need fewer pairs
 pub record IsRightDeckOfFile (files : Files) (name : List ℕ) (options : SynthOptions) (method : Method) (text : List ℕ) : Type 0 where
   pub bytes : List ℕ
   pub is_file : IsFile files name bytes
-  pub is_right : IsRightDeckWithCalls bytes (deck_options options) text
-  -- a text of version 1 has no calls, and is read as one subcircuit
-  pub without_calls : text_version method ≡ VersionOne → IsRightDeck bytes (deck_options options) text
+  pub is_right : IsRightBy method bytes options text
   pub signs : HasSignsOf method bytes text
 
 -- a text that is put out for a command with a status: for `synth` it is a right deck of the file, with its options,
@@ -30,13 +36,14 @@ abbrev pub IsRightFor : Files → Command → ℕ → List ℕ → Type 0
 IsRightFor files (Synth file options method) status text = IsRightDeckOfFile files file options method text
 IsRightFor files (Flat file) status text = Unit {0}
 IsRightFor files (Run file stim) status text = Unit {0}
-IsRightFor files (Sim deck stim options) status text = Unit {0}
+IsRightFor files (Sim deck stim options clocking) status text = Unit {0}
 IsRightFor files (Cosim file deck stim order seed) status text = Unit {0}
 IsRightFor files (Report file options) status text = Unit {0}
 IsRightFor files (Bench seed size options) status text = IsSameBench seed size options status text
 
--- where the words ask for the deck of a file with options, such a text is put out
+-- where the words ask for the deck of a file with options, they suit the method, as clocks that overlap are two to four, in cells with
+-- keepers, and such a text is put out
 abbrev pub GivesRightDeck : Files → List (List ℕ) → (List ℕ → Type 0) → Type 0
 GivesRightDeck files words Puts =
     (file : List ℕ) (options : SynthOptions) (method : Method) → Asks words (Synth file options method)
-    → (text : List ℕ) × IsRightDeckOfFile files file options method text × Puts text
+    → SuitsMethod method options × (text : List ℕ) × IsRightDeckOfFile files file options method text × Puts text

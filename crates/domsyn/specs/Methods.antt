@@ -1,13 +1,11 @@
--- The deck of a file by a method: which signs its sinks have, the version of its text, and what it is refused for.
+-- The deck of a file by a method: which signs its sinks have, and what it is refused for.
 use Rattle.std.specs.Prelude.{ℕ, ◌+◌, ◌≤◌, ◌<◌, ◌≡◌, ◌⊎◌, Bool, List, length, map}
 use Rattle.command_words.specs.declared.command.Method.{Method}
-use Rattle.command_words.specs.declared.command.Method.TheVariants.{Exact, Plain}
+use Rattle.command_words.specs.declared.command.Method.TheVariants.{Exact, Plain, Skew}
 use Rattle.network.specs.NetworkData.{NetworkData}
 use Rattle.deck.specs.CircuitData.{CircuitData}
 use Rattle.deck.specs.DeckText.{IsDeckOf}
 use Rattle.deck.specs.declared.phase.Phase.{Phase}
-use Rattle.deck_form.specs.declared.version.DeckVersion.{DeckVersion}
-use Rattle.deck_form.specs.declared.version.DeckVersion.TheVariants.{One as VersionOne}
 use Rattle.gate_decompose.specs.GateNodes.{AreGatesOf}
 use Rattle.gate_decompose.specs.GatesData.{GatesData}
 use Rattle.phase_assign.specs.Signs.{AreChosen}
@@ -25,11 +23,7 @@ use Rattle.domsyn.specs.Refusals.{HasNoNetworkFor}
 abbrev pub AreSignsOf : Method → GatesData → List Bool → Type 0
 AreSignsOf (Plain version) gates signs = AreChosen gates signs
 AreSignsOf Exact gates signs = (pairs : ℕ) × IsExact gates signs pairs
-
--- the version of the text that it gives
-abbrev pub text_version : Method → DeckVersion
-text_version (Plain version) = version
-text_version Exact = VersionOne
+AreSignsOf Skew gates signs = AreChosen gates signs
 
 -- the signs that phases tell
 abbrev pub signs_of_phases : List Phase → List Bool
@@ -50,6 +44,7 @@ pub record HasExactSigns (bytes text : List ℕ) : Type 0 where
 abbrev pub HasSignsOf : Method → (bytes text : List ℕ) → Type 0
 HasSignsOf (Plain version) bytes text = Unit {0}
 HasSignsOf Exact bytes text = HasExactSigns bytes text
+HasSignsOf Skew bytes text = Unit {0}
 
 -- the outputs and the inputs of latches of a network
 abbrev pub sink_count : NetworkData → ℕ
@@ -62,6 +57,7 @@ most_exact_sinks = 12
 abbrev pub IsSuited : Method → NetworkData → Type 0
 IsSuited (Plain version) network = Unit {0}
 IsSuited Exact network = sink_count network ≤ most_exact_sinks
+IsSuited Skew network = Unit {0}
 
 -- a network has too many sinks for exact signs, so many
 pub record HasTooManySinks (network : NetworkData) (count : ℕ) : Type 0 where
@@ -73,6 +69,7 @@ abbrev pub IsUnsuited : Method → NetworkData → Fault → Type 0
 IsUnsuited method network (fault.Traced why) = why ≡ Memory
 IsUnsuited (Plain version) network (fault.TooManySinks count) = ⊥
 IsUnsuited Exact network (fault.TooManySinks count) = HasTooManySinks network count
+IsUnsuited Skew network (fault.TooManySinks count) = ⊥
 
 -- bytes have a network with too many sinks for exact signs, so many
 pub record HaveTooManySinks (bytes : List ℕ) (count : ℕ) : Type 0 where
@@ -85,8 +82,10 @@ abbrev pub IsUndecked : Method → List ℕ → Fault → Type 0
 IsUndecked method bytes (fault.Traced why) = IsUnflattened bytes why
 IsUndecked (Plain version) bytes (fault.TooManySinks count) = ⊥
 IsUndecked Exact bytes (fault.TooManySinks count) = HaveTooManySinks bytes count
+IsUndecked Skew bytes (fault.TooManySinks count) = ⊥
 
 -- bytes of a file have no deck by the method for this cause: no network, or too many sinks for exact signs
 abbrev pub HasNoDeckFor : Method → List ℕ → Refusal → Type 0
 HasNoDeckFor (Plain version) bytes why = HasNoNetworkFor bytes why
 HasNoDeckFor Exact bytes why = HasNoNetworkFor bytes why ⊎ ((count : ℕ) × HaveTooManySinks bytes count × (why ≡ TooManySinks count))
+HasNoDeckFor Skew bytes why = HasNoNetworkFor bytes why

@@ -8,6 +8,7 @@ use Rattle.domsyn.specs.declared.refusal.Refusal.{Refusal}
 use Rattle.domsyn.specs.declared.refusal.Refusal.TheVariants.{TooLong}
 use Rattle.command_words.specs.Commands.{Command, Synth, Flat, Run, Sim, Cosim, Report, Bench, files_of}
 use Rattle.deck_form.specs.declared.options.SynthOptions.{SynthOptions}
+use Rattle.port_runs.specs.declared.clocking.Clocking.{Clocking}
 use Rattle.synth_flow.specs.SummaryData.{SummaryData}
 use Rattle.domsyn.specs.Benches.{IsBenchOf, bench_text}
 use Rattle.command_words.specs.declared.command.Method.{Method}
@@ -18,7 +19,7 @@ use Rattle.domsyn.specs.Refusals.{HasNoNetworkFor, IsFaulty, about}
 use Rattle.trace_tool.specs.CosimRefusals.{IsCosimRefused}
 use Rattle.trace_tool.specs.Refusals.{IsRefused}
 use Rattle.trace_tool.specs.TraceData.{TraceOptionsData}
-use Rattle.trace_tool.specs.Traces.{IsTraceOf}
+use Rattle.trace_tool.specs.Traces.{IsTraceBy}
 use Rattle.trace_tool.specs.VerdictLines.{verdict_line}
 use Rattle.trace_tool.specs.Verdicts.{IsVerdictOf}
 use Rattle.trace_tool.specs.declared.options.Order.{Order}
@@ -95,14 +96,15 @@ pub record HasNoDeck (files : Files) (file : List ℕ) (method : Method) (name :
   pub refused : HasNoDeckFor method bytes why
   pub name_is : name ≡ file
 
--- the trace of a deck over a stimulus; the status says whether each settling ended
-pub record IsTrace (files : Files) (deck stim : List ℕ) (options : TraceOptionsData) (status : ℕ) (text : List ℕ) : Type 0 where
+-- the trace of a deck over a stimulus, where its clocks fall so; the status says whether each settling ended
+pub record IsTrace (files : Files) (deck stim : List ℕ) (options : TraceOptionsData) (clocking : Clocking) (status : ℕ) (text : List ℕ)
+    : Type 0 where
   pub deck_bytes : List ℕ
   pub stim_bytes : List ℕ
   pub settled : Bool
   pub is_deck : IsFile files deck deck_bytes
   pub is_stim : IsFile files stim stim_bytes
-  pub trace : IsTraceOf deck_bytes stim_bytes options (record { text = text; settled = settled })
+  pub trace : IsTraceBy clocking deck_bytes stim_bytes options (record { text = text; settled = settled })
   pub status_is : status ≡ (if settled then 0 else 6)
 
 -- the run of the network of a file over a stimulus
@@ -189,8 +191,8 @@ IsOutcome files (Flat file) (Printed status text) = IsFlat files file status tex
 IsOutcome files (Flat file) (Refused name why) = HasNone files file name why
 IsOutcome files (Run file stim) (Printed status text) = IsPrintedRun files file stim status text
 IsOutcome files (Run file stim) (Refused name why) = IsRefusalOf files (file ∷ stim ∷ []) (IsNoRun files file stim name why) name why
-IsOutcome files (Sim deck stim options) (Printed status text) = IsTrace files deck stim options status text
-IsOutcome files (Sim deck stim options) (Refused name why) =
+IsOutcome files (Sim deck stim options clocking) (Printed status text) = IsTrace files deck stim options clocking status text
+IsOutcome files (Sim deck stim options clocking) (Refused name why) =
     IsRefusalOf files (deck ∷ stim ∷ []) (IsNoTrace files deck stim options.probes name why) name why
 IsOutcome files (Cosim file deck stim order seed) (Printed status text) = IsComparison files file deck stim order seed status text
 IsOutcome files (Cosim file deck stim order seed) (Refused name why) =

@@ -83,8 +83,18 @@ fn answer_of(alloc: Global, command: &Command, files: &[Vec<u8>]) -> Result<Answ
         } => { synth(alloc, bytes_at(files, 0), *options, *method) }
         Command::Flat { .. } => traced(flat(alloc, bytes_at(files, 0))),
         Command::Run { .. } => traced(run(alloc, bytes_at(files, 0), bytes_at(files, 1))),
-        Command::Sim { options, .. } => {
-            traced(sim(alloc, bytes_at(files, 0), bytes_at(files, 1), options))
+        Command::Sim {
+            options,
+            clocking,
+            ..
+        } => {
+            traced(sim(
+                alloc,
+                bytes_at(files, 0),
+                bytes_at(files, 1),
+                options,
+                *clocking,
+            ))
         }
         Command::Cosim { order, seed, .. } => {
             let file = bytes_at(files, 0);

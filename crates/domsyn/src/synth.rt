@@ -2,13 +2,11 @@
 ghost use Rattle.std.specs.Prelude.{◌≡◌, ◌≤◌, IfOk, IsErrOf, length};
 ghost use Rattle.dom_io.specs.Held.{file_limit};
 ghost use Rattle.command_words.specs.SynthOptionWords.{AreGoodOptions};
-ghost use Rattle.cell_decks.specs.RightTexts.{IsRightDeckWithCalls};
-ghost use Rattle.deck_law.specs.Headline.{IsRightDeck};
 ghost use Rattle.deck_form.specs.AskedOptions.{deck_options};
 ghost use Rattle.deck_form.specs.ChosenDecks.{IsDeckOfSigns};
-ghost use Rattle.deck_form.specs.declared.version.DeckVersion.TheVariants.{One as VersionOne};
 ghost use Rattle.domsyn.specs.Decks.{IsDeckFor, IsWholeText};
-ghost use Rattle.domsyn.specs.Methods.{AreSignsOf, HasSignsOf, IsSuited, IsUndecked, IsUnsuited, text_version};
+ghost use Rattle.domsyn.specs.Headline.{IsRightBy};
+ghost use Rattle.domsyn.specs.Methods.{AreSignsOf, HasSignsOf, IsSuited, IsUndecked, IsUnsuited};
 ghost use Rattle.command_words.specs.declared.command.Method.TheVariants.{Exact, Plain};
 ghost use Rattle.domsyn.specs.declared.answer.Ending.TheVariants.{Done};
 ghost use Rattle.domsyn.specs.declared.fault.Fault.{Fault as AnyFault};
@@ -25,6 +23,7 @@ use spice_text::{write, write_cells};
 use std::alloc::Global;
 use synth_flow::{
     DeckVersion, Grouped, SynthOptions, synth as deck_circuit, synth_grouped, synth_signs,
+    synth_skew,
 };
 use trace_tool::network_of_text;
 
@@ -41,8 +40,7 @@ pub fn synth(
     requires within { length bytes.now ≤ file_limit }
     requires good_options { AreGoodOptions options }
     ensures deck { IfOk result (λ answer. IsDeckFor bytes.now options method answer.text.items × (answer.ending ≡ Done)) }
-    ensures right { IfOk result (λ answer. IsRightDeckWithCalls bytes.now (deck_options options) answer.text.items
-        × (text_version method ≡ VersionOne → IsRightDeck bytes.now (deck_options options) answer.text.items)
+    ensures right { IfOk result (λ answer. IsRightBy method bytes.now options answer.text.items
         × HasSignsOf method bytes.now answer.text.items) }
     ensures refused { (why : AnyFault) → IsErrOf result why → IsUndecked method bytes.now why }
 {
@@ -71,6 +69,13 @@ fn text_of(
         }
         Method::Exact => {
             let circuit = exact_circuit(alloc, &network, options)?;
+            drop(network);
+            circuit.whole();
+            let text = write(alloc, &circuit)?;
+            Ok(text)
+        }
+        Method::Skew => {
+            let circuit = synth_skew(alloc, &network, options.bounds, options.phases)?;
             drop(network);
             circuit.whole();
             let text = write(alloc, &circuit)?;

@@ -38,7 +38,7 @@ returns-in-Synth-clause-right c =
     (λ answer is known are.
     let names : List (List ℕ) = c.in-Synth.file.now ∷ [] in
     let here = files_moved known (asked_command c.args.command.now) _ (map bytes_of c.args.files.now) same are in
-    subst (λ (k : Command). IsRightFor known k (ending_number answer.ending) answer.text.items) (sym same) (record { bytes = c.bytes_at.result.now; is_file = (c.bytes_at.ensures known names here); is_right = is.0; without_calls = is.1; signs = is.2 }))
+    subst (λ (k : Command). IsRightFor known k (ending_number answer.ending) answer.text.items) (sym same) (record { bytes = c.bytes_at.result.now; is_file = (c.bytes_at.ensures known names here); is_right = is.0; signs = is.1 }))
     c.synth.ensures.right
 
 pub returns-in-Synth-clause-refused : goal.returns-in-Synth-clause-refused
@@ -141,7 +141,7 @@ returns-in-Sim-clause-text c =
     let names : List (List ℕ) = c.in-Sim.deck.now ∷ c.in-Sim.stim.now ∷ [] in
     let here = files_moved known (asked_command c.args.command.now) _ (map bytes_of c.args.files.now) same are in
     subst (λ (k : Command). IsOutcome known k (Printed (ending_number answer.ending) answer.text.items)) (sym same)
-    (sim_printed known c.in-Sim.deck.now c.in-Sim.stim.now c.bytes_at-in-Sim.result.now c.bytes_at-in-Sim-2.result.now answer.text.items answer.ending c.in-Sim.options (c.bytes_at-in-Sim.ensures known names here) (c.bytes_at-in-Sim-2.ensures known names here) made))
+    (sim_printed known c.in-Sim.deck.now c.in-Sim.stim.now c.bytes_at-in-Sim.result.now c.bytes_at-in-Sim-2.result.now answer.text.items answer.ending c.in-Sim.options c.in-Sim.clocking (c.bytes_at-in-Sim.ensures known names here) (c.bytes_at-in-Sim-2.ensures known names here) made))
     c.sim.ensures.trace)
 
 pub returns-in-Sim-clause-right : goal.returns-in-Sim-clause-right
@@ -159,7 +159,7 @@ returns-in-Sim-clause-refused c why is known are =
     let fault = traced_err c.sim.result c.traced-in-Sim.result why c.traced-in-Sim.ensures is in
     subst (IsCommandFault known (asked_command c.args.command.now)) fault.2
     (subst (λ (k : Command). IsCommandFault known k (Traced fault.0)) (sym same)
-    (sim_fault known c.in-Sim.deck.now c.in-Sim.stim.now c.bytes_at-in-Sim.result.now c.bytes_at-in-Sim-2.result.now c.in-Sim.options fault.0 (c.bytes_at-in-Sim.ensures known names here) (c.bytes_at-in-Sim-2.ensures known names here) (c.sim.ensures.refused fault.0 fault.1)))
+    (sim_fault known c.in-Sim.deck.now c.in-Sim.stim.now c.bytes_at-in-Sim.result.now c.bytes_at-in-Sim-2.result.now c.in-Sim.options c.in-Sim.clocking fault.0 (c.bytes_at-in-Sim.ensures known names here) (c.bytes_at-in-Sim-2.ensures known names here) (c.sim.ensures.refused fault.0 fault.1)))
 
 pub bytes_at-file-requires : goal.bytes_at-file-requires
 bytes_at-file-requires c =

@@ -9,6 +9,7 @@ use Rattle.command_words.proofs.AskedOnce.{asks_in_range}
 use Rattle.domsyn.specs.Top.{IsText}
 use Rattle.domsyn.proofs.OwnAnswers.{finished_own, reported_own}
 use Rattle.domsyn.proofs.BenchClauses.{finished_bench, finished_same, reported_bench}
+use Rattle.domsyn.proofs.HeadlineClauses.{finished_right}
 use Rattle.domsyn.proofs.TopClauses.{asks_found, asks_some, finished_complete}
 use Rattle.domsyn.proofs.Rooms.{room_for_failure, room_of}
 use Rattle.domsyn.proofs.ReportedFailures.{failure_reported, reported_cause, reported_complete, reported_unread}
@@ -70,6 +71,12 @@ returns-in-Ok-clause-bench g c =
     let words = map string_bytes c.args.words.now in
     let asks = asks_found words c.in-Ok-Some.field-0 c.in-Ok-Some.command c.in-Ok-Some.field-0-is c.in-Ok-Some.ensures.command in
     finished_bench (g.S.Shelf.files c.args.shelf.now) words (asked_command c.in-Ok-Some.command) asks _ c.in-Ok.answer.text.items c.in-Ok.ensures.right _ c.finish.ensures.known
+
+pub returns-in-Ok-clause-headline : goal.returns-in-Ok-clause-headline
+returns-in-Ok-clause-headline g c zero =
+    let words = map string_bytes c.args.words.now in
+    let asks = asks_found words c.in-Ok-Some.field-0 c.in-Ok-Some.command c.in-Ok-Some.field-0-is c.in-Ok-Some.ensures.command in
+    finished_right (g.S.Shelf.files c.args.shelf.now) words (asked_command c.in-Ok-Some.command) asks _ c.in-Ok.answer.text.items c.in-Ok.ensures.right _ _ zero c.finish.ensures.done
 
 pub returns-in-Ok-clause-same : goal.returns-in-Ok-clause-same
 returns-in-Ok-clause-same g c zero =

@@ -3,7 +3,7 @@ use Rattle.std.proofs.lemmas.Result.{err_from_is_err_and}
 use Rattle.domsyn.proofs.CommandAnswers.{text_network}
 use Rattle.domsyn.proofs.ExactDecks.{has_signs}
 use Rattle.domsyn.proofs.Methods.{unsuited_undecked}
-use Rattle.domsyn.proofs.RightTexts.{right_without_calls, text_is_right}
+use Rattle.domsyn.proofs.RightTexts.{text_is_right}
 use Rattle.domsyn.proofs.synth.synth.Goals as goal
 
 pub returns-clause-deck : goal.returns-clause-deck
@@ -27,8 +27,7 @@ returns-clause-right c =
     let found = c.in_ok-network.ensures.network in
     let good = c.requires.good_options in
     let is = c.in_ok-text.ensures.text in (
-      text_is_right c.args.method bytes text found.file network c.args.options found.accepted found.network_is good is,
-      right_without_calls c.args.method bytes text found.file network c.args.options found.accepted found.network_is good is,
+      text_is_right bytes text found.file network c.args.options found.accepted found.network_is good c.args.method is,
       has_signs c.args.method bytes text network c.args.options (text_network bytes network c.requires.within found) good is,
     )
 
