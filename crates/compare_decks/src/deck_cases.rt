@@ -1,27 +1,12 @@
 //! Decks, read twice.
-use crate::deck_texts::{ENDS, LINES, PARTS, PATTERNS, WORDS, WORKED, framed};
+use crate::deck_texts::{ENDS, LINES, PARTS, PATTERNS, WORDS, WORKED, change, framed, nested};
 use deck::{Circuit, Device, Phase};
 use dom_base::{NetName, OutOfMemory};
 use plain_texts::{DeckReading, Draws, PlainDeck, Tally, listed, read_deck, write_deck};
-use spice_read::{DeckFault, DeckKind, read};
+use spice_read::{DeckFault, read};
 use spice_text::write;
 use std::alloc::Global;
 use worked_texts::AND_DECK;
-
-/// The number of a kind in the table of refusals.
-fn number_of(kind: DeckKind) -> u8 {
-    match kind {
-        DeckKind::ControlByte => 1,
-        DeckKind::UnknownCard => 2,
-        DeckKind::BadCard => 3,
-        DeckKind::UnknownDevice => 4,
-        DeckKind::NoSubckt => 5,
-        DeckKind::SecondSubckt => 6,
-        DeckKind::NotClosed => 7,
-        DeckKind::DuplicatePort => 8,
-        DeckKind::TooMany => 9,
-    }
-}
 
 fn same_nets(nets: &[NetName], plain: &[Vec<u8>]) -> bool {
     nets.len() == plain.len()
@@ -74,7 +59,8 @@ fn compare(alloc: Global, tally: &mut Tally, text: &[u8]) -> Result<(), OutOfMem
         Err(DeckFault::At { line, kind }) => {
             let alike = match &plain {
                 DeckReading::Deck(_) => false,
-                DeckReading::Fault(other, number) => line == *other && number_of(kind) == *number,
+                DeckReading::Fault(other, number) => line == *other
+                    && kind.number() == *number as u64,
             };
             tally.count(true, alike);
             Ok(())
@@ -83,8 +69,8 @@ fn compare(alloc: Global, tally: &mut Tally, text: &[u8]) -> Result<(), OutOfMem
     }
 }
 
-/// Reads the worked texts, one of them cut short at each byte, patterns with each byte, and texts of
-/// drawn pieces.
+/// Reads the worked texts, one of them cut short at each byte, patterns with each byte, texts of drawn
+/// pieces, and subcircuits that call one another, each too with a byte changed.
 pub fn compare_decks(alloc: Global) -> Result<Tally, OutOfMemory> {
     let mut tally = Tally::new();
     for text in listed(alloc, WORKED, AND_DECK, PATTERNS)? {
@@ -97,6 +83,12 @@ pub fn compare_decks(alloc: Global) -> Result<Tally, OutOfMemory> {
     }
     for _ in 0..360u32 {
         compare(alloc, &mut tally, &framed(alloc, &mut draws)?)?;
+    }
+    for _ in 0..720u32 {
+        let mut text = nested(alloc, &mut draws)?;
+        compare(alloc, &mut tally, &text)?;
+        change(&mut draws, &mut text);
+        compare(alloc, &mut tally, &text)?;
     }
     Ok(tally)
 }

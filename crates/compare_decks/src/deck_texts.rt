@@ -29,6 +29,8 @@ pub const WORKED: &[&str] = &[
     ".subckt a=b x\n.ends\n",
     ".subckt a\n.ends b\n.end",
     "** phase x +\n*x phase y -\n* phases z +\n* phase\n.subckt a\n.ends\n",
+    ".subckt c a y\nm a b y y nch\n.ends\n.subckt t q x1.b\nx1 q z c\n.ends\n",
+    ".subckt e a\n.ends\n.subckt c a\nm a n a a pch\n.ends\n.subckt t\nx0 q e\nX1 r C\nx2 s c\n.ends\n",
     ".subckt a\n\t * PHASE\tA  -\r\n* phase b\n+ +\n.ends x=y\n.model\n.end z=",
 ];
 
@@ -178,4 +180,138 @@ pub fn framed(alloc: Global, draws: &mut Draws) -> Result<Vec<u8>, OutOfMemory> 
     draws.append(&mut text, count, DEVICES, &["\n", "\n", "\r\n", " x\n"])?;
     draws.append(&mut text, 1, TAILS, &["\n", "\n", "\r\n", "\n.x\n", ""])?;
     Ok(text)
+}
+
+/// How a subcircuit is opened, and what may stand in it.
+type Level = (&'static [&'static str], &'static [&'static str]);
+
+/// Subcircuits that call those before them, with ports that have the names of inner nets of calls.
+const LEVELS: &[Level] = &[
+    (
+        &[
+            ".subckt u a b",
+            ".subckt u a b",
+            ".subckt u a x1.n",
+            ".SUBCKT U a\n+ b",
+        ],
+        &[
+            "m1 a n b vss nch",
+            "m1 a n b vss nch",
+            "m2 x1.n a n vdd pch",
+            "m3 n b vdd vdd pkeep",
+            "* a b",
+            "m4 a a a a nch",
+        ],
+    ),
+    (
+        &[
+            ".subckt v a b",
+            ".subckt v x1.n b",
+            ".subckt V x2.x1.n a",
+            ".subckt v n b",
+        ],
+        &[
+            "x1 a n u",
+            "X2 n a U",
+            "x1 b x1.n u",
+            "x2 a b u",
+            "x n\n+ n u",
+            "m1 x1.n n b vss nch",
+            "m3 x2.n x1.b vdd vdd pkeep",
+        ],
+    ),
+    (
+        &[
+            ".subckt w a b",
+            ".subckt w x1.x1.n x1.n",
+            ".subckt w a vdd",
+            ".subckt w x2.n x1.x1.n",
+        ],
+        &[
+            "x1 a n u",
+            "x1 a n v",
+            "x2 n x1.n v",
+            "X2 x1.n b V",
+            "x1 b b v",
+            "m1 x1.x1.n n x2.n vss nch",
+            "m2 vdd x2.x1.n x1.n.n vdd pch",
+        ],
+    ),
+    (
+        &[
+            ".subckt t",
+            ".subckt t x1.n x2.x1.x1.n",
+            ".subckt t vdd vss n",
+            ".subckt x1 a",
+        ],
+        &[
+            "x1 a n w",
+            "x2 n x1.n w",
+            "x1 x2.n x2.x1.n u",
+            "x1.x2 vdd vss v",
+            "x1 n vdd w",
+            "m1 x1.x1.n a x1.x1.x1.n vss nch",
+        ],
+    ),
+];
+
+/// What may not stand in a subcircuit, in most places.
+const WRONG: &[&str] = &[
+    "x3 u",
+    "x4 v",
+    "x5 a u",
+    "x6 a b z",
+    "x n n t",
+    "x1 a=b u",
+    "x",
+    "y1 a",
+    "+ a",
+    "+ u",
+    ".subckt q",
+    ".ends",
+    ".subckt u a b",
+    ".ends\n.subckt V\n.ends\n.subckt q",
+    "m9 a b c d npn",
+    "m9 a b c",
+    "x1 a b w",
+    ".end",
+    ".subckt q a b a",
+];
+
+const CLOSINGS: &[&str] = &[
+    ".ends",
+    ".ends",
+    ".ends",
+    ".ends u",
+    ".ends\n.model x",
+    "* c\n.ends",
+];
+
+/// Subcircuits that call one another. In half of the texts something stands in one of them that may not.
+pub fn nested(alloc: Global, draws: &mut Draws) -> Result<Vec<u8>, OutOfMemory> {
+    let mut text = Vec::new(alloc);
+    let wrong = draws.below(8);
+    for (place, (heads, parts)) in LEVELS.iter().enumerate() {
+        draws.append(&mut text, 1, heads, &["\n"])?;
+        let count = draws.below(5);
+        draws.append(&mut text, count, parts, &["\n", "\n", "\r\n"])?;
+        if place == wrong {
+            draws.append(&mut text, 1, WRONG, &["\n"])?;
+        }
+        draws.append(&mut text, 1, CLOSINGS, &["\n"])?;
+    }
+    Ok(text)
+}
+
+const BYTES: &[&str] = &[
+    " ", "x", "u", "a", ".", "n", "\n", "\n", "+", "m", "=", "*", "b", "v", "\t", "1", "\x01",
+];
+
+/// Puts another byte in the place of one of a text.
+pub fn change(draws: &mut Draws, text: &mut [u8]) {
+    let place = draws.below(text.len());
+    let other = draws.pick(BYTES).as_bytes().first().copied();
+    if let Some(byte) = text.get_mut(place) {
+        *byte = other.unwrap_or(b' ');
+    }
 }

@@ -1,13 +1,13 @@
 //! Decks, made twice.
 use crate::files::drawn_text;
-use crate::product::{OPTIONS, deck_text, options_at};
+use crate::product::{OPTIONS, deck_text, options_at, skew_deck_text};
 use crate::tally::DeckTally;
 use comparison::{Trouble, network_of};
 use network::Network;
 use plain_hierarchies::refusal;
 use plain_networks::{PlainNetwork, Sizes};
 use plain_synthesis::{
-    PlainBounds, PlainOptions, PlainStyle, Synthesis, cards_of, cells_of, chosen_plan,
+    PlainBounds, PlainOptions, PlainStyle, Synthesis, buffered, cards_of, cells_of, chosen_plan,
     chosen_signs, cover_tables, deck_of, forest_of, gates_of,
 };
 use plain_texts::{Draws, PlainDeck, write_deck};
@@ -74,7 +74,27 @@ fn plain_deck(
     Ok(deck_of(alloc, network, &synthesis.signs, clocks, &cards)?)
 }
 
-/// Compares decks of a network by the options whose numbers have this rest. It answers whether they are alike.
+/// Whether the deck of a network on several clocks with chains of buffers is that of the product, by the options of
+/// this number, where the cells are those of the deck without buffers.
+fn is_skew_deck(
+    alloc: Global,
+    network: &Network,
+    plain: &PlainNetwork,
+    synthesis: &mut Synthesis,
+    number: u32,
+) -> Result<bool, Trouble> {
+    let clocks = options_at(number).phases as usize;
+    let ends = &synthesis.forest.ends;
+    synthesis.cells = buffered(alloc, &synthesis.cells, ends, clocks)?;
+    let cards = cards_of(alloc, plain, synthesis)?;
+    let deck = deck_of(alloc, plain, &synthesis.signs, clocks, &cards)?;
+    let wanted = write_deck(alloc, &deck)?;
+    let found = skew_deck_text(alloc, network, number)?;
+    Ok(found.as_slice() == wanted.as_slice())
+}
+
+/// Compares decks of a network by the options whose numbers have this rest, and with keepers on several clocks those
+/// with chains of buffers too, which aren't counted. It answers whether they are alike.
 fn compare_network(
     alloc: Global,
     tally: &mut DeckTally,
@@ -85,13 +105,18 @@ fn compare_network(
     let mut synthesis = in_common(alloc, plain)?;
     for number in 0..OPTIONS {
         if number as u64 % STEP == rest {
-            let deck = plain_deck(alloc, plain, &mut synthesis, options_at(number))?;
+            let options = options_at(number);
+            let deck = plain_deck(alloc, plain, &mut synthesis, options)?;
             let wanted = write_deck(alloc, &deck)?;
             let found = deck_text(alloc, network, number)?;
             if found.as_slice() != wanted.as_slice() {
                 return Ok(false);
             }
             tally.add_deck(deck.devices.len());
+            let has_skew = options.style == Style::Keeper && options.phases > 1;
+            if has_skew && !is_skew_deck(alloc, network, plain, &mut synthesis, number)? {
+                return Ok(false);
+            }
         }
     }
     tally.networks = tally.networks.saturating_add(1);

@@ -1,6 +1,6 @@
-//! Compares the decks of generated files, of all options, with those of plain and slow functions that were
-//! written from the rules alone, byte for byte; and runs decks, as they are read back, in random legal orders of
-//! events beside the runs of the networks. The files are the same each time.
+//! Compares the decks of generated files, of all options, without and with chains of buffers, with those of plain
+//! and slow functions that were written from the rules alone, byte for byte; and runs decks, as they are read back,
+//! in random legal orders of events beside the runs of the networks. The files are the same each time.
 #![tactic(auto)]
 
 mod decks;

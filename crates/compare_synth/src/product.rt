@@ -5,7 +5,7 @@ use comparison::Trouble;
 use network::Network;
 use spice_text::write;
 use std::alloc::Global;
-use synth_flow::{Style, SynthOptions, synth};
+use synth_flow::{Style, SynthOptions, synth, synth_skew};
 use tree_map::Bounds;
 
 /// How many options there are: both styles, widths from 2 to 8, heights from 2 to 6, and 1 to 4 clocks.
@@ -32,6 +32,13 @@ pub fn options_at(number: u32) -> SynthOptions
             Style::Precharge
         },
     }
+}
+
+/// The text of the deck of a network with chains of buffers, by the options of this number.
+pub fn skew_deck_text(alloc: Global, network: &Network, number: u32) -> Result<Vec<u8>, Trouble> {
+    let options = options_at(number);
+    let circuit = synth_skew(alloc, network, options.bounds, options.phases)?;
+    Ok(write(alloc, &circuit)?)
 }
 
 /// The text of the deck of a network, by the options of this number.

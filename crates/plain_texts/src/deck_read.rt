@@ -1,5 +1,9 @@
 //! A plain reader of decks, over the whole list of cards.
-use crate::cut::{begins_with, has_control, has_one_of, has_word, have_control, lines, words};
+use crate::cut::{has_control, has_one_of, has_word, have_control, lines, words};
+use crate::deck_subckts::{
+    Card, called, index_in, is_call, is_device, is_ends, is_subckt, named, passed_by, ports_of,
+    subckts_of,
+};
 use dom_base::{Kind, OutOfMemory};
 use std::alloc::Global;
 
@@ -7,12 +11,7 @@ const MOST_DEVICES: usize = 16_777_216;
 
 const MOST_PORTS: usize = 1_048_576;
 
-/// A card, with the number of its first line, from 1.
-#[derive(Drop)]
-struct Card {
-    number: u64,
-    words: Vec<Vec<u8>>,
-}
+const MOST_DEPTH: usize = 64;
 
 /// A device, with the numbers of its nets.
 #[derive(Drop)]
@@ -115,20 +114,10 @@ fn cards_of(alloc: Global, lines: &[Vec<u8>]) -> Result<(Vec<Card>, Vec<u64>), O
     Ok((cards, stray))
 }
 
-fn is_subckt(card: &Card) -> bool {
-    has_word(&card.words, 0, ".subckt")
-}
-
-fn is_ends(card: &Card) -> bool {
-    has_word(&card.words, 0, ".ends")
-}
-
-fn is_device(card: &Card) -> bool {
-    begins_with(&card.words, b'm')
-}
-
 fn is_known(card: &Card) -> bool {
-    is_device(card) || has_one_of(&card.words, 0, &[".subckt", ".ends", ".end", ".model"])
+    is_device(card)
+        || is_call(card)
+        || has_one_of(&card.words, 0, &[".subckt", ".ends", ".end", ".model"])
 }
 
 /// Whether a known card has the words that it takes.
@@ -140,19 +129,11 @@ fn has_form(card: &Card) -> bool {
         .any(|word| word.iter().any(|b| *b == b'='));
     if is_device(card) {
         count >= 6
-    } else if is_subckt(card) {
+    } else if is_call(card) || is_subckt(card) {
         count >= 2 && !equals
     } else {
         !is_ends(card) || count <= 2
     }
-}
-
-fn ports_of(card: &Card) -> &[Vec<u8>] {
-    card.words.get(2..).unwrap_or(&[])
-}
-
-fn index_in(names: &[Vec<u8>], name: &[u8]) -> Option<usize> {
-    names.iter().position(|other| other.as_slice() == name)
 }
 
 fn names_twice(names: &[Vec<u8>]) -> bool {
@@ -175,23 +156,42 @@ fn is_open(before: &[Card]) -> bool {
 }
 
 /// The smallest number of a fault of a card behind these.
-fn card_fault(before: &[Card], card: &Card) -> Option<u8> {
+fn card_fault(alloc: Global, before: &[Card], card: &Card) -> Result<Option<u8>, OutOfMemory> {
     let device = is_device(card);
+    let call = is_call(card);
     let subckt = is_subckt(card);
-    let named = has_one_of(&card.words, 5, &["nch", "pch", "pkeep"]);
-    let devices_before = before.iter().filter(|other| is_device(other)).count();
+    let kind_named = has_one_of(&card.words, 5, &["nch", "pch", "pkeep"]);
+    let all = subckts_of(alloc, before)?;
+    let unit = called(&all.closed, card);
+    let (added, depth, ports) = match unit {
+        Some(unit) => (
+            unit.devices.len(),
+            unit.depth.saturating_add(1),
+            unit.ports.len(),
+        ),
+        None => (0, 0, passed_by(card).len()),
+    };
+    let count = all.open.devices.len();
+    let again = match card.words.get(1) {
+        Some(name) => named(&all.closed, name).is_some(),
+        None => false,
+    };
     let faults = [
         (have_control(&card.words), 1),
         (!is_known(card), 2),
         (is_known(card) && !has_form(card), 3),
-        (device && card.words.len() >= 6 && !named, 4),
-        ((device || is_ends(card)) && !is_open(before), 5),
-        (subckt && before.iter().any(is_subckt), 6),
+        (device && card.words.len() >= 6 && !kind_named, 4),
+        ((device || call || is_ends(card)) && !is_open(before), 5),
+        (subckt && (is_open(before) || again), 6),
         (subckt && names_twice(ports_of(card)), 8),
-        (device && devices_before == MOST_DEVICES, 9),
+        (device && count >= MOST_DEVICES, 9),
+        (call && count.saturating_add(added) > MOST_DEVICES, 9),
+        (call && depth > MOST_DEPTH, 9),
         (subckt && ports_of(card).len() > MOST_PORTS, 9),
+        (call && unit.is_none(), 10),
+        (call && ports != passed_by(card).len(), 11),
     ];
-    faults.iter().find(|fault| fault.0).map(|fault| fault.1)
+    Ok(faults.iter().find(|fault| fault.0).map(|fault| fault.1))
 }
 
 /// The first line with a fault, and the smallest number of its faults.
@@ -207,7 +207,7 @@ fn first_fault(
     }
     for (index, card) in cards.iter().enumerate() {
         let before = cards.get(..index).unwrap_or(&[]);
-        if let Some(kind) = card_fault(before, card) {
+        if let Some(kind) = card_fault(alloc, before, card)? {
             faults.push((card.number, kind))?;
         }
     }
@@ -235,17 +235,8 @@ fn phases_of(alloc: Global, lines: &[Vec<u8>]) -> Result<Vec<(Vec<u8>, bool)>, O
     Ok(phases)
 }
 
-/// The number of the net at an index of a card, which is added where it is new.
-fn net_at(
-    alloc: Global,
-    nets: &mut Vec<Vec<u8>>,
-    card: &Card,
-    index: usize,
-) -> Result<usize, OutOfMemory> {
-    let name = match card.words.get(index) {
-        Some(name) => name.as_slice(),
-        None => &[],
-    };
+/// The number of the net of this name, which is added where it is new.
+fn net_at(alloc: Global, nets: &mut Vec<Vec<u8>>, name: &[u8]) -> Result<usize, OutOfMemory> {
     match index_in(nets, name) {
         Some(found) => Ok(found),
         None => {
@@ -255,40 +246,30 @@ fn net_at(
     }
 }
 
-fn kind_of(card: &Card) -> Kind {
-    if has_word(&card.words, 5, "nch") {
-        Kind::N
-    } else if has_word(&card.words, 5, "pch") {
-        Kind::P
-    } else {
-        Kind::Keep
-    }
-}
-
-/// What cards without a fault say.
+/// What cards without a fault say: the last subcircuit.
 fn deck_of(alloc: Global, lines: &[Vec<u8>], cards: &[Card]) -> Result<PlainDeck, OutOfMemory> {
     let mut name = Vec::new(alloc);
     let mut nets = Vec::new(alloc);
-    if let Some(card) = cards.iter().find(|card| is_subckt(card)) {
-        if let Some(word) = card.words.get(1) {
-            name.extend_from_slice(word)?;
-        }
-        for port in ports_of(card) {
+    let mut ports = 0;
+    let mut devices = Vec::new(alloc);
+    let all = subckts_of(alloc, cards)?;
+    if let Some(last) = all.closed.last() {
+        name.extend_from_slice(&last.name)?;
+        for port in last.ports.iter() {
             nets.push(port.to_vec(alloc)?)?;
         }
-    }
-    let ports = nets.len();
-    let mut devices = Vec::new(alloc);
-    for card in cards.iter().filter(|card| is_device(card)) {
-        let drain = net_at(alloc, &mut nets, card, 1)?;
-        let gate = net_at(alloc, &mut nets, card, 2)?;
-        let source = net_at(alloc, &mut nets, card, 3)?;
-        devices.push(PlainDevice {
-            kind: kind_of(card),
-            drain,
-            gate,
-            source,
-        })?;
+        ports = nets.len();
+        for device in last.devices.iter() {
+            let drain = net_at(alloc, &mut nets, &device.drain)?;
+            let gate = net_at(alloc, &mut nets, &device.gate)?;
+            let source = net_at(alloc, &mut nets, &device.source)?;
+            devices.push(PlainDevice {
+                kind: device.kind,
+                drain,
+                gate,
+                source,
+            })?;
+        }
     }
     let phases = phases_of(alloc, lines)?;
     Ok(PlainDeck {

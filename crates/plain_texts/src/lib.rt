@@ -6,6 +6,7 @@ mod blif_print;
 mod blif_read;
 mod cut;
 mod deck_read;
+mod deck_subckts;
 mod deck_write;
 mod draws;
 mod list;

@@ -57,6 +57,29 @@ const CIRCUITS: &[(&[u8], &str)] = &[
         b"* phase a + b\n* phase a *\n* phase a\x02 +\n.subckt a\n.ends",
         "a 0",
     ),
+    // a port with the name of an inner net of a call is that net
+    (
+        b".subckt c a y\nm a b y y nch\n.ends\n.subckt t q x1.b\nx1 q z c\n.ends\n",
+        "t 2 q x1.b z,N 0 1 2",
+    ),
+    // nets inside a call have its name in front
+    (
+        b".subckt two a b\nm1 a g n n nch\nm2 n g b b nch\n.ends\n\
+         .subckt top vdd vss ck1 lm lmb ls lsb rs rsb o_y\nx1 o_y vss two\n.ends\n",
+        "top 10 vdd vss ck1 lm lmb ls lsb rs rsb o_y x1.g x1.n,N 9 10 11,N 11 10 1",
+    ),
+    // the supplies are ports like others, and the circuit is the last subcircuit
+    (
+        b".subckt c a\nm a vdd vss vss nch\n.ends\n.subckt d q\nx1 q c\n.ends\n\
+         .subckt t vdd b\nx0 vdd d\nx0 b d\n.ends\n",
+        "t 2 vdd b x0.x1.vdd x0.x1.vss,N 0 2 3,N 1 2 3",
+    ),
+    // a net that no device names has no number, and a net is numbered where a device names it
+    (
+        b".subckt e a\n.ends\n.subckt c a\nm a n a a pch\n.ends\n\
+         .subckt t\nx0 q e\nX1 r C\nx2 s c\n.ends\n",
+        "t 0 r x1.n s x2.n,P 0 1 0,P 2 3 2",
+    ),
 ];
 
 #[test]
@@ -96,7 +119,6 @@ const REFUSED: &[(&str, u64, DeckKind)] = &[
     ),
     (".subckt a\rb\n", 1, DeckKind::ControlByte),
     (".subckt a\n.include b\n", 2, DeckKind::UnknownCard),
-    ("x y\n", 1, DeckKind::UnknownCard),
     (".subckt a\nm a b c d\n", 2, DeckKind::BadCard),
     (".subckt\n", 1, DeckKind::BadCard),
     (".subckt a b=c\n", 1, DeckKind::BadCard),
@@ -108,11 +130,42 @@ const REFUSED: &[(&str, u64, DeckKind)] = &[
     (".subckt a\n.ends\n.ends\n", 3, DeckKind::NoSubckt),
     ("* a\n.end\n.subckt a\n", 2, DeckKind::NoSubckt),
     (".subckt a\n.subckt b\n", 2, DeckKind::SecondSubckt),
-    (".subckt a\n.ends\n.subckt b\n", 3, DeckKind::SecondSubckt),
+    (".subckt a\n.ends\n.subckt A\n", 3, DeckKind::SecondSubckt),
     (".subckt a\n.end\n\n", 2, DeckKind::NotClosed),
     (".subckt a\n\n", 3, DeckKind::NotClosed),
+    (".subckt a\n.ends\n.subckt b\n", 4, DeckKind::NotClosed),
     (".subckt a b\n+ c\n+ B\n", 1, DeckKind::DuplicatePort),
+    (".subckt a\nx1 a\n", 2, DeckKind::UnknownSubckt),
+    (
+        ".subckt a p\n.ends\n.subckt b\nx1 A\n",
+        4,
+        DeckKind::WrongCount,
+    ),
+    (
+        ".subckt two a b\nm1 a g n n nch\nm2 n g b b nch\n.ends\n.subckt top o_y vss\nx1 o_y two\n.ends\n",
+        6,
+        DeckKind::WrongCount,
+    ),
+    (
+        ".subckt two a b\nm1 a g n n nch\nm2 n g b b nch\n.ends\n.subckt top o_y vss\nx1 o_y vss tow\n.ends\n",
+        6,
+        DeckKind::UnknownSubckt,
+    ),
+    // calls out of place, and out of form
+    ("x y\n", 1, DeckKind::NoSubckt),
+    (".subckt a\nx1\n", 2, DeckKind::BadCard),
+    (
+        ".subckt a\n.ends\n.subckt b\nx1 a=b a\n",
+        4,
+        DeckKind::BadCard,
+    ),
     // two kinds on one line
+    (
+        ".subckt a p\n.ends\n.subckt A p p\n",
+        3,
+        DeckKind::SecondSubckt,
+    ),
+    ("x a b\n", 1, DeckKind::NoSubckt),
     ("m a b c d nmos\n", 1, DeckKind::UnknownDevice),
     ("m a b c d\n", 1, DeckKind::BadCard),
     (".ends a b\n", 1, DeckKind::BadCard),
@@ -124,6 +177,35 @@ const REFUSED: &[(&str, u64, DeckKind)] = &[
     (".subckt a\n.ends a b\n.include\n", 2, DeckKind::BadCard),
     (".subckt a\n\nm a\n+ b c\n.x\n", 3, DeckKind::BadCard),
 ];
+
+/// Subcircuits that each call the one before so often, behind one with a device.
+fn levels(alloc: Global, count: u64, times: u64) -> Result<String, Fail> {
+    let mut text = String::new(alloc);
+    text.push_str(".subckt s0 a b\nm a b a a nch\n.ends\n")?;
+    for level in 0..count {
+        let next = level.saturating_add(1);
+        text.push_str(format!(in alloc; ".subckt s{next} a b\n")?.as_str())?;
+        for call in 0..times {
+            text.push_str(format!(in alloc; "x{call} a b s{level}\n")?.as_str())?;
+        }
+        text.push_str(".ends\n")?;
+    }
+    Ok(text)
+}
+
+/// What would be too large is refused at its card, before anything is expanded.
+#[test]
+fn refuses_what_is_too_large(rt: HostRuntime) -> Result<(), Fail> {
+    let alloc = rt.alloc();
+    let doubled = levels(alloc, 25, 2)?;
+    assert!(rt; refusal(alloc, doubled.as_str()) == Some((102, DeckKind::TooMany)));
+    let deep = levels(alloc, 65, 1)?;
+    assert!(rt; refusal(alloc, deep.as_str()) == Some((197, DeckKind::TooMany)));
+    let circuit = read(alloc, levels(alloc, 64, 1)?.as_bytes())?;
+    let told = summary(alloc, &circuit)?;
+    assert_eq!(rt; told.as_slice(), b"s64 2 a b,N 0 1 0".as_slice());
+    Ok(())
+}
 
 #[test]
 fn refuses_at_the_first_line(rt: HostRuntime) -> Result<(), Fail> {

@@ -3,8 +3,8 @@ use deck::DeckKind;
 use std::alloc::Global;
 use std::test::Fail;
 use stim_text::StimKind;
-use trace_tool::{Order, Trace, TraceFault, TraceOptions, sim};
-use worked_texts::{CHARGES, RING};
+use trace_tool::{Order, Trace, TraceFault, TraceOptions, sim, sim_skew};
+use worked_texts::{AND_SKEW_DECK, CHARGES, RING};
 
 /// The trace in an order, with the lines of events where they are asked for.
 fn traced(
@@ -95,4 +95,29 @@ fn first_fault_is_reported(rt: HostRuntime) {
     let letter = refusal(alloc, RING, "x\n");
     let kind = StimKind::BadLetter;
     assert!(rt; matches!(letter, Some(TraceFault::Stim { line: 1, kind: found }) if found == kind));
+}
+
+/// Where clocks overlap the first falls once the rise of the second has settled, in each order of events.
+#[test]
+fn clocks_overlap(rt: HostRuntime) -> Result<(), Fail> {
+    let alloc = rt.alloc();
+    for order in [Order::First, Order::Last, Order::Seed] {
+        let options = TraceOptions {
+            order,
+            seed: 7,
+            probes: Vec::new(alloc),
+            events: false,
+        };
+        match sim_skew(alloc, AND_SKEW_DECK, b"11\n", &options) {
+            Ok(trace) => {
+                assert!(rt; trace.settled);
+                assert_eq!(rt;
+                    trace.text.as_slice(),
+                    b"power events 5\ncycle 0 in 11 out 1 events 18\n".as_slice()
+                );
+            }
+            Err(_) => assert!(rt; false),
+        }
+    }
+    Ok(())
 }

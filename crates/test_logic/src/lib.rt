@@ -1,6 +1,9 @@
-//! Tests of the gates of networks, of their needed pairs, signs, covers and clocks, on networks that were worked by hand.
+//! Tests of the gates of networks, of their needed pairs, signs, covers, clocks and chains of buffers, on networks that were worked by
+//! hand.
 #![tactic(auto)]
 
+#[cfg(test)]
+mod buffers;
 #[cfg(test)]
 mod chains;
 #[cfg(test)]
@@ -17,5 +20,7 @@ mod gates;
 mod logic;
 #[cfg(test)]
 mod signs;
+#[cfg(test)]
+mod skew_decks;
 #[cfg(test)]
 mod words;
