@@ -146,7 +146,8 @@ def ngspice(deck, sized_path, text):
     name = next(line.split()[1] for line in deck.split("\n") if line.startswith(".subckt"))
     yield "xdut\n" + "".join("+ " + port + "\n" for port in deck_ports) + f"+ {name}\n"
     yield "".join(f"cload{k} {out} 0 2f\n" for k, out in enumerate(outs))
-    yield f".tran 50p {(len(cycles) + 1) * PERIOD}n\n.control\nrun\n"
+    # threads of so small a circuit wait for each other longer than they work
+    yield f".tran 50p {(len(cycles) + 1) * PERIOD}n\n.control\nset num_threads=1\nrun\n"
     for c, start in enumerate(starts):
         yield "".join(f"meas tran at_{c}_{k} find v({out}) at={start + 13}n\n" for k, out in enumerate(outs))
     yield "quit\n.endc\n.end\n"

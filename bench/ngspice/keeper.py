@@ -10,7 +10,6 @@ of the dynamic net where a 0 is right, and the greatest at all; how long after t
 the most charge that the supply gives to the dynamic net and inner nets in one evaluation, and the greatest current of the keeper; the
 most charge that the clock gives when it rises; and the charge that the supply gives in a cycle, on average. Where the dynamic net should
 hold, `hold` prints its voltage 1, 10 and 100 us after the clock rose."""
-import os
 import random
 import re
 import subprocess
@@ -77,11 +76,11 @@ def circuit(ratio, inner, clock, pins):
 def found(lines):
     """what ngspice measures in a circuit"""
     with tempfile.NamedTemporaryFile('w', suffix='.cir') as file:
-        file.write('\n'.join(lines + ['quit', '.endc', '.end']) + '\n')
-        file.flush()
         # threads of so small a circuit wait for each other longer than they work
-        alone = {**os.environ, 'OMP_NUM_THREADS': '1'}
-        text = subprocess.run(['ngspice', '-b', file.name], capture_output=True, text=True, env=alone).stdout
+        alone = ['set num_threads=1\nrun' if line == 'run' else line for line in lines]
+        file.write('\n'.join(alone + ['quit', '.endc', '.end']) + '\n')
+        file.flush()
+        text = subprocess.run(['ngspice', '-b', file.name], capture_output=True, text=True).stdout
     return {key: float(v) for key, v in re.findall(r'^([a-z]\d+)\s*=\s*(\S+)', text, re.M)}
 
 
@@ -135,13 +134,18 @@ def hold(ratio):
     return ', '.join(f'd0 at {read[f"h{time}"]:.4f} V after {time} us' for time in (1, 10, 100))
 
 
-for word in sys.argv[1:] or ['0.03', '0.06', '0.12', '0.18', '0.25', '0.35', '0.5', '0.65', '0.8', '1.0', 'precharge', 'hold']:
-    if word == 'hold':
-        print('hold, keeper 0.35:', hold(0.35), flush=True)
-        print('hold, precharge:', hold(None), flush=True)
-        continue
-    for inner in (False, True):
-        for late in (False, True):
-            which = f'{"inner" if inner else "outer"} cell, {"late" if late else "early":5} pins'
-            ratio = None if word == 'precharge' else float(word)
-            print(f'{word if word == "precharge" else "keeper " + word:<11} {which}: {run(ratio, late, inner)}', flush=True)
+def main():
+    for word in sys.argv[1:] or ['0.03', '0.06', '0.12', '0.18', '0.25', '0.35', '0.5', '0.65', '0.8', '1.0', 'precharge', 'hold']:
+        if word == 'hold':
+            print('hold, keeper 0.35:', hold(0.35), flush=True)
+            print('hold, precharge:', hold(None), flush=True)
+            continue
+        for inner in (False, True):
+            for late in (False, True):
+                which = f'{"inner" if inner else "outer"} cell, {"late" if late else "early":5} pins'
+                ratio = None if word == 'precharge' else float(word)
+                print(f'{word if word == "precharge" else "keeper " + word:<11} {which}: {run(ratio, late, inner)}', flush=True)
+
+
+if __name__ == '__main__':
+    main()
