@@ -8,10 +8,10 @@ use Rattle.domino_cell.specs.NamedTrees.{named_tree}
 use Rattle.domino_cell.specs.PushedNames.{numbered_cell}
 use Rattle.domino_cell.specs.StyledCells.{styled_cell}
 use Rattle.domino_cell.specs.declared.style.Style.TheVariants.{Precharge as WithPrecharge}
+use Rattle.compound_plan.specs.CellPlans.{clock_of, trees_of}
+use Rattle.compound_plan.specs.declared.cell_plan.CellPlan.{CellPlan}
 use Rattle.compound_plan.specs.Plans.{CellTrees, Simple}
 use Rattle.compound_cell.specs.CompoundCells.{named_cell}
-use Rattle.compound_cell.specs.PushedCells.{clock_of, trees_of}
-use Rattle.compound_cell.specs.declared.cell_plan.CellPlan.{CellPlan}
 use Rattle.compound_cell.proofs.CompoundCells.{simple_cells_are_styled}
 
 -- what holds of one plan holds of the same

@@ -12,12 +12,13 @@ ghost use Rattle.domino_cell.specs.PushedNames.{numbered_cell};
 ghost use Rattle.domino_cell.specs.PushedPaths.{HoldsStage, IsDrivenByTree, JoinsWhereOne, MayJoinWhereNotZero};
 ghost use Rattle.domino_cell.specs.StyledCells.{styled_stage};
 ghost use Rattle.domino_cell.specs.declared.style.Style.TheVariants.{Precharge as WithPrecharge};
+ghost use Rattle.compound_plan.specs.CellPlans.{clock_of, trees_of};
 ghost use Rattle.compound_plan.specs.Plans.{Compound, cell_cost, compound_costs};
 ghost use Rattle.compound_cell.specs.CompoundCells.{dynamic_names, named_cell, whole_tree};
-ghost use Rattle.compound_cell.specs.PushedCells.{EachStage, HasRoomForTrees, IsDrivenCell, clock_of, output_name, trees_of};
+ghost use Rattle.compound_cell.specs.PushedCells.{EachStage, HasRoomForTrees, IsDrivenCell, output_name};
 
-use crate::cell_plan::CellPlan;
 use crate::right_names::right_names;
+use compound_plan::CellPlan;
 use deck::{Circuit, numbered_name};
 use dom_base::{NetName, OutOfMemory, ToVss};
 use domino_cell::{CellNames, Style, push_domino, push_stage, push_static};

@@ -138,7 +138,7 @@ module _ (c : Costs) (forest : ForestData) (w h : ℕ) (order : AreInOrder fores
   marks_same = ext_get_or false split marks (a.plan.mark_each ∙ sym b.plan.mark_each) (λ p lt. (same_at p (omega (arith, lt, a.plan.mark_each))).1)
 
 -- a root has one cell
-cell_one : (forest : ForestData) (kept split : List Bool) (p : ℕ) (s t : CellTrees) → IsCellOf forest kept split p s → IsCellOf forest kept split p t → s ≡ t
+pub cell_one : (forest : ForestData) (kept split : List Bool) (p : ℕ) (s t : CellTrees) → IsCellOf forest kept split p s → IsCellOf forest kept split p t → s ≡ t
 cell_one forest kept split p (Simple s) (Simple t) (m, x) (m', y) = ap Simple (tree_one forest kept p s t x y)
 cell_one forest kept split p (Simple s) (Compound l r) (m, x) (m', y) = absurd (never m' m)
 cell_one forest kept split p (Compound l r) (Simple s) (m, x) (m', y) = absurd (never m m')

@@ -1,4 +1,5 @@
 pub mod Bounds
+pub mod CellPlans
 pub mod CellValues
 pub mod OrdinaryPlans
 pub mod PlanParts

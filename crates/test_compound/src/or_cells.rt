@@ -8,7 +8,8 @@ ghost use Rattle.sp_network.specs.TypedTree.{tree_of};
 ghost use Rattle.domino_cell.specs.PushedNames.{HasRoomForGate};
 
 use crate::circuits::{Ends, has_devices, has_names, series_of_two, without_devices};
-use compound_cell::{CellPlan, push_compound};
+use compound_cell::push_compound;
+use compound_plan::CellPlan;
 use deck::{Circuit, fixed_name, numbered_name};
 use dom_base::{Kind, NetName, OutOfMemory, ToVss};
 use domino_cell::push_static;

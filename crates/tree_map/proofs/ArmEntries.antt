@@ -1,13 +1,14 @@
 -- The entries of an arm from the sums of its pair.
 use Rattle.std.proofs.lemmas.Option.{same_Some}
-use Rattle.std.proofs.Common.{◌≡◌, inl, inr, refl, sym, ap, subst, ◌∙◌, ℕ, ◌≤◌, List, ◌++◌, map, Option, Some, None, arith}
+use Rattle.std.proofs.Common.{◌≡◌, inl, inr, refl, sym, ap, subst, ◌∙◌, ℕ, ◌+◌, ◌≤◌, List, [], ◌∷◌, ◌++◌, map, Option, Some, None, option_map, arith}
 use Rattle.std.specs.List.{range_with_len}
 use Rattle.gate_decompose.specs.Items.{Among}
 use Rattle.gate_decompose.proofs.Among.{among_either, among_flat, among_flattened, among_left, among_map, among_mapped, among_ranged, among_right}
+use Rattle.cover_plan.specs.Covers.{Costs}
+use Rattle.cover_plan.specs.CoverTables.{Entry, arm_entries, best, combined, cut_entry, lowest, root_of, shapes, table}
+use Rattle.cover_plan.specs.Parts.{CoverPart, Join, Operator, TreeShape, leaf_shape}
 use Rattle.tree_map.specs.ArmEntries.{HaveSame}
-use Rattle.tree_map.specs.Covers.{CoverPart, Join, Operator, TreeShape}
 use Rattle.tree_map.specs.CoverRows.{IsShapeIn, joined_entry}
-use Rattle.tree_map.specs.CoverTables.{Entry, arm_entries, best, combined, cut_entry, lowest, shapes, table}
 use Rattle.cover_plan.proofs.Tables.{best_below, best_reached, lowest_below, lowest_reached, none_is}
 
 pub have_same : (es fs : List Entry) → HaveSame es fs → HaveSame fs es
@@ -57,14 +58,14 @@ lowest_same es fs same = by (lowest es) (lowest fs) refl refl
         e ∙ ap Some both ∙ sym f
 
 -- and come to the same
-combined_over : (op : Operator) (ls rs ms ns : List Entry) → HaveSame ls ms → HaveSame rs ns → (e : Entry) → Among e (combined op ls rs) → Among e (combined op ms ns)
-combined_over op ls rs ms ns left right e at =
-    let p = among_flattened (λ a. map (joined_entry op a) rs) e ls at in
-    let q = among_mapped (joined_entry op p.0) e rs p.2 in
-    among_flat (λ a. map (joined_entry op a) ns) p.0 e ms ((left p.0).0 p.1) (subst (λ x. Among x (map (joined_entry op p.0) ns)) q.2 (among_map (joined_entry op p.0) q.0 ns ((right q.0).0 q.1)))
+combined_over : (c : Costs) (op : Operator) (ls rs ms ns : List Entry) → HaveSame ls ms → HaveSame rs ns → (e : Entry) → Among e (combined c op ls rs) → Among e (combined c op ms ns)
+combined_over c op ls rs ms ns left right e at =
+    let p = among_flattened (λ a. map (joined_entry c op a) rs) e ls at in
+    let q = among_mapped (joined_entry c op p.0) e rs p.2 in
+    among_flat (λ a. map (joined_entry c op a) ns) p.0 e ms ((left p.0).0 p.1) (subst (λ x. Among x (map (joined_entry c op p.0) ns)) q.2 (among_map (joined_entry c op p.0) q.0 ns ((right q.0).0 q.1)))
 
-pub combined_same : (op : Operator) (ls rs ms ns : List Entry) → HaveSame ls ms → HaveSame rs ns → HaveSame (combined op ls rs) (combined op ms ns)
-combined_same op ls rs ms ns left right = λ e. (combined_over op ls rs ms ns left right e, combined_over op ms ns ls rs (have_same ls ms left) (have_same rs ns right) e)
+pub combined_same : (c : Costs) (op : Operator) (ls rs ms ns : List Entry) → HaveSame ls ms → HaveSame rs ns → HaveSame (combined c op ls rs) (combined c op ms ns)
+combined_same c op ls rs ms ns left right = λ e. (combined_over c op ls rs ms ns left right e, combined_over c op ms ns ls rs (have_same ls ms left) (have_same rs ns right) e)
 
 -- with the entry of the cut
 pub append_same : (es fs gs : List Entry) → HaveSame es fs → HaveSame (es ++ gs) (fs ++ gs)
@@ -76,10 +77,18 @@ append_same es fs gs same = λ e. (over es fs same e, over fs es (have_same es f
       | inr right ↦ among_right e ys gs right
     ]
 
-pub arm_same : (w h : ℕ) (op : Operator) (l r : CoverPart) (es : List Entry) → HaveSame es (table w h op l r) → HaveSame (es ++ cut_entry (lowest es)) (arm_entries w h (Join op l r))
-arm_same w h op l r es same =
-    subst (λ o. HaveSame (es ++ cut_entry o) (arm_entries w h (Join op l r))) (sym (lowest_same es (table w h op l r) same))
-    (append_same es (table w h op l r) (cut_entry (lowest (table w h op l r))) same)
+pub arm_same : (c : Costs) (w h : ℕ) (op : Operator) (l r : CoverPart) (es : List Entry) → HaveSame es (table c w h op l r)
+    → HaveSame (es ++ cut_entry (root_of c w h op l r)) (arm_entries c w h (Join op l r))
+arm_same c w h op l r es same = append_same es (table c w h op l r) (cut_entry (root_of c w h op l r)) same
+
+-- the entry of the cut, by what it adds
+pub cut_some : (root : Option ℕ) (sum : ℕ) → Some sum ≡ option_map (λ n. 1 + n) root → cut_entry root ≡ record { shape = leaf_shape; sum = sum } ∷ []
+cut_some None sum e = absurd (none_is sum (sym e))
+cut_some (Some below) sum e = ap (λ n. record { shape = leaf_shape; sum = n } ∷ []) (sym (same_Some sum (1 + below) e))
+
+pub cut_none : (root : Option ℕ) → None ≡ option_map (λ n. 1 + n) root → cut_entry root ≡ []
+cut_none None e = refl
+cut_none (Some below) e = absurd (none_is (1 + below) e)
 
 -- a shape of a table is within the bounds
 pub shape_in : (w h : ℕ) (shape : TreeShape) → Among shape (shapes w h) → IsShapeIn w h shape

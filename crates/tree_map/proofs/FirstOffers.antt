@@ -1,10 +1,11 @@
 -- The first two offers that give a pair its shape at its least sum are its first choices.
-use Rattle.std.proofs.Common.{◌≡◌, inl, inr, refl, sym, ap, ap₂, subst, ◌∙◌, ℕ, ◌+◌, ◌≤◌, ◌<◌, Bool, List, length, map, Option, Some, None, slice_get, get_or, arith}
+use Rattle.std.proofs.Common.{◌≡◌, inl, inr, refl, sym, ap, ap₂, subst, ◌∙◌, ℕ, ◌+◌, ◌-◌, ◌≤◌, ◌<◌, Bool, true, false, List, length, map, Option, Some, None, slice_get, get_or, arith}
 use Rattle.std.specs.Prelude.{IfSome}
 use Rattle.std.specs.List.{range_with_len}
 use Rattle.std.proofs.lemmas.Bool.{cases_lt}
 use Rattle.std.proofs.lemmas.List.FromFn.{length-map-range_with_len}
 use Rattle.std.proofs.lemmas.Option.{same_Some, slice_get_read, slice_get_within}
+use Rattle.dom_base.proofs.Bools.{never}
 use Rattle.dual_rail.specs.declared.forest.Arm.{Arm}
 use Rattle.dual_rail.specs.declared.forest.Pair.{Pair}
 use Rattle.dual_rail.specs.ForestData.{ForestData}
@@ -13,52 +14,69 @@ use Rattle.dual_rail.specs.ForestOrder.{AreInOrder, ReadsBefore}
 use Rattle.dual_rail.specs.Forests.{left_arm, right_arm}
 use Rattle.tree_map.specs.declared.offers.Offer.{Offer}
 use Rattle.tree_map.specs.declared.ties.Wanted.{Wanted}
-use Rattle.tree_map.specs.Covers.{AreFirst, Choice, Comes, CoverPart, CutOff, Earlier, End, Fits, GivesLeast, IsChoice, IsLeast, IsRootShape, Join, Keep, Nothing, TreeShape, joined_shape, ordinary_costs}
-use Rattle.tree_map.specs.CoverSums.{AreSumsOf, SumsData, sum_at}
+use Rattle.cover_plan.specs.Covers.{AreFirst, Costs, GivesLeast, IsChoice, IsLeast, joined_sum}
+use Rattle.cover_plan.specs.Parts.{Choice, Comes, CoverPart, CutOff, Earlier, End, Fits, Join, Keep, Nothing, Operator, TreeShape, joined_shape}
+use Rattle.tree_map.specs.CoverSums.{AreCutsOf, AreSumsOf, SumsData, sum_at}
 use Rattle.tree_map.specs.LeastPlans.{IsPartOf, operator_of}
 use Rattle.tree_map.specs.Offers.{AreOffers, HasSums, IsFirstShape, IsOffered, choice_of}
-use Rattle.tree_map.specs.Ties.{AreFirstOffers, AreSmall, Give, IsDecision, SomeGive}
+use Rattle.tree_map.specs.Ties.{AreFirstOffers, AreSmall, Give, IsDecision, IsFirstLeast, IsRootKind, SomeGive}
 use Rattle.tree_map.specs.Plans.{is_free}
+use Rattle.cover_plan.specs.Covers.{sum_of}
 use Rattle.cover_plan.proofs.Choices.{choices_there}
 use Rattle.cover_plan.proofs.Chosen.{least_one}
-use Rattle.tree_map.proofs.OfferedChoices.{root_is}
+use Rattle.tree_map.proofs.RootKinds.{compound_is, first_alone_is, simple_is}
 use Rattle.compound_plan.proofs.PlanParts.{arm_part}
 use Rattle.tree_map.proofs.RootShapes.{root_there}
 
 -- a choice gives a shape within the bounds
-choice_fits : (w h : ℕ) → 1 ≤ w → 1 ≤ h → (t : CoverPart) (x : Choice) (s : TreeShape) (n : ℕ) → IsChoice w h t x s n → Fits w h s
-choice_fits w h wide tall End Nothing s n is = subst (Fits w h) (sym is.0) (wide, tall)
-choice_fits w h wide tall End (Keep k) s n is = absurd is
-choice_fits w h wide tall End CutOff s n is = absurd is
-choice_fits w h wide tall (Join op l r) Nothing s n is = absurd is
-choice_fits w h wide tall (Join op l r) (Keep k) s n is = subst (Fits w h) (sym is.0) is.1.reached.fits
-choice_fits w h wide tall (Join op l r) CutOff s n (leaf, more) = subst (Fits w h) (sym leaf) (wide, tall)
+choice_fits : (c : Costs) (w h : ℕ) → 1 ≤ w → 1 ≤ h → (t : CoverPart) (x : Choice) (s : TreeShape) (n : ℕ) → IsChoice c w h t x s n → Fits w h s
+choice_fits c w h wide tall End Nothing s n is = subst (Fits w h) (sym is.0) (wide, tall)
+choice_fits c w h wide tall End (Keep k) s n is = absurd is
+choice_fits c w h wide tall End CutOff s n is = absurd is
+choice_fits c w h wide tall (Join op l r) Nothing s n is = absurd is
+choice_fits c w h wide tall (Join op l r) (Keep k) s n is = subst (Fits w h) (sym is.0) is.1.reached.fits
+choice_fits c w h wide tall (Join op l r) CutOff s n (leaf, more) = subst (Fits w h) (sym leaf) (wide, tall)
 
-pub offers_small : (w h : ℕ) → (1 ≤ w) × (w ≤ 8) → (1 ≤ h) × (h ≤ 6) → (t : CoverPart) (xs : List Offer) → AreOffers w h t xs → AreSmall xs
-offers_small w h wide tall t xs are = λ k o at.
-    let fits = choice_fits w h wide.0 tall.0 t (choice_of o.choice) o.shape o.sum (are.sound k o at) in
+pub offers_small : (c : Costs) (w h : ℕ) → (1 ≤ w) × (w ≤ 8) → (1 ≤ h) × (h ≤ 6) → (t : CoverPart) (xs : List Offer) → AreOffers c w h t xs → AreSmall xs
+offers_small c w h wide tall t xs are = λ k o at.
+    let fits = choice_fits c w h wide.0 tall.0 t (choice_of o.choice) o.shape o.sum (are.sound k o at) in
     (omega (arith, fits.1, tall.1), omega (arith, fits.0, wide.1))
 
-module _ (w h : ℕ) (wanted : Wanted) (l r : CoverPart) (lefts rights : List Offer) (are_left : AreOffers w h l lefts) (are_right : AreOffers w h r rights)
-    (least : IsLeast w h (Join (operator_of wanted.pair) l r) wanted.shape wanted.sum) where
+-- the cost of a node
+abbrev pub IsNode : Costs → Operator → ℕ → Type 0
+IsNode c op node = (left right : ℕ) → joined_sum c op left right ≡ left + right + node
+
+pub is_node : (c d : Costs) (pair : Pair) (node : ℕ) → c ≡ d → IsNode c (operator_of pair) node → IsNode d (operator_of pair) node
+is_node c d pair node same is = subst (λ x. IsNode x (operator_of pair) node) same is
+
+-- a least sum has the cost of its node
+node_within : (c : Costs) (w h : ℕ) (op : Operator) (l r : CoverPart) (shape : TreeShape) (sum node : ℕ) → IsNode c op node → IsLeast c w h (Join op l r) shape sum → node ≤ sum
+node_within c w h op l r shape sum node is least =
+    let s = least.reached in
+    let sum_is : joined_sum c op (sum_of c l s.left) (sum_of c r s.right) ≡ sum = s.sum_is in
+    omega (arith, is (sum_of c l s.left) (sum_of c r s.right), sum_is)
+
+module _ (c : Costs) (w h : ℕ) (wanted : Wanted) (sum node : ℕ) (of_node : IsNode c (operator_of wanted.pair) node) (sum_is : wanted.sum + node ≡ sum) (l r : CoverPart) (lefts rights : List Offer)
+    (are_left : AreOffers c w h l lefts) (are_right : AreOffers c w h r rights) (least : IsLeast c w h (Join (operator_of wanted.pair) l r) wanted.shape sum) where
   -- two choices that give the shape at its least sum are offered
-  offers_give : (other more : Choice) (g : GivesLeast w h (operator_of wanted.pair) l r wanted.shape other more)
+  offers_give : (other more : Choice) (g : GivesLeast c w h (operator_of wanted.pair) l r wanted.shape other more)
       → (x : IsOffered lefts other g.left_shape g.left_sum) (y : IsOffered rights more g.right_shape g.right_sum) → Give wanted x.offer y.offer
   offers_give other more g x y = (
     ap₂ (joined_shape (operator_of wanted.pair)) x.shape_is y.shape_is ∙ g.shape_is,
-    ap₂ (λ m n. m + n) x.sum_is y.sum_is ∙ least_one ordinary_costs w h (Join (operator_of wanted.pair) l r) wanted.shape (g.left_sum + g.right_sum) wanted.sum g.least least,
+    (let same = least_one c w h (Join (operator_of wanted.pair) l r) wanted.shape (joined_sum c (operator_of wanted.pair) g.left_sum g.right_sum) sum g.least least in
+        omega (arith, same, of_node g.left_sum g.right_sum, x.sum_is, y.sum_is, sum_is)),
   )
 
   pub some_give : 1 ≤ w → 1 ≤ h → SomeGive wanted lefts rights
   some_give wide tall =
-      let c = choices_there ordinary_costs w h wide tall (operator_of wanted.pair) l r wanted.shape wanted.sum least in
-      let g = c.2 in
-      let x = are_left.complete c.0 g.left_shape g.left_sum g.is_left in
-      let y = are_right.complete c.1 g.right_shape g.right_sum g.is_right in
-      record { place = x.place; left = x.offer; at_left = x.at; other = y.place; right = y.offer; at_right = y.at; give = offers_give c.0 c.1 g x y }
+      let k = choices_there c w h wide tall (operator_of wanted.pair) l r wanted.shape sum least in
+      let g = k.2 in
+      let x = are_left.complete k.0 g.left_shape g.left_sum g.is_left in
+      let y = are_right.complete k.1 g.right_shape g.right_sum g.is_right in
+      record { place = x.place; left = x.offer; at_left = x.at; other = y.place; right = y.offer; at_right = y.at; give = offers_give k.0 k.1 g x y }
 
   pub first_are : (left right : Offer) → AreFirstOffers wanted lefts rights left right
-      → AreFirst w h (operator_of wanted.pair) l r wanted.shape (choice_of left.choice) (choice_of right.choice)
+      → AreFirst c w h (operator_of wanted.pair) l r wanted.shape (choice_of left.choice) (choice_of right.choice)
   first_are left right is = record {
     give = record {
       left_shape = left.shape;
@@ -68,12 +86,14 @@ module _ (w h : ℕ) (wanted : Wanted) (l r : CoverPart) (lefts rights : List Of
       is_left = are_left.sound is.place left is.at;
       is_right = are_right.sound is.first_right.place right is.first_right.at;
       shape_is = is.first_right.give.0;
-      least = subst (IsLeast w h (Join (operator_of wanted.pair) l r) wanted.shape) (sym is.first_right.give.1) least;
+      least =
+          (let together : sum ≡ joined_sum c (operator_of wanted.pair) left.sum right.sum = omega (arith, of_node left.sum right.sum, is.first_right.give.1, sum_is) in
+          subst (IsLeast c w h (Join (operator_of wanted.pair) l r) wanted.shape) together least);
     };
     first = λ other more g. comes other more g (are_left.complete other g.left_shape g.left_sum g.is_left) (are_right.complete more g.right_shape g.right_sum g.is_right);
   }
     where
-      comes : (other more : Choice) (g : GivesLeast w h (operator_of wanted.pair) l r wanted.shape other more)
+      comes : (other more : Choice) (g : GivesLeast c w h (operator_of wanted.pair) l r wanted.shape other more)
           → IsOffered lefts other g.left_shape g.left_sum → IsOffered rights more g.right_shape g.right_sum
           → Comes (choice_of left.choice) (choice_of right.choice) other more
       comes other more g x y =
@@ -118,7 +138,7 @@ pub has_sums : (forest : ForestData) (t : SumsData) → 2 ≤ t.w → 2 ≤ t.h 
     → HasSums (sum_at t place)
 has_sums forest t wide tall order sums place pair at =
     let p = parts_of forest order place pair at in
-    let root = root_there t.w t.h wide tall (operator_of pair) p.l p.r in
+    let root = root_there t.costs t.w t.h wide tall (operator_of pair) p.l p.r in
     (root.0, root.1.sum, (sums place pair p.l p.r at p.left_part p.right_part root.0 root.1.sum).1 root.1.least)
 
 -- the shape of a pair has a sum
@@ -134,20 +154,20 @@ pair_read forest pairs same place pair lt is = slice_get_read forest.pairs (leng
 -- offers for an arm, whatever forest these are the sums of
 abbrev pub MakeOffers : SumsData → List Bool → Arm → List Offer → Type 0
 MakeOffers t frees arm xs =
-    (forest : ForestData) (part : CoverPart) → AreSumsOf forest t → frees ≡ map (is_free forest) (range_with_len 0 (length forest.pairs)) → IsPartOf forest arm part → AreOffers t.w t.h part xs
+    (forest : ForestData) (part : CoverPart) → AreSumsOf forest t → AreCutsOf forest t → frees ≡ map (is_free forest) (range_with_len 0 (length forest.pairs)) → IsPartOf forest arm part → AreOffers t.costs t.w t.h part xs
 
-module _ (forest : ForestData) (t : SumsData) (frees : List Bool) (wide : (2 ≤ t.w) × (t.w ≤ 8)) (tall : (2 ≤ t.h) × (t.h ≤ 6)) (order : AreInOrder forest.pairs) (sums : AreSumsOf forest t)
+module _ (forest : ForestData) (t : SumsData) (frees : List Bool) (wide : (2 ≤ t.w) × (t.w ≤ 8)) (tall : (2 ≤ t.h) × (t.h ≤ 6)) (order : AreInOrder forest.pairs) (sums : AreSumsOf forest t) (cuts : AreCutsOf forest t)
     (are : frees ≡ map (is_free forest) (range_with_len 0 (length forest.pairs))) (place : ℕ) (pair : Pair) (at : slice_get forest.pairs place ≡ Some pair) where
   parts : HasParts forest pair
   parts = parts_of forest order place pair at
 
-  left_offers : (arm : Arm) (xs : List Offer) → arm ≡ left_arm pair → MakeOffers t frees arm xs → AreOffers t.w t.h parts.l xs
-  left_offers arm xs e make = make forest parts.l sums are (subst (λ a. IsPartOf forest a parts.l) (sym e) parts.left_part)
+  left_offers : (arm : Arm) (xs : List Offer) → arm ≡ left_arm pair → MakeOffers t frees arm xs → AreOffers t.costs t.w t.h parts.l xs
+  left_offers arm xs e make = make forest parts.l sums cuts are (subst (λ a. IsPartOf forest a parts.l) (sym e) parts.left_part)
 
-  right_offers : (arm : Arm) (xs : List Offer) → arm ≡ right_arm pair → MakeOffers t frees arm xs → AreOffers t.w t.h parts.r xs
-  right_offers arm xs e make = make forest parts.r sums are (subst (λ a. IsPartOf forest a parts.r) (sym e) parts.right_part)
+  right_offers : (arm : Arm) (xs : List Offer) → arm ≡ right_arm pair → MakeOffers t frees arm xs → AreOffers t.costs t.w t.h parts.r xs
+  right_offers arm xs e make = make forest parts.r sums cuts are (subst (λ a. IsPartOf forest a parts.r) (sym e) parts.right_part)
 
-  is_least : (shape : TreeShape) (sum : ℕ) → sum_at t place shape ≡ Some sum → IsLeast t.w t.h (Join (operator_of pair) parts.l parts.r) shape sum
+  is_least : (shape : TreeShape) (sum : ℕ) → sum_at t place shape ≡ Some sum → IsLeast t.costs t.w t.h (Join (operator_of pair) parts.l parts.r) shape sum
   is_least shape sum = (sums place pair parts.l parts.r at parts.left_part parts.right_part shape sum).0
 
   pub left_within : (arm : Arm) → arm ≡ left_arm pair → ReadsBefore (length frees) arm
@@ -159,32 +179,52 @@ module _ (forest : ForestData) (t : SumsData) (frees : List Bool) (wide : (2 ≤
       (reads_later place (length frees) (right_arm pair) (order place pair at).1 (omega (arith, slice_get_within forest.pairs place pair at, ap length are, length-map-range_with_len (is_free forest) 0 (length forest.pairs))))
 
   pub small_left : (arm : Arm) (xs : List Offer) → arm ≡ left_arm pair → MakeOffers t frees arm xs → AreSmall xs
-  small_left arm xs e make = offers_small t.w t.h (omega (arith, wide.0), wide.1) (omega (arith, tall.0), tall.1) parts.l xs (left_offers arm xs e make)
+  small_left arm xs e make = offers_small t.costs t.w t.h (omega (arith, wide.0), wide.1) (omega (arith, tall.0), tall.1) parts.l xs (left_offers arm xs e make)
 
   pub small_right : (arm : Arm) (xs : List Offer) → arm ≡ right_arm pair → MakeOffers t frees arm xs → AreSmall xs
-  small_right arm xs e make = offers_small t.w t.h (omega (arith, wide.0), wide.1) (omega (arith, tall.0), tall.1) parts.r xs (right_offers arm xs e make)
+  small_right arm xs e make = offers_small t.costs t.w t.h (omega (arith, wide.0), wide.1) (omega (arith, tall.0), tall.1) parts.r xs (right_offers arm xs e make)
+
+  -- the least sum of a shape has the cost of the node
+  pub node_below : (shape : TreeShape) (sum node : ℕ) → IsNode t.costs (operator_of pair) node → sum_at t place shape ≡ Some sum → node ≤ sum
+  node_below shape sum node is e = node_within t.costs t.w t.h (operator_of pair) parts.l parts.r shape sum node is (is_least shape sum e)
 
   module _ (a b : Arm) (xs ys : List Offer) (a_is : a ≡ left_arm pair) (b_is : b ≡ right_arm pair) (lefts : MakeOffers t frees a xs) (rights : MakeOffers t frees b ys)
-      (shape : TreeShape) (sum : ℕ) (sum_is : sum_at t place shape ≡ Some sum) where
-    pub given : SomeGive (record { pair = pair; shape = shape; sum = sum }) xs ys
-    given = some_give t.w t.h (record { pair = pair; shape = shape; sum = sum }) parts.l parts.r xs ys (left_offers a xs a_is lefts) (right_offers b ys b_is rights) (is_least shape sum sum_is)
-        (omega (arith, wide.0)) (omega (arith, tall.0))
+      (shape : TreeShape) (sum number node : ℕ) (sum_is : sum_at t place shape ≡ Some sum) (of_node : IsNode t.costs (operator_of pair) node) (number_is : number ≡ sum - node) where
+    whole : number + node ≡ sum
+    whole = let le = node_below shape sum node of_node sum_is in omega (arith, number_is, le)
 
-    pub decided : (left right : Offer) (kept : Option TreeShape) → AreFirstOffers (record { pair = pair; shape = shape; sum = sum }) xs ys left right → IfSome kept (λ before. shape ≡ before)
-        → (kept ≡ None → IsFirstShape (sum_at t place) shape) → IsDecision forest t.w t.h pair kept shape left.choice right.choice
-    decided left right kept first stays root = record {
+    pub given : SomeGive (record { pair = pair; shape = shape; sum = number }) xs ys
+    given = some_give t.costs t.w t.h (record { pair = pair; shape = shape; sum = number }) sum node of_node whole parts.l parts.r xs ys (left_offers a xs a_is lefts) (right_offers b ys b_is rights)
+        (is_least shape sum sum_is) (omega (arith, wide.0)) (omega (arith, tall.0))
+
+    pub decided : (split : Bool) (left right : Offer) (kept : Option TreeShape) → (split ≡ false → AreFirstOffers (record { pair = pair; shape = shape; sum = number }) xs ys left right)
+        → (split ≡ true → IsFirstLeast xs left) → (split ≡ true → IsFirstLeast ys right) → IfSome kept (λ before. (shape ≡ before) × (split ≡ false)) → (kept ≡ None → IsRootKind t place shape split)
+        → IsDecision t.costs forest t.w t.h pair kept split shape left.choice right.choice
+    decided split left right kept first first_left first_right stays root = record {
       l = parts.l;
       r = parts.r;
       left_part = parts.left_part;
       right_part = parts.right_part;
       stays = λ before e. before_is kept before e stays;
-      root = λ e. root_is_first (root e);
-      first = first_are t.w t.h (record { pair = pair; shape = shape; sum = sum }) parts.l parts.r xs ys (left_offers a xs a_is lefts) (right_offers b ys b_is rights) (is_least shape sum sum_is) left right first;
+      root = λ e bare. simple_is t place (operator_of pair) parts.l parts.r wide_t tall_t (sums place pair parts.l parts.r at parts.left_part parts.right_part) (cuts place pair parts.l parts.r at parts.left_part parts.right_part)
+          shape split (root e) bare;
+      first = λ bare. first_are t.costs t.w t.h (record { pair = pair; shape = shape; sum = number }) sum node of_node whole parts.l parts.r xs ys (left_offers a xs a_is lefts) (right_offers b ys b_is rights)
+          (is_least shape sum sum_is) left right (first bare);
+      compound = λ marked. compound_is t place (operator_of pair) parts.l parts.r wide_t tall_t (sums place pair parts.l parts.r at parts.left_part parts.right_part)
+          (cuts place pair parts.l parts.r at parts.left_part parts.right_part) shape split (root (unkept kept stays marked)) marked (choice_of left.choice) (choice_of right.choice)
+          (first_alone_is t.costs t.w t.h parts.l xs left (left_offers a xs a_is lefts) (first_left marked)) (first_alone_is t.costs t.w t.h parts.r ys right (right_offers b ys b_is rights) (first_right marked));
     }
       where
-        before_is : (kept : Option TreeShape) (before : TreeShape) → kept ≡ Some before → IfSome kept (λ s. shape ≡ s) → shape ≡ before
-        before_is None before e stays = absurd (cc)
-        before_is (Some s) before e stays = stays ∙ same_Some s before e
+        wide_t : 1 ≤ t.w
+        wide_t = omega (arith, wide.0)
 
-        root_is_first : IsFirstShape (sum_at t place) shape → IsRootShape t.w t.h (Join (operator_of pair) parts.l parts.r) shape
-        root_is_first is = root_is t place (operator_of pair) parts.l parts.r (omega (arith, wide.0)) (omega (arith, tall.0)) (sums place pair parts.l parts.r at parts.left_part parts.right_part) shape is
+        tall_t : 1 ≤ t.h
+        tall_t = omega (arith, tall.0)
+
+        before_is : (kept : Option TreeShape) (before : TreeShape) → kept ≡ Some before → IfSome kept (λ s. (shape ≡ s) × (split ≡ false)) → (shape ≡ before) × (split ≡ false)
+        before_is None before e stays = absurd (cc)
+        before_is (Some s) before e stays = (stays.0 ∙ same_Some s before e, stays.1)
+
+        unkept : (kept : Option TreeShape) → IfSome kept (λ s. (shape ≡ s) × (split ≡ false)) → split ≡ true → kept ≡ None
+        unkept None stays marked = refl
+        unkept (Some s) stays marked = absurd (never marked stays.1)

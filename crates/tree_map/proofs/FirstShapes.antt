@@ -3,7 +3,7 @@ use Rattle.std.proofs.Common.{◌≡◌, inl, inr, refl, sym, ap, subst, ◌∙�
 use Rattle.std.proofs.lemmas.Bool.{cases_lt}
 use Rattle.std.proofs.lemmas.List.{length-take}
 use Rattle.std.proofs.lemmas.Option.{same_Some, slice_get_within}
-use Rattle.tree_map.specs.Covers.{Lower, TreeShape}
+use Rattle.cover_plan.specs.Parts.{Lower, TreeShape}
 use Rattle.tree_map.specs.CoverRows.{IsShapeIn, row_index}
 use Rattle.tree_map.specs.CoverSums.{SumsData, sum_at}
 use Rattle.tree_map.specs.Offers.{HasSums, IsFirstShape}

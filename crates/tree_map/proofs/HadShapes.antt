@@ -2,7 +2,7 @@
 use Rattle.std.proofs.lemmas.Bool.{leb-true}
 use Rattle.std.proofs.Common.{◌≡◌, refl, ℕ, ◌&&◌, Bool, true, false, cond, Some, None, nat_le, slice_get}
 use Rattle.dom_base.proofs.Bools.{and_both}
-use Rattle.tree_map.specs.Covers.{TreeShape}
+use Rattle.cover_plan.specs.Parts.{TreeShape}
 use Rattle.tree_map.specs.CoverRows.{IsShapeIn}
 use Rattle.tree_map.specs.CoverSums.{SumsData, above_zero, has_shape, sum_at, sum_index}
 use Rattle.cover_plan.proofs.Tables.{none_is}

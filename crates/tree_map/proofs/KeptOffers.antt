@@ -4,7 +4,7 @@ use Rattle.std.proofs.lemmas.Bool.{cases_lt}
 use Rattle.std.proofs.lemmas.Option.{same_Some, slice_get_within}
 use Rattle.dom_base.proofs.Lists.{slice_get-append, slice_get-push, slice_get-push_cases}
 use Rattle.tree_map.specs.declared.offers.Offer.{Offer}
-use Rattle.tree_map.specs.Covers.{Earlier, Keep, TreeShape}
+use Rattle.cover_plan.specs.Parts.{Earlier, Keep, TreeShape}
 use Rattle.tree_map.specs.CoverRows.{IsShapeIn, row_index}
 use Rattle.tree_map.specs.CoverSums.{SumsData, sum_at}
 use Rattle.tree_map.specs.Offers.{AreInTurn, AreKeptBefore, IsBefore, IsOffered, choice_of}

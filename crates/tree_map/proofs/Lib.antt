@@ -1,9 +1,11 @@
 pub mod ArmEntries
 pub mod ArmGiven
 pub mod ArmTrees
+pub mod CompoundCells
 pub mod DecidedCover
 pub mod DecidedLists
 pub mod DecidedPlan
+pub mod FirstLeast
 pub mod FirstOffers
 pub mod FirstShapes
 pub mod FreeEdges
@@ -11,6 +13,7 @@ pub mod HadShapes
 pub mod KeptOffers
 pub mod LeastPlan
 pub mod OfferedChoices
+pub mod OwnSums
 pub mod PlanCosts
 pub mod PlanCovers
 pub mod PlanOne
@@ -18,6 +21,7 @@ pub mod PlanShapes
 pub mod PlanThere
 pub mod PlanValues
 pub mod ReadRows
+pub mod RootKinds
 pub mod RootShapes
 pub mod RootTrees
 pub mod RowLoops

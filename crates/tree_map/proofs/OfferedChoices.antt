@@ -1,5 +1,5 @@
 -- The offers for an arm are its choices.
-use Rattle.std.proofs.Common.{◌≡◌, ◌⊎◌, ◌↔◌, inl, inr, refl, sym, ap, subst, ◌∙◌, ℕ, zero, suc, ◌+◌, ◌≤◌, ◌<◌, Bool, false, List, [], ◌∷◌, ◌++◌, length, map, Some, slice_get, arith}
+use Rattle.std.proofs.Common.{◌≡◌, ◌⊎◌, ◌↔◌, inl, inr, refl, sym, ap, subst, ◌∙◌, ℕ, zero, suc, ◌+◌, ◌≤◌, ◌<◌, Bool, false, List, [], ◌∷◌, ◌++◌, length, map, None, Some, slice_get, arith}
 use Rattle.std.specs.List.{range_with_len}
 use Rattle.std.specs.Prelude.{slice_index_or}
 use Rattle.std.proofs.lemmas.List.FromFn.{get_or-map-range_with_len, length-map-range_with_len}
@@ -10,18 +10,18 @@ use Rattle.dual_rail.specs.declared.forest.Pair.{Pair}
 use Rattle.dual_rail.specs.ForestData.{ForestData}
 use Rattle.dual_rail.specs.Forests.{left_arm, right_arm}
 use Rattle.tree_map.specs.declared.offers.Offer.{Offer}
-use Rattle.tree_map.specs.Covers.{Choice, CoverPart, CutOff, Earlier, End, IsChoice, IsLeast, IsLeastOfAll, IsRootShape, IsSum, Join, Keep, Lower, Nothing, Operator, TreeShape, leaf_shape, ordinary_costs}
-use Rattle.cover_plan.specs.Covers.{IsLeastRoot}
-use Rattle.tree_map.specs.CoverSums.{SumsData, sum_at}
+use Rattle.cover_plan.specs.Covers.{Costs, IsChoice, IsLeast, IsLeastOfAll, IsLeastRoot, IsRootShape, IsSum}
+use Rattle.cover_plan.specs.Parts.{Choice, CoverPart, CutOff, Earlier, End, Join, Keep, Lower, Nothing, Operator, TreeShape, leaf_shape}
+use Rattle.tree_map.specs.CoverSums.{SumsData, cut_at, sum_at}
 use Rattle.tree_map.specs.LeastPlans.{IsPartOf, free, literal, operator_of, shared}
 use Rattle.dual_rail.specs.ForestOrder.{ReadsBefore}
-use Rattle.tree_map.specs.Offers.{AreInTurn, AreKeptBefore, AreOffers, HasNoFreePair, HasSums, IsBefore, IsFirstShape, IsFreePair, IsOffered, choice_of}
+use Rattle.tree_map.specs.Offers.{AreInTurn, AreKeptBefore, AreOffers, HasNoFreePair, IsBefore, IsFirstShape, IsFreePair, IsOffered, choice_of}
 use Rattle.tree_map.specs.Plans.{is_free}
-use Rattle.cover_plan.proofs.Chosen.{least_of_all_one}
 use Rattle.compound_plan.proofs.FreePairs.{is_free-of, is_free-true}
 use Rattle.tree_map.proofs.HadShapes.{sum_in}
 use Rattle.cover_plan.proofs.Recurrence.{sum_bounded, table_least}
-use Rattle.cover_plan.proofs.SimpleRoots.{root_back, root_here}
+use Rattle.cover_plan.proofs.Tables.{none_is}
+use Rattle.tree_map.proofs.SumReads.{above_zero-never}
 
 pub before_lower : (a b : TreeShape) → IsBefore a b → Lower a b
 before_lower a b (inl lt) = inl lt
@@ -38,25 +38,21 @@ offered_more xs ys x s n is = record {
   sum_is = is.sum_is;
 }
 
-module _ (t : SumsData) (place : ℕ) (op : Operator) (l r : CoverPart) (wide : 1 ≤ t.w) (tall : 1 ≤ t.h) (sums : (s : TreeShape) (n : ℕ) → (sum_at t place s ≡ Some n) ↔ IsLeast t.w t.h (Join op l r) s n) where
+module _ (t : SumsData) (place : ℕ) (op : Operator) (l r : CoverPart) (wide : 1 ≤ t.w) (tall : 1 ≤ t.h) (sums : (s : TreeShape) (n : ℕ) → (sum_at t place s ≡ Some n) ↔ IsLeast t.costs t.w t.h (Join op l r) s n) where
   -- a plan of a shape has a least sum of this shape
-  least_below : (s : TreeShape) (n : ℕ) → IsSum t.w t.h (Join op l r) s n → (m : ℕ) × IsLeast t.w t.h (Join op l r) s m × (m ≤ n)
+  least_below : (s : TreeShape) (n : ℕ) → IsSum t.costs t.w t.h (Join op l r) s n → (m : ℕ) × IsLeast t.costs t.w t.h (Join op l r) s m × (m ≤ n)
   least_below s n is =
-      let b = sum_bounded ordinary_costs t.w t.h wide tall op l r s n is in
-      ((b.0).sum, subst (λ k. IsLeast t.w t.h (Join op l r) k (b.0).sum) b.2 ((table_least ordinary_costs t.w t.h wide tall op l r b.0).0 b.1), b.3)
+      let b = sum_bounded t.costs t.w t.h wide tall op l r s n is in
+      ((b.0).sum, subst (λ k. IsLeast t.costs t.w t.h (Join op l r) k (b.0).sum) b.2 ((table_least t.costs t.w t.h wide tall op l r b.0).0 b.1), b.3)
 
-  first_is_least : (s : TreeShape) (is : IsFirstShape (sum_at t place) s) → IsLeastOfAll t.w t.h (Join op l r) is.sum
+  first_is_least : (s : TreeShape) (is : IsFirstShape (sum_at t place) s) → IsLeastOfAll t.costs t.w t.h (Join op l r) is.sum
   first_is_least s is = record {
     shape = s;
     reached = ((sums s is.sum).0 is.sum_is).reached;
     least = λ any other x. (let b = least_below any other x in let le = is.least any b.0 ((sums any b.0).1 b.1) in omega (arith, b.2));
   }
 
-  -- the least of all sums is that of a shape
-  least_offered : (n : ℕ) → IsLeastOfAll t.w t.h (Join op l r) n → (s : TreeShape) × (sum_at t place s ≡ Some n)
-  least_offered n is = (is.shape, (sums is.shape n).1 (record { reached = is.reached; least = λ other x. is.least is.shape other x }))
-
-  pub root_is : (s : TreeShape) → IsFirstShape (sum_at t place) s → IsRootShape t.w t.h (Join op l r) s
+  pub root_is : (s : TreeShape) → IsFirstShape (sum_at t place) s → IsRootShape t.costs t.w t.h (Join op l r) s
   root_is s is = record {
     sum = is.sum;
     least = (sums s is.sum).0 is.sum_is;
@@ -69,37 +65,40 @@ module _ (t : SumsData) (place : ℕ) (xs : List Offer) (are : AreKeptBefore (su
   pub all_kept : (s : TreeShape) (n : ℕ) → sum_at t place s ≡ Some n → IsOffered xs (Keep s) s n
   all_kept s n e = let g = sum_in t place s n e in are.complete s n e (inl (omega (arith, g.high)))
 
-  module _ (op : Operator) (l r : CoverPart) (wide : 1 ≤ t.w) (tall : 1 ≤ t.h) (sums : (s : TreeShape) (n : ℕ) → (sum_at t place s ≡ Some n) ↔ IsLeast t.w t.h (Join op l r) s n) where
-    pub no_offers : (HasSums (sum_at t place) → ⊥) → AreOffers t.w t.h (Join op l r) xs
-    no_offers none = record {
-      sound = λ k o at. absurd (none (o.shape, o.sum, are.sums k o at));
-      complete = λ x s n is. absurd (never x s n is);
+  module _ (op : Operator) (l r : CoverPart) (sums : (s : TreeShape) (n : ℕ) → (sum_at t place s ≡ Some n) ↔ IsLeast t.costs t.w t.h (Join op l r) s n)
+      (cuts : (n : ℕ) → (cut_at t place ≡ Some (1 + n)) ↔ IsLeastRoot t.costs t.w t.h (Join op l r) n) where
+    pub no_cut : cut_at t place ≡ None → AreOffers t.costs t.w t.h (Join op l r) xs
+    no_cut none = record {
+      sound = λ k o at. rw (are.keeps k o at) (refl, (sums o.shape o.sum).0 (are.sums k o at));
+      complete = complete;
       in_turn = are.in_turn;
     }
       where
-        never : (x : Choice) (s : TreeShape) (n : ℕ) → IsChoice t.w t.h (Join op l r) x s n → ⊥
-        never Nothing s n is = is
-        never (Keep k) s n is = none (k, n, (sums k n).1 is.1)
-        never CutOff s n (leaf, (below, least, sum)) =
-            let b = root_back ordinary_costs refl t.w t.h op l r below least in
-            let x = least_offered t place op l r wide tall sums b.0 b.1 in
-            none (x.0, b.0, x.1)
+        complete : (x : Choice) (s : TreeShape) (n : ℕ) → IsChoice t.costs t.w t.h (Join op l r) x s n → IsOffered xs x s n
+        complete Nothing s n is = absurd is
+        complete (Keep k) s n is = subst (λ z. IsOffered xs (Keep k) z n) (sym is.0) (all_kept k n ((sums k n).1 is.1))
+        complete CutOff s n (leaf, (below, least, sum)) = absurd (none_is (1 + below) (sym none ∙ (cuts below).1 least))
 
-    pub with_cut : (root : TreeShape) (m : ℕ) → IsFirstShape (sum_at t place) root → sum_at t place root ≡ Some m → (cut : Offer) → choice_of cut.choice ≡ CutOff → cut.shape ≡ leaf_shape
-        → cut.sum ≡ 1 + (m + 5) → AreOffers t.w t.h (Join op l r) (xs ++ cut ∷ [])
-    with_cut root m first root_sum cut choice_is shape_is sum_is = record { sound = sound; complete = complete; in_turn = turn }
+    pub with_cut : (m : ℕ) → cut_at t place ≡ Some m → (cut : Offer) → choice_of cut.choice ≡ CutOff → cut.shape ≡ leaf_shape → cut.sum ≡ m
+        → AreOffers t.costs t.w t.h (Join op l r) (xs ++ cut ∷ [])
+    with_cut m found cut choice_is shape_is sum_is = record { sound = sound; complete = complete; in_turn = turn }
       where
-        least : IsLeastOfAll t.w t.h (Join op l r) m
-        least = subst (IsLeastOfAll t.w t.h (Join op l r)) (same_Some first.sum m (sym first.sum_is ∙ root_sum)) (first_is_least t place op l r wide tall sums root first)
+        -- what is added has a leaf
+        least : (below : ℕ) × IsLeastRoot t.costs t.w t.h (Join op l r) below × (m ≡ 1 + below)
+        least = by m found
+          where
+            by : (n : ℕ) → cut_at t place ≡ Some n → (below : ℕ) × IsLeastRoot t.costs t.w t.h (Join op l r) below × (n ≡ 1 + below)
+            by zero e = absurd (above_zero-never (slice_get t.cuts place) e)
+            by (suc n) e = (n, (cuts n).0 (e ∙ ap Some (omega arith)), omega arith)
 
-        sound : (k : ℕ) (x : Offer) → slice_get (xs ++ cut ∷ []) k ≡ Some x → IsChoice t.w t.h (Join op l r) (choice_of x.choice) x.shape x.sum
+        sound : (k : ℕ) (x : Offer) → slice_get (xs ++ cut ∷ []) k ≡ Some x → IsChoice t.costs t.w t.h (Join op l r) (choice_of x.choice) x.shape x.sum
         sound k x at =
             elim (slice_get-push_cases xs cut k x at) [
               | inl old ↦ rw (are.keeps k x old) (refl, (sums x.shape x.sum).0 (are.sums k x old))
-              | inr new ↦ subst (λ (y : Offer). IsChoice t.w t.h (Join op l r) (choice_of y.choice) y.shape y.sum) new.1 (rw choice_is (shape_is, (m + 5, root_here ordinary_costs refl t.w t.h op l r m least, sum_is)))
+              | inr new ↦ subst (λ (y : Offer). IsChoice t.costs t.w t.h (Join op l r) (choice_of y.choice) y.shape y.sum) new.1 (rw choice_is (shape_is, (least.0, least.1, sum_is ∙ least.2)))
             ]
 
-        complete : (x : Choice) (s : TreeShape) (n : ℕ) → IsChoice t.w t.h (Join op l r) x s n → IsOffered (xs ++ cut ∷ []) x s n
+        complete : (x : Choice) (s : TreeShape) (n : ℕ) → IsChoice t.costs t.w t.h (Join op l r) x s n → IsOffered (xs ++ cut ∷ []) x s n
         complete Nothing s n is = absurd is
         complete (Keep k) s n is = offered_more xs (cut ∷ []) (Keep k) s n (subst (λ z. IsOffered xs (Keep k) z n) (sym is.0) (all_kept k n ((sums k n).1 is.1)))
         complete CutOff s n (leaf, (below, is, sum)) = record {
@@ -108,13 +107,8 @@ module _ (t : SumsData) (place : ℕ) (xs : List Offer) (are : AreKeptBefore (su
           at = slice_get-push xs cut;
           choice_is = choice_is;
           shape_is = shape_is ∙ sym leaf;
-          sum_is = sum_is ∙ cut_sum below is ∙ sym sum;
+          sum_is = sum_is ∙ same_Some m (1 + below) (sym found ∙ (cuts below).1 is) ∙ sym sum;
         }
-          where
-            cut_sum : (below : ℕ) → IsLeastRoot ordinary_costs t.w t.h (Join op l r) below → 1 + (m + 5) ≡ 1 + below
-            cut_sum below is =
-                let b = root_back ordinary_costs refl t.w t.h op l r below is in
-                ap (λ k. 1 + (k + 5)) (least_of_all_one ordinary_costs t.w t.h (Join op l r) m b.0 least b.1) ∙ ap (λ k. 1 + k) (sym b.2)
 
         turn : AreInTurn (xs ++ cut ∷ [])
         turn i k a b lt at too = by (slice_get-push_cases xs cut i a at) (slice_get-push_cases xs cut k b too)
@@ -126,18 +120,18 @@ module _ (t : SumsData) (place : ℕ) (xs : List Offer) (are : AreKeptBefore (su
             by (inr x) (inr y) = absurd (omega (arith, x.0, y.0))
 
 -- the one offer for an arm without a free edge
-pub one_offer : (w h : ℕ) (o : Offer) → choice_of o.choice ≡ Nothing → o.shape ≡ leaf_shape → o.sum ≡ 1 → AreOffers w h End (o ∷ [])
-one_offer w h o choice_is shape_is sum_is = record {
+pub one_offer : (c : Costs) (w h : ℕ) (o : Offer) → choice_of o.choice ≡ Nothing → o.shape ≡ leaf_shape → o.sum ≡ 1 → AreOffers c w h End (o ∷ [])
+one_offer c w h o choice_is shape_is sum_is = record {
   sound = sound;
   complete = complete;
   in_turn = turn;
 }
   where
-    sound : (k : ℕ) (x : Offer) → slice_get (o ∷ []) k ≡ Some x → IsChoice w h End (choice_of x.choice) x.shape x.sum
-    sound zero x at = subst (λ (y : Offer). IsChoice w h End (choice_of y.choice) y.shape y.sum) (same_Some o x at) (rw choice_is (shape_is, sum_is))
+    sound : (k : ℕ) (x : Offer) → slice_get (o ∷ []) k ≡ Some x → IsChoice c w h End (choice_of x.choice) x.shape x.sum
+    sound zero x at = subst (λ (y : Offer). IsChoice c w h End (choice_of y.choice) y.shape y.sum) (same_Some o x at) (rw choice_is (shape_is, sum_is))
     sound (suc k) x at = absurd (cc)
 
-    complete : (x : Choice) (s : TreeShape) (n : ℕ) → IsChoice w h End x s n → IsOffered (o ∷ []) x s n
+    complete : (x : Choice) (s : TreeShape) (n : ℕ) → IsChoice c w h End x s n → IsOffered (o ∷ []) x s n
     complete (Keep k) s n is = absurd is
     complete CutOff s n is = absurd is
     complete Nothing s n is = record {

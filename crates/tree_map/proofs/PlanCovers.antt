@@ -1,26 +1,36 @@
--- What covers cost: seven for each pair, less six for each that is kept.
-use Rattle.std.proofs.Common.{◌≡◌, refl, ℕ, ◌+◌, ◌*◌, arith}
-use Rattle.tree_map.specs.Covers.{CoverPart, End, Join, Cover, Single, Kept, Cut, Split, ordinary_costs, sum_of, IsCover}
-use Rattle.cover_plan.proofs.Sums.{none_split}
+-- What covers cost at most: twelve for each pair.
+use Rattle.std.proofs.Common.{ℕ, ◌+◌, ◌*◌, ◌≤◌, arith}
+use Rattle.cover_plan.specs.Covers.{Costs, Cover, Cut, IsCover, Kept, Single, Split, sum_of}
+use Rattle.cover_plan.specs.Parts.{CoverPart, End, InParallel, InSeries, Join, Operator}
+use Rattle.cover_plan.proofs.Sums.{joined-is, series_of}
+use Rattle.tree_map.specs.CoverRows.{AreFewCosts}
 
--- the cost of a cover: seven for each pair of the part, less six for each that is kept
+-- the pairs of a part
 unfoldable pub pairs_in : CoverPart → ℕ
 pairs_in End = 0
 pairs_in (Join op l r) = 1 + (pairs_in l + pairs_in r)
 
-unfoldable pub kept_in : Cover → ℕ
-kept_in Single = 0
-kept_in (Kept a b) = 1 + (kept_in a + kept_in b)
-kept_in (Cut a b) = kept_in a + kept_in b
-kept_in (Split a b) = kept_in a + kept_in b
+pub series_most : (c : Costs) (op : Operator) → series_of c op ≤ c.series
+series_most c InSeries = omega arith
+series_most c InParallel = omega arith
 
-pub cover_cost : (w h : ℕ) (t : CoverPart) (a : Cover) → IsCover w h t a → sum_of t a + 6 * kept_in a ≡ 7 * pairs_in t + 1
-unfolding pairs_in kept_in
-cover_cost w h End Single is = refl
-cover_cost w h End (Kept a b) is = absurd is
-cover_cost w h End (Cut a b) is = absurd is
-cover_cost w h End (Split a b) is = absurd is
-cover_cost w h (Join op l r) Single is = absurd is
-cover_cost w h (Join op l r) (Kept a b) is = let x = cover_cost w h l a is.0 in let y = cover_cost w h r b is.1 in omega arith
-cover_cost w h (Join op l r) (Cut a b) is = let x = cover_cost w h l a is.0 in let y = cover_cost w h r b is.1 in omega arith
-cover_cost w h (Join op l r) (Split a b) is = absurd (none_split ordinary_costs op refl is.2)
+-- what a cover adds to the tree above it, where costs are few
+pub cover_most : (c : Costs) → AreFewCosts c → (w h : ℕ) (t : CoverPart) (a : Cover) → IsCover c w h t a → sum_of c t a ≤ 12 * pairs_in t + 1
+unfolding pairs_in
+cover_most c few w h End Single is = omega arith
+cover_most c few w h End (Kept a b) is = absurd is
+cover_most c few w h End (Cut a b) is = absurd is
+cover_most c few w h End (Split a b) is = absurd is
+cover_most c few w h (Join op l r) Single is = absurd is
+cover_most c few w h (Join op l r) (Kept a b) is =
+    let x = cover_most c few w h l a is.0 in
+    let y = cover_most c few w h r b is.1 in
+    omega (arith, x, y, joined-is c op (sum_of c l a) (sum_of c r b), series_most c op, few.few_simple)
+cover_most c few w h (Join op l r) (Cut a b) is =
+    let x = cover_most c few w h l a is.0 in
+    let y = cover_most c few w h r b is.1 in
+    omega (arith, x, y, joined-is c op (sum_of c l a) (sum_of c r b), series_most c op, few.few_simple)
+cover_most c few w h (Join op l r) (Split a b) is =
+    let x = cover_most c few w h l a is.0 in
+    let y = cover_most c few w h r b is.1 in
+    omega (arith, x, y, few.few_compound)

@@ -6,10 +6,10 @@ use Rattle.std.proofs.lemmas.Option.{same_Some, slice_get_within}
 use Rattle.gate_decompose.specs.Items.{Among}
 use Rattle.gate_decompose.proofs.Among.{among_either, among_left, among_right}
 use Rattle.tree_map.specs.ArmEntries.{AreReadUpTo}
-use Rattle.tree_map.specs.Covers.{TreeShape}
+use Rattle.cover_plan.specs.Parts.{TreeShape}
 use Rattle.tree_map.specs.CoverRows.{IsShapeIn, row_index}
 use Rattle.tree_map.specs.CoverSums.{SumsData, above_zero, sum_at}
-use Rattle.tree_map.specs.CoverTables.{Entry}
+use Rattle.cover_plan.specs.CoverTables.{Entry}
 use Rattle.tree_map.specs.Offers.{IsBefore}
 use Rattle.tree_map.proofs.HadShapes.{sum_in}
 use Rattle.tree_map.proofs.Rows.{index_in, index_shape}

@@ -5,11 +5,9 @@ use Rattle.std.proofs.lemmas.List.{map-append, map-id}
 use Rattle.std.proofs.lemmas.List.Elements.{All-push, filter-append}
 use Rattle.std.proofs.lemmas.List.FromFn.{map-range_with_len_more}
 use Rattle.std.proofs.lemmas.List.Sums.{count_by_more_no, count_by_more_yes}
-use Rattle.sp_network.specs.TypedTree.{tree_of}
 use Rattle.sp_network.specs.declared.plan.GatePlan.{GatePlan}
-use Rattle.dual_rail.specs.ForestData.{ForestData}
-use Rattle.tree_map.specs.MappedCover.{HaveFirstClock, plan_trees}
-use Rattle.tree_map.specs.Plans.{IsTreeOf, cell_of, is_kept}
+use Rattle.tree_map.specs.MappedCover.{HaveFirstClock}
+use Rattle.tree_map.specs.Plans.{cell_of, is_kept}
 
 -- the number of the next cell is the same behind a kept pair, and one more behind a root
 pub cell_kept : (kept : List Bool) (k : ℕ) → k < length kept → is_kept kept k ≡ true → cell_of kept (k + 1) ≡ cell_of kept k
@@ -52,16 +50,15 @@ roots_more kept k e =
     ∙ filter-append (λ place. not (is_kept kept place)) (range_with_len 0 k) (k ∷ [])
     ∙ ap (λ b. roots_before kept k ++ cond (not b) (k ∷ []) []) e
 
-pub trees_kept : (forest : ForestData) (kept : List Bool) (k : ℕ) (plans : List GatePlan) → is_kept kept k ≡ true
-    → AllZip (IsTreeOf forest kept) (roots_before kept k) (plan_trees plans) → AllZip (IsTreeOf forest kept) (roots_before kept (k + 1)) (plan_trees plans)
-trees_kept forest kept k plans e are = subst (λ places. AllZip (IsTreeOf forest kept) places (plan_trees plans)) (sym (roots_kept kept k e)) are
+-- what stands beside the roots, one each, where a pair is kept, and where it is the next root
+pub items_kept : {P X : Type 0} (R : ℕ → X → Type 0) (f : P → X) (kept : List Bool) (k : ℕ) (plans : List P) → is_kept kept k ≡ true → AllZip R (roots_before kept k) (map f plans)
+    → AllZip R (roots_before kept (k + 1)) (map f plans)
+items_kept R f kept k plans e are = subst (λ places. AllZip R places (map f plans)) (sym (roots_kept kept k e)) are
 
-pub trees_more : (forest : ForestData) (kept : List Bool) (k : ℕ) (plans : List GatePlan) (plan : GatePlan) → is_kept kept k ≡ false
-    → IsTreeOf forest kept k (tree_of plan.tree) → AllZip (IsTreeOf forest kept) (roots_before kept k) (plan_trees plans)
-    → AllZip (IsTreeOf forest kept) (roots_before kept (k + 1)) (plan_trees (plans ++ plan ∷ []))
-trees_more forest kept k plans plan e is are =
-    rw (roots_more kept k e, map-append (λ (p : GatePlan). tree_of p.tree) plans (plan ∷ []))
-    (all_zip-push (IsTreeOf forest kept) (roots_before kept k) (plan_trees plans) k (tree_of plan.tree) are is)
+pub items_more : {P X : Type 0} (R : ℕ → X → Type 0) (f : P → X) (kept : List Bool) (k : ℕ) (plans : List P) (plan : P) → is_kept kept k ≡ false → R k (f plan)
+    → AllZip R (roots_before kept k) (map f plans) → AllZip R (roots_before kept (k + 1)) (map f (plans ++ plan ∷ []))
+items_more R f kept k plans plan e is are =
+    rw (roots_more kept k e, map-append f plans (plan ∷ [])) (all_zip-push R (roots_before kept k) (map f plans) k (f plan) are is)
 
 pub first_clocks : (plans : List GatePlan) (plan : GatePlan) → HaveFirstClock plans → plan.clock ≡ 1 → HaveFirstClock (plans ++ plan ∷ [])
 first_clocks plans plan have e = All-push (λ (p : GatePlan). p.clock ≡ 1) plans plan have e

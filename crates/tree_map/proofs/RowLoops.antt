@@ -6,9 +6,10 @@ use Rattle.dom_base.proofs.Lists.{map-push}
 use Rattle.gate_decompose.proofs.Among.{among_map}
 use Rattle.gate_decompose.proofs.Rising.{among_get}
 use Rattle.tree_map.specs.declared.shape_sum.ShapeSum.{ShapeSum}
-use Rattle.tree_map.specs.Covers.{Operator}
+use Rattle.cover_plan.specs.Covers.{Costs}
+use Rattle.cover_plan.specs.CoverTables.{Entry, combined, lower_of, lowest}
+use Rattle.cover_plan.specs.Parts.{Operator}
 use Rattle.tree_map.specs.CoverRows.{AreSmall, IsSmall, entry_of, joined_entry}
-use Rattle.tree_map.specs.CoverTables.{Entry, combined, lower_of, lowest}
 use Rattle.tree_map.proofs.Rows.{lowest-push}
 
 pub entries_step : (xs : List ShapeSum) (i : ℕ) (d : ShapeSum) → i < length xs → map entry_of (take (i + 1) xs) ≡ map entry_of (take i xs) ++ entry_of (get_or xs i d) ∷ []
@@ -35,9 +36,9 @@ right_step f es xs i d e lt is =
     append_assoc es (map f (map entry_of (take i xs))) (e ∷ [])
     ∙ ap (λ ys. es ++ ys) (ap (λ y. map f (map entry_of (take i xs)) ++ y ∷ []) is ∙ sym (ap (map f) (entries_step xs i d lt) ∙ map-push f (map entry_of (take i xs)) (entry_of (get_or xs i d))))
 
-pub left_step : (op : Operator) (xs : List ShapeSum) (rs : List Entry) (i : ℕ) (d : ShapeSum) → i < length xs
-    → combined op (map entry_of (take i xs)) rs ++ map (joined_entry op (entry_of (get_or xs i d))) rs ≡ combined op (map entry_of (take (i + 1) xs)) rs
-left_step op xs rs i d lt =
-    sym (ap (λ ls. combined op ls rs) (entries_step xs i d lt)
-    ∙ flat_map-append (λ a. map (joined_entry op a) rs) (map entry_of (take i xs)) (entry_of (get_or xs i d) ∷ [])
-    ∙ ap (λ ys. combined op (map entry_of (take i xs)) rs ++ ys) (append-nil (map (joined_entry op (entry_of (get_or xs i d))) rs)))
+pub left_step : (c : Costs) (op : Operator) (xs : List ShapeSum) (rs : List Entry) (i : ℕ) (d : ShapeSum) → i < length xs
+    → combined c op (map entry_of (take i xs)) rs ++ map (joined_entry c op (entry_of (get_or xs i d))) rs ≡ combined c op (map entry_of (take (i + 1) xs)) rs
+left_step c op xs rs i d lt =
+    sym (ap (λ ls. combined c op ls rs) (entries_step xs i d lt)
+    ∙ flat_map-append (λ a. map (joined_entry c op a) rs) (map entry_of (take i xs)) (entry_of (get_or xs i d) ∷ [])
+    ∙ ap (λ ys. combined c op (map entry_of (take i xs)) rs ++ ys) (append-nil (map (joined_entry c op (entry_of (get_or xs i d))) rs)))

@@ -7,9 +7,9 @@ use Rattle.dom_base.proofs.Lists.{slice_get-set_other}
 use Rattle.gate_decompose.specs.Items.{Among}
 use Rattle.gate_decompose.proofs.Among.{among_either}
 use Rattle.cover_plan.proofs.Tables.{best_reached, same_shape-is, same_shape-self}
-use Rattle.tree_map.specs.Covers.{TreeShape}
+use Rattle.cover_plan.specs.Parts.{TreeShape}
 use Rattle.tree_map.specs.CoverRows.{IsRow, IsShapeIn, row_index, sum_or_zero}
-use Rattle.tree_map.specs.CoverTables.{Entry, best, lower_of, lowest, same_shape}
+use Rattle.cover_plan.specs.CoverTables.{Entry, best, lower_of, lowest, same_shape}
 
 -- what stands at an index that is set, and elsewhere
 set_here : {X : Type 0} (xs : List X) (k : ℕ) (y : X) → k < length xs → slice_get (set xs k y) k ≡ Some y

@@ -9,11 +9,14 @@ use Rattle.dual_rail.specs.ForestData.{ForestData}
 use Rattle.dual_rail.proofs.ForestOrders.{reads_later}
 use Rattle.dual_rail.specs.ForestOrder.{AreInOrder, ReadsBefore}
 use Rattle.dual_rail.specs.Forests.{left_arm, right_arm}
-use Rattle.tree_map.specs.Covers.{CoverPart, Cover, End, Join, Kept, Cut, Single, Split, IsCover, sum_of}
+use Rattle.cover_plan.specs.Covers.{Costs, Cover, Cut, IsCover, Kept, Single, Split, sum_of}
+use Rattle.cover_plan.specs.Parts.{CoverPart, End, Join}
+use Rattle.cover_plan.proofs.Sums.{joined-is}
+use Rattle.tree_map.specs.CoverRows.{AreFewCosts}
 use Rattle.tree_map.specs.LeastPlans.{IsPartOf, literal, shared, free, operator_of}
 use Rattle.tree_map.specs.Plans.{IsFree, is_free}
 use Rattle.compound_plan.proofs.FreePairs.{is_free-not, is_free-of, is_free-true}
-use Rattle.tree_map.proofs.PlanCovers.{cover_cost, pairs_in}
+use Rattle.tree_map.proofs.PlanCovers.{cover_most, pairs_in}
 use Rattle.compound_plan.proofs.Tallies.{arm_value, arms_value, tally, tally-is, tally_total}
 use Rattle.compound_plan.proofs.Totals.{total, total_constant}
 
@@ -84,27 +87,20 @@ module _ (forest : ForestData) (order : AreInOrder forest.pairs) (p : ℕ) where
       let ones = total_constant 1 0 n in
       omega (arith, own, left, right, all, one, here, ones)
 
-  -- so their sums are few, those of an arm too
-  pub few_sums : (w h : ℕ) (pair : Pair) {l r : CoverPart} → slice_get forest.pairs p ≡ Some pair → IsPartOf forest (left_arm pair) l → IsPartOf forest (right_arm pair) r
-      → (a b : Cover) → IsCover w h (Join (operator_of pair) l r) (Kept a b) → sum_of (Join (operator_of pair) l r) (Kept a b) ≤ 7 * length forest.pairs + 1
-  few_sums w h pair {l} {r} e dl dr a b is =
-      let cost = cover_cost w h (Join (operator_of pair) l r) (Kept a b) is in
-      let few = few_pairs pair e dl dr in
-      omega (arith, cost, few)
-
-pub few_in_arm : (forest : ForestData) → AreInOrder forest.pairs → (w h : ℕ) {arm : Arm} {part : CoverPart} → IsPartOf forest arm part → (a : Cover) → IsCover w h part a
-    → sum_of part a ≤ 7 * length forest.pairs + 1
-few_in_arm forest order w h literal a is = let cost = cover_cost w h End a is in let none : pairs_in End ≡ 0 = no_pairs in omega (arith, cost, none)
-few_in_arm forest order w h (shared never) a is = let cost = cover_cost w h End a is in let none : pairs_in End ≡ 0 = no_pairs in omega (arith, cost, none)
-few_in_arm forest order w h (free {place = q} {pair = pair} {l = l} {r = r} fr e dl dr) a is =
-    let cost = cover_cost w h (Join (operator_of pair) l r) a is in
-    let few = few_pairs forest order q pair e dl dr in
-    omega (arith, cost, few)
+-- so the sums of an arm are few
+pub few_in_arm : (c : Costs) → AreFewCosts c → (forest : ForestData) → AreInOrder forest.pairs → (w h : ℕ) {arm : Arm} {part : CoverPart} → IsPartOf forest arm part → (a : Cover)
+    → IsCover c w h part a → sum_of c part a ≤ 12 * length forest.pairs + 1
+few_in_arm c few forest order w h literal a is = let most = cover_most c few w h End a is in let none : pairs_in End ≡ 0 = no_pairs in omega (arith, most, none)
+few_in_arm c few forest order w h (shared never) a is = let most = cover_most c few w h End a is in let none : pairs_in End ≡ 0 = no_pairs in omega (arith, most, none)
+few_in_arm c few forest order w h (free {place = q} {pair = pair} {l = l} {r = r} fr e dl dr) a is =
+    let most = cover_most c few w h (Join (operator_of pair) l r) a is in
+    let pairs = few_pairs forest order q pair e dl dr in
+    omega (arith, most, pairs)
 
 -- and not 0
-pub some_sum : (part : CoverPart) (a : Cover) → 1 ≤ sum_of part a
-some_sum End a = omega arith
-some_sum (Join op l r) Single = omega arith
-some_sum (Join op l r) (Kept a b) = let one = some_sum l a in omega (arith, one)
-some_sum (Join op l r) (Cut a b) = omega arith
-some_sum (Join op l r) (Split a b) = omega arith
+pub some_sum : (c : Costs) (part : CoverPart) (a : Cover) → 1 ≤ sum_of c part a
+some_sum c End a = omega arith
+some_sum c (Join op l r) Single = omega arith
+some_sum c (Join op l r) (Kept a b) = let one = some_sum c l a in omega (arith, one, joined-is c op (sum_of c l a) (sum_of c r b))
+some_sum c (Join op l r) (Cut a b) = omega arith
+some_sum c (Join op l r) (Split a b) = omega arith

@@ -1,8 +1,9 @@
 -- What stands in the sums at the number of a pair and a shape.
-use Rattle.std.proofs.Common.{◌≡◌, inl, inr, refl, sym, ap, ◌∙◌, ℕ, zero, suc, ◌+◌, ◌*◌, ◌^◌, ◌-◌, ◌<◌, ◌≤◌, min, true, length, Option, Some, slice_get, arith}
+use Rattle.std.proofs.Common.{◌≡◌, inl, inr, refl, sym, ap, ◌∙◌, ℕ, zero, suc, ◌+◌, ◌*◌, ◌^◌, ◌-◌, ◌<◌, ◌≤◌, min, true, length, Option, None, Some, slice_get, arith}
 use Rattle.std.proofs.lemmas.Bool.{cases_lt, le-leb}
-use Rattle.std.proofs.lemmas.Option.{slice_get_past}
-use Rattle.tree_map.specs.Covers.{TreeShape}
+use Rattle.std.proofs.lemmas.Option.{same_Some, slice_get_past}
+use Rattle.cover_plan.specs.Parts.{TreeShape}
+use Rattle.cover_plan.proofs.Tables.{none_is}
 use Rattle.tree_map.specs.CoverSums.{SumsData, above_zero, has_shape, sum_at}
 
 pub shape_had : (t : SumsData) (shape : TreeShape) → 1 ≤ shape.height → shape.height ≤ t.h → 1 ≤ shape.width → shape.width ≤ t.w → has_shape t shape ≡ true
@@ -12,6 +13,11 @@ shape_had t shape a b c d = rw (le-leb 1 shape.height a, le-leb shape.height t.h
 pub above_zero-some : (o : Option ℕ) (n : ℕ) → o ≡ Some n → 0 < n → Some n ≡ above_zero o
 above_zero-some o zero e some = absurd (omega (arith, some))
 above_zero-some o (suc n) e some = rw e refl
+
+pub above_zero-never : (o : Option ℕ) → above_zero o ≡ Some 0 → ⊥
+above_zero-never None e = none_is 0 e
+above_zero-never (Some zero) e = none_is 0 e
+above_zero-never (Some (suc n)) e = let same = same_Some (suc n) 0 e in cc
 
 -- a read of the sums in range: the index is that of the pair and the shape, or above all indices
 pub record IsRead (t : SumsData) (place height width index : ℕ) : Type 0 where

@@ -1,42 +1,38 @@
 -- The sums of a forest, as the row of one more pair is appended.
-use Rattle.std.proofs.lemmas.Option.{same_Some, slice_get-get_or, slice_get_cases, slice_get_within}
+use Rattle.std.proofs.lemmas.Option.{same_Some, slice_get-get_or, slice_get_within}
 use Rattle.std.proofs.lemmas.Bool.{cases_lt}
 use Rattle.std.proofs.Math.Nat.{mul-le-mul_right}
-use Rattle.std.proofs.Common.{◌≡◌, inl, inr, refl, sym, ap, subst, ◌∙◌, ℕ, zero, suc, ◌+◌, ◌*◌, ◌≤◌, ◌<◌, Bool, true, false, cond, List, ◌++◌, length, get_or, Option, Some, None, slice_get, arith}
+use Rattle.std.proofs.Common.{◌≡◌, inl, inr, refl, sym, ap, subst, ◌∙◌, ℕ, zero, suc, ◌+◌, ◌*◌, ◌≤◌, ◌<◌, Bool, true, false, cond, ◌&&◌, List, [], ◌∷◌, ◌++◌, filter_map, length, get_or, option_map, Option, Some, None, slice_get, arith}
 use Rattle.std.specs.List.{range_with_len}
 use Rattle.std.proofs.lemmas.List.{length-map}
 use Rattle.std.proofs.lemmas.List.FromFn.{length-range_with_len}
 use Rattle.tree_map.specs.Plans.{is_free}
-use Rattle.dom_base.proofs.Lists.{slice_get-behind, slice_get-left}
+use Rattle.dom_base.proofs.Lists.{slice_get-behind, slice_get-left, slice_get-push}
 use Rattle.dual_rail.specs.declared.forest.Arm.{Arm}
-use Rattle.dual_rail.specs.declared.forest.Arm.TheVariants.{Literal, Pair as pair_arm}
 use Rattle.dual_rail.specs.declared.forest.Pair.{Pair}
 use Rattle.dual_rail.specs.ForestData.{ForestData}
 use Rattle.dual_rail.proofs.ForestOrders.{reads_later}
 use Rattle.dual_rail.specs.ForestOrder.{AreInOrder, IsForest, ReadsBefore}
 use Rattle.dual_rail.specs.Forests.{left_arm, right_arm}
 use Rattle.gate_decompose.specs.Items.{Among}
-use Rattle.tree_map.specs.ArmEntries.{AreEntriesOf, AreFew, AreFewOf, AreFreeOf, AreSumsIn, AreTabled}
-use Rattle.tree_map.specs.Covers.{CoverPart, Operator, TreeShape, ordinary_costs}
-use Rattle.tree_map.specs.CoverRows.{AreSmall, IsRow, IsShapeIn, row_index, sum_or_zero}
-use Rattle.tree_map.specs.CoverSums.{AreSumsOf, SumsData, above_zero, has_shape, sum_at, sum_index}
-use Rattle.tree_map.specs.CoverTables.{Entry, arm_entries, best, combined, table}
+use Rattle.cover_plan.specs.Covers.{Costs, is_parallel}
+use Rattle.cover_plan.specs.CoverTables.{Entry, arm_entries, best, combined, joined_cost, lower_both, lowest, root_of, shapes, table, table_within}
+use Rattle.cover_plan.specs.Parts.{CoverPart, Operator, TreeShape}
+use Rattle.tree_map.specs.ArmEntries.{AreEntriesOf, AreFreeOf, AreSumsIn, AreTabled, HaveSame, IsTabled}
+use Rattle.tree_map.specs.CoverRows.{AreFewCosts, AreSmall, IsRow, IsShapeIn, cut_number, row_index, sum_or_zero}
+use Rattle.tree_map.specs.CoverSums.{AreCutsOf, AreSumsOf, SumsData, above_zero, cut_at, has_shape, sum_at, sum_index, with_cut, with_row}
 use Rattle.tree_map.specs.LeastPlans.{IsPartOf, operator_of}
-use Rattle.tree_map.proofs.ArmEntries.{best_same, combined_same, shape_in}
+use Rattle.tree_map.proofs.ArmEntries.{best_same, combined_same, lowest_same, shape_in}
 use Rattle.tree_map.proofs.HadShapes.{shape_had_in, sum_in}
-use Rattle.cover_plan.proofs.Recurrence.{arm_reached, shape_some, table_least}
+use Rattle.cover_plan.proofs.Recurrence.{arm_reached, root_least, shape_some, table_least}
 use Rattle.compound_plan.proofs.PlanParts.{arm_part}
 use Rattle.tree_map.proofs.Rows.{index_in}
-use Rattle.tree_map.proofs.SumBounds.{few_in_arm, few_sums, some_sum}
+use Rattle.tree_map.proofs.SumBounds.{few_in_arm, some_sum}
 use Rattle.tree_map.proofs.SumReads.{shape_had}
-use Rattle.cover_plan.proofs.Tables.{among_shapes, among_table, best_reached, table_best}
+use Rattle.cover_plan.proofs.Tables.{among_shapes, among_table, best_reached, none_is, table_best}
 
 index_before : (other m k i : ℕ) → other < m → i < k → other * k + i < m * k
 index_before other m k i lt low = let more = mul-le-mul_right {m = other + 1} {n = m} k (omega arith) in omega arith
-
--- sums with one more row
-abbrev pub with_row : SumsData → List ℕ → SumsData
-with_row t row = record { w = t.w; h = t.h; sums = t.sums ++ row }
 
 module _ (t : SumsData) (row : List ℕ) (m : ℕ) (count : length t.sums ≡ m * (t.w * t.h)) where
   sum_before : (other : ℕ) → other < m → (shape : TreeShape) → sum_at (with_row t row) other shape ≡ sum_at t other shape
@@ -58,56 +54,86 @@ module _ (t : SumsData) (row : List ℕ) (m : ℕ) (count : length t.sums ≡ m 
       (ap above_zero (ap (λ n. slice_get (t.sums ++ row) (n + row_index t.w shape)) (sym count) ∙ slice_get-behind t.sums row (row_index t.w shape) ∙ is.each shape in_)
       ∙ there_or_not (best es shape) (λ n e. let r = best_reached es shape n e in subst (λ s. 1 ≤ s) r.3 (is.some r.0 r.1)))
 
-  new_row : (op : Operator) (l r : CoverPart) (es : List Entry) → IsRow t.w t.h es row
-      → ((shape : TreeShape) → best es shape ≡ best (combined op (arm_entries t.w t.h l) (arm_entries t.w t.h r)) shape) → AreSumsIn (with_row t row) m (table t.w t.h op l r)
-  new_row op l r es is same e = (there, back)
+  -- the new sums are those of any entries that have the same least sums
+  pub new_row : (es fs : List Entry) → IsRow t.w t.h es row → ((shape : TreeShape) → best es shape ≡ best fs shape) → AreSumsIn (with_row t row) m (table_within t.w t.h fs)
+  new_row es fs is same e = (there, back)
     where
-      there : sum_at (with_row t row) m e.shape ≡ Some e.sum → Among e (table t.w t.h op l r)
+      there : sum_at (with_row t row) m e.shape ≡ Some e.sum → Among e (table_within t.w t.h fs)
       there at =
           let in_ = sum_in (with_row t row) m e.shape e.sum at in
-          among_table t.w t.h (combined op (arm_entries t.w t.h l) (arm_entries t.w t.h r)) e
+          among_table t.w t.h fs e
           (among_shapes t.w t.h e.shape in_.tall in_.wide (in_.broad, in_.high))
           (sym (same e.shape) ∙ sym (sum_new es is e.shape in_) ∙ at)
 
-      back : Among e (table t.w t.h op l r) → sum_at (with_row t row) m e.shape ≡ Some e.sum
+      back : Among e (table_within t.w t.h fs) → sum_at (with_row t row) m e.shape ≡ Some e.sum
       back at =
-          let b = table_best t.w t.h (combined op (arm_entries t.w t.h l) (arm_entries t.w t.h r)) e at in
+          let b = table_best t.w t.h fs e at in
           sum_new es is e.shape (shape_in t.w t.h e.shape b.0) ∙ same e.shape ∙ b.1
 
+  pub sums_stay : (other : ℕ) → other < m → (es : List Entry) → AreSumsIn t other es → AreSumsIn (with_row t row) other es
+  sums_stay other lt es are e = (λ s. (are e).0 (sym (sum_before other lt e.shape) ∙ s), λ in_. sum_before other lt e.shape ∙ (are e).1 in_)
+
+-- entries that have the same come to the same root
+cut_same : (c : Costs) (w h : ℕ) (op : Operator) (ls rs ms ns : List Entry) → HaveSame ls ms → HaveSame rs ns → cut_number c w h op ls rs ≡ cut_number c w h op ms ns
+cut_same c w h op ls rs ms ns left right =
+    let best_is = best_same (combined c op ls rs) (combined c op ms ns) (combined_same c op ls rs ms ns left right) in
+    let low = lowest_same ls ms left in
+    let high = lowest_same rs ns right in
+    λ i. sum_or_zero (option_map (λ n. 1 + n) (lower_both
+    (option_map (λ n. n + c.simple) (lowest (filter_map (λ shape. option_map (λ sum. record { shape = shape; sum = sum }) (best_is shape i)) (shapes w h))))
+    (cond (c.splits && is_parallel op) (joined_cost c.compound (low i) (high i)) None)))
+
+read_cut : (o : Option ℕ) → above_zero (Some (sum_or_zero (option_map (λ n. 1 + n) o))) ≡ option_map (λ n. 1 + n) o
+read_cut None = refl
+read_cut (Some n) = let more : 1 + n ≡ suc n = omega arith in rw more refl
+
+module _ (t : SumsData) (row : List ℕ) (cut m : ℕ) (count : length t.sums ≡ m * (t.w * t.h)) (cuts : length t.cuts ≡ m) where
+  cut_before : (other : ℕ) → other < m → cut_at (with_cut (with_row t row) cut) other ≡ cut_at t other
+  cut_before other lt = ap above_zero (slice_get-left t.cuts (cut ∷ []) other (omega (arith, lt, cuts)))
+
+  cut_new : cut_at (with_cut (with_row t row) cut) m ≡ above_zero (Some cut)
+  cut_new = ap above_zero (ap (slice_get (t.cuts ++ cut ∷ [])) (sym cuts) ∙ slice_get-push t.cuts cut)
+
   pub tabled_more : (forest : ForestData) (pair : Pair) (ls rs : List Entry) → AreTabled forest m t → slice_get forest.pairs m ≡ Some pair
-      → AreEntriesOf forest t.w t.h (left_arm pair) ls → AreEntriesOf forest t.w t.h (right_arm pair) rs → IsRow t.w t.h (combined (operator_of pair) ls rs) row
-      → AreTabled forest (m + 1) (with_row t row)
-  tabled_more forest pair ls rs tabled here left right is other x l r lt at dl dr = elim (cases_lt other m) [
-    | inl before ↦ (λ e. let old = tabled other x l r before at dl dr e in (
-      λ s. old.0 (sym (sum_before other before e.shape) ∙ s),
-      λ in_. sum_before other before e.shape ∙ old.1 in_,
-    ))
+      → AreEntriesOf t.costs forest t.w t.h (left_arm pair) ls → AreEntriesOf t.costs forest t.w t.h (right_arm pair) rs
+      → IsRow t.w t.h (combined t.costs (operator_of pair) ls rs) row → cut ≡ cut_number t.costs t.w t.h (operator_of pair) ls rs
+      → AreTabled forest (m + 1) (with_cut (with_row t row) cut)
+  tabled_more forest pair ls rs tabled here left right is cut_is other x l r lt at dl dr = elim (cases_lt other m) [
+    | inl before ↦
+        (let old = tabled other x l r before at dl dr in
+        (sums_stay t row m count other before (table t.costs t.w t.h (operator_of x) l r) old.0, cut_before other before ∙ old.1))
     | inr past ↦
         (let last : other ≡ m = omega arith in
         let pair_is : x ≡ pair = same_Some x pair (sym at ∙ ap (slice_get forest.pairs) last ∙ here) in
-        let ops = ap operator_of pair_is in
         let same_left = left l (subst (λ p. IsPartOf forest (left_arm p) l) pair_is dl) in
         let same_right = right r (subst (λ p. IsPartOf forest (right_arm p) r) pair_is dr) in
-        subst (λ p. AreSumsIn (with_row t row) p (table t.w t.h (operator_of x) l r)) (sym last)
-        (subst (λ op. AreSumsIn (with_row t row) m (table t.w t.h op l r)) (sym ops)
-        (new_row (operator_of pair) l r (combined (operator_of pair) ls rs) is
-        (best_same (combined (operator_of pair) ls rs) (combined (operator_of pair) (arm_entries t.w t.h l) (arm_entries t.w t.h r))
-        (combined_same (operator_of pair) ls rs (arm_entries t.w t.h l) (arm_entries t.w t.h r) same_left same_right)))))
+        subst (λ p. IsTabled (with_cut (with_row t row) cut) p (operator_of x) l r) (sym last)
+        (subst (λ op. IsTabled (with_cut (with_row t row) cut) m op l r) (sym (ap operator_of pair_is)) (own l r same_left same_right)))
   ]
+    where
+      own : (l r : CoverPart) → HaveSame ls (arm_entries t.costs t.w t.h l) → HaveSame rs (arm_entries t.costs t.w t.h r) → IsTabled (with_cut (with_row t row) cut) m (operator_of pair) l r
+      own l r same_left same_right = (
+        new_row t row m count (combined t.costs (operator_of pair) ls rs) (combined t.costs (operator_of pair) (arm_entries t.costs t.w t.h l) (arm_entries t.costs t.w t.h r)) is
+            (best_same (combined t.costs (operator_of pair) ls rs) (combined t.costs (operator_of pair) (arm_entries t.costs t.w t.h l) (arm_entries t.costs t.w t.h r))
+            (combined_same t.costs (operator_of pair) ls rs (arm_entries t.costs t.w t.h l) (arm_entries t.costs t.w t.h r) same_left same_right)),
+        cut_new
+            ∙ ap (λ n. above_zero (Some n)) (cut_is ∙ cut_same t.costs t.w t.h (operator_of pair) ls rs (arm_entries t.costs t.w t.h l) (arm_entries t.costs t.w t.h r) same_left same_right)
+            ∙ read_cut (root_of t.costs t.w t.h (operator_of pair) l r),
+      )
 
 module _ (forest : ForestData) (order : AreInOrder forest.pairs) where
   part_there : (m : ℕ) (arm : Arm) → ReadsBefore m arm → m ≤ length forest.pairs → (part : CoverPart) × IsPartOf forest arm part
   part_there m arm before le = arm_part forest order m arm before le
 
   -- what is read is small
-  pub entries_small : (m w h : ℕ) (arm : Arm) (es : List Entry) → 1 ≤ w → 1 ≤ h → w ≤ 8 → h ≤ 6 → length forest.pairs ≤ 800000 → m ≤ length forest.pairs → ReadsBefore m arm
-      → AreEntriesOf forest w h arm es → AreSmall es
-  entries_small m w h arm es wide tall broad high few le before are e at =
+  pub entries_small : (c : Costs) → AreFewCosts c → (m w h : ℕ) (arm : Arm) (es : List Entry) → 1 ≤ w → 1 ≤ h → w ≤ 8 → h ≤ 6 → length forest.pairs ≤ 800000 → m ≤ length forest.pairs → ReadsBefore m arm
+      → AreEntriesOf c forest w h arm es → AreSmall es
+  entries_small c costs m w h arm es wide tall broad high few le before are e at =
       let p = part_there m arm before le in
-      let r = arm_reached ordinary_costs w h wide tall p.0 e ((are p.0 p.1 e).0 at) in
+      let r = arm_reached c w h wide tall p.0 e ((are p.0 p.1 e).0 at) in
       let some = shape_some p.0 r.0 in
-      let one = some_sum p.0 r.0 in
-      let most = few_in_arm forest order w h p.1 r.0 r.1 in
+      let one = some_sum c p.0 r.0 in
+      let most = few_in_arm c costs forest order w h p.1 r.0 r.1 in
       let rise = ap (λ (s : TreeShape). s.height) r.2 in
       let run = ap (λ (s : TreeShape). s.width) r.2 in
       record {
@@ -119,36 +145,32 @@ module _ (forest : ForestData) (order : AreInOrder forest.pairs) where
         few = omega (arith, most, r.4, few);
       }
 
-  sums_few : (m : ℕ) (t : SumsData) (place : ℕ) → 1 ≤ t.w → 1 ≤ t.h → length forest.pairs ≤ 800000 → m ≤ length forest.pairs → AreTabled forest m t → place < m → AreFew t place
-  sums_few m t place wide tall few le tabled lt shape sum at =
-      elim (slice_get_cases forest.pairs place).1 [
-        | inl found ↦
-            (let pair = found.0 in
-            let reads = order place pair found.2 in
-            let l = part_there place (left_arm pair) reads.0 (omega arith) in
-            let r = part_there place (right_arm pair) reads.1 (omega arith) in
-            let in_ = (tabled place pair l.0 r.0 lt found.2 l.1 r.1 (record { shape = shape; sum = sum })).0 at in
-            let least = (table_least ordinary_costs t.w t.h wide tall (operator_of pair) l.0 r.0 (record { shape = shape; sum = sum })).0 in_ in
-            let s = least.reached in
-            let most = few_sums forest order place t.w t.h pair found.2 l.1 r.1 s.left s.right s.cover in
-            omega (arith, most, s.sum_is, few))
-        | inr past ↦ absurd (omega (arith, past.0))
-      ]
-
-  pub arm_few : (m : ℕ) (t : SumsData) (arm : Arm) → 1 ≤ t.w → 1 ≤ t.h → length forest.pairs ≤ 800000 → m ≤ length forest.pairs → AreTabled forest m t → ReadsBefore m arm → AreFewOf t arm
-  arm_few m t (Literal rail) wide tall few le tabled before = tt
-  arm_few m t (pair_arm place) wide tall few le tabled before = sums_few m t place wide tall few le tabled before
-
-  -- the sums of all pairs are the least
-  pub all_tabled : (t : SumsData) → 1 ≤ t.w → 1 ≤ t.h → AreTabled forest (length forest.pairs) t → AreSumsOf forest t
-  all_tabled t wide tall tabled place pair l r at dl dr shape sum =
-      let e : Entry = record { shape = shape; sum = sum } in
-      let in_ = tabled place pair l r (slice_get_within forest.pairs place pair at) at dl dr e in
-      let least = table_least ordinary_costs t.w t.h wide tall (operator_of pair) l r e in
-      (λ s. least.0 (in_.0 s), λ is. in_.1 (least.1 is))
+  -- the sums of all pairs are the least, and so is what they add where they are cut
+  pub all_tabled : (t : SumsData) → 1 ≤ t.w → 1 ≤ t.h → AreTabled forest (length forest.pairs) t → AreSumsOf forest t × AreCutsOf forest t
+  all_tabled t wide tall tabled = (
+    (λ place pair l r at dl dr shape sum.
+        let e : Entry = record { shape = shape; sum = sum } in
+        let in_ = (tabled place pair l r (slice_get_within forest.pairs place pair at) at dl dr).0 e in
+        let least = table_least t.costs t.w t.h wide tall (operator_of pair) l r e in
+        (λ s. least.0 (in_.0 s), λ is. in_.1 (least.1 is))),
+    (λ place pair l r at dl dr cost.
+        let in_ = (tabled place pair l r (slice_get_within forest.pairs place pair at) at dl dr).1 in
+        let least = root_least t.costs t.w t.h wide tall (operator_of pair) l r cost in
+        (λ s. least.0 (one_less (root_of t.costs t.w t.h (operator_of pair) l r) cost (sym in_ ∙ s)), λ is. in_ ∙ ap (option_map (λ n. 1 + n)) (least.1 is))),
+  )
+    where
+      one_less : (o : Option ℕ) (n : ℕ) → option_map (λ n. 1 + n) o ≡ Some (1 + n) → o ≡ Some n
+      one_less None n e = absurd (none_is (1 + n) e)
+      one_less (Some m) n e = let same = same_Some (1 + m) (1 + n) e in ap Some (omega (arith, same))
 
 pub none_tabled : (forest : ForestData) (t : SumsData) → AreTabled forest 0 t
 none_tabled forest t other pair l r lt = absurd (omega arith)
+
+-- the row of a pair at the costs and the bounds of the sums
+pub row_at : (c : Costs) (t : SumsData) (w h : ℕ) (op : Operator) (ls rs ms ns : List Entry) (row : List ℕ) → t.costs ≡ c → t.w ≡ w → t.h ≡ h → ls ≡ ms → rs ≡ ns
+    → IsRow w h (combined c op ls rs) row → IsRow t.w t.h (combined t.costs op ms ns) row
+row_at c t w h op ls rs ms ns row costs wide tall left right is =
+    rw (wide, tall, costs) (subst (λ xs. IsRow w h (combined c op xs ns) row) left (subst (λ xs. IsRow w h (combined c op ls xs) row) right is))
 
 -- a turn of the loop over the pairs: the pair at this place and its arms, over the sums of the pairs before it
 pub record IsTurn (forest : ForestData) (w h m : ℕ) (t : SumsData) (arms : Arm × Arm) (pair : Pair) : Type 0 where
@@ -211,31 +233,24 @@ module _ (forest : ForestData) (w h m : ℕ) (t : SumsData) (arms : Arm × Arm) 
   tall_t : 1 ≤ t.h
   tall_t = omega (arith, turn.tall, turn.height)
 
-  pub turn_few : AreFewOf t (arms.0) × AreFewOf t (arms.1)
-  turn_few =
-      let inside = within in
-      let le : m ≤ length forest.pairs = omega arith in
-      (arm_few forest order m t (arms.0) wide_t tall_t few le turn.tabled reads.0, arm_few forest order m t (arms.1) wide_t tall_t few le turn.tabled reads.1)
-
   -- the entries of its arms, as they are read for any forest
   abbrev pub Read : List Bool → Arm → List Entry → Type 0
-  Read free arm es = (f : ForestData) (place : ℕ) → AreFreeOf f free → ReadsBefore place arm → AreTabled f place t → AreEntriesOf f t.w t.h arm es
+  Read free arm es = (f : ForestData) (place : ℕ) → AreFreeOf f free → ReadsBefore place arm → AreTabled f place t → AreEntriesOf t.costs f t.w t.h arm es
 
   module _ (free : List Bool) (are : AreFreeOf forest free) (ls rs : List Entry) (read_left : Read free (arms.0) ls) (read_right : Read free (arms.1) rs) where
-    pub turn_small : AreSmall ls × AreSmall rs
-    turn_small =
+    pub turn_small : AreFewCosts t.costs → AreSmall ls × AreSmall rs
+    turn_small costs =
         let inside = within in
         let le : m ≤ length forest.pairs = omega arith in
         let broad : t.w ≤ 8 = omega (arith, turn.broad, turn.width) in
         let high : t.h ≤ 6 = omega (arith, turn.high, turn.height) in (
-          entries_small forest order m t.w t.h (arms.0) ls wide_t tall_t broad high few le reads.0 (read_left forest m are reads.0 turn.tabled),
-          entries_small forest order m t.w t.h (arms.1) rs wide_t tall_t broad high few le reads.1 (read_right forest m are reads.1 turn.tabled),
+          entries_small forest order t.costs costs m t.w t.h (arms.0) ls wide_t tall_t broad high few le reads.0 (read_left forest m are reads.0 turn.tabled),
+          entries_small forest order t.costs costs m t.w t.h (arms.1) rs wide_t tall_t broad high few le reads.1 (read_right forest m are reads.1 turn.tabled),
         )
 
-    pub turn_tabled : (row : List ℕ) → length t.sums ≡ m * (w * h) → IsRow w h (combined (operator_of pair) ls rs) row → AreTabled forest (m + 1) (with_row t row)
-    turn_tabled row count is =
-        let sums : length t.sums ≡ m * (t.w * t.h) = rw (turn.width, turn.height) count in
-        let row_is : IsRow t.w t.h (combined (operator_of pair) ls rs) row = rw (turn.width, turn.height) is in
-        tabled_more t row m sums forest pair ls rs turn.tabled turn.here
-        (subst (λ a. AreEntriesOf forest t.w t.h a ls) turn.left (read_left forest m are reads.0 turn.tabled))
-        (subst (λ a. AreEntriesOf forest t.w t.h a rs) turn.right (read_right forest m are reads.1 turn.tabled)) row_is
+    pub turn_tabled : (row : List ℕ) → length t.sums ≡ m * (t.w * t.h) → length t.cuts ≡ m → IsRow t.w t.h (combined t.costs (operator_of pair) ls rs) row
+        → AreTabled forest (m + 1) (with_cut (with_row t row) (cut_number t.costs t.w t.h (operator_of pair) ls rs))
+    turn_tabled row count cuts is =
+        tabled_more t row (cut_number t.costs t.w t.h (operator_of pair) ls rs) m count cuts forest pair ls rs turn.tabled turn.here
+        (subst (λ a. AreEntriesOf t.costs forest t.w t.h a ls) turn.left (read_left forest m are reads.0 turn.tabled))
+        (subst (λ a. AreEntriesOf t.costs forest t.w t.h a rs) turn.right (read_right forest m are reads.1 turn.tabled)) is refl

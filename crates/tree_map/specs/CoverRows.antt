@@ -1,17 +1,18 @@
 -- Rows of sums: for each shape within the bounds the least sum that some entries have in this shape.
-use Rattle.std.specs.Prelude.{ℕ, ◌+◌, ◌*◌, ◌-◌, ◌^◌, ◌≤◌, ◌≡◌, List, length, Option, None, Some, slice_get}
+use Rattle.std.specs.Prelude.{ℕ, ◌+◌, ◌*◌, ◌-◌, ◌^◌, ◌≤◌, ◌≡◌, List, length, Option, None, Some, option_map, slice_get}
 use Rattle.gate_decompose.specs.Items.{Among}
 use Rattle.tree_map.specs.declared.shape_sum.ShapeSum.{ShapeSum}
-use Rattle.tree_map.specs.Covers.{Operator, TreeShape, joined_shape}
-use Rattle.tree_map.specs.CoverTables.{Entry, best}
+use Rattle.cover_plan.specs.Covers.{Costs, joined_sum}
+use Rattle.cover_plan.specs.CoverTables.{Entry, best, combined, root_cost, table_within}
+use Rattle.cover_plan.specs.Parts.{Operator, TreeShape, joined_shape}
 
 -- an entry as code has it
 abbrev pub entry_of : ShapeSum → Entry
 entry_of e = record { shape = record { height = e.height; width = e.width }; sum = e.sum }
 
 -- what two entries come to under an operator
-abbrev pub joined_entry : Operator → Entry → Entry → Entry
-joined_entry op a b = record { shape = joined_shape op a.shape b.shape; sum = a.sum + b.sum }
+abbrev pub joined_entry : Costs → Operator → Entry → Entry → Entry
+joined_entry c op a b = record { shape = joined_shape op a.shape b.shape; sum = joined_sum c op a.sum b.sum }
 
 -- a shape within the bounds
 pub record IsShapeIn (w h : ℕ) (shape : TreeShape) : Type 0 where
@@ -34,6 +35,11 @@ pub record IsRow (w h : ℕ) (es : List Entry) (row : List ℕ) : Type 0 where
   pub some : (e : Entry) → Among e es → 1 ≤ e.sum
   pub each : (shape : TreeShape) → IsShapeIn w h shape → slice_get row (row_index w shape) ≡ Some (sum_or_zero (best es shape))
 
+-- what a pair adds to the tree above it where it is cut, from the entries of its arms: a leaf, and its least cost as a root, or 0
+-- where it can be none
+abbrev pub cut_number : Costs → ℕ → ℕ → Operator → List Entry → List Entry → ℕ
+cut_number c w h op ls rs = sum_or_zero (option_map (λ n. 1 + n) (root_cost c op (table_within w h (combined c op ls rs)) ls rs))
+
 -- an entry whose numbers leave room for sums
 pub record IsSmall (e : Entry) : Type 0 where
   pub tall : 1 ≤ e.shape.height
@@ -42,6 +48,11 @@ pub record IsSmall (e : Entry) : Type 0 where
   pub broad : e.shape.width ≤ 2 ^ 30
   pub some : 1 ≤ e.sum
   pub few : e.sum ≤ 2 ^ 30
+
+-- costs that leave room for sums
+pub record AreFewCosts (c : Costs) : Type 0 where
+  pub few_simple : c.series + c.simple ≤ 10
+  pub few_compound : c.compound ≤ 10
 
 abbrev pub AreSmall : List Entry → Type 0
 AreSmall es = (e : Entry) → Among e es → IsSmall e

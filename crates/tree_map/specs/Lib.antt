@@ -1,5 +1,6 @@
 pub mod ArmEntries
 pub mod Bounds
+pub mod CompoundCover
 pub mod CoverRows
 pub mod CoverSums
 pub mod CoverTables

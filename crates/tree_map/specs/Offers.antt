@@ -5,7 +5,8 @@ use Rattle.dual_rail.specs.declared.forest.Arm.TheVariants.{Pair as pair_arm}
 use Rattle.tree_map.specs.declared.offers.Choice.{Choice as offered_choice}
 use Rattle.tree_map.specs.declared.offers.Choice.TheVariants.{Keep as offered_keep, CutOff as offered_cut, Nothing as offered_nothing}
 use Rattle.tree_map.specs.declared.offers.Offer.{Offer}
-use Rattle.tree_map.specs.Covers.{Choice, CoverPart, CutOff, Earlier, IsChoice, Keep, Lower, Nothing, TreeShape}
+use Rattle.cover_plan.specs.Covers.{Costs, IsChoice}
+use Rattle.cover_plan.specs.Parts.{Choice, CoverPart, CutOff, Earlier, Keep, Lower, Nothing, TreeShape}
 
 -- the choice of an offer
 abbrev pub choice_of : offered_choice → Choice
@@ -48,10 +49,15 @@ pub record IsFirstShape (sum_of : TreeShape → Option ℕ) (shape : TreeShape) 
   pub least : (other : TreeShape) (more : ℕ) → sum_of other ≡ Some more → sum ≤ more
   pub first : (other : TreeShape) → sum_of other ≡ Some sum → Lower shape other
 
+-- the least sum of all
+abbrev pub IsLeastSum : (TreeShape → Option ℕ) → ℕ → Type 0
+IsLeastSum sum_of sum =
+    ((shape : TreeShape) × (sum_of shape ≡ Some sum)) × ((other : TreeShape) (more : ℕ) → sum_of other ≡ Some more → sum ≤ more)
+
 -- the choices for an arm with what each gives, in order
-pub record AreOffers (w h : ℕ) (part : CoverPart) (offers : List Offer) : Type 0 where
-  pub sound : (k : ℕ) (o : Offer) → slice_get offers k ≡ Some o → IsChoice w h part (choice_of o.choice) o.shape o.sum
-  pub complete : (choice : Choice) (shape : TreeShape) (sum : ℕ) → IsChoice w h part choice shape sum
+pub record AreOffers (c : Costs) (w h : ℕ) (part : CoverPart) (offers : List Offer) : Type 0 where
+  pub sound : (k : ℕ) (o : Offer) → slice_get offers k ≡ Some o → IsChoice c w h part (choice_of o.choice) o.shape o.sum
+  pub complete : (choice : Choice) (shape : TreeShape) (sum : ℕ) → IsChoice c w h part choice shape sum
       → IsOffered offers choice shape sum
   pub in_turn : AreInTurn offers
 

@@ -2,7 +2,7 @@
 use Rattle.std.specs.Prelude.{ℕ, ◌≡◌, Bool, true, List, length, Some, slice_get}
 use Rattle.sp_network.specs.Tree.{Tree}
 use Rattle.dual_rail.specs.declared.forest.Pair.{Pair}
-use Rattle.tree_map.specs.Covers.{Fits, TreeShape, joined_shape}
+use Rattle.cover_plan.specs.Parts.{Fits, TreeShape, joined_shape}
 use Rattle.dual_rail.specs.ForestData.{ForestData}
 use Rattle.dual_rail.specs.ForestOrder.{AreInOrder}
 use Rattle.dual_rail.specs.Forests.{left_arm, right_arm}

@@ -1,5 +1,5 @@
 -- The first two offers that give a pair its shape at its least sum, and what follows from them.
-use Rattle.std.specs.Prelude.{ℕ, ◌+◌, ◌<◌, ◌^◌, ◌≡◌, Bool, true, List, length, Option, None, Some, slice_get, slice_set}
+use Rattle.std.specs.Prelude.{ℕ, ◌+◌, ◌<◌, ◌≤◌, ◌^◌, ◌≡◌, Bool, true, false, List, length, Option, None, Some, slice_get, slice_set}
 use Rattle.dual_rail.specs.declared.forest.Arm.{Arm}
 use Rattle.dual_rail.specs.declared.forest.Arm.TheVariants.{Pair as pair_arm}
 use Rattle.dual_rail.specs.declared.forest.Pair.{Pair}
@@ -9,9 +9,11 @@ use Rattle.tree_map.specs.declared.offers.Offer.{Offer}
 use Rattle.tree_map.specs.declared.offers.Choice.{Choice}
 use Rattle.tree_map.specs.declared.offers.Choice.TheVariants.{Keep as offered_keep}
 use Rattle.tree_map.specs.declared.ties.Wanted.{Wanted}
-use Rattle.tree_map.specs.Covers.{AreFirst, CoverPart, IsRootShape, Join, TreeShape, joined_shape}
+use Rattle.cover_plan.specs.Covers.{AreFirst, Costs, IsCompoundRoot, IsRootShape, IsSimpleRoot}
+use Rattle.cover_plan.specs.Parts.{CoverPart, Join, TreeShape, joined_shape}
 use Rattle.tree_map.specs.LeastPlans.{IsPartOf, operator_of}
-use Rattle.tree_map.specs.Offers.{choice_of}
+use Rattle.tree_map.specs.CoverSums.{SumsData, cut_at, sum_at}
+use Rattle.tree_map.specs.Offers.{IsFirstShape, choice_of}
 
 -- two offers for the arms of a pair give what is wanted
 abbrev pub Give : Wanted → Offer → Offer → Type 0
@@ -68,14 +70,30 @@ abbrev pub shapes_with : Arm → Choice → List TreeShape → List TreeShape
 shapes_with (pair_arm place) (offered_keep shape) shapes = slice_set shapes place shape
 shapes_with _ _ shapes = shapes
 
--- the shape of a pair and the first two choices for its arms, where a kept pair has its shape already
+-- the first offer of least sum
+pub record IsFirstLeast (offers : List Offer) (offer : Offer) : Type 0 where
+  pub place : ℕ
+  pub at : slice_get offers place ≡ Some offer
+  pub least : (k : ℕ) (other : Offer) → slice_get offers k ≡ Some other → offer.sum ≤ other.sum
+  pub early : (k : ℕ) (other : Offer) → k < place → slice_get offers k ≡ Some other → offer.sum < other.sum
+
+-- a root has its first shape of least sum, and is compound exactly where its least cost is less than that of a simple one
+pub record IsRootKind (t : SumsData) (place : ℕ) (shape : TreeShape) (split : Bool) : Type 0 where
+  pub first : IsFirstShape (sum_at t place) shape
+  pub compound : split ≡ true → (cut : ℕ) × (cut_at t place ≡ Some cut) × (cut ≤ first.sum + t.costs.simple)
+  pub simple : split ≡ false → (cut : ℕ) → cut_at t place ≡ Some cut → first.sum + t.costs.simple < cut
+
+-- what is decided of a pair: whether it is a compound root, its shape, and the first choices for its arms, where a kept pair has its
+-- shape already
 pub record IsDecision
-    (forest : ForestData) (w h : ℕ) (pair : Pair) (kept : Option TreeShape) (shape : TreeShape) (left right : Choice)
+    (c : Costs) (forest : ForestData) (w h : ℕ) (pair : Pair) (kept : Option TreeShape) (split : Bool) (shape : TreeShape) (left right : Choice)
     : Type 0 where
   pub l : CoverPart
   pub r : CoverPart
   pub left_part : IsPartOf forest (left_arm pair) l
   pub right_part : IsPartOf forest (right_arm pair) r
-  pub stays : (before : TreeShape) → kept ≡ Some before → shape ≡ before
-  pub root : kept ≡ None → IsRootShape w h (Join (operator_of pair) l r) shape
-  pub first : AreFirst w h (operator_of pair) l r shape (choice_of left) (choice_of right)
+  pub stays : (before : TreeShape) → kept ≡ Some before → (shape ≡ before) × (split ≡ false)
+  pub root : kept ≡ None → split ≡ false
+      → (is : IsRootShape c w h (Join (operator_of pair) l r) shape) × IsSimpleRoot c w h (Join (operator_of pair) l r) is.sum
+  pub first : split ≡ false → AreFirst c w h (operator_of pair) l r shape (choice_of left) (choice_of right)
+  pub compound : split ≡ true → IsCompoundRoot c w h (operator_of pair) l r (choice_of left) (choice_of right)

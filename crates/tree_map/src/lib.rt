@@ -2,6 +2,7 @@
 #![tactic(auto)]
 
 mod bounds;
+mod compound_cells;
 mod cost;
 mod decisions;
 mod free;
@@ -11,14 +12,16 @@ mod offers;
 mod shape;
 mod shape_sum;
 mod sums;
+mod tables;
 mod ties;
 mod trees;
 
 pub use bounds::Bounds;
+pub use compound_cells::CompoundCover;
 pub use cost::CELL_COST;
 pub use laws::{
     chosen_cover_is_one, chosen_plan_is_least, shapes_make_plans, tables_are_least,
     tree_values_are_kept,
 };
-pub use mapped::{cover, kept_edges, map};
+pub use mapped::{compound_cover, cover, kept_edges, map, map_compound};
 pub use trees::{Cover, cell_numbers, gate_of};

@@ -2,14 +2,13 @@
 ghost use Rattle.std.specs.Prelude.{◌+◌, ◌^◌, ◌≤◌, ◌<◌, ◌≡◌, MatchOption, OnOk, Some, false, length, map, true};
 ghost use Rattle.std.specs.List.{range_with_len};
 ghost use Rattle.dual_rail.specs.ForestData.{ForestData};
-ghost use Rattle.tree_map.specs.Covers.{CoverPart};
-ghost use Rattle.tree_map.specs.CoverSums.{AreSumsOf, sum_at};
+ghost use Rattle.cover_plan.specs.Parts.{CoverPart};
+ghost use Rattle.tree_map.specs.CoverSums.{AreCutsOf, AreSumsOf, sum_at};
 ghost use Rattle.tree_map.specs.LeastPlans.{IsPartOf};
 ghost use Rattle.dual_rail.specs.ForestOrder.{ReadsBefore};
 ghost use Rattle.tree_map.specs.Offers.{AreKeptBefore, AreOffers, HasNoFreePair, HasSums, IsFirstShape, IsFreePair};
 ghost use Rattle.tree_map.specs.Plans.{is_free};
 
-use crate::cost::CELL_COST;
 use crate::free::free_pair;
 use crate::shape::{LEAF, Shape};
 use crate::sums::Sums;
@@ -104,7 +103,7 @@ fn is_less(sum: u32, other: u32) -> bool
 }
 
 /// Puts the offers for an arm in place of these: to keep the pair that a free edge leads to in each of
-/// its shapes, and last to cut it off, which brings the whole cost of its tree. Without a free edge the
+/// its shapes, and last to cut it off, which brings its whole cost. Without a free edge the
 /// arm is a leaf.
 pub(crate) fn offers_of(
     sums: &Sums,
@@ -115,9 +114,9 @@ pub(crate) fn offers_of(
     requires width { 1 ≤ sums.now.w }
     requires height { 1 ≤ sums.now.h }
     requires there { ReadsBefore (length free.now) arm }
-    ensures { OnOk result ((forest : ForestData) (part : CoverPart) → AreSumsOf forest sums.now
+    ensures { OnOk result ((forest : ForestData) (part : CoverPart) → AreSumsOf forest sums.now → AreCutsOf forest sums.now
         → free.now ≡ map (is_free forest) (range_with_len 0 (length forest.pairs)) → IsPartOf forest arm part
-        → AreOffers sums.now.w sums.now.h part offers.new.items) }
+        → AreOffers sums.now.costs sums.now.w sums.now.h part offers.new.items) }
 {
     let Some(place) = free_pair(free, arm) else {
         offers.clear();
@@ -125,11 +124,11 @@ pub(crate) fn offers_of(
         return Ok(());
     };
     kept_offers(sums, place, offers)?;
-    if let Some((_, least)) = root_of(sums, place) {
+    if let Some(sum) = sums.cut(place) {
         let cut = Offer {
             choice: Choice::CutOff,
             shape: LEAF,
-            sum: 1 + (roomy(least) + CELL_COST as u64),
+            sum: roomy(sum),
         };
         offers.push(cut)?;
     }

@@ -1,7 +1,7 @@
 //! Shapes of trees: a height and a width.
 ghost use Rattle.std.specs.Prelude.{◌≡◌, ◌+◌, ◌*◌, ◌<◌, ◌≤◌, ◌^◌};
 ghost use Rattle.tree_map.specs.CoverRows.{IsShapeIn, row_index};
-ghost use Rattle.tree_map.specs.Covers.{InParallel, InSeries, joined_shape, leaf_shape};
+ghost use Rattle.cover_plan.specs.Parts.{InParallel, InSeries, joined_shape, leaf_shape};
 ghost use Rattle.tree_map.specs.LeastPlans.{operator_of};
 
 use crate::Bounds;
@@ -16,7 +16,7 @@ pub(crate) struct Shape {
 }
 
 impl Model for Shape {
-    ghost use Rattle.tree_map.specs.Covers.{TreeShape};
+    ghost use Rattle.cover_plan.specs.Parts.{TreeShape};
 
     ghost Value = { TreeShape };
 

@@ -1,10 +1,11 @@
 //! Shapes with sums, and rows with the least sum of each shape.
 ghost use Rattle.std.specs.Prelude.{◌≡◌, ◌≤◌, ◌<◌, ◌*◌, ◌++◌, ◌∷◌, [], List, length, map, min};
-ghost use Rattle.tree_map.specs.CoverRows.{AreSmall, IsRow, IsSmall, entry_of, joined_entry};
-ghost use Rattle.tree_map.specs.CoverTables.{Entry, combined, lowest};
+ghost use Rattle.cover_plan.specs.CoverTables.{Entry, combined, lowest};
+ghost use Rattle.tree_map.specs.CoverRows.{AreFewCosts, AreSmall, IsRow, IsSmall, entry_of, joined_entry};
 ghost use Rattle.tree_map.specs.LeastPlans.{operator_of};
 
 use crate::Bounds;
+use crate::cost::Costs;
 use crate::shape::Shape;
 use dual_rail::Pair;
 
@@ -44,21 +45,22 @@ pub(crate) fn cheapest(entries: &[ShapeSum]) -> Option<u32>
 }
 
 /// What the arms of a pair come to.
-fn joined(pair: Pair, left: ShapeSum, right: ShapeSum) -> ShapeSum
+fn joined(costs: Costs, pair: Pair, left: ShapeSum, right: ShapeSum) -> ShapeSum
+    requires costs { AreFewCosts costs }
     requires left { IsSmall (entry_of left) }
     requires right { IsSmall (entry_of right) }
-    ensures { entry_of result ≡ joined_entry (operator_of pair) (entry_of left) (entry_of right) }
+    ensures { entry_of result ≡ joined_entry costs (operator_of pair) (entry_of left) (entry_of right) }
 {
     let Shape { height, width } = Shape::joined(pair, left.shape(), right.shape());
     ShapeSum {
         height,
         width,
-        sum: left.sum + right.sum,
+        sum: left.sum + right.sum + costs.node(pair),
     }
 }
 
 /// The lesser of a number in a row, where 0 is none, and a sum.
-fn lesser(number: u32, sum: u32) -> u32
+pub(crate) fn lesser(number: u32, sum: u32) -> u32
     ensures none { number ≡ 0 → result ≡ sum }
     ensures some { 0 < number → result ≡ min sum number }
 {
@@ -83,17 +85,25 @@ fn keep_least(row: &mut [u32], bounds: Bounds, entry: ShapeSum)
 }
 
 /// Puts an entry of the left arm with each of the right arm into a row.
-fn join_right(row: &mut [u32], bounds: Bounds, pair: Pair, left: ShapeSum, right: &[ShapeSum])
+fn join_right(
+    row: &mut [u32],
+    bounds: Bounds,
+    costs: Costs,
+    pair: Pair,
+    left: ShapeSum,
+    right: &[ShapeSum],
+)
+    requires costs { AreFewCosts costs }
     requires count { length row.old ≡ bounds.w * bounds.h }
     requires few { bounds.w * bounds.h ≤ 48 }
     requires left { IsSmall (entry_of left) }
     requires right { AreSmall (map entry_of right.now) }
     ensures count { length row.new ≡ length row.old }
     ensures least { (es : List Entry) → IsRow bounds.w bounds.h es row.old
-        → IsRow bounds.w bounds.h (es ++ map (joined_entry (operator_of pair) (entry_of left)) (map entry_of right.now)) row.new }
+        → IsRow bounds.w bounds.h (es ++ map (joined_entry costs (operator_of pair) (entry_of left)) (map entry_of right.now)) row.new }
 {
     for entry in right {
-        keep_least(row, bounds, joined(pair, left, *entry));
+        keep_least(row, bounds, joined(costs, pair, left, *entry));
     }
 }
 
@@ -102,18 +112,20 @@ fn join_right(row: &mut [u32], bounds: Bounds, pair: Pair, left: ShapeSum, right
 pub(crate) fn join_arms(
     row: &mut [u32],
     bounds: Bounds,
+    costs: Costs,
     pair: Pair,
     left: &[ShapeSum],
     right: &[ShapeSum],
 )
+    requires costs { AreFewCosts costs }
     requires count { length row.old ≡ bounds.w * bounds.h }
     requires few { bounds.w * bounds.h ≤ 48 }
     requires left { AreSmall (map entry_of left.now) }
     requires right { AreSmall (map entry_of right.now) }
-    ensures { IsRow bounds.w bounds.h (combined (operator_of pair) (map entry_of left.now) (map entry_of right.now)) row.new }
+    ensures { IsRow bounds.w bounds.h (combined costs (operator_of pair) (map entry_of left.now) (map entry_of right.now)) row.new }
 {
     row.fill(0);
     for entry in left {
-        join_right(row, bounds, pair, *entry, right);
+        join_right(row, bounds, costs, pair, *entry, right);
     }
 }

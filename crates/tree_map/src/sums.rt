@@ -1,33 +1,34 @@
 //! The least sums of the parts below the pairs of a forest, joined up pair by pair (Zhao, Sapatnekar 1998).
-ghost use Rattle.std.specs.Prelude.{ℕ, ◌≡◌, ◌≤◌, ◌*◌, ◌++◌, IfOk, OnOk, drop, length, map, take};
-ghost use Rattle.std.specs.List.{range_with_len};
+ghost use Rattle.std.specs.Prelude.{ℕ, ◌≡◌, ◌≤◌, ◌<◌, ◌*◌, ◌^◌, [], IfOk, OnOk, drop, length, map, take};
+ghost use Rattle.cover_plan.specs.CoverTables.{arm_entries};
+ghost use Rattle.cover_plan.specs.Parts.{CoverPart, Join, Operator};
 ghost use Rattle.dual_rail.specs.ForestData.{ForestData};
 ghost use Rattle.dual_rail.specs.ForestOrder.{ReadsBefore};
-ghost use Rattle.tree_map.specs.ArmEntries.{AreEntriesOf, AreFew, AreFewOf, AreFreeOf, AreReadUpTo, AreSumsIn, AreTabled, HaveSame};
+ghost use Rattle.tree_map.specs.ArmEntries.{AreEntriesOf, AreFreeOf, AreReadUpTo, AreTabled, HaveSame, IsTabled};
 ghost use Rattle.tree_map.specs.CoverRows.{entry_of};
-ghost use Rattle.tree_map.specs.Covers.{CoverPart, Join, Operator};
-ghost use Rattle.tree_map.specs.CoverTables.{arm_entries, table};
-ghost use Rattle.tree_map.specs.CoverSums.{AreSumsOf, sum_at};
-ghost use Rattle.tree_map.specs.Plans.{is_free};
+ghost use Rattle.tree_map.specs.CoverSums.{cut_at, sum_at, with_cut, with_row};
 
 use crate::Bounds;
-use crate::cost::CELL_COST;
+use crate::cost::Costs;
 use crate::free::free_pair;
 use crate::shape::Shape;
-use crate::shape_sum::{ShapeSum, cheapest, join_arms};
+use crate::shape_sum::ShapeSum;
 use dom_base::OutOfMemory;
-use dual_rail::{Arm, Forest};
+use dual_rail::Arm;
 use std::alloc::Global;
 use std::marker::Model;
 
 /// The least sum of each pair and shape: the leaves of the tree of the pair in this shape, and the
 /// whole costs of the trees that are cut off below it. For each pair `width * height` numbers, by
-/// rising height and then by rising width, 0 where the pair can't have the shape.
+/// rising height and then by rising width, 0 where the pair can't have the shape. And for each pair what
+/// it adds to the tree above it where it is cut: a leaf and its least cost as a root, 0 where it can't be one.
 #[derive(Drop)]
 pub(crate) struct Sums {
     width: u32,
     height: u32,
+    costs: Costs,
     sums: Vec<u32>,
+    cuts: Vec<u32>,
 }
 
 impl Model for Sums {
@@ -35,10 +36,39 @@ impl Model for Sums {
 
     ghost Value = { SumsData };
 
-    ghost view = { λ t. record { w = t.width; h = t.height; sums = t.sums.items } };
+    ghost view = { λ t. record { w = t.width; h = t.height; costs = t.costs; sums = t.sums.items; cuts = t.cuts.items } };
 }
 
 impl Sums {
+    /// Those of no pair, with room for so many pairs.
+    pub(crate) fn none(
+        alloc: Global,
+        bounds: Bounds,
+        costs: Costs,
+        pairs: usize,
+    ) -> Result<Sums, OutOfMemory>
+        requires pairs { pairs < 2 ^ 32 }
+        requires width { bounds.w ≤ 8 }
+        requires height { bounds.h ≤ 6 }
+        ensures { IfOk result (λ t. t ≡ record { w = bounds.w; h = bounds.h; costs = costs; sums = []; cuts = [] }) }
+    {
+        let shapes = (bounds.w * bounds.h) as usize;
+        Ok(Sums {
+            width: bounds.w,
+            height: bounds.h,
+            costs,
+            sums: Vec::with_capacity(alloc, pairs * shapes)?,
+            cuts: Vec::with_capacity(alloc, pairs)?,
+        })
+    }
+
+    /// What trees cost.
+    pub(crate) fn costs(&self) -> Costs
+        ensures { result ≡ self.now.costs }
+    {
+        self.costs
+    }
+
     /// The bounds of the shapes.
     pub(crate) fn bounds(&self) -> Bounds
         ensures width { result.w ≡ self.now.w }
@@ -91,19 +121,26 @@ impl Sums {
         Ok(())
     }
 
+    /// What a pair adds to the tree above it where it is cut, where it can be.
+    pub(crate) fn cut(&self, place: usize) -> Option<u32>
+        ensures { result ≡ cut_at self.now place }
+    {
+        let cut = *self.cuts.get(place)?;
+        if cut == 0 { None } else { Some(cut) }
+    }
+
     /// Puts what a free edge to this pair can have in place of these entries: the pair in each of its
-    /// shapes, or a leaf that stands for the pair, where it is cut at its least sum.
+    /// shapes, or a leaf that stands for the pair, where it is cut at its least cost.
     fn pair_entries(&self, place: usize, entries: &mut Vec<ShapeSum>) -> Result<(), OutOfMemory>
-        requires few { AreFew self.now place }
-        ensures { OnOk result ((w h : ℕ) (op : Operator) (l r : CoverPart) → AreSumsIn self.now place (table w h op l r)
-            → HaveSame (map entry_of entries.new.items) (arm_entries w h (Join op l r))) }
+        ensures { OnOk result ((op : Operator) (l r : CoverPart) → IsTabled self.now place op l r
+            → HaveSame (map entry_of entries.new.items) (arm_entries self.now.costs self.now.w self.now.h (Join op l r))) }
     {
         self.read_entries(place, entries)?;
-        if let Some(sum) = cheapest(entries) {
+        if let Some(sum) = self.cut(place) {
             entries.push(ShapeSum {
                 height: 1,
                 width: 1,
-                sum: sum + (1 + CELL_COST),
+                sum,
             })?;
         }
         Ok(())
@@ -111,16 +148,16 @@ impl Sums {
 
     /// Puts what an arm can have in place of these entries: a leaf, or the entries of its pair where
     /// the edge to it is free.
-    fn arm_entries(
+    pub(crate) fn arm_entries(
         &self,
         free: &[bool],
         arm: Arm,
         entries: &mut Vec<ShapeSum>,
     ) -> Result<(), OutOfMemory>
         requires there { ReadsBefore (length free.now) arm }
-        requires few { AreFewOf self.now arm }
         ensures { OnOk result ((forest : ForestData) (place : ℕ) → AreFreeOf forest free.now → ReadsBefore place arm
-            → AreTabled forest place self.now → AreEntriesOf forest self.now.w self.now.h arm (map entry_of entries.new.items)) }
+            → AreTabled forest place self.now
+            → AreEntriesOf self.now.costs forest self.now.w self.now.h arm (map entry_of entries.new.items)) }
     {
         let Some(place) = free_pair(free, arm) else {
             entries.clear();
@@ -134,47 +171,26 @@ impl Sums {
         self.pair_entries(place, entries)
     }
 
+    /// How many pairs have their sums.
+    pub(crate) fn count(&self) -> usize
+        ensures { result ≡ length self.now.cuts }
+    {
+        self.cuts.len()
+    }
+
     /// Appends the sums of one more pair.
-    fn push_row(&mut self, row: &[u32]) -> Result<(), OutOfMemory>
-        ensures { OnOk result (self.new ≡ record { w = self.old.w; h = self.old.h; sums = self.old.sums ++ row.now }) }
+    pub(crate) fn push_row(&mut self, row: &[u32]) -> Result<(), OutOfMemory>
+        ensures { OnOk result (self.new ≡ with_row self.old row.now) }
     {
         self.sums.extend_from_slice(row)?;
         Ok(())
     }
-}
 
-/// The least sums of the pairs of a forest, where `free` says of each pair whether the edge to it is
-/// free. The one error is want of memory.
-pub(crate) fn sums_of(
-    alloc: Global,
-    forest: &Forest,
-    free: &[bool],
-    bounds: Bounds,
-) -> Result<Sums, OutOfMemory>
-    requires width { (2 ≤ bounds.w) × (bounds.w ≤ 8) }
-    requires height { (2 ≤ bounds.h) × (bounds.h ≤ 6) }
-    requires free { free.now ≡ map (is_free forest.now) (range_with_len 0 (length forest.now.pairs)) }
-    ensures width { IfOk result (λ t. t.w ≡ bounds.w) }
-    ensures height { IfOk result (λ t. t.h ≡ bounds.h) }
-    ensures count { IfOk result (λ t. length t.sums ≡ length forest.now.pairs * (bounds.w * bounds.h)) }
-    ensures sums { IfOk result (AreSumsOf forest.now) }
-{
-    let shapes = (bounds.w * bounds.h) as usize;
-    let mut table = Sums {
-        width: bounds.w,
-        height: bounds.h,
-        sums: Vec::with_capacity(alloc, forest.pairs.len() * shapes)?,
-    };
-    let mut numbers = vec![in alloc; 0; shapes]?;
-    let row = numbers.as_mut_slice();
-    let mut left_entries = Vec::new(alloc);
-    let mut right_entries = Vec::new(alloc);
-    for pair in &forest.pairs {
-        let (left, right) = pair.arms();
-        table.arm_entries(free, left, &mut left_entries)?;
-        table.arm_entries(free, right, &mut right_entries)?;
-        join_arms(row, bounds, *pair, &left_entries, &right_entries);
-        table.push_row(row)?;
+    /// Appends what one more pair adds where it is cut.
+    pub(crate) fn push_cut(&mut self, cut: u32) -> Result<(), OutOfMemory>
+        ensures { OnOk result (self.new ≡ with_cut self.old cut) }
+    {
+        self.cuts.push(cut)?;
+        Ok(())
     }
-    Ok(table)
 }

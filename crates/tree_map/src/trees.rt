@@ -64,7 +64,7 @@ pub fn cell_numbers(alloc: Global, kept: &[bool]) -> Result<Vec<u32>, OutOfMemor
 
 /// The tree whose root is this pair.
 #[cycle(tree)]
-fn pair_tree(
+pub(crate) fn pair_tree(
     alloc: Global,
     forest: &Forest,
     kept: &[bool],
@@ -93,7 +93,7 @@ fn pair_tree(
 
 /// The tree below an arm: a leaf, or the tree of a kept pair.
 #[cycle(tree)]
-fn arm_tree(
+pub(crate) fn arm_tree(
     alloc: Global,
     forest: &Forest,
     kept: &[bool],

@@ -6,10 +6,11 @@ use Rattle.sp_network.specs.Tree.{EachLeaf}
 use Rattle.sp_network.specs.TypedTree.{tree_of}
 use Rattle.domino_cell.specs.PushedPaths.{HoldsStage, JoinsWhereOne, MayJoinWhereNotZero}
 use Rattle.domino_cell.specs.declared.style.Style.TheVariants.{Precharge as WithPrecharge}
+use Rattle.compound_plan.specs.CellPlans.{trees_of}
 use Rattle.compound_plan.specs.Plans.{cell_cost, compound_costs}
 use Rattle.compound_plan.proofs.CompoundCosts.{compound_costs_are}
 use Rattle.compound_cell.specs.CompoundCells.{named_cell, whole_tree}
-use Rattle.compound_cell.specs.PushedCells.{EachStage, HasRoomForTrees, IsDrivenCell, trees_of}
+use Rattle.compound_cell.specs.PushedCells.{EachStage, HasRoomForTrees, IsDrivenCell}
 use Rattle.compound_cell.proofs.PlanCells.{from_plan, simple_devices, to_plan}
 use Rattle.compound_cell.proofs.push.push_compound.Goals as goal
 

@@ -1,6 +1,6 @@
 use Rattle.std.proofs.Common.{◌≡◌, map, take}
 use Rattle.tree_map.specs.CoverRows.{entry_of}
-use Rattle.tree_map.specs.CoverTables.{lowest}
+use Rattle.cover_plan.specs.CoverTables.{lowest}
 use Rattle.tree_map.proofs.shape_sum.cheapest.Given as goal
 
 abbrev pub invariant-loop-entry : goal.invariant-loop-entry

@@ -1,11 +1,11 @@
 use Rattle.std.proofs.Common.{◌≡◌, length, map, take}
 use Rattle.tree_map.specs.CoverRows.{IsRow, entry_of}
-use Rattle.tree_map.specs.CoverTables.{combined}
+use Rattle.cover_plan.specs.CoverTables.{combined}
 use Rattle.tree_map.specs.LeastPlans.{operator_of}
 use Rattle.tree_map.proofs.shape_sum.join_arms.Given as goal
 
 abbrev pub invariant-loop-entry : goal.invariant-loop-entry
 invariant-loop-entry l = record {
   count : length l.row ≡ length l.fn.row;
-  least : IsRow l.fn.bounds.w l.fn.bounds.h (combined (operator_of l.fn.pair) (map entry_of (take l.entry-index l.fn.left)) (map entry_of l.fn.right)) l.row;
+  least : IsRow l.fn.bounds.w l.fn.bounds.h (combined l.fn.costs (operator_of l.fn.pair) (map entry_of (take l.entry-index l.fn.left)) (map entry_of l.fn.right)) l.row;
 }

@@ -12,7 +12,7 @@ pub loop-entry-preserved : goal.loop-entry-preserved
 loop-entry-preserved c = record {
   count = c.keep_least.ensures.count ∙ c.loop-entry.invariant.count;
   least = λ es is.
-      let f = joined_entry (operator_of c.args.pair) (entry_of c.args.left) in
+      let f = joined_entry c.args.costs (operator_of c.args.pair) (entry_of c.args.left) in
       subst (λ xs. IsRow c.args.bounds.w c.args.bounds.h xs c.keep_least.new.row)
       (right_step f es c.args.right.now c.loop-entry.entry-index (record { height = 0; width = 0; sum = 0 }) (entry_of c.joined.result) c.loop-entry-test.true c.joined.ensures)
       (c.keep_least.ensures.least (es ++ map f (map entry_of (take c.loop-entry.entry-index c.args.right.now))) (c.loop-entry.invariant.least es is));

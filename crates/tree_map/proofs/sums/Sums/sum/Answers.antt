@@ -6,7 +6,7 @@ use Rattle.tree_map.proofs.sums.Sums.sum.Goals as goal
 
 pub returns-else-sum-eq0 : goal.returns-else-sum-eq0
 returns-else-sum-eq0 c =
-    let t : SumsData = record { w = c.self.inside.width; h = c.self.inside.height; sums = c.self.inside.sums.items } in
+    let t : SumsData = record { w = c.self.inside.width; h = c.self.inside.height; costs = c.self.inside.costs; sums = c.self.inside.sums.items; cuts = c.self.inside.cuts.items } in
     let read : IsRead t c.args.place c.args.height c.args.width c.saturating_add-index.result = record {
       tall = omega arith;
       high = omega arith;
