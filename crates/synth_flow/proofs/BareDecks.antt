@@ -99,6 +99,15 @@ gate_has P pins lc gate all own opposite out = by (nat_lt gate (2 * lc)) refl
 pub gate_net : (pins : List (List ℕ)) (lc n gate : ℕ) → gate < n → net_name (gate_nets pins lc n) gate ≡ named_gate pins lc gate
 gate_net pins lc n gate lt = get_or-map-range_with_len (named_gate pins lc) 0 n gate gate [] lt (zero-add gate)
 
+-- the net of a gate below so many cells is before the next cell
+pub gate_before_cell : (pins : List (List ℕ)) (lc i gate : ℕ) → i < 2 ^ 32 → AllByRecursion IsPin pins → gate < 2 * lc + i → IsBeforeCell i (named_gate pins lc gate)
+gate_before_cell pins lc i gate few pins_are low =
+    gate_has (IsBeforeCell i) pins lc gate (pins_have (IsBeforeCell i) (λ rest e. absurd (never e)) pins pins_are) (λ e. absurd (never e)) (λ e. absurd (never e))
+    (λ le e. omega (arith, le, low, bare_number_is 122 (gate - 2 * lc) (omega (arith, le, low, few))))
+  where
+    never : false ≡ true → ⊥
+    never e = cc
+
 -- plans that read cells before them are gated by nets before their cells
 pub are_gated : (pins : List (List ℕ)) (lc : ℕ) (plans : List GatePlan) → length plans < 2 ^ 32 → AllByRecursion IsPin pins
     → ((k : ℕ) (p : GatePlan) → slice_get plans k ≡ Some p → EachLeaf (λ gate. gate < 2 * lc + k) (tree_of p.tree)) → AreGated (gate_nets pins lc (2 * lc + length plans)) 0 plans
@@ -107,18 +116,13 @@ are_gated pins lc plans few pins_are earlier i p at =
     let lt = slice_get_within plans i p at in
     let long = length-map-range_with_len (named_gate pins lc) 0 n in
     each_leaf_weaker (λ gate. gate < 2 * lc + i) (λ gate. (gate < length (gate_nets pins lc n)) × IsBeforeCell (0 + i) (net_name (gate_nets pins lc n) gate))
-    (λ gate low. (omega (arith, long, lt, low), subst (IsBeforeCell (0 + i)) (sym (gate_net pins lc n gate (omega (arith, lt, low)))) (before gate low lt)))
+    (λ gate low. (
+      omega (arith, long, lt, low),
+      subst (IsBeforeCell (0 + i)) (sym (gate_net pins lc n gate (omega (arith, lt, low)))) (gate_before_cell pins lc (0 + i) gate (omega (arith, lt, few)) pins_are (omega (arith, low))),
+    ))
     (tree_of p.tree) (earlier i p at)
-  where
-    never : false ≡ true → ⊥
-    never e = cc
 
-    before : (gate : ℕ) → gate < 2 * lc + i → i < length plans → IsBeforeCell (0 + i) (named_gate pins lc gate)
-    before gate low lt =
-        gate_has (IsBeforeCell (0 + i)) pins lc gate (pins_have (IsBeforeCell (0 + i)) (λ rest e. absurd (never e)) pins pins_are) (λ e. absurd (never e)) (λ e. absurd (never e))
-        (λ le e. omega (arith, le, low, bare_number_is 122 (gate - 2 * lc) (omega (arith, le, low, lt, few))))
-
-same_tree : (names pins : List (List ℕ)) (lc : ℕ) (t : Tree ℕ) → EachLeaf (λ gate. net_name names gate ≡ named_gate pins lc gate) t → named_tree names t ≡ map_tree (named_gate pins lc) t
+pub same_tree : (names pins : List (List ℕ)) (lc : ℕ) (t : Tree ℕ) → EachLeaf (λ gate. net_name names gate ≡ named_gate pins lc gate) t → named_tree names t ≡ map_tree (named_gate pins lc) t
 same_tree names pins lc (Leaf gate) h = ap Leaf h
 same_tree names pins lc (Series l r) h = λ i. Series (same_tree names pins lc l h.0 i) (same_tree names pins lc r h.1 i)
 same_tree names pins lc (Parallel l r) h = λ i. Parallel (same_tree names pins lc l h.0 i) (same_tree names pins lc r h.1 i)

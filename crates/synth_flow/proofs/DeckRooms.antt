@@ -38,7 +38,7 @@ HasEnds P d = P d.drain × P d.source
 pub ends_apart : (P : List ℕ → Type 0) (out : List ℕ) → (P out → ⊥) → (ds : List (NamedDevice (List ℕ))) → AllByRecursion (HasEnds P) ds → AllByRecursion (EndsApart out) ds
 ends_apart P out lacks = AllByRecursion-weaker (HasEnds P) (EndsApart out) (λ d h. (λ e. lacks (subst P e h.0), λ e. lacks (subst P e h.1)))
 
-tree_ends : (P : List ℕ → Type 0) (kind : Kind) (inner : ℕ → List ℕ) (t : Tree (List ℕ)) (top bottom : List ℕ) (n : ℕ) → P top → P bottom → ((j : ℕ) → P (inner j))
+pub tree_ends : (P : List ℕ → Type 0) (kind : Kind) (inner : ℕ → List ℕ) (t : Tree (List ℕ)) (top bottom : List ℕ) (n : ℕ) → P top → P bottom → ((j : ℕ) → P (inner j))
     → AllByRecursion (HasEnds P) (spell kind inner t top bottom n)
 tree_ends P kind inner (Leaf gate) top bottom n a b i = ((a, b), tt)
 tree_ends P kind inner (Series l r) top bottom n a b i =
@@ -48,11 +48,14 @@ tree_ends P kind inner (Parallel l r) top bottom n a b i =
     AllByRecursion-append (HasEnds P) (spell kind inner l top bottom n) (spell kind inner r top bottom (n + inner_count l))
     (tree_ends P kind inner l top bottom n a b i) (tree_ends P kind inner r top bottom (n + inner_count l) a b i)
 
--- what a property of names by their first letter says of the nets of cells
+-- what a property of names by their first letter says of the nets of cells, of simple and of compound ones, and of the supplies
 pub record HoldsOfCells (P : List ℕ → Type 0) : Type 0 where
   pub d : (rest : List ℕ) → P (100 ∷ rest)
   pub f : (rest : List ℕ) → P (102 ∷ rest)
   pub t : (rest : List ℕ) → P (116 ∷ rest)
+  pub e : (rest : List ℕ) → P (101 ∷ rest)
+  pub g : (rest : List ℕ) → P (103 ∷ rest)
+  pub u : (rest : List ℕ) → P (117 ∷ rest)
   pub z : (rest : List ℕ) → P (122 ∷ rest)
   pub v : (rest : List ℕ) → P (118 ∷ rest)
 

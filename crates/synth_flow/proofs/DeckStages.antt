@@ -8,7 +8,7 @@ use Rattle.std.proofs.lemmas.List.Elements.{All-from_recursion, recursion_from_A
 use Rattle.dom_base.proofs.Lists.{IsDistinct-append, list_any-none, AllByRecursion-append, AllByRecursion-every, AllByRecursion-map, AllByRecursion-weaker}
 use Rattle.dom_base.proofs.Names.{AreApart-from_start}
 use Rattle.deck.specs.CircuitData.{CircuitData}
-use Rattle.deck.specs.NamedDevices.{with_devices}
+use Rattle.deck.specs.NamedDevices.{NamedDevice, with_devices}
 use Rattle.deck.specs.Nets.{IsCircuit, net_name, net_number}
 use Rattle.deck.specs.Ports.{IsOutput, IsPin, leading_ports}
 use Rattle.deck.specs.Pushes.{new_circuit}
@@ -25,24 +25,23 @@ use Rattle.std.proofs.lemmas.Option.{slice_get_within}
 use Rattle.clock_phase.proofs.Greatest.{each_leaf_weaker}
 use Rattle.synth_flow.specs.BareDecks.{gate_nets}
 use Rattle.deck_form.specs.DeckNets.{complement_net, data_net, named_gate, own_net}
-use Rattle.domino_cell.specs.declared.style.Style.{Style}
-use Rattle.synth_flow.specs.MadeDecks.{EndsApart, HasRoomForInverters, IsBeforeLatch, cells_from, inverters, latches_from}
+use Rattle.synth_flow.specs.MadeDecks.{EndsApart, HasRoomForInverters, IsBeforeLatch, inverters, latches_from}
 use Rattle.deck_form.specs.NameParts.{leading_letter, rest_of}
 use Rattle.synth_flow.proofs.BareDecks.{gate_has, gate_net, own_has, is_port, outs_have, pins_have, ports_have}
-use Rattle.synth_flow.proofs.DeckRooms.{HasEnds, HoldsOfCells, cells_end, cells_named, ends_apart, inverters_end, inverters_named, latches_end, new_no_source, numbered_apart, output_no_source}
+use Rattle.synth_flow.proofs.DeckRooms.{HasEnds, HoldsOfCells, ends_apart, inverters_end, inverters_named, latches_end, new_no_source, numbered_apart, output_no_source}
 use Rattle.synth_flow.proofs.LatchNets.{other}
-use Rattle.deck_form.proofs.NameParts.{all_nets, bare_rest_is}
+use Rattle.deck_form.proofs.NameParts.{HasNames, all_nets, bare_rest_is}
 use Rattle.deck_form.proofs.ClockPorts.{begins}
 
 -- no complement: a name with the letter `c` has more than a number behind it
-abbrev IsNoComplement : List ℕ → Type 0
+abbrev pub IsNoComplement : List ℕ → Type 0
 IsNoComplement name = leading_letter name ≡ 99 → rest_of name ≢ []
 
 -- no sink: neither `x` nor `o`
-abbrev IsNoData : List ℕ → Type 0
+abbrev pub IsNoData : List ℕ → Type 0
 IsNoData name = leading_letter name ≢ 120
 
-abbrev IsNoSink : List ℕ → Type 0
+abbrev pub IsNoSink : List ℕ → Type 0
 IsNoSink name = (leading_letter name ≢ 120) × (leading_letter name ≢ 111)
 
 -- numbers in a row rise
@@ -73,6 +72,9 @@ module _ (name : List ℕ) (phases : List Phase) (clocks : ℕ) (pins outs : Lis
     d = λ rest. plain 100 rest (λ e. omega (arith, e));
     f = λ rest. plain 102 rest (λ e. omega (arith, e));
     t = λ rest. plain 116 rest (λ e. omega (arith, e));
+    e = λ rest. plain 101 rest (λ e. omega (arith, e));
+    g = λ rest. plain 103 rest (λ e. omega (arith, e));
+    u = λ rest. plain 117 rest (λ e. omega (arith, e));
     z = λ rest. plain 122 rest (λ e. omega (arith, e));
     v = λ rest. plain 118 rest (λ e. omega (arith, e));
   }
@@ -97,11 +99,12 @@ module _ (name : List ℕ) (phases : List Phase) (clocks : ℕ) (pins outs : Lis
   is_complement n small no_such = no_such refl (bare_rest_is 99 n small)
 
   -- the complements of rising leaves find room behind any cells
-  pub room_for_complements : (style : Style) (names : List (List ℕ)) (plans : List GatePlan) (c : CircuitData) (leaves : List ℕ) → c ≡ with_devices bare (cells_from style names 0 plans)
+  pub room_for_complements : (cells : List (NamedDevice (List ℕ))) → (HoldsOfCells IsNoComplement → AllByRecursion (HasEnds IsNoComplement) cells)
+      → (c : CircuitData) (leaves : List ℕ) → c ≡ with_devices bare cells
       → Rises (λ x y. x < y) leaves → AllByRecursion (λ n. n < 2 ^ 64) leaves → HasRoomForInverters c (map complement_net leaves)
-  room_for_complements style names plans c leaves is rises small = record {
+  room_for_complements cells cells_end c leaves is rises small = record {
     bare = bare;
-    named = cells_from style names 0 plans;
+    named = cells;
     circuit_is = is;
     empty = refl;
     bare_is = bare_is;
@@ -111,11 +114,11 @@ module _ (name : List ℕ) (phases : List Phase) (clocks : ℕ) (pins outs : Lis
         (AllByRecursion-map (λ out. is_source bare (net_number bare.nets out) ≡ false) complement_net leaves
         (AllByRecursion-weaker (λ n. n < 2 ^ 64) (λ n. is_source bare (net_number bare.nets (complement_net n)) ≡ false)
         (λ n low. new_no_source bare IsNoComplement (complement_net n) (omega arith) (is_complement n low) plain_ports) leaves small));
-    none_ends = All-from_recursion (λ out. All (EndsApart out) (cells_from style names 0 plans)) (map complement_net leaves)
-        (AllByRecursion-map (λ out. All (EndsApart out) (cells_from style names 0 plans)) complement_net leaves
-        (AllByRecursion-weaker (λ n. n < 2 ^ 64) (λ n. All (EndsApart (complement_net n)) (cells_from style names 0 plans))
-        (λ n low. All-from_recursion (EndsApart (complement_net n)) (cells_from style names 0 plans)
-        (ends_apart IsNoComplement (complement_net n) (is_complement n low) (cells_from style names 0 plans) (cells_end IsNoComplement plain_cells style names 0 plans))) leaves small));
+    none_ends = All-from_recursion (λ out. All (EndsApart out) cells) (map complement_net leaves)
+        (AllByRecursion-map (λ out. All (EndsApart out) cells) complement_net leaves
+        (AllByRecursion-weaker (λ n. n < 2 ^ 64) (λ n. All (EndsApart (complement_net n)) cells)
+        (λ n low. All-from_recursion (EndsApart (complement_net n)) cells
+        (ends_apart IsNoComplement (complement_net n) (is_complement n low) cells (cells_end plain_cells))) leaves small));
     apart = numbered_apart 99 leaves rises small;
   }
 
@@ -125,6 +128,9 @@ module _ (name : List ℕ) (phases : List Phase) (clocks : ℕ) (pins outs : Lis
     d = λ rest. other 0 100 rest (λ e. omega (arith, e)) (λ e. omega (arith, e));
     f = λ rest. other 0 102 rest (λ e. omega (arith, e)) (λ e. omega (arith, e));
     t = λ rest. other 0 116 rest (λ e. omega (arith, e)) (λ e. omega (arith, e));
+    e = λ rest. other 0 101 rest (λ e. omega (arith, e)) (λ e. omega (arith, e));
+    g = λ rest. other 0 103 rest (λ e. omega (arith, e)) (λ e. omega (arith, e));
+    u = λ rest. other 0 117 rest (λ e. omega (arith, e)) (λ e. omega (arith, e));
     z = λ rest. other 0 122 rest (λ e. omega (arith, e)) (λ e. omega (arith, e));
     v = λ rest. other 0 118 rest (λ e. omega (arith, e)) (λ e. omega (arith, e));
   }
@@ -146,14 +152,13 @@ module _ (name : List ℕ) (phases : List Phase) (clocks : ℕ) (pins outs : Lis
       r : (rest : List ℕ) → IsBeforeLatch 0 (114 ∷ rest)
       r rest = other 0 114 rest (λ e. omega (arith, e)) (λ e. omega (arith, e))
 
-  pub latches_are_new : (style : Style) (names : List (List ℕ)) (plans : List GatePlan) (gates opposite : List (List ℕ)) (c : CircuitData)
-      → c ≡ with_devices (with_devices bare (cells_from style names 0 plans)) (inverters gates opposite)
-      → AllByRecursion (λ (p : GatePlan). EachLeaf (IsBeforeLatch 0) (named_tree names (tree_of p.tree))) plans
+  pub latches_are_new : (cells : List (NamedDevice (List ℕ)))
+      → (HoldsOfCells (IsBeforeLatch 0) → ((rest : List ℕ) → IsBeforeLatch 0 (codes "ck" ++ rest)) → AllByRecursion (HasNames (IsBeforeLatch 0)) cells)
+      → (gates opposite : List (List ℕ)) (c : CircuitData) → c ≡ with_devices (with_devices bare cells) (inverters gates opposite)
       → AllByRecursion (IsBeforeLatch 0) gates → AllByRecursion (IsBeforeLatch 0) opposite → All (IsBeforeLatch 0) c.nets
-  latches_are_new style names plans gates opposite c is trees gates_are opposite_are =
-      let cells = cells_from style names 0 plans in
+  latches_are_new cells cells_named gates opposite c is gates_are opposite_are =
       let ck : (rest : List ℕ) → IsBeforeLatch 0 (codes "ck" ++ rest) = λ rest. other 0 99 (107 ∷ rest) (λ e. omega (arith, e)) (λ e. omega (arith, e)) in
-      let first = all_nets (IsBeforeLatch 0) bare cells latch_ports_are (cells_named (IsBeforeLatch 0) latch_cells ck style names 0 plans trees) in
+      let first = all_nets (IsBeforeLatch 0) bare cells latch_ports_are (cells_named latch_cells ck) in
       let second = all_nets (IsBeforeLatch 0) (with_devices bare cells) (inverters gates opposite) first (inverters_named (IsBeforeLatch 0) latch_cells.v gates opposite gates_are opposite_are) in
       subst (λ (d : CircuitData). All (IsBeforeLatch 0) d.nets) (sym is)
       (All-from_recursion (IsBeforeLatch 0) (with_devices (with_devices bare cells) (inverters gates opposite)).nets second)
@@ -164,11 +169,14 @@ module _ (name : List ℕ) (phases : List Phase) (clocks : ℕ) (pins outs : Lis
     d = λ rest. ((λ e. omega (arith, e)), (λ e. omega (arith, e)));
     f = λ rest. ((λ e. omega (arith, e)), (λ e. omega (arith, e)));
     t = λ rest. ((λ e. omega (arith, e)), (λ e. omega (arith, e)));
+    e = λ rest. ((λ e. omega (arith, e)), (λ e. omega (arith, e)));
+    g = λ rest. ((λ e. omega (arith, e)), (λ e. omega (arith, e)));
+    u = λ rest. ((λ e. omega (arith, e)), (λ e. omega (arith, e)));
     z = λ rest. ((λ e. omega (arith, e)), (λ e. omega (arith, e)));
     v = λ rest. ((λ e. omega (arith, e)), (λ e. omega (arith, e)));
   }
 
-  data_ports : AllByRecursion IsNoData (leading_ports clocks ++ pins ++ outs)
+  pub data_ports : AllByRecursion IsNoData (leading_ports clocks ++ pins ++ outs)
   data_ports =
       ports_have IsNoData clocks pins outs (λ e. omega (arith, e)) (λ e. omega (arith, e)) (ck 49, (ck 50, (ck 51, (ck 52, tt))))
       (l (109 ∷ []), (l (109 ∷ 98 ∷ []), (l (115 ∷ []), (l (115 ∷ 98 ∷ []), (r (115 ∷ []), (r (115 ∷ 98 ∷ []), tt))))))
@@ -192,7 +200,7 @@ module _ (name : List ℕ) (phases : List Phase) (clocks : ℕ) (pins outs : Lis
   abbrev pub sinks_of : ℕ → List (List ℕ)
   sinks_of count = outs ++ map data_net (range_with_len 0 count)
 
-  sinks_apart : (count : ℕ) → count < 2 ^ 64 → IsDistinct (pointwise nat_eq) outs → IsDistinct (pointwise nat_eq) (sinks_of count)
+  pub sinks_apart : (count : ℕ) → count < 2 ^ 64 → IsDistinct (pointwise nat_eq) outs → IsDistinct (pointwise nat_eq) (sinks_of count)
   sinks_apart count few apart =
       IsDistinct-append (pointwise nat_eq) outs (map data_net (range_with_len 0 count)) apart
       (numbered_apart 120 (range_with_len 0 count) (range_rises 0 count) (range_small 0 count (omega arith)))
@@ -209,20 +217,27 @@ module _ (name : List ℕ) (phases : List Phase) (clocks : ℕ) (pins outs : Lis
       (AllByRecursion-append P outs (map data_net (range_with_len 0 count)) (AllByRecursion-weaker IsOutput P out outs outs_are)
       (AllByRecursion-map P data_net (range_with_len 0 count) (AllByRecursion-every (λ j. P (data_net j)) data_has (range_with_len 0 count))))
 
-  -- the sinks find room behind cells, complements and latches
-  pub room_for_sinks : (style : Style) (names : List (List ℕ)) (plans : List GatePlan) (gates : List (List ℕ)) (leaves : List ℕ) (starts : List Bool) (count : ℕ) (c : CircuitData)
-      → c ≡ with_devices (with_devices (with_devices bare (cells_from style names 0 plans)) (inverters gates (map complement_net leaves))) (latches_from 0 starts)
-      → count < 2 ^ 64 → IsDistinct (pointwise nat_eq) outs → HasRoomForInverters c (sinks_of count)
-  room_for_sinks style names plans gates leaves starts count c is few apart =
-      let cells = cells_from style names 0 plans in
+  -- what stands before the sinks ends at no net of one
+  pub ends_before_sinks : (cells : List (NamedDevice (List ℕ))) → (HoldsOfCells IsNoSink → AllByRecursion (HasEnds IsNoSink) cells)
+      → (gates : List (List ℕ)) (leaves : List ℕ) (starts : List Bool)
+      → AllByRecursion (HasEnds IsNoSink) (cells ++ inverters gates (map complement_net leaves) ++ latches_from 0 starts)
+  ends_before_sinks cells cells_end gates leaves starts =
       let opposite = inverters gates (map complement_net leaves) in
-      let latches = latches_from 0 starts in
       let complements_are : AllByRecursion IsNoSink (map complement_net leaves)
       = AllByRecursion-map IsNoSink complement_net leaves (AllByRecursion-every (λ n. IsNoSink (complement_net n)) (λ n. ((λ e. omega (arith, e)), (λ e. omega (arith, e)))) leaves) in
-      let all : AllByRecursion (HasEnds IsNoSink) (cells ++ opposite ++ latches)
-      = AllByRecursion-append (HasEnds IsNoSink) (cells ++ opposite) latches
-      (AllByRecursion-append (HasEnds IsNoSink) cells opposite (cells_end IsNoSink sink_cells style names 0 plans) (inverters_end IsNoSink sink_cells.v gates (map complement_net leaves) complements_are))
-      (latches_end IsNoSink (λ rest. ((λ e. omega (arith, e)), (λ e. omega (arith, e)))) (λ rest. ((λ e. omega (arith, e)), (λ e. omega (arith, e)))) sink_cells.v 0 starts) in
+      AllByRecursion-append (HasEnds IsNoSink) (cells ++ opposite) (latches_from 0 starts)
+      (AllByRecursion-append (HasEnds IsNoSink) cells opposite (cells_end sink_cells) (inverters_end IsNoSink sink_cells.v gates (map complement_net leaves) complements_are))
+      (latches_end IsNoSink (λ rest. ((λ e. omega (arith, e)), (λ e. omega (arith, e)))) (λ rest. ((λ e. omega (arith, e)), (λ e. omega (arith, e)))) sink_cells.v 0 starts)
+
+  -- the sinks find room behind cells, complements and latches
+  pub room_for_sinks : (cells : List (NamedDevice (List ℕ))) → (HoldsOfCells IsNoSink → AllByRecursion (HasEnds IsNoSink) cells)
+      → (gates : List (List ℕ)) (leaves : List ℕ) (starts : List Bool) (count : ℕ) (c : CircuitData)
+      → c ≡ with_devices (with_devices (with_devices bare cells) (inverters gates (map complement_net leaves))) (latches_from 0 starts)
+      → count < 2 ^ 64 → IsDistinct (pointwise nat_eq) outs → HasRoomForInverters c (sinks_of count)
+  room_for_sinks cells cells_end gates leaves starts count c is few apart =
+      let opposite = inverters gates (map complement_net leaves) in
+      let latches = latches_from 0 starts in
+      let all = ends_before_sinks cells cells_end gates leaves starts in
       record {
         bare = bare;
         named = cells ++ opposite ++ latches;
@@ -246,6 +261,17 @@ pins_before = pins_have (IsBeforeLatch 0) (λ rest. other 0 105 rest (λ e. omeg
 own_before : (n : ℕ) → n < 2 ^ 64 → IsBeforeLatch 0 (codes "q" ++ decimal n)
 own_before n small = ((λ e. absurd (omega (arith, e))), (λ e more. absurd (more (bare_rest_is 113 n small))))
 
+-- the net of a gate is none either
+pub gate_before_latch : (pins : List (List ℕ)) (lc gate : ℕ) → gate < 2 ^ 64 → AllByRecursion IsPin pins → IsBeforeLatch 0 (named_gate pins lc gate)
+gate_before_latch pins lc gate small pins_are =
+    gate_has (IsBeforeLatch 0) pins lc gate (pins_before pins pins_are) (own_before (gate / 2 - length pins) (omega arith))
+    (other 0 99 (decimal (gate / 2)) (λ e. omega (arith, e)) (λ e. omega (arith, e))) (λ le. other 0 122 (decimal (gate - 2 * lc)) (λ e. omega (arith, e)) (λ e. omega (arith, e)))
+
+pub named_each : (P : List ℕ → Type 0) (names : List (List ℕ)) (t : Tree ℕ) → EachLeaf (λ gate. P (net_name names gate)) t → EachLeaf P (named_tree names t)
+named_each P names (Leaf gate) h = h
+named_each P names (Series l r) h = (named_each P names l h.0, named_each P names r h.1)
+named_each P names (Parallel l r) h = (named_each P names l h.0, named_each P names r h.1)
+
 -- the gates of the plans are no nets of latches
 pub gates_before : (pins : List (List ℕ)) (lc : ℕ) (plans : List GatePlan) → lc < 2 ^ 32 → length plans < 2 ^ 32 → AllByRecursion IsPin pins
     → ((k : ℕ) (p : GatePlan) → slice_get plans k ≡ Some p → EachLeaf (λ gate. gate < 2 * lc + k) (tree_of p.tree))
@@ -254,19 +280,9 @@ gates_before pins lc plans few not_many pins_are earlier =
     let names = gate_nets pins lc (2 * lc + length plans) in
     let P : GatePlan → Type 0 = λ (p : GatePlan). EachLeaf (IsBeforeLatch 0) (named_tree names (tree_of p.tree)) in
     recursion_from_All P plans
-    (all_from P plans (λ k p at. let lt = slice_get_within plans k p at in each names (tree_of p.tree) (each_leaf_weaker (λ gate. gate < 2 * lc + k) (λ gate. IsBeforeLatch 0 (net_name names gate))
-    (λ gate low. subst (IsBeforeLatch 0) (sym (gate_net pins lc (2 * lc + length plans) gate (omega (arith, lt, low)))) (net_of gate (omega (arith, lt, low))))
+    (all_from P plans (λ k p at. let lt = slice_get_within plans k p at in named_each (IsBeforeLatch 0) names (tree_of p.tree) (each_leaf_weaker (λ gate. gate < 2 * lc + k) (λ gate. IsBeforeLatch 0 (net_name names gate))
+    (λ gate low. subst (IsBeforeLatch 0) (sym (gate_net pins lc (2 * lc + length plans) gate (omega (arith, lt, low)))) (gate_before_latch pins lc gate (omega (arith, lt, low, few, not_many)) pins_are))
     (tree_of p.tree) (earlier k p at))))
-  where
-    each : (names : List (List ℕ)) (t : Tree ℕ) → EachLeaf (λ gate. IsBeforeLatch 0 (net_name names gate)) t → EachLeaf (IsBeforeLatch 0) (named_tree names t)
-    each names (Leaf gate) h = h
-    each names (Series l r) h = (each names l h.0, each names r h.1)
-    each names (Parallel l r) h = (each names l h.0, each names r h.1)
-
-    net_of : (gate : ℕ) → gate < 2 ^ 64 → IsBeforeLatch 0 (named_gate pins lc gate)
-    net_of gate small =
-        gate_has (IsBeforeLatch 0) pins lc gate (pins_before pins pins_are) (own_before (gate / 2 - length pins) (omega arith))
-        (other 0 99 (decimal (gate / 2)) (λ e. omega (arith, e)) (λ e. omega (arith, e))) (λ le. other 0 122 (decimal (gate - 2 * lc)) (λ e. omega (arith, e)) (λ e. omega (arith, e)))
 
 -- the own nets and the complements of leaves are none either
 pub own_are_before : (pins : List (List ℕ)) (leaves : List ℕ) → AllByRecursion IsPin pins → AllByRecursion (λ n. n < 2 ^ 64) leaves → AllByRecursion (IsBeforeLatch 0) (map (own_net pins) leaves)

@@ -17,7 +17,7 @@ use Rattle.synth_flow.specs.SinkParts.{end_in}
 use Rattle.synth_flow.proofs.BareDecks.{cells_are, gates_are}
 use Rattle.synth_flow.proofs.LeafMarks.{filter_same}
 
-complements_are : (pins : List (List ℕ)) (leaves : List ℕ) → inverters (map (own_net pins) leaves) (map complement_net leaves) ≡ flat_map (named_complement pins) leaves
+pub complements_are : (pins : List (List ℕ)) (leaves : List ℕ) → inverters (map (own_net pins) leaves) (map complement_net leaves) ≡ flat_map (named_complement pins) leaves
 complements_are pins [] = refl
 complements_are pins (n ∷ leaves) = ap (λ l. named_complement pins n ++ l) (complements_are pins leaves)
 

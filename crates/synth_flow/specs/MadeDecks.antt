@@ -50,9 +50,9 @@ abbrev pub IsBeforeLatch : ℕ → List ℕ → Type 0
 IsBeforeLatch j name =
     (leading_letter name ≡ 109 → number_of name < j) × (leading_letter name ≡ 113 → rest_of name ≢ [] → number_of name < j)
 
--- the first letter of a net of a cell: `d`, `f`, `t` or `z`
+-- the first letter of a net of a cell: `d`, `f`, `t` or `z`, and of the right side of a compound one `e`, `g` or `u`
 abbrev pub is_cell_letter : ℕ → Bool
-is_cell_letter c = (c == 100) || (c == 102) || (c == 116) || (c == 122)
+is_cell_letter c = (c == 100) || (c == 102) || (c == 116) || (c == 122) || (c == 101) || (c == 103) || (c == 117)
 
 -- the name is no net of cell k or of a later cell
 abbrev pub IsBeforeCell : ℕ → List ℕ → Type 0

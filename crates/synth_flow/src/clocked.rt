@@ -12,7 +12,7 @@ use tree_map::{Bounds, Cover, cover};
 
 /// The plans with the clocks of their levels, of so many clocks.
 #[tactic(auto, using(crate::proofs::SynthFacts::synth_facts))]
-fn clocked(
+pub fn with_clocks(
     alloc: Global,
     plans: Vec<GatePlan>,
     leaves: u32,
@@ -47,6 +47,6 @@ pub fn clocked_cover(
     ensures { IfOk result (λ c. IsClockedCover forest.now bounds.w bounds.h phases c.kept.items c.cells.items c.plans.items) }
 {
     let Cover { kept, cells, plans } = cover(alloc, forest, bounds)?;
-    let plans = clocked(alloc, plans, forest.leaves, phases)?;
+    let plans = with_clocks(alloc, plans, forest.leaves, phases)?;
     Ok(Cover { kept, cells, plans })
 }

@@ -64,7 +64,7 @@ fn mark_end(marks: &mut [bool], end: End)
 
 /// The leaves, of so many, whose opposite gates a leaf of a tree or is named by a sink that is their
 /// plus literal, in order.
-pub fn complements(
+pub fn named_complements(
     alloc: Global,
     plans: &[GatePlan],
     ends: &[End],

@@ -10,7 +10,7 @@ ghost use Rattle.deck_form.specs.AskedOptions.{deck_options};
 ghost use Rattle.deck_form.specs.DeckGroups.{IsGroupedDeck};
 ghost use Rattle.synth_flow.specs.GroupEnds.{deck_sizes, ends_of, group_sizes};
 
-use crate::complements::complements;
+use crate::complements::named_complements;
 use crate::synthesis::{ChosenDeck, chosen_deck};
 use deck::Circuit;
 use deck_form::SynthOptions;
@@ -118,7 +118,7 @@ fn deck_places(
     requires fit { All (λ place. place < 2 ^ 32) (ends_of 0 (deck_sizes style plans.now ends.now leaf_count latches)) }
     ensures { IfOk result (λ places. places.items ≡ ends_of 0 (deck_sizes style plans.now ends.now leaf_count latches)) }
 {
-    let named = complements(alloc, plans, ends, leaf_count)?;
+    let named = named_complements(alloc, plans, ends, leaf_count)?;
     let sizes = sizes_of(alloc, style, plans, named.len(), latches, ends.len())?;
     let places = places_of(alloc, sizes.as_slice())?;
     Ok(places)

@@ -9,7 +9,7 @@ ghost use Rattle.synth_flow.specs.MadeDecks.{HasRoomForInverters, cells_from, in
 ghost use Rattle.dual_rail.specs.Uses.{IsEndThere};
 
 use crate::cells::push_cells;
-use crate::complements::complements;
+use crate::complements::named_complements;
 use crate::inverters::push_inverters;
 use crate::latches::push_latches;
 use crate::names::{complement_name, gate_names, own_name};
@@ -107,7 +107,7 @@ pub fn push_deck(
     circuit.whole();
     let leaves = pins.len() as u32 + latches.len() as u32;
     push_deck_cells(alloc, circuit, style, pins, plans, leaves)?;
-    let named = complements(alloc, plans, ends, leaves)?;
+    let named = named_complements(alloc, plans, ends, leaves)?;
     push_complements(alloc, circuit, pins, named.as_slice())?;
     push_latches(alloc, circuit, latches)?;
     let gates = sink_gate_names(alloc, pins, cells, ends)?;

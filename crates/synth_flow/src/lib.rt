@@ -23,10 +23,18 @@ mod summaries;
 mod synthesis;
 mod taken;
 
+pub use bare::{BareDeck, bare_deck};
+pub use chosen::{ChosenForest, chosen_forest};
+pub use clocked::with_clocks;
+pub use complements::named_complements;
 pub use deck_form::{DeckVersion, Style, SynthOptions, decks_are_domino};
 pub use figure_laws::devices_are_counted;
 pub use figures::{Summary, append_summary};
 pub use grouped::{Grouped, synth_grouped};
+pub use groups::push_complements;
+pub use latches::push_latches;
+pub use names::gate_names;
+pub use sinks::sink_gate_name;
 pub use skew::synth_skew;
 pub use summaries::summary;
 pub use synthesis::{synth, synth_signs};

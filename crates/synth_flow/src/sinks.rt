@@ -44,7 +44,7 @@ pub fn phases(alloc: Global, nets: &[NetName], signs: &[bool]) -> Result<Vec<Pha
 
 /// The net that gates the inverter of a sink: the supply of the other value, the opposite rail of a
 /// literal, or the dynamic net or the output of the pair's cell.
-fn sink_gate_name(
+pub fn sink_gate_name(
     alloc: Global,
     pins: &[NetName],
     cells: &[u32],

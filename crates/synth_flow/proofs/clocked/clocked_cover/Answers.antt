@@ -11,8 +11,8 @@ use Rattle.tree_map.specs.MappedCover.{plan_trees}
 use Rattle.synth_flow.proofs.SynthFacts.{few_trees, reads_earlier}
 use Rattle.synth_flow.proofs.clocked.clocked_cover.Goals as goal
 
-pub clocked-requires-clause-room : goal.clocked-requires-clause-room
-clocked-requires-clause-room c =
+pub with_clocks-requires-clause-room : goal.with_clocks-requires-clause-room
+with_clocks-requires-clause-room c =
     let forest = c.args.forest.now in
     let is = subst IsForest c.forest.view_is c.forest.invariant in
     let kept = c.in_ok-kept.field-0.kept.items in
@@ -21,8 +21,8 @@ clocked-requires-clause-room c =
     let leaves : c.forest.inside.leaves ≡ forest.leaves = ap (λ (f : ForestData). f.leaves) c.forest.view_is in
     omega (arith, leaves, is.few_leaves, few_trees forest kept c.args.bounds.w c.args.bounds.h (plan_trees plans) chosen.plan is, length-map plans (λ (p : GatePlan). tree_of p.tree))
 
-pub clocked-requires-clause-earlier : goal.clocked-requires-clause-earlier
-clocked-requires-clause-earlier c =
+pub with_clocks-requires-clause-earlier : goal.with_clocks-requires-clause-earlier
+with_clocks-requires-clause-earlier c =
     let forest = c.args.forest.now in
     let is = subst IsForest c.forest.view_is c.forest.invariant in
     let kept = c.in_ok-kept.field-0.kept.items in

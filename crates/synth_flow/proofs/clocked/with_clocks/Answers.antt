@@ -3,7 +3,7 @@ use Rattle.clock_phase.specs.Levels.{AreLevels}
 use Rattle.clock_phase.specs.Plans.{trees_of}
 use Rattle.dual_rail.proofs.Marks.{written_over}
 use Rattle.synth_flow.specs.ClockedPlans.{AreClocked}
-use Rattle.synth_flow.proofs.clocked.clocked.Goals as goal
+use Rattle.synth_flow.proofs.clocked.with_clocks.Goals as goal
 
 pub returns : goal.returns
 returns c =

@@ -3,7 +3,7 @@ use Rattle.std.specs.List.{list_any, range_with_len}
 use Rattle.dual_rail.proofs.Marks.{written_over}
 use Rattle.synth_flow.specs.NamedComplements.{are_read, is_plus_end}
 use Rattle.synth_flow.proofs.LeafMarks.{marked_are}
-use Rattle.synth_flow.proofs.complements.complements.Goals as goal
+use Rattle.synth_flow.proofs.complements.named_complements.Goals as goal
 
 pub returns : goal.returns
 returns c =

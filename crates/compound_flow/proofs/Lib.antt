@@ -1,0 +1,11 @@
+pub mod CellLoop
+pub mod CellNames
+pub mod CompoundCovers
+pub mod CompoundDecks
+pub mod DeckGroups
+pub mod NetworkSinks
+pub mod NextCells
+pub mod SinkLoop
+pub mod SinkNets
+pub mod SinkRooms
+pub mod WholeLoops

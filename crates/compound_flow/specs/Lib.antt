@@ -1,0 +1,5 @@
+pub mod ClockedCells
+pub mod MadeCells
+pub mod MadeDecks
+pub mod MadeSinks
+pub mod WholePlans
