@@ -93,7 +93,7 @@ module _ (ds : List Device) (roles : Roles) (nets : ℕ) where
   ]
 
   module _ (in_range : (p : ℕ) (d : Device) → slice_get ds p ≡ Some d → IsInRange nets d) where
-    end_low : (p : ℕ) (d : Device) (n : ℕ) → slice_get ds p ≡ Some d → HasEnd d n → n < nets
+    pub end_low : (p : ℕ) (d : Device) (n : ℕ) → slice_get ds p ≡ Some d → HasEnd d n → n < nets
     end_low p d n at (inl e) = let r = in_range p d at in omega (arith, r.drain, e)
     end_low p d n at (inr e) = let r = in_range p d at in omega (arith, r.source, e)
 

@@ -65,7 +65,7 @@ two_alike (inr x) (inl y) (inl z) = inr (inr (y ∙ sym z))
 two_alike (inr x) (inl y) (inr z) = inr (inl (x ∙ sym z))
 
 -- where just two numbers have the property, the list has two
-count_two : (P : ℕ → Type 0) (l : List ℕ) → AreThose P l → (u v : ℕ) → P u → P v → (u ≡ v → ⊥) → ((p : ℕ) → P p → (p ≡ u) ⊎ (p ≡ v))
+pub count_two : (P : ℕ → Type 0) (l : List ℕ) → AreThose P l → (u v : ℕ) → P u → P v → (u ≡ v → ⊥) → ((p : ℕ) → P p → (p ≡ u) ⊎ (p ≡ v))
     → length l ≡ 2
 count_two P [] are u v pu pv differ only = let y = (are.full u pu).1 in absurd cc
 count_two P (a ∷ []) are u v pu pv differ only =

@@ -1,6 +1,6 @@
 -- Nets that are met, and their numbers.
 use Rattle.std.specs.Prelude.{Some, slice_get}
-use Rattle.std.proofs.Common.{List, [], ap, arith, get_or, inl, inr, length, length-set, refl, set, suc, sym, zero, ℕ}
+use Rattle.std.proofs.Common.{List, [], ap, arith, get_or, inl, inr, length, length-set, set, sym, ℕ}
 use Rattle.std.proofs.Common.{◌++◌, ◌<◌, ◌∙◌, ◌∷◌, ◌≡◌}
 use Rattle.std.proofs.lemmas.List.{get_or-set_same}
 use Rattle.std.proofs.lemmas.Option.{slice_get-get_or, slice_get_read, slice_get_within}

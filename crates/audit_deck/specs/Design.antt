@@ -11,19 +11,21 @@
 --   3  `tree`: `reach` meets the nets below the dynamic net, `meet_channels` their devices; the one device at a source is the foot, and
 --      `spelled_of` reduces the others and spells them in order. Cells that share a net both break the rule, so no net is met twice
 --      before the pass ends.
--- `first_broken` is these three passes.
+--   4  Both clocked inverters of a latch have one shape: from the output a `pch` and an `nch` with two given gates lead to two inner nets,
+--      from which a `pch` to `vdd` and an `nch` to `vss` with one gate lead on. `branch` finds one side. A latch is found from its output:
+--      its inverter has the master as gate, whose inverter has the data; `reset` finds the ninth device (`parts`). `stands_alone` then
+--      asks the rest of the rule of the nets and places found. Each step looks at nine devices at most, since no more end at a net of a
+--      latch. `groups` lists the latches by rising output; `first_latch` meets their own nets, and each net at a control gate must be one.
+--      That a net has no second group follows from the devices that end at it: their kinds and gates tell their places in the latch.
+--   5  Marks by net: cell output, dynamic, in a cell, of a latch, latch data, latch output, complement. The complement of an input is the
+--      first net that may be it, in one pass over nets. `keeps_use` asks the rule of a net by these marks and its own devices, and a device
+--      between two sources is found at its drain, so one pass by rising number has both (`first_use`).
+--   6  The gates of each tree are looked up in these marks. `reads` makes a graph of nets, each with those that its tree reads;
+--      `circle_marks` of graph_order tells which lead back to themselves (`first_leaf_or_loop`).
+-- `first_broken` is the first three passes, `answer_by_nets` those of rules 4 and 5, `answer_by_cells` that of rule 6 and the yes.
 --
--- To come, in this order.
---   4  Both halves of a latch have one shape: from a top net a `pch` and an `nch` with two given gates lead to two inner nets, from which
---      a `pch` to `vdd` and an `nch` to `vss` with one gate lead on, and nothing else ends at the inner nets. `half` finds it from the top
---      in steps of constant size. A group is found from its master: its half has the data as gate; the two devices that the master gates
---      lead to the output, whose half they are, and at which the reset alone ends besides. A pass over nets finds the groups and gives
---      each of their own nets its group; each net at a control gate must have one. That a net has no second group follows from the
---      devices that end at it: their gates tell which net of a group it is, and that tells the other nets.
---   5  Marks by net: cell output, dynamic, in a cell, of a group, latch data, complement. A complement is taken at the smallest net of its
---      input, by one pass over nets. Then one pass over nets and one over devices, and the smaller of both answers.
---   6  The gates of each tree are looked up in these marks. Cells are put in order by `put_in_order` of graph_order over the lists of
---      cells that each reads; where that fails `circle_marks` tells the smallest net that leads back to itself.
--- Yes. The order is for each cell in that order its front, its tree in the order that `tree` has, its foot and its inverter; then
--- complements, groups and sinks. `audit` then answers `Audit::Yes { order, cells, width, height }` or `Audit::No { rule, net }`, with
--- `IsAudit` of the answer as contract; the order is a struct over its `Vec`, since an enum has no model of its own.
+-- Yes. `put_in_order` of graph_order puts the cells in order, each behind those that it reads (`cell_order`). `deck_order` has for each
+-- cell in that order its front, its tree in the order that `tree` has, its foot and its inverter; then the complements, the latches, and
+-- the inverters of output ports and of the data of latches. found_decks shows that this is the order of a deck. The answer is
+-- `Audit::Yes { order, cells, width, height }` or `Audit::No { rule, net }`, with `IsAudit` as contract of `audit`; the order is a struct
+-- over its `Vec`, since an enum has no model of its own.

@@ -1,8 +1,15 @@
+pub mod Answers
 pub mod Broken
 pub mod CellTrees
+pub mod DeckOrders
 pub mod Design
 pub mod Fronts
+pub mod Groups
 pub mod Indexes
+pub mod Latches
+pub mod Loops
+pub mod Marks
 pub mod Numberings
 pub mod Scans
+pub mod Uses
 pub mod Walks

@@ -12,21 +12,24 @@ use Rattle.switch_model.specs.LinksData.{is_first, links_of}
 use Rattle.port_runs.specs.Environment.{Happens, Step, World}
 use Rattle.port_runs.specs.declared.clocking.Clocking.TheVariants.{Together}
 use Rattle.port_runs.specs.Periods.{vdd_port, vss_port}
-use Rattle.port_runs.specs.PortRuns.{Runs, power_world}
+use Rattle.port_runs.specs.PortRuns.{Does, DoesBy, Runs, power_world}
 use Rattle.port_runs.specs.Readings.{HasResetBy}
 use Rattle.domino_law.specs.EveryRun.{RunsAsDomino}
 use Rattle.domino_law.specs.Laws.{Realises}
 use Rattle.domino_law.specs.Nets.{Net, Vdd, Vss}
+use Rattle.domino_law.specs.Runs.{IsHonestWorld}
 use Rattle.domino_law.specs.Shape.{Shape}
 use Rattle.domino_law.specs.Spelled.{deck_devices}
 use Rattle.domino_law.proofs.DominoDecks.{ports_read_own_run}
-use Rattle.domino_law.proofs.HonestLaws.{reset_reaches}
+use Rattle.domino_law.proofs.HonestLaws.{keeps_honest, reset_reaches, runs_are_honest}
 use Rattle.domino_law.proofs.PortLaws as by_ports
 use Rattle.domino_law.proofs.OwnRunLaws.{realises_own_run}
+use Rattle.domino_law.proofs.PortRunLaws.{step_is}
 use Rattle.domino_law.proofs.RunOrder.{runs_stand_in_order}
 use Rattle.deck_audit.specs.AuditedDeck.{ExchangedDeckIsRight, IsExchangedDeck, with_cards}
 use Rattle.deck_audit.specs.OwnRunRight.{IsRightByOwnRun}
-use Rattle.deck_audit.proofs.ExchangedRuns.{contest_to, dynamic_to, gates_to, launched_back, leads_to, once_back, output_to, overpowered_back, period_to, reaches_back, read_back, reading_to, reset_to, rests_to, runs_to, short_to}
+use Rattle.deck_audit.proofs.ExchangedRuns.{contest_to, does_to, dynamic_to, gates_to, launched_back, leads_to, once_back, output_to, overpowered_back, period_to, reaches_back, read_back, reading_to, reset_to, rests_to, runs_to, short_to}
+use Rattle.deck_audit.proofs.HonestStates.{honest_exchanged}
 use Rattle.port_runs.proofs.Steps.{leads_widen}
 
 module _ (c : CircuitData) (roles : Roles) (net : Net → ℕ) (s : Shape) (x : IsExchangedDeck c roles net s) where
@@ -65,6 +68,19 @@ module _ (c : CircuitData) (roles : Roles) (net : Net → ℕ) (s : Shape) (x : 
       one_zero : One ≡ Zero → ⊥
       one_zero e = cc
 
+  -- an honest state of one circuit is one of the other
+  honest_to : (v : World) → IsHonestWorld (links_of c roles) net s v → IsHonestWorld (links_of d roles) net s v
+  honest_to v h = honest_exchanged c.devices es x.no_other x.has_deck _ net s _ _ _ _ _ _ v.values h
+
+  honest_back : (v : World) → IsHonestWorld (links_of d roles) net s v → IsHonestWorld (links_of c roles) net s v
+  honest_back v h = honest_exchanged es c.devices x.has_deck x.no_other _ net s _ _ _ _ _ _ v.values h
+
+  -- a step of the circuit is one of the deck, however its clocks fall
+  does_own : (step : Step) (v v' : World) → Does c roles step v v' → DoesBy s.clocking d roles step v v'
+  does_own step v v' h =
+      let wide = by_ports.leads_own d roles net s x.deck Together (inl refl) (step ∷ []) v v' (v', does_to c roles es x.no_other x.has_deck step v v' h, refl) in
+      subst (λ (u : World). DoesBy s.clocking d roles step v u) (sym wide.2) wide.1
+
   pub right : IsRightByOwnRun c roles net s
   right = record {
     domino = record {
@@ -93,6 +109,14 @@ module _ (c : CircuitData) (roles : Roles) (net : Net → ℕ) (s : Shape) (x : 
         let q = contest_to c roles es x.no_other x.has_deck v.values p z in
         overpowered_back c roles es x.no_other x.has_deck v.values p q.0 q.2 (supplies_apart v h)
         (by_ports.overpowered d roles net s x.deck Together (inl refl) v q.0 (reset_to c roles es x.no_other x.has_deck v h) q.1);
+    honest = λ v h.
+        let k = reset_to c roles es x.no_other x.has_deck v h in
+        honest_back v (runs_are_honest (links_of d roles) net s k.steps (power_world d roles) v (by_ports.loose d roles net s x.deck) (by_ports.start d roles net s x.deck)
+        (by_ports.run_of d roles net s x.deck Together (inl refl) k.steps v k.run) k.beyond);
+    kept = λ step v v' whole risen h does.
+        let k = honest_to v h in
+        honest_back v' (keeps_honest (links_of d roles) net s step v v' (by_ports.loose d roles net s x.deck) whole k
+        (step_is d roles net s (x.deck).ports step v v' (does_own step v v' does) (record { whole = whole; sources = (k.frame).sources; first = risen })).0);
     starts = λ steps v r at.
         reset_reaches (links_of d roles) net s steps (power_world d roles) v (by_ports.loose d roles net s x.deck) (by_ports.start d roles net s x.deck)
         (by_ports.run_of d roles net s x.deck Together (inl refl) steps v (runs_to c roles es x.no_other x.has_deck steps v r)) (elim at [ inl z ↦ inl (z.0, rests_to c roles es x.no_other x.has_deck v z.1) | inr z ↦ inr z ]);

@@ -1,5 +1,6 @@
 pub mod Answers
 pub mod Blocks
+pub mod BrokenNets
 pub mod CellShapes
 pub mod CellTrees
 pub mod ExchangedDecks
@@ -12,6 +13,7 @@ pub mod NumberedLatches
 pub mod NumberedNets
 pub mod NumberedParts
 pub mod NumberedSorts
+pub mod HonestStates
 pub mod LatchBlocks
 pub mod LatchCards
 pub mod Offsets

@@ -1,7 +1,7 @@
 -- What holds of a circuit that runs as a domino deck of some shape, by its ports and devices, in every order of events (Rabaey, Digital
 -- Integrated Circuits: domino logic; Bryant, switch-level model).
 use Rattle.std.specs.List.{AllByRecursion}
-use Rattle.std.specs.Prelude.{Bool, List, [], ℕ, ◌++◌, ◌+◌, ◌<◌, ◌∷◌, ◌≡◌, ◌≢◌, ◌⊎◌}
+use Rattle.std.specs.Prelude.{Bool, List, [], length, ℕ, ◌++◌, ◌+◌, ◌<◌, ◌∷◌, ◌≡◌, ◌≢◌, ◌⊎◌}
 use Rattle.dom_base.specs.declared.kind.Kind.TheVariants.{Keep}
 use Rattle.dom_base.specs.declared.tri.Tri.{Tri}
 use Rattle.dom_base.specs.declared.tri.Tri.TheVariants.{Zero}
@@ -12,17 +12,18 @@ use Rattle.deck.specs.Switches.{value_of}
 use Rattle.deck.specs.declared.device.Device.{Device}
 use Rattle.deck.specs.declared.role.Roles.{Roles}
 use Rattle.domino_cell.specs.Stage.{Top}
-use Rattle.switch_model.specs.LinksData.{is_first}
+use Rattle.switch_model.specs.LinksData.{is_first, links_of}
 use Rattle.port_runs.specs.Environment.{Launched, Released, Reset, Step, World, bit, stream_of}
 use Rattle.port_runs.specs.declared.clocking.Clocking.TheVariants.{Together}
 use Rattle.port_runs.specs.Periods.{vdd_port, vss_port}
-use Rattle.port_runs.specs.PortRuns.{Rests, Runs}
+use Rattle.port_runs.specs.PortRuns.{Does, Rests, Runs}
 use Rattle.port_runs.specs.Readings.{HasResetBy, IsReading}
 use Rattle.domino_law.specs.EveryRun.{RunsAsDomino}
 use Rattle.domino_law.specs.Joins.{IsContest}
 use Rattle.domino_law.specs.Nets.{At, Net, Next, Slave}
 use Rattle.domino_law.specs.OwnRun.{bit_at, outputs_of, state_after}
-use Rattle.domino_law.specs.Runs.{state_before, state_next}
+use Rattle.domino_law.specs.Runs.{IsHonestWorld, state_before, state_next}
+use Rattle.domino_law.specs.Settings.{HaveRisen}
 use Rattle.domino_law.specs.Shape.{IsLatchAt, Latch, Shape}
 
 -- each keeper of the path has a gate at 0, and a definite strong path leads to ground from its end other than `vdd`
@@ -44,6 +45,11 @@ pub record IsRightByOwnRun (c : CircuitData) (roles : Roles) (net : Net → ℕ)
   pub overpowered : (w : World) (p : List Device) → HasResetBy Together c roles w
       → IsContest c.devices (is_first (source_count roles)) w.values vdd_port vss_port p
       → IsOverpoweredByEnds c.devices (is_first (source_count roles)) w.values vdd_port vss_port p
+  -- from the rest of reset on each state is honest, and each event and each move takes an honest state, in which the clocks that have
+  -- fallen had risen, to an honest state
+  pub honest : (w : World) → HasResetBy Together c roles w → IsHonestWorld (links_of c roles) net s w
+  pub kept : (step : Step) (w w' : World) → length w.values ≡ length c.nets → HaveRisen w → IsHonestWorld (links_of c roles) net s w
+      → Does c roles step w w' → IsHonestWorld (links_of c roles) net s w'
   -- at the rest of reset, and until the first pins are taken, each latch has its start value
   pub starts : (steps : List Step) (w : World) → Runs c roles steps w → ((w.place ≡ Reset) × Rests c roles w) ⊎ (w.place ≡ Released)
       → (j : ℕ) (b : Latch) → IsLatchAt s j b → value_of w.values (net (At (Slave j) Top)) ≡ bit b.init

@@ -1,0 +1,34 @@
+use Rattle.std.specs.Prelude.{All, Some, replicate, slice_get}
+use Rattle.std.proofs.Common.{ap, arith, false, length, refl, subst, sym, ℕ, ◌≡◌}
+use Rattle.std.proofs.lemmas.List.{length-replicate}
+use Rattle.std.proofs.lemmas.Option.{slice_get_read}
+use Rattle.found_decks.specs.FoundDecks.{FoundLatch}
+use Rattle.audit_deck.specs.Marks.{AddsMarks, IsWithin}
+use Rattle.audit_deck.specs.Numberings.{IsMet}
+use Rattle.deck_audit.specs.Words.{own_nets}
+use Rattle.audit_deck.proofs.FoundMarks.{group_all, group_begun, group_more}
+use Rattle.audit_deck.proofs.marks.latch_output_marks.Goals as goal
+
+abbrev Marked : FoundLatch → ℕ → Type 0
+Marked g n = n ≡ (g.group).output
+
+pub loop-group-init : goal.loop-group-init
+loop-group-init c = group_begun c.args.groups.now Marked c.args.count c.in_ok-marks.marks c.in_ok-marks.ensures
+
+pub returns : goal.returns
+returns c = group_all c.args.groups.now Marked c.args.count c.loop-group.group-index c.loop-group.marks c.loop-group-test.false c.loop-group.invariant
+
+pub loop-group-preserved : goal.loop-group-preserved
+loop-group-preserved c =
+    let groups = c.args.groups.now in
+    let i = c.loop-group.group-index in
+    let at : slice_get groups i ≡ Some c.group-item.result = slice_get_read groups (length groups) i c.group-item.result refl c.loop-group-test.true c.group-item.is in
+    group_more groups Marked i c.group-item.result at (replicate c.args.count false) c.loop-group.marks c.mark.new.self c.loop-group.invariant
+    (subst (λ m. AddsMarks (λ n. n ≡ m) c.loop-group.marks c.mark.new.self) (ap (λ (g : FoundLatch). (g.group).output) c.group.view_is) c.mark.ensures)
+
+pub mark-requires : goal.mark-requires
+mark-requires c =
+    let within : IsWithin c.args.count c.group-item.result =
+    subst (IsWithin c.args.count) (sym c.group-item.is) (c.requires.within c.loop-group.group-index c.group-item.result c.loop-group-test.true) in
+    let same = ap (λ (g : FoundLatch). (g.group).output) c.group.view_is in
+    omega (arith, within.output, same, c.loop-group.invariant.room, length-replicate c.args.count false)

@@ -1,0 +1,10 @@
+pub mod Choices
+pub mod FoundDecks
+pub mod FoundGates
+pub mod FoundNets
+pub mod FoundShapes
+pub mod Owners
+pub mod PlacesAll
+pub mod PlacesAt
+pub mod PlacesOnce
+pub mod StagesOnce
