@@ -9,7 +9,7 @@ use Rattle.trace_tool.specs.TraceData.{TraceOptionsData}
 use Rattle.port_runs.specs.declared.clocking.Clocking.{Clocking}
 use Rattle.trace_tool.specs.declared.options.Order.{Order}
 use Rattle.domino_cell.specs.declared.style.Style.{Style}
-use Rattle.command_words.specs.Commands.{Asks, Bench, Command, Cosim, Flat, HasGoodOptions, Report, Run, Sim, Synth, bench_in, bench_of, command_for, command_named, cosim_in, flat_in, report_in, run_in, sim_in, synth_in, synth_of, taken}
+use Rattle.command_words.specs.Commands.{Asks, Audit, Bench, Command, Cosim, Flat, HasGoodOptions, Report, Run, Sim, Synth, audit_in, bench_in, bench_of, command_for, command_named, cosim_in, flat_in, report_in, run_in, sim_in, synth_in, synth_of, taken}
 use Rattle.command_words.specs.Given.{given, of_one, of_three, of_two, with_four, with_three, with_two}
 use Rattle.command_words.specs.NumberWords.{number_from}
 use Rattle.command_words.specs.SynthOptionWords.{AreGoodOptions, height_of, method_of, phases_of, style_of, deck_flag_names, deck_option_names, synth_option_names, synth_options, synth_options_with, width_of}
@@ -77,12 +77,14 @@ module _ (Good : Command → Type 0) where
 
   -- of the command of a name, where it does of each
   pub named_good : (words : List Written) → IfSome (synth_in words) Good → IfSome (flat_in words) Good → IfSome (run_in words) Good → IfSome (sim_in words) Good
-      → IfSome (cosim_in words) Good → IfSome (report_in words) Good → IfSome (bench_in words) Good → (name : List ℕ) → IfSome (command_named name words) Good
-  named_good words synth flat run sim cosim report bench name =
-      let benches : IfSome (if is_same name (codes "bench") then bench_in words else None) Good =
-      either_good (is_same name (codes "bench")) (bench_in words) None bench tt in
-      let reports =
-      either_good (is_same name (codes "report")) (report_in words) (if is_same name (codes "bench") then bench_in words else None) report benches in
+      → IfSome (cosim_in words) Good → IfSome (report_in words) Good → IfSome (bench_in words) Good → IfSome (audit_in words) Good → (name : List ℕ)
+      → IfSome (command_named name words) Good
+  named_good words synth flat run sim cosim report bench audit name =
+      let audits : IfSome (if is_same name (codes "audit") then audit_in words else None) Good =
+      either_good (is_same name (codes "audit")) (audit_in words) None audit tt in
+      let benches =
+      either_good (is_same name (codes "bench")) (bench_in words) (if is_same name (codes "audit") then audit_in words else None) bench audits in
+      let reports = either_good (is_same name (codes "report")) (report_in words) _ report benches in
       let cosims = either_good (is_same name (codes "cosim")) (cosim_in words) _ cosim reports in
       let sims = either_good (is_same name (codes "sim")) (sim_in words) _ sim cosims in
       let runs = either_good (is_same name (codes "run")) (run_in words) _ run sims in
@@ -153,11 +155,16 @@ bench_in_good : (words : List Written) → IfSome (bench_in words) HasGoodOption
 bench_in_good words = taken_good HasGoodOptions synth_option_names [] words (of_two (bench_of words) (plain_words words))
     (two_good HasGoodOptions (bench_of words) (bench_good words) (plain_words words))
 
+audit_in_good : (words : List Written) → IfSome (audit_in words) HasGoodOptions
+audit_in_good words = taken_good HasGoodOptions [] [] words (of_one (λ deck. Some (Audit deck)) (plain_words words))
+    (one_good HasGoodOptions (λ deck. Some (Audit deck)) (λ deck. tt) (plain_words words))
+
 for_good : (words : List (List ℕ)) → IfSome (command_for words) HasGoodOptions
 for_good [] = tt
 for_good (name ∷ words) =
     let all = written words in
-    named_good HasGoodOptions all (synth_in_good all) (flat_in_good all) (run_in_good all) (sim_in_good all) (cosim_in_good all) (report_in_good all) (bench_in_good all) name
+    named_good HasGoodOptions all (synth_in_good all) (flat_in_good all) (run_in_good all) (sim_in_good all) (cosim_in_good all) (report_in_good all) (bench_in_good all)
+    (audit_in_good all) name
 
 -- options of synthesis that words ask for are within the ranges of their values
 pub asks_in_range : (words : List (List ℕ)) (command : Command) → Asks words command → HasGoodOptions command
@@ -169,10 +176,10 @@ not_same name other apart = not_true (is_same name other) (λ e. apart ((bytes_d
 -- words that begin with another name ask for no command
 pub unknown : (words : List (List ℕ)) (name : List ℕ) (rest : List (List ℕ)) → words ≡ name ∷ rest
     → (name ≡ codes "synth" → ⊥) → (name ≡ codes "flat" → ⊥) → (name ≡ codes "run" → ⊥) → (name ≡ codes "sim" → ⊥) → (name ≡ codes "cosim" → ⊥)
-    → (name ≡ codes "report" → ⊥) → (name ≡ codes "bench" → ⊥) → (command : Command) → Asks words command → ⊥
-unknown words name rest are synth flat run sim cosim report bench command asks =
+    → (name ≡ codes "report" → ⊥) → (name ≡ codes "bench" → ⊥) → (name ≡ codes "audit" → ⊥) → (command : Command) → Asks words command → ⊥
+unknown words name rest are synth flat run sim cosim report bench audit command asks =
     let no_command : command_named name (written rest) ≡ None =
     rw (not_same name (codes "synth") synth) (rw (not_same name (codes "flat") flat) (rw (not_same name (codes "run") run)
     (rw (not_same name (codes "sim") sim) (rw (not_same name (codes "cosim") cosim)
-    (rw (not_same name (codes "report") report) (rw (not_same name (codes "bench") bench) refl)))))) in
+    (rw (not_same name (codes "report") report) (rw (not_same name (codes "bench") bench) (rw (not_same name (codes "audit") audit) refl))))))) in
     some≢none command (sym asks ∙ ap command_for are ∙ no_command)

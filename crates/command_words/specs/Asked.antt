@@ -1,5 +1,5 @@
 -- A command that was read from the words, as plain data.
-use Rattle.command_words.specs.Commands.{Command, Synth, Flat, Run, Sim, Cosim, Report, Bench}
+use Rattle.command_words.specs.Commands.{Command, Synth, Flat, Run, Sim, Cosim, Report, Bench, Audit}
 use Rattle.command_words.specs.declared.command.Command.{Command as Read}
 use Rattle.command_words.specs.declared.command.Command.TheVariants as read
 
@@ -11,3 +11,4 @@ asked_command (read.Sim deck stim options clocking) = Sim deck.now stim.now opti
 asked_command (read.Cosim file deck stim order seed) = Cosim file.now deck.now stim.now order seed
 asked_command (read.Report file options) = Report file.now options
 asked_command (read.Bench seed size options) = Bench seed size options
+asked_command (read.Audit deck) = Audit deck.now

@@ -15,7 +15,7 @@ use Rattle.command_words.specs.Written.{Written, is_same, plain_words, takes, wr
 
 -- what the program is asked for: the deck of a file, its network, the run of its network over a stimulus, the trace of a deck over a
 -- stimulus where its clocks fall so, whether a deck does what the network of a file does over a stimulus, the figures of the deck of a
--- file, or those of a network that a seed and a size give
+-- file, those of a network that a seed and a size give, or whether a deck is built of domino cells
 pub data Command : Type 0 where
   Synth : (file : List ℕ) → (options : SynthOptions) → (method : Method) → Command
   Flat : (file : List ℕ) → Command
@@ -24,6 +24,7 @@ pub data Command : Type 0 where
   Cosim : (file deck stim : List ℕ) → (order : Order) → (seed : ℕ) → Command
   Report : (file : List ℕ) → (options : SynthOptions) → Command
   Bench : (seed size : ℕ) → (options : SynthOptions) → Command
+  Audit : (deck : List ℕ) → Command
 
 -- the files of a command, in order
 abbrev pub files_of : Command → List (List ℕ)
@@ -34,6 +35,7 @@ files_of (Sim deck stim options clocking) = deck ∷ stim ∷ []
 files_of (Cosim file deck stim order seed) = file ∷ deck ∷ stim ∷ []
 files_of (Report file options) = file ∷ []
 files_of (Bench seed size options) = []
+files_of (Audit deck) = deck ∷ []
 
 -- a size from 1 to 30,000
 pub record IsGoodSize (size : ℕ) : Type 0 where
@@ -49,6 +51,7 @@ HasGoodOptions (Sim deck stim options clocking) = Unit {0}
 HasGoodOptions (Cosim file deck stim order seed) = Unit {0}
 HasGoodOptions (Report file options) = AreGoodOptions options
 HasGoodOptions (Bench seed size options) = AreGoodOptions options × IsGoodSize size
+HasGoodOptions (Audit deck) = Unit {0}
 
 -- each command by what is written behind its name: its files or numbers, its options with a value, its options without one
 abbrev pub taken : (valued flags : List (List ℕ)) → List Written → Option Command → Option Command
@@ -84,6 +87,9 @@ bench_of words seed size = with_three Bench (number_from 0 (2 ^ 64 - 1) seed) (n
 abbrev pub bench_in : List Written → Option Command
 bench_in words = taken synth_option_names [] words (of_two (bench_of words) (plain_words words))
 
+abbrev pub audit_in : List Written → Option Command
+audit_in words = taken [] [] words (of_one (λ deck. Some (Audit deck)) (plain_words words))
+
 abbrev pub command_named : List ℕ → List Written → Option Command
 command_named name words =
     if is_same name (codes "synth") then synth_in words
@@ -92,7 +98,8 @@ command_named name words =
     else (if is_same name (codes "sim") then sim_in words
     else (if is_same name (codes "cosim") then cosim_in words
     else (if is_same name (codes "report") then report_in words
-    else (if is_same name (codes "bench") then bench_in words else None))))))
+    else (if is_same name (codes "bench") then bench_in words
+    else (if is_same name (codes "audit") then audit_in words else None)))))))
 
 -- the command of a command line, whose first word is its name
 abbrev pub command_for : List (List ℕ) → Option Command

@@ -10,7 +10,7 @@ use Rattle.command_words.specs.Given.{flag_given, given, with_four}
 use Rattle.command_words.specs.NumberWords.{number_from}
 use Rattle.command_words.specs.Written.{Written, is_same, values_of}
 use Rattle.command_words.specs.declared.command.Method.{Method}
-use Rattle.command_words.specs.declared.command.Method.TheVariants.{Exact, Plain, Skew}
+use Rattle.command_words.specs.declared.command.Method.TheVariants.{Compound, Exact, Plain, Skew}
 
 abbrev pub synth_option_names : List (List ℕ)
 synth_option_names = codes "--width" ∷ codes "--height" ∷ codes "--phases" ∷ codes "--style" ∷ []
@@ -46,13 +46,16 @@ abbrev pub deck_option_names : List (List ℕ)
 deck_option_names = synth_option_names ++ codes "--deck" ∷ []
 
 abbrev pub deck_flag_names : List (List ℕ)
-deck_flag_names = codes "--exact" ∷ codes "--skew" ∷ []
+deck_flag_names = codes "--exact" ∷ codes "--skew" ∷ codes "--compound" ∷ []
 
 abbrev pub exact_of : List Written → Option Bool
 exact_of words = flag_given (codes "--exact") words
 
 abbrev pub skew_of : List Written → Option Bool
 skew_of words = flag_given (codes "--skew") words
+
+abbrev pub compound_of : List Written → Option Bool
+compound_of words = flag_given (codes "--compound") words
 
 -- version 1 or 2, 1 where none is given
 abbrev pub version_numbered : ℕ → DeckVersion
@@ -70,17 +73,20 @@ has_keepers WithPrecharge = false
 abbrev pub may_overlap : SynthOptions → Bool
 may_overlap options = not (nat_lt options.phases 2) && has_keepers options.style
 
--- exact signs and clocks that overlap have no version but version 1, and not both are asked for
-abbrev pub method_for : SynthOptions → (exact skew : Bool) → DeckVersion → Option Method
-method_for options false false version = Some (Plain version)
-method_for options true false VersionOne = Some Exact
-method_for options false true VersionOne = if may_overlap options then Some Skew else None
-method_for options _ _ _ = None
+-- exact signs, clocks that overlap and compound cells have no version but version 1, and no two of them are asked for; compound cells
+-- have no keepers
+abbrev pub method_for : SynthOptions → (exact skew compound : Bool) → DeckVersion → Option Method
+method_for options false false false version = Some (Plain version)
+method_for options true false false VersionOne = Some Exact
+method_for options false true false VersionOne = if may_overlap options then Some Skew else None
+method_for options false false true VersionOne = if not (has_keepers options.style) then Some Compound else None
+method_for options _ _ _ _ = None
 
 -- the plain method where none is named
 abbrev pub method_of : SynthOptions → List Written → Option Method
 method_of options words =
-    option_and_then (λ exact. option_and_then (λ skew. option_and_then (method_for options exact skew) (version_of words)) (skew_of words)) (exact_of words)
+    option_and_then (λ exact. option_and_then (λ skew. option_and_then (λ compound. option_and_then (method_for options exact skew compound)
+    (version_of words)) (compound_of words)) (skew_of words)) (exact_of words)
 
 -- options within the ranges of their values
 pub record AreGoodOptions (options : SynthOptions) : Type 0 where
@@ -91,8 +97,9 @@ pub record AreGoodOptions (options : SynthOptions) : Type 0 where
   pub some_phase : 1 ≤ options.phases
   pub few_phases : options.phases ≤ 4
 
--- options that suit a method: clocks that overlap are two to four, and the cells have keepers
+-- options that suit a method: clocks that overlap are two to four, and the cells have keepers; compound cells have none
 abbrev pub SuitsMethod : Method → SynthOptions → Type 0
 SuitsMethod (Plain version) options = Unit {0}
 SuitsMethod Exact options = Unit {0}
 SuitsMethod Skew options = (2 ≤ options.phases) × (options.phases ≤ 4) × (options.style ≡ WithKeeper)
+SuitsMethod Compound options = options.style ≡ WithPrecharge

@@ -28,7 +28,7 @@ with_value_of name (Valued other value ∷ later) = Flag name ∷ Valued other v
 
 -- the options that have no value
 abbrev pub flag_names : List (List ℕ)
-flag_names = codes "--events" ∷ codes "--exact" ∷ codes "--skew" ∷ []
+flag_names = codes "--events" ∷ codes "--exact" ∷ codes "--skew" ∷ codes "--compound" ∷ []
 
 -- a word in front of what is written behind it; the value of `--name=value` stands behind the first `=`, and a flag has none
 abbrev pub in_front : List ℕ → List Written → List Written

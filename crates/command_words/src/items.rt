@@ -76,7 +76,8 @@ fn is_dashed(word: &str) -> bool
 }
 
 /// What is written first, and the words behind it. The value of an option stands behind a `=` in its word, or is the
-/// next word where that doesn't begin with `-`; what follows `--events`, `--exact` or `--skew` is never its value.
+/// next word where that doesn't begin with `-`; what follows `--events`, `--exact`,
+/// `--skew` or `--compound` is never its value.
 fn first_item<'a>(words: &'a [String]) -> Option<(Item<'a>, &'a [String])>
     ensures first { MatchOption result (words.now ≡ [])
         (λ p. written (map string_bytes words.now) ≡ seen p.0 ∷ written (map string_bytes p.1.now)) }
@@ -92,7 +93,7 @@ fn first_item<'a>(words: &'a [String]) -> Option<(Item<'a>, &'a [String])>
     if let Some((name, value)) = word.split_once('=') {
         return Some((Item::Valued { name, value }, rest));
     }
-    if is_among(word, &["--events", "--exact", "--skew"]) {
+    if is_among(word, &["--events", "--exact", "--skew", "--compound"]) {
         return Some((Item::Flag(word), rest));
     }
     Some(with_value_of(word, rest))

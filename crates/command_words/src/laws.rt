@@ -12,7 +12,7 @@ pub fn asked_is_in_range()
 {}
 
 /// The options of synthesis that words ask for suit the method that they ask for: clocks that overlap are
-/// two to four, in cells with keepers.
+/// two to four, in cells with keepers, and compound cells have none.
 pub fn asked_suits_method()
     ensures { AskedSuitsMethod }
 {}

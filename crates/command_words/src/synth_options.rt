@@ -1,7 +1,7 @@
 //! The options of synthesis on the command line.
 ghost use Rattle.std.specs.Prelude.{◌≡◌, map};
 ghost use Rattle.std.specs.String.{string_bytes};
-ghost use Rattle.command_words.specs.SynthOptionWords.{exact_of, has_keepers, may_overlap, method_for, method_of, skew_of};
+ghost use Rattle.command_words.specs.SynthOptionWords.{compound_of, exact_of, has_keepers, may_overlap, method_for, method_of, skew_of};
 ghost use Rattle.command_words.specs.SynthOptionWords.{style_named, style_of, synth_options, version_of};
 ghost use Rattle.command_words.specs.Written.{written};
 
@@ -55,16 +55,17 @@ fn style_named(word: &str) -> Option<Style>
     None
 }
 
-/// The method that words ask for beside options: the plain one where they name none. Exact signs and clocks that
-/// overlap have no version but version 1, and not both are asked for; clocks overlap where there are several and cells
-/// have keepers.
+/// The method that words ask for beside options: the plain one where they name none. Exact signs, clocks that overlap
+/// and compound cells have no version but version 1, and no two of them are asked for; clocks overlap where there are
+/// several and cells have keepers, and compound cells have none.
 pub fn method_of(words: &[String], options: SynthOptions) -> Option<Method>
     ensures { result ≡ method_of options (written (map string_bytes words.now)) }
 {
     let exact = exact_of(words)?;
     let skew = skew_of(words)?;
+    let compound = compound_of(words)?;
     let version = version_of(words)?;
-    method_for(options, exact, skew, version)
+    method_for(options, exact, skew, compound, version)
 }
 
 /// Whether words ask for exact signs.
@@ -81,6 +82,13 @@ fn skew_of(words: &[String]) -> Option<bool>
     flag_given(words, "--skew")
 }
 
+/// Whether words ask for compound cells.
+fn compound_of(words: &[String]) -> Option<bool>
+    ensures { result ≡ compound_of (written (map string_bytes words.now)) }
+{
+    flag_given(words, "--compound")
+}
+
 /// The version of the deck that words ask for, or version 1.
 fn version_of(words: &[String]) -> Option<DeckVersion>
     ensures { result ≡ version_of (written (map string_bytes words.now)) }
@@ -93,19 +101,24 @@ fn version_of(words: &[String]) -> Option<DeckVersion>
     })
 }
 
-/// The method for options, of exact signs or of the chosen ones, for clocks that overlap or not, and of a version.
+/// The method for options, of exact signs or of the chosen ones, for clocks that overlap or not, with compound cells or
+/// without, and of a version.
 fn method_for(
     options: SynthOptions,
     exact: bool,
     skew: bool,
+    compound: bool,
     version: DeckVersion,
 ) -> Option<Method>
-    ensures { result ≡ method_for options exact skew version }
+    ensures { result ≡ method_for options exact skew compound version }
 {
-    match (exact, skew, version) {
-        (false, false, version) => Some(Method::Plain(version)),
-        (true, false, DeckVersion::One) => Some(Method::Exact),
-        (false, true, DeckVersion::One) if may_overlap(options) => Some(Method::Skew),
+    match (exact, skew, compound, version) {
+        (false, false, false, version) => Some(Method::Plain(version)),
+        (true, false, false, DeckVersion::One) => Some(Method::Exact),
+        (false, true, false, DeckVersion::One) if may_overlap(options) => Some(Method::Skew),
+        (false, false, true, DeckVersion::One) if !has_keepers(options.style) => {
+            Some(Method::Compound)
+        }
         _ => None,
     }
 }

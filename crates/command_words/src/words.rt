@@ -3,7 +3,7 @@ ghost use Rattle.std.specs.Prelude.{◌≡◌, IfOk, IsSome, MatchOption, None, 
 ghost use Rattle.std.specs.String.{string_bytes};
 ghost use Rattle.command_words.specs.Asked.{asked_command};
 ghost use Rattle.command_words.specs.Commands.{Asks, Command as Plain, command_for};
-ghost use Rattle.command_words.specs.Commands.{bench_in, cosim_in, flat_in, report_in, run_in, sim_in, synth_in};
+ghost use Rattle.command_words.specs.Commands.{audit_in, bench_in, cosim_in, flat_in, report_in, run_in, sim_in, synth_in};
 ghost use Rattle.command_words.specs.Written.{written};
 
 use crate::command::Command;
@@ -36,6 +36,7 @@ pub fn command_of<'a>(
         "cosim" => Ok(cosim_of(rest)),
         "report" => Ok(report_of(rest)),
         "bench" => Ok(bench_of(rest)),
+        "audit" => Ok(audit_of(rest)),
         _ => Ok(None),
     }
 }
@@ -48,7 +49,7 @@ fn synth_of<'a>(words: &'a [String]) -> Option<Command<'a>>
     if !takes_all(
         words,
         &["--width", "--height", "--phases", "--style", "--deck"],
-        &["--exact", "--skew"],
+        &["--exact", "--skew", "--compound"],
     ) {
         return None;
     }
@@ -166,4 +167,16 @@ fn bench_of<'a>(words: &'a [String]) -> Option<Command<'a>>
         size,
         options,
     })
+}
+
+/// The command `audit DECK`.
+fn audit_of<'a>(words: &'a [String]) -> Option<Command<'a>>
+    ensures { MatchOption result (audit_in (written (map string_bytes words.now)) ≡ None)
+        (λ command. audit_in (written (map string_bytes words.now)) ≡ Some (asked_command command)) }
+{
+    if !takes_all(words, &[], &[]) {
+        return None;
+    }
+    let deck = one_plain(words)?;
+    Some(Command::Audit { deck })
 }

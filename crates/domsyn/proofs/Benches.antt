@@ -113,7 +113,7 @@ module _ (seed size : ℕ) (options : SynthOptions) where
   module _ (fits : AreGoodOptions options) (network : NetworkData) (has : HasNetworkOf (generated_text seed size) network) where
     right : (deck : List ℕ) → IsWholeText network options (Plain VersionOne) deck → IsRightDeck (generated_text seed size) (deck_options options) deck
     right deck is =
-        text_is_right (generated_text seed size) deck has.file network options has.accepted has.network_is fits (Plain VersionOne) is
+        text_is_right (generated_text seed size) deck has.file network options has.accepted has.network_is fits (Plain VersionOne) tt is
 
     reads_back : (deck : List ℕ) → (is : IsWholeText network options (Plain VersionOne) deck) → IsDeckOf deck is.circuit
     reads_back deck is =

@@ -1,9 +1,11 @@
 -- The text of a command, by the bytes of its files.
-use Rattle.std.proofs.Common.{◌≡◌, ◌≤◌, ◌∙◌, length, ℕ, Bool, true, false, List, ap, refl}
+use Rattle.std.proofs.Common.{◌≡◌, ◌≤◌, ◌∙◌, length, ℕ, Bool, true, false, List, ap, arith, refl}
 use Rattle.std.specs.Prelude.{if◌then◌else◌}
 use Rattle.blif_ast.specs.Printed.{printed}
 use Rattle.dom_io.specs.Held.{file_limit}
 use Rattle.command_words.specs.declared.command.Method.{Method}
+use Rattle.deck.specs.CircuitData.{CircuitData}
+use Rattle.deck_audit.specs.Audits.{Answer}
 use Rattle.network.specs.NetworkData.{NetworkData}
 use Rattle.net_flatten.specs.OneModel.{file_of}
 use Rattle.deck_form.specs.declared.options.SynthOptions.{SynthOptions}
@@ -16,11 +18,12 @@ use Rattle.trace_tool.specs.Verdicts.{IsVerdictOf}
 use Rattle.trace_tool.specs.declared.options.Order.{Order}
 use Rattle.trace_tool.specs.declared.verdict.Verdict.{Verdict}
 use Rattle.domsyn.specs.declared.answer.Ending.{Ending}
-use Rattle.domsyn.specs.declared.answer.Ending.TheVariants.{Done}
+use Rattle.domsyn.specs.declared.answer.Ending.TheVariants.{Differs, Done}
 use Rattle.domsyn.specs.Decks.{AreFiguresFor, IsDeckFor}
 use Rattle.domsyn.specs.Endings.{ending_number, ending_of}
 use Rattle.domsyn.specs.Networks.{HasNetwork, IsRunOf}
-use Rattle.domsyn.specs.Outcomes.{Files, IsComparison, IsDeck, IsFigureReport, IsFile, IsFlat, IsPrintedRun, IsTrace, is_same_verdict}
+use Rattle.domsyn.specs.Audits.{IsAuditOf, audit_line, is_yes}
+use Rattle.domsyn.specs.Outcomes.{Files, IsAuditReport, IsComparison, IsDeck, IsFigureReport, IsFile, IsFlat, IsPrintedRun, IsTrace, is_same_verdict}
 
 -- bytes of a file with a network
 pub text_network : (bytes : List ℕ) (n : NetworkData) → length bytes ≤ file_limit → HasNetworkOf bytes n → HasNetwork bytes n
@@ -33,6 +36,11 @@ number_of false = refl
 
 pub well_number : (ending : Ending) (well : Bool) → ending ≡ ending_of well → ending_number ending ≡ (if well then 0 else 6)
 well_number ending well is = ap ending_number is ∙ number_of well
+
+-- an ending with the number of all that is well is that all is well
+pub done_of : (ending : Ending) → ending_number ending ≡ 0 → ending ≡ Done
+done_of Done zero = refl
+done_of Differs zero = absurd (omega (arith, zero))
 
 pub done_number : (ending : Ending) → ending ≡ Done → ending_number ending ≡ 0
 done_number ending is = ap ending_number is
@@ -50,6 +58,18 @@ module _ (files : Files) (file bytes text : List ℕ) (ending : Ending) (is_file
   pub run_printed : (stim stim_bytes : List ℕ) → IsFile files stim stim_bytes → IsRunOf bytes stim_bytes text × (ending ≡ Done) → IsPrintedRun files file stim (ending_number ending) text
   run_printed stim stim_bytes is_stim made =
       record { bytes = bytes; stim_bytes = stim_bytes; is_file = is_file; is_stim = is_stim; run_is = made.0; done = done_number ending made.1 }
+
+  pub audit_printed : (circuit : CircuitData) × (found : Answer) × IsAuditOf bytes circuit found × (text ≡ audit_line circuit.nets found) × (ending ≡ ending_of (is_yes found))
+      → IsAuditReport files file (ending_number ending) text
+  audit_printed made = record {
+    bytes = bytes;
+    is_file = is_file;
+    circuit = made.0;
+    answer = made.1;
+    is_audit = made.2;
+    text_is = made.3;
+    status_is = well_number ending (is_yes made.1) made.4;
+  }
 
   pub cosim_printed : (deck stim deck_bytes stim_bytes : List ℕ) (order : Order) (seed : ℕ) → IsFile files deck deck_bytes → IsFile files stim stim_bytes
       → (verdict : Verdict) × IsVerdictOf bytes deck_bytes stim_bytes order seed verdict × (text ≡ verdict_line verdict) × (ending ≡ ending_of (is_same_verdict verdict))

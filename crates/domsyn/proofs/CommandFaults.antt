@@ -3,7 +3,7 @@ use Rattle.std.proofs.Common.{◌≡◌, ◌∙◌, ◌≤◌, ℕ, List, [], �
 use Rattle.std.specs.Prelude.{None, Some}
 use Rattle.std.proofs.lemmas.Option.{same_Some}
 use Rattle.dom_io.specs.Held.{file_limit}
-use Rattle.command_words.specs.Commands.{Command, Synth, Flat as flat, Run as run, Sim, Cosim, Report, Bench, files_of}
+use Rattle.command_words.specs.Commands.{Command, Synth, Flat as flat, Run as run, Sim, Cosim, Report, Bench, Audit, files_of}
 use Rattle.deck_form.specs.declared.options.SynthOptions.{SynthOptions}
 use Rattle.network.specs.NetworkData.{NetworkData}
 use Rattle.port_runs.specs.declared.clocking.Clocking.{Clocking}
@@ -19,7 +19,7 @@ use Rattle.trace_tool.specs.declared.fault.TraceFault.{TraceFault}
 use Rattle.trace_tool.specs.declared.fault.TraceFault.TheVariants as trace_fault
 use Rattle.trace_tool.specs.declared.options.Order.{Order}
 use Rattle.command_words.specs.declared.command.Method.{Method}
-use Rattle.command_words.specs.declared.command.Method.TheVariants.{Exact, Plain, Skew}
+use Rattle.command_words.specs.declared.command.Method.TheVariants.{Compound, Exact, Plain, Skew}
 use Rattle.domsyn.specs.declared.fault.Fault.{Fault}
 use Rattle.domsyn.specs.declared.fault.Fault.TheVariants as any_fault
 use Rattle.domsyn.specs.declared.fault.Fault.TheVariants.{Traced}
@@ -27,6 +27,7 @@ use Rattle.domsyn.specs.declared.failure.Failure.{Failure}
 use Rattle.domsyn.specs.declared.failure.Failure.TheVariants as failure
 use Rattle.domsyn.specs.declared.refusal.Refusal.{Refusal}
 use Rattle.domsyn.specs.declared.refusal.Refusal.TheVariants.{TooLong, Blif, Flat, TooMany, TooManySinks, Deck, Ports, NoNet, Stim}
+use Rattle.domsyn.specs.Audits.{IsUnaudited}
 use Rattle.domsyn.specs.Failures.{AreUnfetched, IsFailureFor, IsFailureOf, IsCommandFault}
 use Rattle.domsyn.specs.Outcomes.{Files, HasNone, IsFile, IsFirstTooLong, IsOutcome, Refused}
 use Rattle.domsyn.specs.Networks.{HasNetwork, IsNotRunFor, IsRunRefused}
@@ -114,6 +115,7 @@ module _ (files : Files) (file bytes : List ℕ) (is_file : IsFile files file by
     name_is = about_one file why;
   }
   synth_fault options Skew (any_fault.TooManySinks count) is = absurd is
+  synth_fault options Compound (any_fault.TooManySinks count) is = absurd is
 
   pub flat_fault_of : (fault : TraceFault) → IsUnflattened bytes fault → IsCommandFault files (flat file) (Traced fault)
   flat_fault_of fault is = λ why e. has_none fault why is e
@@ -131,6 +133,14 @@ module _ (files : Files) (file bytes : List ℕ) (is_file : IsFile files file by
     refused = run_cause bytes stim_bytes fault why is_file.within is e;
     name_is = refl;
   })
+
+-- a deck that isn't audited
+pub audit_fault : (files : Files) (deck bytes : List ℕ) (fault : TraceFault) → IsFile files deck bytes → IsUnaudited bytes fault → IsCommandFault files (Audit deck) (Traced fault)
+audit_fault files deck bytes fault is_file is = λ why e. inr (record {
+  bytes = bytes;
+  is_file = is_file;
+  faulty = record { fault = fault; refuses = is; cause = e; name_is = refl };
+})
 
 -- a deck and a stimulus without a trace
 pub sim_fault : (files : Files) (deck stim deck_bytes stim_bytes : List ℕ) (options : TraceOptionsData) (clocking : Clocking) (fault : TraceFault) → IsFile files deck deck_bytes
@@ -209,5 +219,6 @@ command_unfetched files (Sim deck stim options clocking) Rises (failure.Refused 
 command_unfetched files (Cosim file deck stim order seed) Rises (failure.Refused name why) is = inl is
 command_unfetched files (Report file options) Rises (failure.Refused name why) is = long_alone files file name.now why is.0 is.1
 command_unfetched files (Bench seed size options) Rises (failure.Refused name why) is = absurd is.1
+command_unfetched files (Audit deck) Rises (failure.Refused name why) is = inl is
 command_unfetched files command Rises (failure.Unread name) is = is
 command_unfetched files command Rises failure.Memory is = tt

@@ -10,7 +10,7 @@ use Rattle.deck.specs.Pushes.{new_circuit}
 use Rattle.deck.proofs.CircuitGrowth.{with_devices-grew}
 use Rattle.command_words.specs.SynthOptionWords.{AreGoodOptions}
 use Rattle.command_words.specs.declared.command.Method.{Method}
-use Rattle.command_words.specs.declared.command.Method.TheVariants.{Exact, Plain, Skew}
+use Rattle.command_words.specs.declared.command.Method.TheVariants.{Compound, Exact, Plain, Skew}
 use Rattle.network.specs.NetworkData.{NetworkData}
 use Rattle.network.specs.declared.network.NetLatch.{NetLatch}
 use Rattle.exact_phase.specs.ExactSigns.{IsExact}
@@ -71,3 +71,4 @@ has_signs Exact bytes text network options has good is =
       are_exact = subst (λ signs. IsExact deck.gates signs deck.are_chosen.0) (sym (deck_signs network (deck_options options) is.circuit (planned deck))) deck.are_chosen.1;
     }
 has_signs Skew bytes text network options has good is = tt
+has_signs Compound bytes text network options has good is = tt

@@ -1,3 +1,6 @@
+pub mod AuditClauses
+pub mod AuditThere
+pub mod AuditedDecks
 pub mod BenchClauses
 pub mod Benches
 pub mod CommandAnswers
@@ -13,10 +16,12 @@ pub mod Methods
 pub mod NetworkCauses
 pub mod NetworkRuns
 pub mod NetworksThere
+pub mod OneAudit
 pub mod OneOutcome
 pub mod OneSummary
 pub mod OutcomeThere
 pub mod OwnAnswers
+pub mod OwnAudits
 pub mod OwnDecks
 pub mod OwnVerdicts
 pub mod ReportThere

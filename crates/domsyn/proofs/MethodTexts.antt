@@ -1,7 +1,8 @@
 -- The text that synthesis gives of a network by a method is there, and is one.
 use Rattle.std.proofs.Common.{◌≡◌, ◌∙◌, ◌≤◌, ℕ, List, map, refl, subst, sym}
 use Rattle.command_words.specs.declared.command.Method.{Method}
-use Rattle.command_words.specs.declared.command.Method.TheVariants.{Exact, Plain, Skew}
+use Rattle.command_words.specs.declared.command.Method.TheVariants.{Compound, Exact, Plain, Skew}
+use Rattle.compound_law.proofs.OneDeck.{decks_one as compound_one, decks_there as compound_there}
 use Rattle.deck.specs.CircuitData.{CircuitData}
 use Rattle.network.specs.NetworkData.{NetworkData}
 use Rattle.network.specs.Networks.{IsNetwork}
@@ -38,6 +39,9 @@ text_one Exact network is options a b x y =
 text_one Skew network is options a b x y =
     let same = buffered_one network is (skew_options options.bounds options.phases) x.circuit y.circuit x.is_chosen y.is_chosen in
     texts_one y.circuit a b (subst (λ c. IsWritten c a) same x.written) y.written
+text_one Compound network is options a b x y =
+    let same = compound_one network options.bounds.w options.bounds.h options.phases x.circuit y.circuit is x.is_chosen y.is_chosen in
+    texts_one y.circuit a b (subst (λ c. IsWritten c a) same x.written) y.written
 
 module _ (network : NetworkData) (is : IsNetwork network) (options : SynthOptions) (wide : 2 ≤ options.bounds.w) (tall : 2 ≤ options.bounds.h) where
   overlapping_there : (text : List ℕ) × IsTextBy Skew network options text
@@ -49,6 +53,12 @@ module _ (network : NetworkData) (is : IsNetwork network) (options : SynthOption
       let text = written_there circuit in
       (text.0, record { circuit = circuit; is_chosen = record { plain = plain.0; of_signs = deck; circuit_is = refl }; written = text.1 })
 
+  with_compound_there : (text : List ℕ) × IsTextBy Compound network options text
+  with_compound_there =
+      let deck = compound_there network options.bounds.w options.bounds.h options.phases is wide tall in
+      let text = written_there deck.0 in
+      (text.0, record { circuit = deck.0; is_chosen = deck.1; written = text.1 })
+
   pub text_there : (method : Method) → (text : List ℕ) × IsTextBy method network options text
   text_there (Plain version) =
       let text = texts_of_signs_there {AreSigns = AreSignsOf (Plain version)} network (deck_options options) is wide tall version (method_there (Plain version) network is) in
@@ -57,3 +67,4 @@ module _ (network : NetworkData) (is : IsNetwork network) (options : SynthOption
       let text = texts_of_signs_there {AreSigns = AreSignsOf Exact} network (deck_options options) is wide tall VersionOne (method_there Exact network is) in
       (text.0, record { circuit = text.1.circuit; is_chosen = text.1.is_chosen; written = text.1.written })
   text_there Skew = overlapping_there
+  text_there Compound = with_compound_there

@@ -2,7 +2,7 @@
 use Rattle.std.proofs.Common.{◌≡◌, ◌∙◌, ◌⊎◌, inl, inr, ℕ, Bool, true, false, List, nat_lt, refl, sym, ap, subst, arith}
 use Rattle.std.proofs.lemmas.Bool.{ltb-false, ltb-true}
 use Rattle.command_words.specs.declared.command.Method.{Method}
-use Rattle.command_words.specs.declared.command.Method.TheVariants.{Exact, Plain, Skew}
+use Rattle.command_words.specs.declared.command.Method.TheVariants.{Compound, Exact, Plain, Skew}
 use Rattle.network.specs.NetworkData.{NetworkData}
 use Rattle.network.specs.Networks.{IsNetwork}
 use Rattle.gate_decompose.proofs.GatesOrder.{gates_are_ordered, network_gates_are_in_place}
@@ -26,6 +26,7 @@ pub method_one : (method : Method) (network : NetworkData) → HaveOneSigns (Are
 method_one (Plain version) network = chosen_one network
 method_one Exact network = λ gates a b are x y. (exact_one gates a b x.0 y.0 x.1 y.1).0
 method_one Skew network = chosen_one network
+method_one Compound network = chosen_one network
 
 pub method_there : (method : Method) (network : NetworkData) → IsNetwork network → HaveSigns (AreSignsOf method) network
 method_there (Plain version) network is = chosen_signs network is
@@ -34,6 +35,7 @@ method_there Exact network is = λ gates are.
     let exact = exact_there gates ordered in
     (exact.0, (exact.1, exact.2), exact.2.one_each)
 method_there Skew network is = chosen_signs network is
+method_there Compound network is = chosen_signs network is
 
 -- a network suits a method, or has too many sinks for it
 pub suited_or_not : (method : Method) (bytes : List ℕ) (network : NetworkData) → HasNetwork bytes network
@@ -57,12 +59,14 @@ suited_or_not Exact bytes network has = by (nat_lt most_exact_sinks (sink_count 
           ),
         )
 suited_or_not Skew bytes network has = inl tt
+suited_or_not Compound bytes network has = inl tt
 
 -- bytes without a network have no deck by any method
 pub without_network : (method : Method) (bytes : List ℕ) (why : Refusal) → HasNoNetworkFor bytes why → HasNoDeckFor method bytes why
 without_network (Plain version) bytes why is = is
 without_network Exact bytes why is = inl is
 without_network Skew bytes why is = is
+without_network Compound bytes why is = is
 
 not_many : (bytes : List ℕ) (network : NetworkData) (count : ℕ) → HasNetwork bytes network → IsSuited Exact network → HaveTooManySinks bytes count → ⊥
 not_many bytes network count has few many =
@@ -75,6 +79,7 @@ deck_or_cause (Plain version) bytes network why has few refused = network_or_cau
 deck_or_cause Exact bytes network why has few (inl refused) = network_or_cause bytes network why has refused
 deck_or_cause Exact bytes network why has few (inr many) = not_many bytes network many.0 has few many.1
 deck_or_cause Skew bytes network why has few refused = network_or_cause bytes network why has refused
+deck_or_cause Compound bytes network why has few refused = network_or_cause bytes network why has refused
 
 -- the causes of bytes are one
 pub deck_causes_alike : (method : Method) (bytes : List ℕ) (a b : Refusal) → HasNoDeckFor method bytes a → HasNoDeckFor method bytes b → a ≡ b
@@ -86,6 +91,7 @@ deck_causes_alike Exact bytes a b (inr x) (inr y) =
     let counts = x.1.sinks.count_is ∙ ap sink_count (networks_alike bytes x.1.network y.1.network x.1.has y.1.has) ∙ sym y.1.sinks.count_is in
     x.2 ∙ ap (λ (count : ℕ). TooManySinks count) counts ∙ sym y.2
 deck_causes_alike Skew bytes a b x y = network_causes_alike bytes a b x y
+deck_causes_alike Compound bytes a b x y = network_causes_alike bytes a b x y
 
 -- a network that doesn't suit the method is that of bytes without a deck
 pub unsuited_undecked : (method : Method) (bytes : List ℕ) (network : NetworkData) (why : Fault) → HasNetwork bytes network → IsUnsuited method network why → IsUndecked method bytes why
@@ -93,3 +99,4 @@ unsuited_undecked method bytes network (fault.Traced why) has is = subst (IsUnfl
 unsuited_undecked (Plain version) bytes network (fault.TooManySinks count) has is = is
 unsuited_undecked Exact bytes network (fault.TooManySinks count) has is = record { network = network; has = has; sinks = is }
 unsuited_undecked Skew bytes network (fault.TooManySinks count) has is = is
+unsuited_undecked Compound bytes network (fault.TooManySinks count) has is = is

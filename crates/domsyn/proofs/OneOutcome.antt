@@ -1,5 +1,5 @@
 -- Over files that are known, a command has one outcome.
-use Rattle.std.proofs.Common.{◌≡◌, ◌≢◌, ◌<◌, ◌∙◌, ◌⊎◌, inl, inr, ℕ, List, [], ◌∷◌, length, None, Some, sym, ap, subst, arith}
+use Rattle.std.proofs.Common.{◌≡◌, ◌≢◌, ◌<◌, ◌∙◌, ◌⊎◌, inl, inr, ℕ, Bool, List, [], ◌∷◌, length, None, Some, sym, ap, subst, arith}
 use Rattle.std.specs.Prelude.{if◌then◌else◌}
 use Rattle.std.proofs.lemmas.Option.{same_Some}
 use Rattle.blif_ast.specs.Printed.{printed}
@@ -7,7 +7,7 @@ use Rattle.dom_io.specs.Held.{file_limit, held}
 use Rattle.net_flatten.specs.OneModel.{file_of}
 use Rattle.domsyn.specs.declared.refusal.Refusal.{Refusal}
 use Rattle.domsyn.specs.declared.refusal.Refusal.TheVariants.{TooLong}
-use Rattle.command_words.specs.Commands.{Command, Synth, Flat as flat, Run as run, Sim, Cosim, Report, Bench}
+use Rattle.command_words.specs.Commands.{Command, Synth, Flat as flat, Run as run, Sim, Cosim, Report, Bench, Audit}
 use Rattle.command_words.specs.declared.command.Method.{Method}
 use Rattle.synth_flow.specs.Summaries.{IsSummaryOf}
 use Rattle.synth_flow.specs.SummaryLines.{summary_lines}
@@ -18,11 +18,13 @@ use Rattle.domsyn.specs.Methods.{HasNoDeckFor}
 use Rattle.domsyn.proofs.Methods.{deck_causes_alike, deck_or_cause}
 use Rattle.domsyn.proofs.MethodTexts.{text_one}
 use Rattle.domsyn.specs.Decks.{AreFiguresFor, IsDeckFor, IsTextBy}
-use Rattle.domsyn.specs.Outcomes.{IsComparison, IsDeck, IsFile, IsFirstTooLong, IsFlat, HasNoDeck, HasNone, IsNoComparison, IsNoRun, IsNoTrace, IsOutcome, IsPrintedRun, IsFigureReport, IsTooLong, IsTrace, Outcome, Printed, Refused, is_same_verdict}
+use Rattle.domsyn.specs.Outcomes.{IsAuditReport, IsComparison, IsDeck, IsFile, IsFirstTooLong, IsFlat, HasNoDeck, HasNone, IsNoAudit, IsNoComparison, IsNoRun, IsNoTrace, IsOutcome, IsPrintedRun, IsFigureReport, IsTooLong, IsTrace, Outcome, Printed, Refused, is_same_verdict}
 use Rattle.domsyn.specs.Networks.{HasNetwork, IsNotRunFor, IsRunOf}
 use Rattle.domsyn.specs.Refusals.{HasNoNetworkFor, IsFaulty, about, refusal_of}
+use Rattle.domsyn.specs.Audits.{IsAuditOf, IsUnaudited}
 use Rattle.domsyn.proofs.Benches.{bench_one}
 use Rattle.domsyn.proofs.KnownFiles.{Pairs}
+use Rattle.domsyn.proofs.OneAudit.{audit_one, unaudited_apart, unaudited_same}
 use Rattle.domsyn.proofs.OneSummary.{summaries_one}
 use Rattle.domsyn.proofs.NetworkCauses.{network_causes_alike, network_kept, network_or_cause, networks_alike, run_causes_alike, run_or_cause, runs_alike}
 use Rattle.trace_tool.specs.Refusals.{IsRefused}
@@ -263,6 +265,35 @@ module _ (known : Pairs) (file stim : List ℕ) where
   run_apart f s t w x (inl y) = no_long known file stim f x.bytes x.stim_bytes x.is_file x.is_stim y.1
   run_apart f s t w x (inr y) = run_or_cause x.bytes x.stim_bytes t w x.run_is (not_run_here x.bytes x.stim_bytes f w x.is_file x.is_stim y)
 
+-- what the audit of a deck says
+module _ (known : Pairs) (deck : List ℕ) where
+  audit_printed : (s s' : ℕ) (t t' : List ℕ) → IsAuditReport (Some known) deck s t → IsAuditReport (Some known) deck s' t' → Printed s t ≡ Printed s' t'
+  audit_printed s s' t t' x y =
+      let decks = bytes_alike known deck y.bytes x.bytes y.is_file.holds x.is_file.holds in
+      let same = audit_one x.bytes x.circuit y.circuit x.answer y.answer x.is_audit (subst (λ (b : List ℕ). IsAuditOf b y.circuit y.answer) decks y.is_audit) in
+      printed_alike s s' t t' (x.status_is ∙ ap (λ (yes : Bool). if yes then 0 else 6) same.1 ∙ sym y.status_is) (x.text_is ∙ same.0 ∙ sym y.text_is)
+
+  not_audited_here : (bytes f : List ℕ) (w : Refusal) → IsFile (Some known) deck bytes → IsNoAudit (Some known) deck f w → IsFaulty (IsUnaudited bytes) deck deck deck f w
+  not_audited_here bytes f w a x =
+      subst (λ (b : List ℕ). IsFaulty (IsUnaudited b) deck deck deck f w) (bytes_alike known deck x.bytes bytes x.is_file.holds a.holds) x.faulty
+
+  -- the file that is refused, and the cause
+  abbrev IsAuditRefusal : List ℕ → Refusal → Type 0
+  IsAuditRefusal name why = ((why ≡ TooLong) × IsFirstTooLong (Some known) (deck ∷ []) name) ⊎ IsNoAudit (Some known) deck name why
+
+  audit_refused : (f f' : List ℕ) (w w' : Refusal) → IsAuditRefusal f w → IsAuditRefusal f' w' → Refused f w ≡ Refused f' w'
+  audit_refused f f' w w' (inl x) (inl y) = refused_alike f f' w w' (first_alike known (deck ∷ []) f f' x.1 y.1) (x.0 ∙ sym y.0)
+  audit_refused f f' w w' (inl x) (inr y) = absurd (one_long known deck f y.bytes y.is_file x.1)
+  audit_refused f f' w w' (inr x) (inl y) = absurd (one_long known deck f' x.bytes x.is_file y.1)
+  audit_refused f f' w w' (inr x) (inr y) =
+      faulty_alike (IsUnaudited x.bytes) deck deck deck f f' w w' (unaudited_same x.bytes) x.faulty (not_audited_here x.bytes f' w' x.is_file y)
+
+  audit_apart : (f : List ℕ) (s : ℕ) (t : List ℕ) (w : Refusal) → IsAuditReport (Some known) deck s t → IsAuditRefusal f w → ⊥
+  audit_apart f s t w x (inl y) = one_long known deck f x.bytes x.is_file y.1
+  audit_apart f s t w x (inr y) =
+      let faulty = not_audited_here x.bytes f w x.is_file y in
+      unaudited_apart x.bytes x.circuit x.answer faulty.fault (reported_fault faulty.fault w faulty.cause) x.is_audit faulty.refuses
+
 pub one_outcome : (known : List (List ℕ × List ℕ)) (command : Command) (a b : Outcome) → IsOutcome (Some known) command a → IsOutcome (Some known) command b → a ≡ b
 one_outcome known (Synth file o m) (Printed s t) (Printed s' t') x y = synth_printed known file o m s s' t t' x y
 one_outcome known (Synth file o m) (Printed s t) (Refused f w) x y = absurd (synth_apart known file o m f s t w x y)
@@ -292,3 +323,7 @@ one_outcome known (Bench seed size o) (Printed s t) (Printed s' t') x y = let sa
 one_outcome known (Bench seed size o) (Printed s t) (Refused f w) x y = absurd y
 one_outcome known (Bench seed size o) (Refused f w) (Printed s t) x y = absurd x
 one_outcome known (Bench seed size o) (Refused f w) (Refused f' w') x y = absurd x
+one_outcome known (Audit deck) (Printed s t) (Printed s' t') x y = audit_printed known deck s s' t t' x y
+one_outcome known (Audit deck) (Printed s t) (Refused f w) x y = absurd (audit_apart known deck f s t w x y)
+one_outcome known (Audit deck) (Refused f w) (Printed s t) x y = absurd (audit_apart known deck f s t w y x)
+one_outcome known (Audit deck) (Refused f w) (Refused f' w') x y = audit_refused known deck f f' w w' x y

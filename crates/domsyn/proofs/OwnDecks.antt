@@ -2,7 +2,7 @@
 use Rattle.std.specs.Prelude.{Some}
 use Rattle.std.proofs.Common.{ℕ, List, Bool, length, refl, subst}
 use Rattle.command_words.specs.declared.command.Method.{Method}
-use Rattle.command_words.specs.declared.command.Method.TheVariants.{Exact, Plain, Skew}
+use Rattle.command_words.specs.declared.command.Method.TheVariants.{Compound, Exact, Plain, Skew}
 use Rattle.deck_form.specs.declared.options.SynthOptions.{SynthOptions}
 use Rattle.dom_base.proofs.Faults.{answer_same}
 use Rattle.network.specs.NetworkData.{NetworkData}
@@ -36,6 +36,19 @@ right_for bytes text options Skew right = record {
   ports = right.ports;
   right = right.right_together;
 }
+right_for bytes text options Compound least =
+    let right = least.right in
+    record {
+      network = right.network;
+      has = record { file = right.file; accepted = right.is_file; network_is = right.is_network };
+      circuit = right.circuit;
+      reads_back = right.reads_back;
+      no_other = right.no_other;
+      some_clock = (right.is_deck).some_clock;
+      few_clocks = (right.is_deck).few_clocks;
+      ports = right.ports;
+      right = right.right;
+    }
 
 module _ (known : List (List ℕ × List ℕ)) (file deck stim : List ℕ) (order : Order) (seed : ℕ) (options : SynthOptions) (method : Method) (stream : List (List Bool))
     (o : AreOwnFiles known file deck stim options method stream) where

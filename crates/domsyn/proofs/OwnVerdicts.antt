@@ -47,7 +47,7 @@ stimulus_same seed width stream is =
     answer_same (IsStimulusOf width text) (IsStimFaultAt width text) (IsStimFaultAt width text) (stim_answer width text) stream (stimulus_cycles seed width) is (stimulus_reads seed width)
 
 -- the ports of a deck stand in the order of roles
-roles_are : (style : Style) (circuit : CircuitData) (d : IsNamedDeck style circuit) → AreRoles (ports_of circuit) (roles_of_deck style circuit d)
+pub roles_are : (style : Style) (circuit : CircuitData) (d : IsNamedDeck style circuit) → AreRoles (ports_of circuit) (roles_of_deck style circuit d)
 roles_are style circuit d =
     let all = leading_ports d.clocks ++ d.pins ++ d.outs in
     let stand : ports_of circuit ≡ all = ap₂ (λ n l. take n l) (grew style circuit d).ports (grew style circuit d).nets ∙ take-append_seam all (grew style circuit d).more_nets in

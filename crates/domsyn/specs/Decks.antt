@@ -1,5 +1,6 @@
 -- The deck of the bytes of a file, and its figures.
 use Rattle.std.specs.Prelude.{ℕ, ◌≡◌, List}
+use Rattle.compound_law.specs.CompoundDecks.{IsChosenDeck as IsChosenCompoundDeck}
 use Rattle.deck.specs.CircuitData.{CircuitData}
 use Rattle.deck.specs.Whole.{IsWhole}
 use Rattle.network.specs.NetworkData.{NetworkData}
@@ -13,14 +14,15 @@ use Rattle.synth_flow.specs.SummaryData.{SummaryData}
 use Rattle.synth_flow.specs.SummaryLines.{summary_lines}
 use Rattle.deck_form.specs.declared.options.SynthOptions.{SynthOptions}
 use Rattle.command_words.specs.declared.command.Method.{Method}
-use Rattle.command_words.specs.declared.command.Method.TheVariants.{Plain, Skew}
+use Rattle.command_words.specs.declared.command.Method.TheVariants.{Compound, Plain, Skew}
 use Rattle.domsyn.specs.Methods.{AreSignsOf, IsSuited}
 use Rattle.domsyn.specs.Networks.{HasNetwork}
 
--- the circuit that synthesis gives of a network by a method, with options: of the method's signs and the chosen plan, and with chains of
--- buffers for clocks that overlap
+-- the circuit that synthesis gives of a network by a method, with options: of the method's signs and the chosen plan, with chains of
+-- buffers for clocks that overlap, and with compound cells of the chosen plan with compound roots
 abbrev pub IsCircuitBy : Method → NetworkData → SynthOptions → CircuitData → Type 0
 IsCircuitBy Skew network options circuit = IsChosenBufferedDeck network (skew_options options.bounds options.phases) circuit
+IsCircuitBy Compound network options circuit = IsChosenCompoundDeck network options.bounds.w options.bounds.h options.phases circuit
 IsCircuitBy method network options circuit = IsDeckOfSigns (AreSignsOf method) network (deck_options options) circuit
 
 -- its text: in the version that the method has, and else in version 1

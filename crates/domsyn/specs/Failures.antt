@@ -1,6 +1,6 @@
 -- Why a command has no text, and what is reported of it.
 use Rattle.std.specs.Prelude.{ℕ, ◌≡◌, ◌⊎◌, List, [], None, Some, length}
-use Rattle.command_words.specs.Commands.{Command, Synth, Flat, Run, Sim, Cosim, Report, Bench}
+use Rattle.command_words.specs.Commands.{Command, Synth, Flat, Run, Sim, Cosim, Report, Bench, Audit}
 use Rattle.domsyn.specs.declared.failure.Failure.{Failure}
 use Rattle.domsyn.specs.declared.failure.Failure.TheVariants as failure
 use Rattle.domsyn.specs.declared.refusal.Refusal.{Refusal}
@@ -38,6 +38,7 @@ about_of (Sim deck stim options clocking) why = about deck deck stim why
 about_of (Cosim file deck stim order seed) why = about file deck stim why
 about_of (Report file options) why = about file file file why
 about_of (Bench seed size options) why = []
+about_of (Audit deck) why = about deck deck deck why
 
 -- why a command has no text over these files: the cause that is reported of a fault is its outcome; want of memory has no cause
 abbrev pub IsCommandFault : Files → Command → Fault → Type 0

@@ -1,3 +1,5 @@
+pub mod AuditedDecks
+pub mod Audits
 pub mod Benches
 pub mod Bits
 pub mod Decks
@@ -10,6 +12,7 @@ pub mod Methods
 pub mod NetworkRuns
 pub mod Networks
 pub mod Outcomes
+pub mod OwnAudits
 pub mod OwnDecks
 pub mod Refusals
 pub mod Top

@@ -1,7 +1,8 @@
 -- The deck of a file by a method: which signs its sinks have, and what it is refused for.
 use Rattle.std.specs.Prelude.{ℕ, ◌+◌, ◌≤◌, ◌<◌, ◌≡◌, ◌⊎◌, Bool, List, length, map}
 use Rattle.command_words.specs.declared.command.Method.{Method}
-use Rattle.command_words.specs.declared.command.Method.TheVariants.{Exact, Plain, Skew}
+use Rattle.command_words.specs.declared.command.Method.TheVariants.{Compound, Exact, Plain, Skew}
+use Rattle.compound_law.specs.Laws.{AreByteNames}
 use Rattle.network.specs.NetworkData.{NetworkData}
 use Rattle.deck.specs.CircuitData.{CircuitData}
 use Rattle.deck.specs.DeckText.{IsDeckOf}
@@ -24,6 +25,7 @@ abbrev pub AreSignsOf : Method → GatesData → List Bool → Type 0
 AreSignsOf (Plain version) gates signs = AreChosen gates signs
 AreSignsOf Exact gates signs = (pairs : ℕ) × IsExact gates signs pairs
 AreSignsOf Skew gates signs = AreChosen gates signs
+AreSignsOf Compound gates signs = AreChosen gates signs
 
 -- the signs that phases tell
 abbrev pub signs_of_phases : List Phase → List Bool
@@ -45,6 +47,7 @@ abbrev pub HasSignsOf : Method → (bytes text : List ℕ) → Type 0
 HasSignsOf (Plain version) bytes text = Unit {0}
 HasSignsOf Exact bytes text = HasExactSigns bytes text
 HasSignsOf Skew bytes text = Unit {0}
+HasSignsOf Compound bytes text = Unit {0}
 
 -- the outputs and the inputs of latches of a network
 abbrev pub sink_count : NetworkData → ℕ
@@ -58,6 +61,14 @@ abbrev pub IsSuited : Method → NetworkData → Type 0
 IsSuited (Plain version) network = Unit {0}
 IsSuited Exact network = sink_count network ≤ most_exact_sinks
 IsSuited Skew network = Unit {0}
+IsSuited Compound network = Unit {0}
+
+-- what is seen of the names of a network by a method: with compound cells, that they are of bytes
+abbrev pub HasNamesFor : Method → NetworkData → Type 0
+HasNamesFor (Plain version) network = Unit {0}
+HasNamesFor Exact network = Unit {0}
+HasNamesFor Skew network = Unit {0}
+HasNamesFor Compound network = AreByteNames network.names
 
 -- a network has too many sinks for exact signs, so many
 pub record HasTooManySinks (network : NetworkData) (count : ℕ) : Type 0 where
@@ -70,6 +81,7 @@ IsUnsuited method network (fault.Traced why) = why ≡ Memory
 IsUnsuited (Plain version) network (fault.TooManySinks count) = ⊥
 IsUnsuited Exact network (fault.TooManySinks count) = HasTooManySinks network count
 IsUnsuited Skew network (fault.TooManySinks count) = ⊥
+IsUnsuited Compound network (fault.TooManySinks count) = ⊥
 
 -- bytes have a network with too many sinks for exact signs, so many
 pub record HaveTooManySinks (bytes : List ℕ) (count : ℕ) : Type 0 where
@@ -83,9 +95,11 @@ IsUndecked method bytes (fault.Traced why) = IsUnflattened bytes why
 IsUndecked (Plain version) bytes (fault.TooManySinks count) = ⊥
 IsUndecked Exact bytes (fault.TooManySinks count) = HaveTooManySinks bytes count
 IsUndecked Skew bytes (fault.TooManySinks count) = ⊥
+IsUndecked Compound bytes (fault.TooManySinks count) = ⊥
 
 -- bytes of a file have no deck by the method for this cause: no network, or too many sinks for exact signs
 abbrev pub HasNoDeckFor : Method → List ℕ → Refusal → Type 0
 HasNoDeckFor (Plain version) bytes why = HasNoNetworkFor bytes why
 HasNoDeckFor Exact bytes why = HasNoNetworkFor bytes why ⊎ ((count : ℕ) × HaveTooManySinks bytes count × (why ≡ TooManySinks count))
 HasNoDeckFor Skew bytes why = HasNoNetworkFor bytes why
+HasNoDeckFor Compound bytes why = HasNoNetworkFor bytes why

@@ -6,10 +6,13 @@ use Rattle.network.specs.NetworkData.{NetworkData}
 use Rattle.net_flatten.specs.OneModel.{file_of}
 use Rattle.domsyn.specs.declared.refusal.Refusal.{Refusal}
 use Rattle.domsyn.specs.declared.refusal.Refusal.TheVariants.{TooLong}
-use Rattle.command_words.specs.Commands.{Command, Synth, Flat, Run, Sim, Cosim, Report, Bench, files_of}
+use Rattle.command_words.specs.Commands.{Command, Synth, Flat, Run, Sim, Cosim, Report, Bench, Audit, files_of}
+use Rattle.deck.specs.CircuitData.{CircuitData}
+use Rattle.deck_audit.specs.Audits.{Answer}
 use Rattle.deck_form.specs.declared.options.SynthOptions.{SynthOptions}
 use Rattle.port_runs.specs.declared.clocking.Clocking.{Clocking}
 use Rattle.synth_flow.specs.SummaryData.{SummaryData}
+use Rattle.domsyn.specs.Audits.{IsAuditOf, IsUnaudited, audit_line, is_yes}
 use Rattle.domsyn.specs.Benches.{IsBenchOf, bench_text}
 use Rattle.command_words.specs.declared.command.Method.{Method}
 use Rattle.domsyn.specs.Methods.{HasNoDeckFor}
@@ -179,6 +182,22 @@ pub record IsBench (seed size : ℕ) (options : SynthOptions) (status : ℕ) (te
   pub text_is : text ≡ bench_text model summary verdict
   pub status_is : status ≡ (if is_same_verdict verdict then 0 else 6)
 
+-- what the audit of a deck says; the status says whether it is a yes
+pub record IsAuditReport (files : Files) (deck : List ℕ) (status : ℕ) (text : List ℕ) : Type 0 where
+  pub bytes : List ℕ
+  pub is_file : IsFile files deck bytes
+  pub circuit : CircuitData
+  pub answer : Answer
+  pub is_audit : IsAuditOf bytes circuit answer
+  pub text_is : text ≡ audit_line circuit.nets answer
+  pub status_is : status ≡ (if is_yes answer then 0 else 6)
+
+-- a deck of files is not audited for this cause
+pub record IsNoAudit (files : Files) (deck name : List ℕ) (why : Refusal) : Type 0 where
+  pub bytes : List ℕ
+  pub is_file : IsFile files deck bytes
+  pub faulty : IsFaulty (IsUnaudited bytes) deck deck deck name why
+
 -- the first of the files is refused that is too long, and else one for this cause
 abbrev pub IsRefusalOf : Files → List (List ℕ) → Type 0 → List ℕ → Refusal → Type 0
 IsRefusalOf files names Refuses name why = ((why ≡ TooLong) × IsFirstTooLong files names name) ⊎ Refuses
@@ -201,6 +220,8 @@ IsOutcome files (Report file options) (Printed status text) = IsFigureReport fil
 IsOutcome files (Report file options) (Refused name why) = HasNone files file name why
 IsOutcome files (Bench seed size options) (Printed status text) = IsBench seed size options status text
 IsOutcome files (Bench seed size options) (Refused name why) = ⊥
+IsOutcome files (Audit deck) (Printed status text) = IsAuditReport files deck status text
+IsOutcome files (Audit deck) (Refused name why) = IsRefusalOf files (deck ∷ []) (IsNoAudit files deck name why) name why
 
 -- a file of the command, before which each one was read and isn't too long
 abbrev pub IsUnread : Files → Command → List ℕ → Type 0

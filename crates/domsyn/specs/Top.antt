@@ -10,7 +10,8 @@ use Rattle.domsyn.specs.Refusals.{refusal_line}
 
 abbrev pub usage_line : List ℕ
 usage_line =
-    codes "usage: domsyn synth FILE | flat FILE | run FILE STIM | sim DECK STIM | cosim FILE DECK STIM | report FILE | bench SEED SIZE\n"
+    codes "usage: domsyn synth FILE | flat FILE | run FILE STIM | sim DECK STIM | cosim FILE DECK STIM | report FILE | bench SEED SIZE"
+    ++ codes " | audit DECK\n"
 
 -- the line on `err` for a file that can't be read
 abbrev pub unread_line : List ℕ → List ℕ

@@ -4,8 +4,8 @@ ghost use Rattle.domsyn.specs.Endings.{ending_number, ending_of};
 
 use crate::status::{DONE, UNSETTLED};
 
-/// How a command that gives a text ends: all is well, or a settling of a simulation doesn't end, or a comparison finds a
-/// difference.
+/// How a command that gives a text ends: all is well, or a settling of a simulation doesn't end, a comparison finds a
+/// difference, or an audit finds a rule that is broken.
 #[derive(Clone, Copy, Debug, PartialEq, Eq)]
 pub enum Ending {
     Done,

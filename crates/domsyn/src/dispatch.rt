@@ -14,6 +14,7 @@ ghost use Rattle.domsyn.specs.Traced.{traced};
 ghost use Rattle.domsyn.specs.declared.fault.Fault.{Fault as AnyFault};
 
 use crate::answer::Answer;
+use crate::audit::audit;
 use crate::bench::bench;
 use crate::cosim::cosim;
 use crate::failure::Failure;
@@ -107,6 +108,7 @@ fn answer_of(alloc: Global, command: &Command, files: &[Vec<u8>]) -> Result<Answ
             size,
             options,
         } => traced(bench(alloc, *seed, *size, *options)),
+        Command::Audit { .. } => traced(audit(alloc, bytes_at(files, 0))),
     }
 }
 

@@ -26,6 +26,7 @@ pub fn failure_of<'a>(fault: Fault, command: &Command<'a>) -> Failure<'a>
             ..
         } => failure_named(fault, file, deck, stim),
         Command::Bench { .. } => failure_named(fault, "", "", ""),
+        Command::Audit { deck } => failure_named(fault, deck, deck, deck),
     }
 }
 

@@ -44,6 +44,7 @@ pub fn files_of<'a>(alloc: Global, command: &Command<'a>) -> Result<Vec<&'a str>
             names.push(*stim)?
         }
         Command::Bench { .. } => {}
+        Command::Audit { deck } => names.push(*deck)?,
     }
     Ok(names)
 }

@@ -1,5 +1,6 @@
 //! What holds of each command and its outcomes.
 ghost use Rattle.domsyn.specs.Laws.{OutcomeIsOne, OutcomeIsThere};
+ghost use Rattle.domsyn.specs.OwnAudits.{OwnDeckGetsYes};
 ghost use Rattle.domsyn.specs.OwnDecks.{OwnDeckIsSame};
 
 /// Over files that are known, a command has at most one outcome: a text with its status, or the file
@@ -9,7 +10,8 @@ pub fn outcome_is_one()
 {}
 
 /// Over files that are known, a command has an outcome, where each of its files is one of them and its
-/// options are within the ranges of their values.
+/// options are within the ranges of their values. That of `audit` hangs on an answer of the audit, which
+/// isn't shown to be there.
 pub fn outcome_is_there()
     ensures { OutcomeIsThere }
 {}
@@ -18,4 +20,10 @@ pub fn outcome_is_there()
 /// outcome that all is the same in each cycle, in each order of events.
 pub fn own_deck_is_same()
     ensures { OwnDeckIsSame }
+{}
+
+/// Over files that are known `audit` of a right deck of a text with keepers, with its devices in any order, has the outcome
+/// yes, with the number of its cells and the greatest width and height of their trees.
+pub fn own_deck_gets_yes()
+    ensures { OwnDeckGetsYes }
 {}

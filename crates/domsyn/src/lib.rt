@@ -2,6 +2,7 @@
 #![tactic(auto)]
 
 mod answer;
+mod audit;
 mod bench;
 mod cosim;
 mod dispatch;
@@ -21,5 +22,5 @@ mod status;
 mod synth;
 
 pub use command_words::{asked_is_in_range, asked_is_one};
-pub use laws::{outcome_is_one, outcome_is_there, own_deck_is_same};
+pub use laws::{outcome_is_one, outcome_is_there, own_deck_gets_yes, own_deck_is_same};
 pub use program::top;

@@ -8,10 +8,12 @@ ghost use Rattle.dom_io.specs.Pieces.{AppendsPrefix};
 ghost use Rattle.domsyn.specs.declared.refusal.Refusal.{Refusal};
 ghost use Rattle.command_words.specs.Commands.{Asks, Bench, Command, files_of};
 ghost use Rattle.deck_form.specs.declared.options.SynthOptions.{SynthOptions};
+ghost use Rattle.domsyn.specs.AuditedDecks.{GivesAuditedDeck};
 ghost use Rattle.domsyn.specs.Benches.{GivesSameBench};
 ghost use Rattle.domsyn.specs.Fetches.{AsksAll, AsksAtRefusal, AsksFirst, AsksUpTo};
 ghost use Rattle.domsyn.specs.Headline.{GivesRightDeck};
 ghost use Rattle.domsyn.specs.Outcomes.{Outcome, Refused, Printed, status_of};
+ghost use Rattle.domsyn.specs.OwnAudits.{SaysYes};
 ghost use Rattle.domsyn.specs.OwnDecks.{SaysSame};
 ghost use Rattle.domsyn.specs.Refusals.{refusal_line};
 ghost use Rattle.domsyn.specs.Top.{HasOutcome, HasRoomFor, IsRefusalLine, IsText, MeetsUnread, Reports, line_of, unread_line};
@@ -24,12 +26,14 @@ use dom_io::{Shelf, Sink};
 use std::alloc::Global;
 
 const USAGE_LINE: &[u8] =
-    b"usage: domsyn synth FILE | flat FILE | run FILE STIM | sim DECK STIM | cosim FILE DECK STIM | report FILE | bench SEED SIZE\n";
+    b"usage: domsyn synth FILE | flat FILE | run FILE STIM | sim DECK STIM | cosim FILE DECK STIM | report FILE | bench SEED SIZE \
+    | audit DECK\n";
 
 /// Does all that the program does, and gives its status: 0 done, 1 a file is refused, 2 the words ask
 /// for nothing, 3 a file can't be read, 4 the output can't be written, 5 out of memory, 6 a settling
-/// of a simulation doesn't end, or a deck does something else than its file. `words` are those of the
-/// command line without the program's name. The text goes to `out`, and a line to `err` at every status but 0 and 6.
+/// of a simulation doesn't end, a deck does something else than its file, or a deck isn't built of
+/// domino cells. `words` are those of the command line without the program's name. The text goes to
+/// `out`, and a line to `err` at every status but 0 and 6.
 pub fn top<S: Shelf, K: Sink, E: Sink>(
     alloc: Global,
     words: &[String],
@@ -96,6 +100,12 @@ pub fn top<S: Shelf, K: Sink, E: Sink>(
 
     // `cosim` of a right deck of a text says that all is the same.
     ensures own { SaysSame (S.files shelf.old) (map string_bytes words.now) result (Appends (K.taken out.old) (K.taken out.new)) }
+
+    // Where the words ask for the audit of a deck and it says yes, the deck that was read is one of domino cells, and right in
+    // every order of events. And it says yes of a right deck with keepers, in each order of its devices.
+    ensures audited { result ≡ 0 → GivesAuditedDeck (S.files shelf.old) (map string_bytes words.now)
+        (Appends (K.taken out.old) (K.taken out.new)) }
+    ensures own_audit { SaysYes (S.files shelf.old) (map string_bytes words.now) result (Appends (K.taken out.old) (K.taken out.new)) }
 
     // Nothing is put out at another status, and `err` gets the line of the status, of the cause, or of the file.
     ensures nothing { result ≢ 0 → result ≢ 4 → result ≢ 6 → out.new ≡ out.old }

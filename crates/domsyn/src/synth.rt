@@ -6,7 +6,7 @@ ghost use Rattle.deck_form.specs.AskedOptions.{deck_options};
 ghost use Rattle.deck_form.specs.ChosenDecks.{IsDeckOfSigns};
 ghost use Rattle.domsyn.specs.Decks.{IsDeckFor, IsWholeText};
 ghost use Rattle.domsyn.specs.Headline.{IsRightBy};
-ghost use Rattle.domsyn.specs.Methods.{AreSignsOf, HasSignsOf, IsSuited, IsUndecked, IsUnsuited};
+ghost use Rattle.domsyn.specs.Methods.{AreSignsOf, HasNamesFor, HasSignsOf, IsSuited, IsUndecked, IsUnsuited};
 ghost use Rattle.command_words.specs.declared.command.Method.TheVariants.{Exact, Plain};
 ghost use Rattle.domsyn.specs.declared.answer.Ending.TheVariants.{Done};
 ghost use Rattle.domsyn.specs.declared.fault.Fault.{Fault as AnyFault};
@@ -14,6 +14,7 @@ ghost use Rattle.domsyn.specs.declared.fault.Fault.{Fault as AnyFault};
 use crate::answer::{Answer, Ending};
 use crate::fault::Fault;
 use command_words::Method;
+use compound_flow::synth_compound;
 use deck::Circuit;
 use dom_base::OutOfMemory;
 use exact_phase::exact;
@@ -60,6 +61,7 @@ fn text_of(
     requires good_options { AreGoodOptions options }
     ensures text { IfOk result (λ text. IsWholeText network options method text.items) }
     ensures suited { IfOk result (λ _. IsSuited method network) }
+    ensures names { IfOk result (λ _. HasNamesFor method network) }
     ensures refused { (why : AnyFault) → IsErrOf result why → IsUnsuited method network why }
 {
     match method {
@@ -76,6 +78,13 @@ fn text_of(
         }
         Method::Skew => {
             let circuit = synth_skew(alloc, &network, options.bounds, options.phases)?;
+            drop(network);
+            circuit.whole();
+            let text = write(alloc, &circuit)?;
+            Ok(text)
+        }
+        Method::Compound => {
+            let circuit = synth_compound(alloc, &network, options.bounds, options.phases)?;
             drop(network);
             circuit.whole();
             let text = write(alloc, &circuit)?;

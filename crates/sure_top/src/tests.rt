@@ -7,7 +7,8 @@ use std::test::Fail;
 
 /// The line of status 2.
 const USAGE: &[u8] =
-    b"usage: domsyn synth FILE | flat FILE | run FILE STIM | sim DECK STIM | cosim FILE DECK STIM | report FILE | bench SEED SIZE\n";
+    b"usage: domsyn synth FILE | flat FILE | run FILE STIM | sim DECK STIM | cosim FILE DECK STIM | report FILE | bench SEED SIZE \
+    | audit DECK\n";
 
 /// The bytes of a file that is held.
 fn fetched(

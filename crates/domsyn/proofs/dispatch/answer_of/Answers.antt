@@ -8,8 +8,8 @@ use Rattle.domsyn.specs.Failures.{IsCommandFault}
 use Rattle.domsyn.specs.Headline.{IsRightFor}
 use Rattle.domsyn.specs.Outcomes.{IsOutcome, Printed}
 use Rattle.domsyn.proofs.Benches.{same_bench}
-use Rattle.domsyn.proofs.CommandAnswers.{cosim_printed, flat_printed, report_printed, run_printed, sim_printed, synth_printed}
-use Rattle.domsyn.proofs.CommandFaults.{bench_fault, cosim_fault, flat_fault_of, report_fault, run_fault, sim_fault, synth_fault}
+use Rattle.domsyn.proofs.CommandAnswers.{audit_printed, cosim_printed, done_of, flat_printed, report_printed, run_printed, sim_printed, synth_printed}
+use Rattle.domsyn.proofs.CommandFaults.{audit_fault, bench_fault, cosim_fault, flat_fault_of, report_fault, run_fault, sim_fault, synth_fault}
 use Rattle.domsyn.specs.declared.fault.Fault.TheVariants.{Traced}
 use Rattle.domsyn.proofs.Traced.{traced_err, traced_ok}
 use Rattle.domsyn.proofs.FetchedFiles.{bytes_of, files_moved, place_within}
@@ -260,3 +260,42 @@ returns-in-Bench-clause-refused c why is known are =
     subst (IsCommandFault known (asked_command c.args.command.now)) fault.2
     (subst (λ (k : Command). IsCommandFault known k (Traced fault.0)) (sym (ap asked_command c.in-Bench.is)) (bench_fault known c.in-Bench.seed c.in-Bench.size c.in-Bench.options fault.0 (c.bench.ensures.failed fault.0 fault.1))
     )
+
+pub bytes_at-requires-in-Audit : goal.bytes_at-requires-in-Audit
+bytes_at-requires-in-Audit c =
+    place_within (asked_command c.args.command.now) _ (map bytes_of c.args.files.now) (length c.args.files.now) 0 (ap asked_command c.in-Audit.is) c.requires.given
+    (length-map c.args.files.now bytes_of) (omega arith)
+
+pub returns-in-Audit-clause-text : goal.returns-in-Audit-clause-text
+returns-in-Audit-clause-text c =
+    let same = ap asked_command c.in-Audit.is in
+    traced_ok _ c.audit.result c.traced-in-Audit.result c.traced-in-Audit.ensures
+    (IfOk-weaker c.audit.result _ _
+    (λ answer made known are.
+    let names : List (List ℕ) = c.in-Audit.deck.now ∷ [] in
+    let here = files_moved known (asked_command c.args.command.now) _ (map bytes_of c.args.files.now) same are in
+    subst (λ (k : Command). IsOutcome known k (Printed (ending_number answer.ending) answer.text.items)) (sym same)
+    (audit_printed known c.in-Audit.deck.now c.bytes_at-in-Audit.result.now answer.text.items answer.ending (c.bytes_at-in-Audit.ensures known names here) made))
+    c.audit.ensures.audit)
+
+pub returns-in-Audit-clause-right : goal.returns-in-Audit-clause-right
+returns-in-Audit-clause-right c =
+    let same = ap asked_command c.in-Audit.is in
+    traced_ok _ c.audit.result c.traced-in-Audit.result c.traced-in-Audit.ensures
+    (IfOk-weaker c.audit.result _ _
+    (λ answer is known are.
+    let names : List (List ℕ) = c.in-Audit.deck.now ∷ [] in
+    let here = files_moved known (asked_command c.args.command.now) _ (map bytes_of c.args.files.now) same are in
+    subst (λ (k : Command). IsRightFor known k (ending_number answer.ending) answer.text.items) (sym same)
+    (λ zero. record { bytes = c.bytes_at-in-Audit.result.now; is_file = c.bytes_at-in-Audit.ensures known names here; is_audited = is (done_of answer.ending zero) }))
+    c.audit.ensures.right)
+
+pub returns-in-Audit-clause-refused : goal.returns-in-Audit-clause-refused
+returns-in-Audit-clause-refused c why is known are =
+    let same = ap asked_command c.in-Audit.is in
+    let names : List (List ℕ) = c.in-Audit.deck.now ∷ [] in
+    let here = files_moved known (asked_command c.args.command.now) _ (map bytes_of c.args.files.now) same are in
+    let fault = traced_err c.audit.result c.traced-in-Audit.result why c.traced-in-Audit.ensures is in
+    subst (IsCommandFault known (asked_command c.args.command.now)) fault.2
+    (subst (λ (k : Command). IsCommandFault known k (Traced fault.0)) (sym same)
+    (audit_fault known c.in-Audit.deck.now c.bytes_at-in-Audit.result.now fault.0 (c.bytes_at-in-Audit.ensures known names here) (c.audit.ensures.refused fault.0 fault.1)))

@@ -7,7 +7,9 @@ use Rattle.dom_io.specs.Faults.{Rose}
 use Rattle.dom_io.proofs.AskedLemmas.{HasAsked-nothing}
 use Rattle.command_words.proofs.AskedOnce.{asks_in_range}
 use Rattle.domsyn.specs.Top.{IsText}
+use Rattle.domsyn.proofs.AuditClauses.{finished_audited}
 use Rattle.domsyn.proofs.OwnAnswers.{finished_own, reported_own}
+use Rattle.domsyn.proofs.OwnAudits.{finished_yes, reported_yes}
 use Rattle.domsyn.proofs.BenchClauses.{finished_bench, finished_same, reported_bench}
 use Rattle.domsyn.proofs.HeadlineClauses.{finished_right}
 use Rattle.domsyn.proofs.TopClauses.{asks_found, asks_some, finished_complete}
@@ -169,3 +171,26 @@ returns-clause-own g c =
     let asks = asks_found words c.in-Ok-Some.field-0 c.in-Ok-Some.command c.in-Ok-Some.field-0-is c.in-Ok-Some.ensures.command in
     let Puts = Appends (g.K.Sink.taken c.args.out.now) (g.K.Sink.taken c.args.out.now) in
     reported_own {words = words} Puts (failure_reported (asked_command c.in-Ok-Some.command) c.in-Err-outcome_of.failure asks (c.in-Err-outcome_of.ensures.failed c.in-Err-outcome_of.failure refl) c.report_failure.ensures.reported)
+
+pub returns-in-Ok-clause-audited : goal.returns-in-Ok-clause-audited
+returns-in-Ok-clause-audited g c zero =
+    let words = map string_bytes c.args.words.now in
+    let asks = asks_found words c.in-Ok-Some.field-0 c.in-Ok-Some.command c.in-Ok-Some.field-0-is c.in-Ok-Some.ensures.command in
+    let Puts = Appends (g.K.Sink.taken c.args.out.now) (g.K.Sink.taken c.finish.new.out) in
+    finished_audited (g.S.Shelf.files c.args.shelf.now) words (asked_command c.in-Ok-Some.command) asks _ c.in-Ok.answer.text.items c.in-Ok.ensures.right _ Puts zero
+    c.finish.ensures.known c.finish.ensures.done
+
+pub returns-in-Ok-clause-own_audit : goal.returns-in-Ok-clause-own_audit
+returns-in-Ok-clause-own_audit g c =
+    let words = map string_bytes c.args.words.now in
+    let asks = asks_found words c.in-Ok-Some.field-0 c.in-Ok-Some.command c.in-Ok-Some.field-0-is c.in-Ok-Some.ensures.command in
+    let Puts = Appends (g.K.Sink.taken c.args.out.now) (g.K.Sink.taken c.finish.new.out) in
+    finished_yes (g.S.Shelf.files c.args.shelf.now) words _ c.in-Ok.answer.text.items
+    (record { command = asked_command c.in-Ok-Some.command; asks = asks; outcome_is = c.in-Ok.ensures.text }) _ Puts c.finish.ensures.known c.finish.ensures.done
+
+pub returns-clause-own_audit : goal.returns-clause-own_audit
+returns-clause-own_audit g c =
+    let words = map string_bytes c.args.words.now in
+    let asks = asks_found words c.in-Ok-Some.field-0 c.in-Ok-Some.command c.in-Ok-Some.field-0-is c.in-Ok-Some.ensures.command in
+    let Puts = Appends (g.K.Sink.taken c.args.out.now) (g.K.Sink.taken c.args.out.now) in
+    reported_yes {words = words} Puts (failure_reported (asked_command c.in-Ok-Some.command) c.in-Err-outcome_of.failure asks (c.in-Err-outcome_of.ensures.failed c.in-Err-outcome_of.failure refl) c.report_failure.ensures.reported)

@@ -27,7 +27,7 @@ returns-clause-right c =
     let found = c.in_ok-network.ensures.network in
     let good = c.requires.good_options in
     let is = c.in_ok-text.ensures.text in (
-      text_is_right bytes text found.file network c.args.options found.accepted found.network_is good c.args.method is,
+      text_is_right bytes text found.file network c.args.options found.accepted found.network_is good c.args.method c.in_ok-text.ensures.names is,
       has_signs c.args.method bytes text network c.args.options (text_network bytes network c.requires.within found) good is,
     )
 
