@@ -5,7 +5,8 @@
 
 Each device has to be a part of one of these, or the deck is refused: a domino cell (a device that charges `d` while a clock is 0,
 a keeper or, in a deck without keepers, one more such device at each inner net, a pull-down between `d` and a foot that is on while the
-same clock is 1, which comes apart in series and in parallel), an inverter, a clocked inverter of a latch, the reset of a latch. What
+same clock is 1, which comes apart in series and in parallel), an inverter, a Nand of two dynamic nets (a compound cell's output, or a sink
+of it), a clocked inverter of a latch, the reset of a latch. What
 gates a pull-down has to be a pin, a latch, an inverter of these, or the output of a cell of the same or an earlier clock. A series of two
 devices becomes an And, two devices side by side an Or, both as tables of their own, so that the text grows with the deck. It takes decks
 as `domsyn` writes them.
@@ -130,6 +131,22 @@ class Circuit:
                 sys.exit("no keeper: " + dynamic)
             self.table("0 1", self.pull_down(dynamic, clock), dynamic)
 
+    def static_gate(self, net):
+        """Takes the inverter, or the Nand of two nets, that drives `net`."""
+        gates = [self.devices[p][1] for p in self.at[net] if p in self.left and self.devices[p][0] == net
+                 and self.devices[p][2:] == ("vdd", "pch")]
+        if len(gates) != 2:
+            self.inverter(net)
+            return
+        lower = [self.devices[p][2] for p in self.at[net] if p in self.left and self.devices[p][3] == "nch"]
+        if len(lower) != 1 or len(self.at[lower[0]]) != 2:
+            sys.exit("no static gate: " + net)
+        for gate in gates:
+            self.take(net, gate, "vdd", "pch")
+        self.take(net, gates[0], lower[0], "nch")
+        self.take(lower[0], gates[1], "vss", "nch")
+        self.table("0- 1\n-0 1", *gates, net)
+
     def inverter(self, net):
         gate = self.take(net, None, "vdd", "pch")
         self.take(net, gate, "vss", "nch")
@@ -170,7 +187,7 @@ class Circuit:
         self.cells()
         for place, (drain, _, _, model) in enumerate(self.devices):
             if place in self.left and model == "pch":
-                self.inverter(drain)
+                self.static_gate(drain)
         if self.left:
             sys.exit("left over: " + " ".join(self.devices[min(self.left)]))
         pins = [port for port in self.ports if port.startswith("i_")]

@@ -6,8 +6,8 @@
 #
 # DOMSYN is the program, by default where `cd crates/domsyn_cli && rt run -- synth data/and2.blif` leaves it. CYCLES is how
 # many cycles of random bits each design runs, by default 100; decks of more than 5,000 devices run fewer. DESIGN is a file of
-# bench/designs without its ending; with none there are all of them. STYLE may name the style of the cells, by default `keeper`. It
-# needs yosys, berkeley-abc, iverilog, ngspice, python3 and GNU time. Each design has a line of the table; what isn't as it should be has
+# bench/designs without its ending; with none there are all of them. STYLE may name the style of the cells, by default `keeper`, and
+# METHOD a further option of `synth`, such as `--compound`. It needs yosys, berkeley-abc, iverilog, ngspice, python3 and GNU time. Each design has a line of the table; what isn't as it should be has
 # a line on standard error, and then the status is 1.
 set -eu
 here=$(CDPATH='' cd -- "$(dirname -- "$0")" && pwd)
@@ -18,6 +18,7 @@ need iverilog
 need ngspice
 cycles=${2:-100}
 style=${STYLE:-keeper}
+method=${METHOD:-}
 bad=0
 # What runs in ngspice: decks of at most so many devices.
 small=230
@@ -95,7 +96,7 @@ verilog_run() {
 # deck_run OPTION..: the deck of these options by ABC, by switches in Icarus Verilog, and by `cosim`.
 deck_run() {
     deck=$folder/deck.sp
-    "$domsyn" synth "$folder/yosys.blif" --style "$style" "$@" >"$deck"
+    "$domsyn" synth "$folder/yosys.blif" --style "$style" ${method:+"$method"} "$@" >"$deck"
     python3 "$here/deck_to_blif.py" "$deck" >"$folder/deck.blif" || fault "deck_to_blif $*"
     ! equal "$folder/yosys.blif" "$folder/deck.blif" || equal_decks=$((equal_decks + 1))
     "$domsyn" cosim "$folder/yosys.blif" "$deck" "$folder/stim" --order seed --seed 7 >"$folder/said" ||
@@ -130,9 +131,9 @@ one() {
     ! grep -q 'edge clk' "$source" || way=dsec
     cuts=0
     flats
-    "$domsyn" synth "$folder/yosys.blif" --style "$style" >"$folder/first.sp"
+    "$domsyn" synth "$folder/yosys.blif" --style "$style" ${method:+"$method"} >"$folder/first.sp"
     : >"$folder/times"
-    often "$folder/times" 10 "$domsyn" synth "$folder/yosys.blif" --style "$style" >"$folder/shown"
+    often "$folder/times" 10 "$domsyn" synth "$folder/yosys.blif" --style "$style" ${method:+"$method"} >"$folder/shown"
     # shellcheck disable=SC2046
     set -- $(texts counts "$folder/yosys.blif" "$folder/yosys.flat" "$folder/first.sp")
     devices=$6 number=$cycles
