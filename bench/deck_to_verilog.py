@@ -5,7 +5,8 @@
 
 Each device is a switch primitive without delay. Where one end of it is a source of the circuit, the value goes to the
 other end alone: `nmos`, `pmos`, and `rpmos` for `pkeep`, which loses strength. Else it is `tranif1`, `tranif0` or
-`rtranif0`. A net that isn't the output of an inverter keeps its value by a register that follows it and drives it with
+`rtranif0`; in the Nand of a compound cell it is an `nmos` towards the output, since Icarus settles a `tranif` later than what is beside it.
+A net that isn't the output of an inverter or such a Nand keeps its value by a register that follows it and drives it with
 weak strength, since Icarus has no `trireg`. With `lean` only those of these nets do that gate a device or are outputs;
 the inner nets of a tree then lose their value where the model keeps it. The initial block has the moves of
 power and of the cycles, one time unit for each going to rest, and writes a line `cycle C in PINS out OUTS` for each cycle.
@@ -54,16 +55,36 @@ def inverter_outputs(devices):
             and {cell[1:] for cell in there} == {("vdd", "pch"), ("vss", "nch")}}
 
 
+def nand_nets(devices):
+    """Of each static Nand of a compound cell the net inside it, with its output: there end a `pch` to `vdd` for each of two gates, and an
+    `nch` of one of them to the net inside, from which an `nch` of the other one leads to `vss`."""
+    ends = defaultdict(list)
+    for device in devices:
+        ends[device[0]].append(device)
+        ends[device[2]].append(device)
+    found = {}
+    for out, there in ends.items():
+        gates = [gate for drain, gate, source, model in there if (drain, source, model) == (out, "vdd", "pch")]
+        lower = [device for device in there if device[0] == out and device[3] == "nch"]
+        if len(there) == 3 and len(gates) == 2 and len(lower) == 1 and lower[0][1] in gates:
+            inner, other = lower[0][2], gates[lower[0][1] == gates[0]]
+            if len(ends[inner]) == 2 and (inner, other, "vss", "nch") in ends[inner]:
+                found[inner] = out
+    return found
+
+
 def name(net):
     """A net's name in Verilog: an escaped one, with the blank that ends it."""
     return "\\" + net + " "
 
 
-def switch(place, device, sources):
+def switch(place, device, sources, nands):
     drain, gate, source, model = device
     if drain in sources and source in sources:
         return
-    if drain in sources or source in sources:
+    if nands.get(source) == drain:
+        yield f"  nmos M{place}({name(drain)}, {name(source)}, {name(gate)});\n"
+    elif drain in sources or source in sources:
         kind = {"nch": "nmos", "pch": "pmos", "pkeep": "rpmos"}[model]
         near, far = (source, drain) if source in sources else (drain, source)
         yield f"  {kind} M{place}({name(far)}, {name(near)}, {name(gate)});\n"
@@ -112,7 +133,8 @@ def model(ports, devices, cycles, lean):
     outs = [port for port in ports if port.startswith("o_")]
     nets = dict.fromkeys(net for device in devices for net in device[:3] if net not in sources)
     nets.update(dict.fromkeys(outs))
-    steady = inverter_outputs(devices)
+    nands = nand_nets(devices)
+    steady = inverter_outputs(devices) | {*nands, *nands.values()}
     if lean:
         steady |= set(nets) - {device[1] for device in devices} - set(outs)
     yield "module deck;\n  supply1 vdd;\n  supply0 vss;\n  reg lm, lmb, ls, lsb, rs, rsb;\n  integer c;\n"
@@ -120,7 +142,7 @@ def model(ports, devices, cycles, lean):
     yield "".join(f"  wire {name(net)};\n" for net in nets)
     yield f"  reg [{max(len(pins), 1) - 1}:0] stimulus [0:{max(len(cycles), 1) - 1}];\n"
     for place, device in enumerate(devices):
-        yield from switch(place, device, sources)
+        yield from switch(place, device, sources, nands)
     yield "".join(keeper(place, net) for place, net in enumerate(nets) if net not in steady)
     if pins:
         yield "  initial begin\n"

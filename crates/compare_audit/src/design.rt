@@ -1,0 +1,224 @@
+//! Circuits as the plain audit has them: ports, names of nets, and devices between nets by their numbers.
+use comparison::Trouble;
+use dom_base::Kind;
+use plain_texts::{
+    DeckReading, PlainDeck, PlainDevice, PlainRoles, find_roles, read_deck, write_deck,
+};
+use std::alloc::{AllocError, Global};
+
+/// The number of `vdd`.
+pub const VDD: usize = 0;
+
+/// The number of `vss`.
+pub const VSS: usize = 1;
+
+/// How many ports are clocks, pins and outputs.
+#[derive(Clone, Copy)]
+pub struct Ports {
+    pub clocks: usize,
+    pub pins: usize,
+    pub outs: usize,
+}
+
+/// A device of a kind between the nets of these numbers.
+#[derive(Clone, Copy, PartialEq, Eq)]
+pub struct Card {
+    pub kind: Kind,
+    pub drain: usize,
+    pub gate: usize,
+    pub source: usize,
+}
+
+/// A circuit. The names of the ports stand first.
+#[derive(Drop)]
+pub struct Design {
+    pub ports: Ports,
+    pub names: Vec<Vec<u8>>,
+    pub cards: Vec<Card>,
+}
+
+impl Ports {
+    /// The number of `lm`. `lmb`, `ls`, `lsb`, `rs` and `rsb` follow.
+    pub fn first_control(self) -> usize {
+        self.clocks.saturating_add(2)
+    }
+
+    pub fn first_pin(self) -> usize {
+        self.clocks.saturating_add(8)
+    }
+
+    /// How many nets are sources: the ports before the outputs.
+    pub fn sources(self) -> usize {
+        self.first_pin().saturating_add(self.pins)
+    }
+
+    /// How many ports there are.
+    pub fn count(self) -> usize {
+        self.sources().saturating_add(self.outs)
+    }
+
+    pub fn is_source(self, net: usize) -> bool {
+        net < self.sources()
+    }
+
+    pub fn is_port(self, net: usize) -> bool {
+        net < self.count()
+    }
+
+    pub fn is_pin(self, net: usize) -> bool {
+        net >= self.first_pin() && net < self.sources()
+    }
+
+    pub fn is_out(self, net: usize) -> bool {
+        net >= self.sources() && net < self.count()
+    }
+
+    pub fn is_clock(self, net: usize) -> bool {
+        net >= 2 && net < self.first_control()
+    }
+
+    pub fn is_control(self, net: usize) -> bool {
+        net >= self.first_control() && net < self.first_pin()
+    }
+}
+
+impl Card {
+    /// Whether a net is one of its ends.
+    pub fn ends_at(self, net: usize) -> bool {
+        self.drain == net || self.source == net
+    }
+
+    /// Whether its ends are these two.
+    pub fn joins(self, one: usize, other: usize) -> bool {
+        (self.drain == one && self.source == other) || (self.drain == other && self.source == one)
+    }
+
+    /// Its end that isn't this net.
+    pub fn far(self, net: usize) -> usize {
+        if self.drain == net {
+            self.source
+        } else {
+            self.drain
+        }
+    }
+
+    /// Whether it is between the two nets, of this kind and with this gate.
+    pub fn is(self, kind: Kind, gate: usize, one: usize, other: usize) -> bool {
+        self.kind == kind && self.gate == gate && self.joins(one, other)
+    }
+}
+
+impl Design {
+    /// What a deck says, where its ports have roles.
+    pub fn read(alloc: Global, text: &[u8]) -> Result<Design, Trouble> {
+        let DeckReading::Deck(deck) = read_deck(alloc, text)? else {
+            return Err(Trouble::Refused);
+        };
+        let PlainDeck {
+            ports,
+            nets,
+            devices,
+            ..
+        } = deck;
+        let PlainRoles::Roles(clocks, pins, outs) = find_roles(
+            alloc,
+            nets.get(..ports).unwrap_or(&[]),
+        )?
+        else {
+            return Err(Trouble::Refused);
+        };
+        let mut cards = Vec::new(alloc);
+        for device in devices.iter() {
+            cards.push(Card {
+                kind: device.kind,
+                drain: device.drain,
+                gate: device.gate,
+                source: device.source,
+            })?;
+        }
+        Ok(Design {
+            ports: Ports { clocks, pins, outs },
+            names: nets,
+            cards,
+        })
+    }
+
+    /// The same circuit.
+    pub fn copied(&self, alloc: Global) -> Result<Design, AllocError> {
+        let mut names = Vec::new(alloc);
+        for name in self.names.iter() {
+            names.push(name.to_vec(alloc)?)?;
+        }
+        Ok(Design {
+            ports: self.ports,
+            names,
+            cards: self.cards.to_vec(alloc)?,
+        })
+    }
+
+    /// The circuit whose nets behind the ports are those of the devices alone, in order of first appearance.
+    pub fn numbered(&self, alloc: Global) -> Result<Design, AllocError> {
+        let mut olds = Vec::new(alloc);
+        for port in 0..self.ports.count() {
+            olds.push(port)?;
+        }
+        let mut cards = Vec::new(alloc);
+        for card in self.cards.iter() {
+            cards.push(Card {
+                kind: card.kind,
+                drain: number_of(&mut olds, card.drain)?,
+                gate: number_of(&mut olds, card.gate)?,
+                source: number_of(&mut olds, card.source)?,
+            })?;
+        }
+        let mut names = Vec::new(alloc);
+        for old in olds.iter() {
+            let name = self
+                .names
+                .get(*old)
+                .map_or(b"".as_slice(), |name| name.as_slice());
+            names.push(Vec::from_slice(alloc, name)?)?;
+        }
+        Ok(Design {
+            ports: self.ports,
+            names,
+            cards,
+        })
+    }
+
+    /// The text of its deck.
+    pub fn text(&self, alloc: Global) -> Result<Vec<u8>, Trouble> {
+        let mut devices = Vec::new(alloc);
+        for card in self.cards.iter() {
+            devices.push(PlainDevice {
+                kind: card.kind,
+                drain: card.drain,
+                gate: card.gate,
+                source: card.source,
+            })?;
+        }
+        let mut nets = Vec::new(alloc);
+        for name in self.names.iter() {
+            nets.push(name.to_vec(alloc)?)?;
+        }
+        let deck = PlainDeck {
+            name: Vec::from_slice(alloc, b"t")?,
+            phases: Vec::new(alloc),
+            ports: self.ports.count(),
+            nets,
+            devices,
+        };
+        Ok(write_deck(alloc, &deck)?)
+    }
+}
+
+/// The place of a net in a list, to which it is added where it is new.
+fn number_of(nets: &mut Vec<usize>, net: usize) -> Result<usize, AllocError> {
+    match nets.iter().position(|other| *other == net) {
+        Some(place) => Ok(place),
+        None => {
+            nets.push(net)?;
+            Ok(nets.len().saturating_sub(1))
+        }
+    }
+}
