@@ -1,5 +1,5 @@
 -- What a step finds: pending nets, rest, and facts moved along equal simulations.
-use Rattle.std.proofs.Common.{◌≡◌, ℕ, zero, suc, ◌<◌, ◌≤◌, false, nat_lt, List, [], ◌∷◌, length, get_or, set, Some, refl, sym, ap, ◌∙◌, subst, arith}
+use Rattle.std.proofs.Common.{◌≡◌, ℕ, zero, suc, ◌<◌, ◌≤◌, false, nat_lt, List, [], ◌∷◌, length, length-set, get_or, set, Some, refl, sym, ap, ◌∙◌, subst, arith}
 use Rattle.std.specs.List.{slice_get}
 use Rattle.std.proofs.lemmas.Bool.Decides.{nat_tests}
 use Rattle.dom_base.proofs.Lists.{Contains-slice_get}
@@ -8,7 +8,9 @@ use Rattle.deck.specs.Switches.{value_of}
 use Rattle.switch_model.proofs.Targets.{target_unique}
 use Rattle.switch_model.specs.LinksData.{LinksData, is_first}
 use Rattle.switch_model.specs.Targets.{EventAt}
-use Rattle.switch_model.specs.Pending.{ArePending, IsPendingNet, Targets}
+use Rattle.switch_model.specs.Pending.{AreKeptTargets, ArePending, IsPendingNet, Targets}
+use Rattle.pending_nets.specs.PendingData.{PendingData}
+use Rattle.event_sim.specs.Inside.{IsSim}
 use Rattle.event_sim.specs.Pending.{IsResting}
 use Rattle.event_sim.specs.SimData.{SimData}
 
@@ -34,10 +36,6 @@ pub pending_at : (links : LinksData) (values : List Tri) (nets : List ℕ) (plac
     → ArePending links values nets → slice_get nets place ≡ Some net → IsPendingNet links values net
 pending_at links values nets place net pending is = (pending.exact net).0 (Contains-slice_get nets place net is)
 
--- a pending net is no source
-pub pending_is_free : (links : LinksData) (values : List Tri) (net : ℕ) → IsPendingNet links values net → links.sources ≤ net
-pending_is_free links values net at = let e : nat_lt net links.sources ≡ false = at.1.1.0 in grind (arith, nat_tests)
-
 -- a net that is no source and differs from its target
 pub pending_where_differs : (links : LinksData) (values : List Tri) (net : ℕ) (target : Tri) → net < length values → links.sources ≤ net
     → Targets links values net target → (value_of values net ≡ target → ⊥) → IsPendingNet links values net
@@ -52,6 +50,21 @@ differs_where_pending links values net target is at e =
 
 pub pending_moved : {k l : LinksData} {v w : List Tri} {nets : List ℕ} → k ≡ l → v ≡ w → ArePending k v nets → ArePending l w nets
 pending_moved {k} {l} {v} {w} {nets} e f h = subst (λ (x : List Tri). ArePending l x nets) f (subst (λ (x : LinksData). ArePending x v nets) e h)
+
+pub kept_moved : {k l : LinksData} {v w : List Tri} (targets : List Tri) → k ≡ l → v ≡ w → AreKeptTargets k v targets → AreKeptTargets l w targets
+kept_moved {k} {l} {v} {w} targets e f h = subst (λ (x : List Tri). AreKeptTargets l x targets) f (subst (λ (x : LinksData). AreKeptTargets x v targets) e h)
+
+-- a simulation after one net has changed
+pub sim_after : {k l : LinksData} {v w : List Tri} {p q : PendingData} (net : ℕ) (t : Tri) → l ≡ k → w ≡ set v net t → q.nets ≡ p.nets
+    → ArePending k w q.listed → AreKeptTargets k w q.targets → IsSim k v p → IsSim l (set v net t) q
+sim_after {k} {l} {v} {w} {p} {q} net t e f nets right targets is = record {
+  within = omega (arith, is.within, ap (λ (x : LinksData). x.sources) e, ap (λ (x : LinksData). x.nets) e);
+  whole = length-set v net t ∙ is.whole ∙ ap (λ (x : LinksData). x.nets) (sym e);
+  few = omega (arith, is.few, ap (λ (x : LinksData). x.nets) e);
+  nets = nets ∙ is.nets ∙ ap (λ (x : LinksData). x.nets) (sym e);
+  right = pending_moved (sym e) f right;
+  targets = kept_moved q.targets (sym e) f targets;
+}
 
 pub resting_moved : {k l : LinksData} {v w : List Tri} → k ≡ l → v ≡ w → IsResting k v → IsResting l w
 resting_moved {k} {l} {v} {w} e f h = subst (λ (x : List Tri). IsResting l x) f (subst (λ (x : LinksData). IsResting x v) e h)

@@ -195,9 +195,7 @@ impl<F: Fn(u64, u64) -> u64> Sim<F> {
         }
         let place = (self.chooser.pick)(self.step, count);
         let net = self.pending.nth(place);
-        let after = self
-            .links
-            .target_counted(self.values.as_slice(), net, steps);
+        let after = self.pending.target(net);
         let before = self.values[net as usize];
         let event = Event {
             step: self.step,

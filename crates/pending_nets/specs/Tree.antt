@@ -1,5 +1,6 @@
 -- Binary trees of counts.
 use Rattle.std.specs.Prelude.{◌≡◌, ◌≢◌, ◌<◌, ◌≤◌, ◌+◌, ◌*◌, ◌^◌, zero, suc, ℕ, List, [], ◌∷◌, ◌++◌, length, slice_index_or}
+use Rattle.dom_base.specs.declared.tri.Tri.{Tri}
 
 -- the count at a node of a binary tree: node 1 is the top, the nodes below node n are 2n and 2n + 1
 abbrev pub count_at : List ℕ → ℕ → ℕ
@@ -27,11 +28,12 @@ pub record IsOpen (size : ℕ) (gap : ℕ) (counts : List ℕ) : Type 0 where
 abbrev pub IsTree : ℕ → List ℕ → Type 0
 IsTree size counts = IsOpen size 0 counts
 
--- a tree with a leaf for each net
-pub record IsPendingTree (nets size levels : ℕ) (counts : List ℕ) : Type 0 where
+-- a tree with a leaf for each net, and a target of each
+pub record IsPendingTree (nets size levels : ℕ) (counts : List ℕ) (targets : List Tri) : Type 0 where
   pub within : nets ≤ size
   pub small : size ≤ 2 ^ 27
   pub size_is : size ≡ 2 ^ levels
   pub tree : IsTree size counts
   -- leaves without a net count nothing
   pub empty : (n : ℕ) → nets ≤ n → count_at counts (size + n) ≡ 0
+  pub long : length targets ≡ nets

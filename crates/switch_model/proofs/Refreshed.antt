@@ -1,5 +1,5 @@
--- The pending nets after the components that a changed net touches are refreshed.
-use Rattle.std.proofs.Common.{◌≡◌, ℕ, ◌<◌, ◌≤◌, Bool, true, false, List, ◌⊎◌, length, set, refl, sym, subst, inl, inr, arith}
+-- The pending nets and the targets after the components that a changed net touches are refreshed.
+use Rattle.std.proofs.Common.{◌≡◌, ◌≢◌, ℕ, ◌<◌, ◌≤◌, Bool, true, false, List, ◌⊎◌, length, set, refl, sym, subst, inl, inr, arith}
 use Rattle.std.specs.Prelude.{◌↔◌, All, Contains}
 use Rattle.std.proofs.lemmas.List.{get_or-set_other}
 use Rattle.dom_base.specs.Decided.{Decided}
@@ -7,13 +7,14 @@ use Rattle.dom_base.proofs.Decided.{dec_any, dec_map, dec_nat, lt_or_ge}
 use Rattle.dom_base.specs.declared.tri.Tri.{Tri}
 use Rattle.dom_base.specs.declared.tri.Tri.TheVariants.{Unknown}
 use Rattle.deck.specs.Nets.{IsInRange}
+use Rattle.deck.specs.Switches.{value_of}
 use Rattle.switch_model.specs.ComponentLists.{AreComponentLists, list_at, number_in}
 use Rattle.switch_model.specs.LinksData.{LinksData, is_first}
 use Rattle.switch_model.specs.Locality.{DifferAt}
-use Rattle.switch_model.specs.Pending.{ArePending, IsPendingNet}
-use Rattle.switch_model.specs.Targets.{IsPending}
+use Rattle.switch_model.specs.Pending.{AreKeptTargets, ArePending, IsPendingNet, Targets}
+use Rattle.switch_model.specs.Targets.{IsPending, IsTarget}
 use Rattle.switch_model.specs.declared.components.Components.{Components}
-use Rattle.switch_model.proofs.Locality.{pending-kept}
+use Rattle.switch_model.proofs.Locality.{pending-kept, target-kept}
 use Rattle.switch_model.proofs.Searches.{clash}
 use Rattle.switch_model.proofs.Touching.{own-number, touches-number}
 
@@ -100,3 +101,28 @@ module _ (links : LinksData) (c : Components) (h : AreComponentLists links.devic
       )
       by lt false f =
           inside links c h range values whole numbers before after here others n lt f (every (number_in c n) (omega (arith, h.numbering.low n, lt)))
+
+-- the targets that are kept, after the components that a changed net touches are refreshed
+module _ (links : LinksData) (c : Components) (h : AreComponentLists links.devices (is_first links.sources) links.nets c) (range : All (IsInRange links.nets) links.devices) (values : List Tri)
+    (numbers : List ℕ) (old new : List Tri)
+    (here : (n k : ℕ) → Contains numbers k → Contains (list_at c.nets k) n → IsTarget links.devices (is_first links.sources) values n (value_of new n)) where
+  inside_targets : (n : ℕ) → n < links.nets → is_first links.sources n ≡ false → Contains numbers (number_in c n) → Targets links values n (value_of new n)
+  inside_targets n lt f m = here n (number_in c n) m ((h.nets_are (number_in c n) n).1 (lt, f, refl))
+
+  -- where all components are refreshed
+  pub all_targets : ((k : ℕ) → k < links.nets → Contains numbers k) → AreKeptTargets links values new
+  all_targets every n lt f = inside_targets n lt f (every (number_in c n) (omega (arith, h.numbering.low n, lt)))
+
+  pub refreshed_targets : (x : ℕ) → x < links.nets → (before : Tri) → numbers ≡ list_at c.touched x
+      → ((n : ℕ) → ((k : ℕ) → Contains numbers k → Contains (list_at c.nets k) n → ⊥) → value_of new n ≡ value_of old n)
+      → AreKeptTargets links (set values x before) old → AreKeptTargets links values new
+  refreshed_targets x few before are others right n lt f = elim (dec_contains numbers (number_in c n)) [
+    | inl m ↦ inside_targets n lt f m
+    | inr none ↦
+        let apart : Contains (list_at c.touched x) (number_in c n) → ⊥ = λ m. none (subst (λ l. Contains l (number_in c n)) (sym are) m) in
+        let same = others n (λ k m inner. none (subst (Contains numbers) (sym ((h.nets_are k n).0 inner).2) m)) in
+        let own : n ≢ x = λ e. apart (subst (λ m. Contains (list_at c.touched x) (number_in c m)) (sym e) (own-number links.devices (is_first links.sources) links.nets c h range x few (subst (λ m. is_first links.sources m ≡ false) e f))) in
+        subst (Targets links values n) (sym same)
+        ((target-kept links.devices (is_first links.sources) x (set values x before) values n (differ values x before) own
+        (λ t. apart (touches-number links.devices (is_first links.sources) links.nets c h range x n lt f t)) (value_of old n)).0 (right n lt f))
+  ]

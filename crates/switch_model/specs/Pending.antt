@@ -1,7 +1,8 @@
--- The nets that differ from their targets.
-use Rattle.std.specs.Prelude.{ℕ, ◌<◌, ◌↔◌, List, length, Contains}
+-- The nets that differ from their targets, and the targets of all nets.
+use Rattle.std.specs.Prelude.{◌≡◌, ℕ, ◌<◌, ◌↔◌, false, List, length, Contains}
 use Rattle.std.specs.List.Sorted.{IsStrictlyIncreasing}
 use Rattle.dom_base.specs.declared.tri.Tri.{Tri}
+use Rattle.deck.specs.Switches.{value_of}
 use Rattle.switch_model.specs.LinksData.{LinksData, is_first}
 use Rattle.switch_model.specs.Targets.{IsPending, IsTarget}
 
@@ -18,3 +19,8 @@ IsPendingNet links values net =
 pub record ArePending (links : LinksData) (values : List Tri) (nets : List ℕ) : Type 0 where
   pub rising : IsStrictlyIncreasing nets
   pub exact : (net : ℕ) → Contains nets net ↔ IsPendingNet links values net
+
+-- one target per net: at each net that is no source it is the one that the values give
+abbrev pub AreKeptTargets : LinksData → List Tri → List Tri → Type 0
+AreKeptTargets links values targets =
+    (net : ℕ) → net < links.nets → is_first links.sources net ≡ false → Targets links values net (value_of targets net)

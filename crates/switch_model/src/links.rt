@@ -3,7 +3,7 @@ ghost use Rattle.std.specs.Prelude.{◌≡◌, ◌+◌, ◌*◌, ◌<◌, ◌≤
 ghost use Rattle.deck.specs.Roles.{AreRoles, ports_of};
 ghost use Rattle.switch_model.specs.Components.{AreTouched};
 ghost use Rattle.switch_model.specs.LinksData.{is_first, links_of};
-ghost use Rattle.switch_model.specs.Pending.{ArePending};
+ghost use Rattle.switch_model.specs.Pending.{AreKeptTargets, ArePending};
 ghost use Rattle.switch_model.specs.Targets.{IsAtRest, IsTarget};
 
 use crate::components::{Components, alone};
@@ -140,11 +140,12 @@ impl Links {
         true
     }
 
-    /// The pending nets at one value per net. The one error is out of memory.
+    /// The pending nets at one value per net, and the targets of all nets. The one error is out of memory.
     pub fn pending(&mut self, values: &[Tri]) -> Result<Pending, OutOfMemory>
         requires { length values.now ≡ self.old.nets }
         ensures nets { IfOk result (λ pending. pending.nets ≡ self.old.nets) }
         ensures right { IfOk result (λ pending. ArePending self.old values.now pending.listed) }
+        ensures targets { IfOk result (λ pending. AreKeptTargets self.old values.now pending.targets) }
         ensures same { self.new ≡ self.old }
     {
         self.pending_uncounted::<Brand>(values, Blank::new(1))
@@ -161,6 +162,7 @@ impl Links {
         requires some { 0 < L.parts }
         ensures nets { IfOk result (λ pending. pending.nets ≡ self.old.nets) }
         ensures right { IfOk result (λ pending. ArePending self.old values.now pending.listed) }
+        ensures targets { IfOk result (λ pending. AreKeptTargets self.old values.now pending.targets) }
         ensures same { self.new ≡ self.old }
     {
         let alloc = *self.components.parents.allocator();
@@ -182,9 +184,9 @@ impl Links {
     }
 
     /// Puts the pending nets right where one net has changed from `before`: they were right for the
-    /// values with `before` at the net, and are right for the values. At most 64 steps, and 64 more
-    /// for each device of the components that the net touches. Takes no memory, and leaves the links
-    /// as they were.
+    /// values with `before` at the net, and are right for the values, and so are the kept targets. At
+    /// most 64 steps, and 64 more for each device of the components that the net touches. Takes no
+    /// memory, and leaves the links as they were.
     pub fn refresh<L: Ledger>(
         &mut self,
         pending: &mut Pending,
@@ -198,6 +200,8 @@ impl Links {
         requires nets { pending.old.nets ≡ self.old.nets }
         requires right { ArePending self.old (slice_set values.now net before) pending.old.listed }
         ensures right { ArePending self.old values.now pending.new.listed }
+        ensures targets { AreKeptTargets self.old (slice_set values.now net before) pending.old.targets
+            → AreKeptTargets self.old values.now pending.new.targets }
         ensures nets { pending.new.nets ≡ pending.old.nets }
         ensures same { self.new ≡ self.old }
         ensures cost { (places : List ℕ) × AreTouched self.old.devices (is_first self.old.sources) net places

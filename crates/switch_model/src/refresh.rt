@@ -1,12 +1,13 @@
-//! The pending nets of one component, found anew.
+//! The pending nets of one component, and the targets of its nets, found anew.
 ghost use Rattle.std.specs.Prelude.{◌≡◌, ◌≢◌, true, ◌<◌, ◌≤◌, ◌+◌, ◌*◌, ◌↔◌, ℕ, All, Contains, length};
 ghost use Rattle.std.specs.List.{sum_by};
 ghost use Rattle.std.specs.List.Sorted.{IsStrictlyIncreasing};
 ghost use Rattle.dom_base.specs.declared.tri.Tri.{Tri as TriData};
 ghost use Rattle.switch_model.specs.ComponentLists.{AreComponentLists, list_at};
 ghost use Rattle.switch_model.specs.LinksData.{is_first};
-ghost use Rattle.switch_model.specs.Targets.{IsPending};
+ghost use Rattle.switch_model.specs.Targets.{IsPending, IsTarget};
 ghost use Rattle.deck.specs.Nets.{IsInRange};
+ghost use Rattle.deck.specs.Switches.{value_of};
 ghost use Rattle.switch_model.specs.Components.{IsClosedPart};
 ghost use Rattle.switch_model.specs.Sweeps.{AreRooms};
 
@@ -17,8 +18,8 @@ use dom_base::Tri;
 use pending_nets::Pending;
 use std::sync::ledger::Ledger;
 
-/// Puts those nets of a component into the set that are pending and takes the others out, in nine
-/// steps a device at most. Takes no memory.
+/// Keeps the targets of the nets of a component, and puts those nets into the set that are pending
+/// and takes the others out, in nine steps a device at most. Takes no memory.
 pub fn refresh_component<L: Ledger>(
     wires: &Wires,
     nets: &[u32],
@@ -41,11 +42,15 @@ pub fn refresh_component<L: Ledger>(
     ensures here { (net : ℕ) → Contains nets.now net
         → Contains pending.new.listed net ↔ ((v : TriData) × IsPending wires.now (is_first sources) values.now net v) }
     ensures others { (net : ℕ) → (Contains nets.now net → ⊥) → Contains pending.new.listed net ↔ Contains pending.old.listed net }
+    ensures targets { (net : ℕ) → Contains nets.now net
+        → IsTarget wires.now (is_first sources) values.now net (value_of pending.new.targets net) }
+    ensures kept { (net : ℕ) → (Contains nets.now net → ⊥) → value_of pending.new.targets net ≡ value_of pending.old.targets net }
     ensures cost { steps.new ≤ steps.old + 9 * length places.now }
 {
     let survey = find_targets(wires, nets, places, sources, values, rooms, steps);
     for net in nets {
         let target = rooms.target(survey, values, *net);
+        pending.set_target(*net, target);
         pending.set(*net, differ(target, values[*net as usize]));
     }
 }
@@ -73,6 +78,10 @@ pub fn refresh_all<L: Ledger>(
         → Contains pending.new.listed net ↔ ((v : TriData) × IsPending wires.now (is_first sources) values.now net v) }
     ensures others { (net : ℕ) → ((number : ℕ) → Contains numbers.now number → Contains (list_at components.now.nets number) net → ⊥)
         → Contains pending.new.listed net ↔ Contains pending.old.listed net }
+    ensures targets { (net number : ℕ) → Contains numbers.now number → Contains (list_at components.now.nets number) net
+        → IsTarget wires.now (is_first sources) values.now net (value_of pending.new.targets net) }
+    ensures kept { (net : ℕ) → ((number : ℕ) → Contains numbers.now number → Contains (list_at components.now.nets number) net → ⊥)
+        → value_of pending.new.targets net ≡ value_of pending.old.targets net }
     ensures cost { steps.new ≤ steps.old + 9 * sum_by (λ number. length (list_at components.now.places number)) numbers.now }
 {
     for number in numbers {

@@ -1,5 +1,5 @@
 //! What four sorts of paths and the charge say of the nets of a component.
-ghost use Rattle.std.specs.Prelude.{◌≡◌, ◌<◌, ◌+◌, ◌*◌, ◌≤◌, ℕ, true, All, Contains, IfOk, length};
+ghost use Rattle.std.specs.Prelude.{◌≡◌, ◌<◌, ◌+◌, ◌*◌, ◌≤◌, ℕ, true, All, Contains, IfOk, if◌then◌else◌, length};
 ghost use Rattle.switch_model.specs.LinksData.{is_first};
 ghost use Rattle.switch_model.specs.SourceDrives.{IsDrive};
 ghost use Rattle.deck.specs.Nets.{IsInRange};
@@ -8,7 +8,7 @@ ghost use Rattle.switch_model.specs.Components.{IsClosedPart};
 ghost use Rattle.switch_model.specs.Drives.{IsEndOf, IsClass, target_by};
 ghost use Rattle.switch_model.specs.Joins.{IsJoinForest, top_of};
 ghost use Rattle.switch_model.specs.Targets.{IsTarget};
-ghost use Rattle.switch_model.specs.Sweeps.{AreRooms, IsRoom, drive_by, drive_in, has_one_value, target_in};
+ghost use Rattle.switch_model.specs.Sweeps.{AreRooms, IsRoom, drive_in, has_one_value, target_in};
 ghost use Rattle.switch_model.specs.Walks.{drive_at};
 
 use crate::class::{classes, undrive};
@@ -248,30 +248,31 @@ impl Rooms {
         ensures { result ≡ target_in survey self.now values.now net }
     {
         let above = top(self.possible.parents.as_slice(), net);
+        let possible = self.possible.drives[above as usize];
+        let definite = drive_where(survey.unknown, &self.definite, net, possible);
+        let strong_possible = drive_where(survey.keepers, &self.strong_possible, net, possible);
+        let strong = if survey.unknown {
+            definite
+        } else {
+            strong_possible
+        };
         target_from(
-            self.drive(survey, STRONG_DEFINITE, net),
-            self.drive(survey, STRONG_POSSIBLE, net),
-            self.drive(survey, DEFINITE, net),
-            self.drive(survey, POSSIBLE, net),
+            drive_where(survey.both(), &self.strong_definite, net, strong),
+            strong_possible,
+            definite,
+            possible,
             has_one_value(self.charge[above as usize]),
             values[net as usize],
         )
     }
+}
 
-    /// The drive of a net by a sort of paths.
-    fn drive(&self, survey: Survey, sort: Sort, net: u32) -> Drive
-        requires { (n : ℕ) × AreRooms n self.now × (net < n) }
-        ensures { result ≡ drive_by survey self.now sort.definite sort.keepers net }
-    {
-        let definite = sort.definite && survey.unknown;
-        let keepers = sort.keepers || !survey.keepers;
-        match (definite, keepers) {
-            (true, false) => self.strong_definite.drive(net),
-            (false, false) => self.strong_possible.drive(net),
-            (true, true) => self.definite.drive(net),
-            (false, true) => self.possible.drive(net),
-        }
-    }
+/// The drive of the class of a net, where it is needed, else another.
+fn drive_where(needed: bool, room: &Room, net: u32, other: Drive) -> Drive
+    requires room { (n : ℕ) × IsRoom n room.now × (net < n) }
+    ensures { result ≡ (if needed then drive_in room.now net else other) }
+{
+    if needed { room.drive(net) } else { other }
 }
 
 /// No drive at each of so many tops.

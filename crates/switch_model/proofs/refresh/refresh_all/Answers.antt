@@ -8,6 +8,7 @@ use Rattle.dom_base.proofs.Decided.{dec_nat}
 use Rattle.switch_model.specs.ComponentLists.{list_at, number_in}
 use Rattle.switch_model.specs.Components.{IsClosedPart}
 use Rattle.switch_model.specs.LinksData.{is_first}
+use Rattle.switch_model.specs.Targets.{IsTarget}
 use Rattle.switch_model.proofs.ClosedGroups.{group_closed, group_nets, group_places}
 use Rattle.switch_model.proofs.refresh.refresh_all.Goals as goal
 
@@ -63,6 +64,20 @@ loop-number-preserved g c =
           let o = done.others n (λ m. none at (omega arith) (subst (λ (l : List ℕ). Contains l n) c.at.ensures m)) in
           let h = i.others n (λ j below. none j (omega (arith, below))) in
           (λ x. h.0 (o.0 x), λ x. o.1 (h.1 x));
+      targets = λ n j below member.
+          let z = (made.nets_are (get_or c.args.numbers.now j 0) n).0 member in
+          elim (dec_nat (number_in c.args.components.now n) number) [
+            | inl e ↦ done.targets n (subst (λ (l : List ℕ). Contains l n) (sym c.at.ensures) ((made.nets_are number n).1 (z.0, z.1, e)))
+            | inr ne ↦
+                let o = done.kept n (λ m. ne ((made.nets_are number n).0 (subst (λ (l : List ℕ). Contains l n) c.at.ensures m)).2) in
+                elim (dec_nat j at) [
+                  | inl same ↦ absurd (ne (z.2 ∙ ap (λ (k : ℕ). get_or c.args.numbers.now k 0) same))
+                  | inr other ↦ subst (IsTarget c.args.wires.now (is_first c.args.sources) c.args.values.now n) (sym o) (i.targets n j (omega (arith, below, other)) member)
+                ]
+          ];
+      kept = λ n none.
+          done.kept n (λ m. none at (omega arith) (subst (λ (l : List ℕ). Contains l n) c.at.ensures m))
+          ∙ i.kept n (λ j below. none j (omega (arith, below)));
       cost =
           let more : sum_by size (take (at + 1) c.args.numbers.now) ≡ sum_by size (take at c.args.numbers.now) + size number =
           sum_by_more size c.args.numbers.now at 0 c.loop-number-test.true in
@@ -76,6 +91,18 @@ returns-clause-here g c = λ net number member inside.
     let e : get_or numbers member.0 0 ≡ number = get_or_default numbers member.0 0 number member.1 ∙ member.2 in
     c.loop-number.invariant.here net member.0 (omega (arith, member.1, c.loop-number-test.false))
     (subst (λ (k : ℕ). Contains (list_at c.args.components.now.nets k) net) (sym e) inside)
+
+pub returns-clause-targets : goal.returns-clause-targets
+returns-clause-targets g c = λ net number member inside.
+    let numbers = c.args.numbers.now in
+    let e : get_or numbers member.0 0 ≡ number = get_or_default numbers member.0 0 number member.1 ∙ member.2 in
+    c.loop-number.invariant.targets net member.0 (omega (arith, member.1, c.loop-number-test.false))
+    (subst (λ (k : ℕ). Contains (list_at c.args.components.now.nets k) net) (sym e) inside)
+
+pub returns-clause-kept : goal.returns-clause-kept
+returns-clause-kept g c = λ net none.
+    c.loop-number.invariant.kept net (λ j below.
+    none (get_or c.args.numbers.now j 0) (Contains-get_or c.args.numbers.now j 0 (omega (arith, below, c.loop-number.auto.number-index-end))))
 
 pub returns-clause-others : goal.returns-clause-others
 returns-clause-others g c = λ net none.

@@ -1,10 +1,10 @@
-use Rattle.std.proofs.Common.{◌≡◌, List, true, false, length, get_or, set, sym, ap, ◌∙◌, arith, refl}
+use Rattle.std.proofs.Common.{◌≡◌, List, true, false, length, get_or, set, sym, subst, ap, ◌∙◌, arith, refl}
 use Rattle.std.proofs.lemmas.List.{get_or_read}
 use Rattle.dom_base.specs.declared.tri.Tri.{Tri}
 use Rattle.dom_base.specs.declared.tri.Tri.TheVariants.{Unknown}
-use Rattle.switch_model.specs.LinksData.{LinksData}
+use Rattle.switch_model.specs.Pending.{Targets}
 use Rattle.event_sim.proofs.OneSettling.{chosen_is_event}
-use Rattle.event_sim.proofs.StepFacts.{event_moved, links_same, moves_where_some, pending_at, pending_is_free, pending_moved, pick_moved, rests_where_none, set_back, targets_moved, values_same}
+use Rattle.event_sim.proofs.StepFacts.{event_moved, kept_moved, links_same, moves_where_some, pending_at, pending_moved, pick_moved, rests_where_none, set_back, sim_after, targets_moved, values_same}
 use Rattle.event_sim.proofs.sim.Sim.step_counted.Goals as goal
 
 pub returns-then-count-eq0-clause-rest : goal.returns-then-count-eq0-clause-rest
@@ -15,17 +15,11 @@ returns-then-count-eq0-clause-rest g c =
     let none : length nets ≡ 0 = omega (arith, c.count-count.ensures, c.if-count-eq0.true) in
     (λ _. rests_where_none s.links s.values nets pending none, λ _. refl)
 
-pub target_counted-after-requires-clause-within : goal.target_counted-after-requires-clause-within
-target_counted-after-requires-clause-within g c =
+pub target-after-requires : goal.target-after-requires
+target-after-requires g c =
     let w = c.self.inside in
     let at = pending_at w.links w.values.items w.pending.listed c.pick-place.result c.nth-net.result c.self.invariant.right c.nth-net.ensures.net in
-    omega (arith, at.0, c.self.invariant.whole)
-
-pub target_counted-after-requires-clause-free : goal.target_counted-after-requires-clause-free
-target_counted-after-requires-clause-free g c =
-    let w = c.self.inside in
-    pending_is_free w.links w.values.items c.nth-net.result
-    (pending_at w.links w.values.items w.pending.listed c.pick-place.result c.nth-net.result c.self.invariant.right c.nth-net.ensures.net)
+    omega (arith, at.0, c.self.invariant.whole, c.self.invariant.nets)
 
 pub index-before-requires : goal.index-before-requires
 index-before-requires g c =
@@ -43,7 +37,7 @@ pub refresh-requires-clause-within : goal.refresh-requires-clause-within
 refresh-requires-clause-within g c =
     let w = c.self.inside in
     let at = pending_at w.links w.values.items w.pending.listed c.pick-place.result c.nth-net.result c.self.invariant.right c.nth-net.ensures.net in
-    omega (arith, at.0, c.self.invariant.whole, ap (λ (l : LinksData). l.nets) c.target_counted-after.ensures.same)
+    omega (arith, at.0, c.self.invariant.whole)
 
 pub refresh-requires-clause-right : goal.refresh-requires-clause-right
 refresh-requires-clause-right g c =
@@ -53,8 +47,20 @@ refresh-requires-clause-right g c =
     let before = c.index-before.result.now in
     let at = pending_at w.links values w.pending.listed c.pick-place.result net c.self.invariant.right c.nth-net.ensures.net in
     let same : set c.as_slice-values.result.now net before ≡ values =
-    ap (λ (l : List Tri). set l net before) c.as_slice-values.ensures.value ∙ set_back values net c.target_counted-after.result before at.0 c.index-before.ensures in
-    pending_moved (sym c.target_counted-after.ensures.same) (sym same) c.self.invariant.right
+    ap (λ (l : List Tri). set l net before) c.as_slice-values.ensures.value ∙ set_back values net c.target-after.result before at.0 c.index-before.ensures in
+    pending_moved refl (sym same) c.self.invariant.right
+
+pub invariant_of-self : goal.invariant_of-self
+invariant_of-self g c =
+    let w = c.self.inside in
+    let values = w.values.items in
+    let net = c.nth-net.result in
+    let before = c.index-before.result.now in
+    let at = pending_at w.links values w.pending.listed c.pick-place.result net c.self.invariant.right c.nth-net.ensures.net in
+    let same : set c.as_slice-values.result.now net before ≡ values =
+    ap (λ (l : List Tri). set l net before) c.as_slice-values.ensures.value ∙ set_back values net c.target-after.result before at.0 c.index-before.ensures in
+    let targets = c.refresh.ensures.targets (kept_moved w.pending.targets refl (sym same) c.self.invariant.targets) in
+    sim_after net c.target-after.result c.refresh.ensures.same c.as_slice-values.ensures.value c.refresh.ensures.nets c.refresh.ensures.right targets c.self.invariant
 
 pub returns-clause-rest : goal.returns-clause-rest
 returns-clause-rest g c =
@@ -81,10 +87,11 @@ returns-clause-chosen g c =
       net_is = c.nth-net.ensures.net;
       before_is = get_or_read w.values.items net c.index-before.result.now at.0 c.index-before.ensures Unknown
           ∙ ap (λ (v : List Tri). get_or v net Unknown) values;
-      after_is = targets_moved net c.target_counted-after.result links (c.as_slice.ensures.value ∙ values) c.target_counted-after.ensures.target;
+      after_is = targets_moved net c.target-after.result links values
+          (subst (Targets w.links w.values.items net) (sym c.target-after.ensures) (c.self.invariant.targets net (omega (arith, at.0, c.self.invariant.whole)) at.1.1.0));
     }
 
 pub returns-clause-legal : goal.returns-clause-legal
 returns-clause-legal g c =
-    event_moved c.args.self.now.links c.nth-net.result c.args.self.now.values (ap (λ (v : List Tri). set v c.nth-net.result c.target_counted-after.result) (sym (values_same c.self.view_is)))
+    event_moved c.args.self.now.links c.nth-net.result c.args.self.now.values (ap (λ (v : List Tri). set v c.nth-net.result c.target-after.result) (sym (values_same c.self.view_is)))
     (chosen_is_event _ c.args.self.now.links c.args.self.now.values _ (returns-clause-chosen g c))

@@ -7,7 +7,7 @@ use Rattle.deck.specs.Roles.{AreRoles, ports_of}
 use Rattle.deck.specs.PortLayout.{source_count}
 use Rattle.switch_model.specs.LinksData.{LinksData, links_of}
 use Rattle.switch_model.specs.Power.{source_values}
-use Rattle.event_sim.proofs.StepFacts.{pending_moved}
+use Rattle.event_sim.proofs.StepFacts.{kept_moved, pending_moved}
 use Rattle.event_sim.proofs.PowerState.{few_nets, power-length, sources_within}
 use Rattle.event_sim.proofs.sim.Sim.with_roles.Goals as goal
 
@@ -43,6 +43,7 @@ invariant_of-result g c =
       few = omega (arith, few_nets circuit is, linked);
       nets = c.in_ok-pending.ensures.nets ∙ ap (λ (l : LinksData). l.nets) (sym c.in_ok-pending.ensures.same);
       right = pending_moved (sym c.in_ok-pending.ensures.same) c.as_slice.ensures.value c.in_ok-pending.ensures.right;
+      targets = kept_moved c.in_ok-pending.pending.targets (sym c.in_ok-pending.ensures.same) c.as_slice.ensures.value c.in_ok-pending.ensures.targets;
     }
 
 pub returns-clause-whole : goal.returns-clause-whole

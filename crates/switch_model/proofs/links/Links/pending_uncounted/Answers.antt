@@ -6,9 +6,9 @@ use Rattle.dom_base.specs.declared.tri.Tri.{Tri}
 use Rattle.pending_nets.specs.PendingData.{PendingData}
 use Rattle.switch_model.specs.ComponentLists.{AreComponentLists, list_at}
 use Rattle.switch_model.specs.LinksData.{LinksData, is_first}
-use Rattle.switch_model.specs.Pending.{ArePending}
+use Rattle.switch_model.specs.Pending.{AreKeptTargets, ArePending}
 use Rattle.switch_model.specs.Targets.{IsPending}
-use Rattle.switch_model.proofs.Refreshed.{all_refreshed}
+use Rattle.switch_model.proofs.Refreshed.{all_refreshed, all_targets}
 use Rattle.switch_model.proofs.links.Links.pending_uncounted.Goals as goal
 
 pub refresh_all-requires-clause-components : goal.refresh_all-requires-clause-components
@@ -46,3 +46,13 @@ returns-clause-right g c =
           (λ k lt. (k, omega (arith, lt, c.in_ok-all.ensures.long, c.len-nets.ensures), c.in_ok-all.ensures.alone k))
           (λ n x. let d : Contains {X = ℕ} [] n = subst (λ (l : List ℕ). Contains l n) empty x in omega (arith, d.1));
     })
+
+pub returns-clause-targets : goal.returns-clause-targets
+returns-clause-targets g c =
+    let w = c.self.inside in
+    let links : LinksData = record { nets = length w.components.nets; sources = w.sources; devices = w.wires } in
+    let values = c.args.values.now in
+    let new = c.refresh_all.new.pending.targets in
+    subst (λ (l : LinksData). AreKeptTargets l values new) c.self.view_is
+    (all_targets links w.components c.self.invariant.components_are c.self.invariant.in_range values c.as_slice.result.now c.in_ok-pending.pending.targets new c.refresh_all.ensures.targets
+    (λ k lt. subst (λ (l : List ℕ). Contains l k) (sym c.as_slice.ensures.value) (k, omega (arith, lt, c.in_ok-all.ensures.long, c.len-nets.ensures), c.in_ok-all.ensures.alone k)))

@@ -6,9 +6,9 @@ use Rattle.dom_base.specs.declared.tri.Tri.{Tri}
 use Rattle.switch_model.specs.ComponentLists.{list_at}
 use Rattle.switch_model.specs.Components.{AreTouched}
 use Rattle.switch_model.specs.LinksData.{LinksData, is_first}
-use Rattle.switch_model.specs.Pending.{ArePending}
+use Rattle.switch_model.specs.Pending.{AreKeptTargets, ArePending}
 use Rattle.switch_model.specs.Targets.{IsPending}
-use Rattle.switch_model.proofs.Refreshed.{kept_apart, refreshed}
+use Rattle.switch_model.proofs.Refreshed.{kept_apart, refreshed, refreshed_targets}
 use Rattle.switch_model.proofs.Touching.{touched-exact, touched-length, touched-one, touched_places}
 use Rattle.switch_model.proofs.links.Links.refresh.Goals as goal
 
@@ -42,6 +42,19 @@ returns-clause-right g c =
           (subst (λ (l : LinksData). ArePending l (set values c.args.net c.args.before) before) (sym view) c.requires.right)
           (kept_apart links w.components c.self.invariant.components_are c.self.invariant.in_range values c.args.net lt c.args.before);
     })
+
+pub returns-clause-targets : goal.returns-clause-targets
+returns-clause-targets g c = λ right.
+    let w = c.self.inside in
+    let links : LinksData = record { nets = length w.components.nets; sources = w.sources; devices = w.wires } in
+    let view : links ≡ c.args.self.now = c.self.view_is in
+    let values = c.args.values.now in
+    let lt : c.args.net < links.nets = omega (arith, c.requires.within, ap (λ (l : LinksData). l.nets) view) in
+    let new = c.refresh_all.new.pending.targets in
+    let old = c.args.pending.now.targets in
+    subst (λ (l : LinksData). AreKeptTargets l values new) view
+    (refreshed_targets links w.components c.self.invariant.components_are c.self.invariant.in_range values c.at.result.now old new c.refresh_all.ensures.targets
+    c.args.net lt c.args.before c.at.ensures c.refresh_all.ensures.kept (subst (λ (l : LinksData). AreKeptTargets l (set values c.args.net c.args.before) old) (sym view) right))
 
 pub returns-clause-cost : goal.returns-clause-cost
 returns-clause-cost g c =
