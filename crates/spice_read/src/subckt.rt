@@ -70,6 +70,7 @@ fn numbers_of(
     ensures nets { OnOk result (subckt.new ≡ record subckt.old { nets = with_all subckt.old.nets (map (λ w. str_to_ascii_lowercase w.now) words.now) }) }
 {
     let mut numbers = Vec::new(alloc);
+    numbers.reserve_exact(words.len())?;
     for word in words {
         let number = subckt.number(net_name(alloc, word)?)?;
         numbers.push(number)?;

@@ -1,5 +1,5 @@
 -- A device of a subcircuit that is expanded, by the numbers that its nets get in turn.
-use Rattle.std.proofs.Common.{◌≡◌, ◌<◌, ℕ, ◌+◌, ◌^◌, List, [], ◌∷◌, ◌++◌, length, Some, slice_get, sym, ap, ◌∙◌}
+use Rattle.std.proofs.Common.{◌≡◌, ◌<◌, ℕ, ◌+◌, ◌^◌, [], ◌∷◌, ◌++◌, length, Some, slice_get, sym, ap, ◌∙◌}
 use Rattle.deck.specs.NamedDevices.{map_device, with_devices}
 use Rattle.deck.specs.Nets.{net_name, net_number, with_net, with_nets}
 use Rattle.deck.specs.Numbers.{AreNumbersOf}
@@ -15,12 +15,10 @@ pub same_end : (a b : ExpandingData) → IsSamePlace a b → (level net : ℕ) �
 same_end a b p level net = λ i. name_at (definitions (p.units i)) (p.main i) (p.calls i) level (net_name (definition_of (definitions (p.units i)) (p.main i) (p.calls i) level).nets net)
 
 -- a net that was numbered stands at its number
-pub noted : (a b : ExpandingData) (level net number : ℕ) (name : List ℕ) → IsSamePlace a b → name_at (definitions a.units) a.main a.calls level name ≡ end_name a level net
-    → b.nets ≡ with_net a.nets (name_at (definitions a.units) a.main a.calls level name) → number ≡ net_number a.nets (name_at (definitions a.units) a.main a.calls level name)
+pub noted : (a b : ExpandingData) (level net number : ℕ) → IsSamePlace a b → b.nets ≡ with_net a.nets (end_name a level net) → number ≡ net_number a.nets (end_name a level net)
     → slice_get b.nets number ≡ Some (end_name b level net)
-noted a b level net number name place named nets number_is =
-    let whole = name_at (definitions a.units) a.main a.calls level name in
-    (λ i. slice_get (nets i) (number_is i)) ∙ slice_get-with_net a.nets whole ∙ ap Some (named ∙ sym (same_end a b place level net))
+noted a b level net number place nets number_is =
+    (λ i. slice_get (nets i) (number_is i)) ∙ slice_get-with_net a.nets (end_name a level net) ∙ ap Some (sym (same_end a b place level net))
 
 -- the nets of a device are numbered in turn
 pub record IsNumbering (e0 e1 e2 e3 : ExpandingData) (level : ℕ) (device : LocalDevice) (drain gate source : ℕ) : Type 0 where

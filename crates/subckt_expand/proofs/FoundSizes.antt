@@ -1,5 +1,5 @@
 -- A closed subcircuit is found among sizes by its name.
-use Rattle.std.proofs.Common.{◌≡◌, ◌<◌, ◌≤◌, ℕ, zero, suc, ◌+◌, Bool, true, false, List, [], ◌∷◌, ◌++◌, length, map, reverse, take, find, Some, None, option_map, ◌⊎◌, inl, inr, slice_get, slice_index_or, refl, sym, ap, ◌∙◌, subst, arith, nat_eq, take-suc}
+use Rattle.std.proofs.Common.{◌≡◌, ◌<◌, ◌≤◌, ℕ, zero, suc, Bool, true, false, List, [], ◌∷◌, length, map, reverse, take, find, Some, None, option_map, ◌⊎◌, inl, inr, slice_get, slice_index_or, refl, sym, ap, ◌∙◌, subst, arith, nat_eq, take-suc}
 use Rattle.std.specs.List.{AllByRecursion, IsDistinct, list_any}
 use Rattle.std.specs.Cmp.Lexicographic.{pointwise}
 use Rattle.std.proofs.lemmas.Bool.{true≢false}

@@ -1,8 +1,8 @@
 -- Numbers that are kept by slots are those of their nets.
-use Rattle.std.proofs.Common.{◌≡◌, ◌<◌, ◌≤◌, ℕ, zero, suc, ◌+◌, List, [], ◌∷◌, ◌++◌, length, Some, None, Option, IfSome, Result, Ok, Err, OnOk, OnErr, set, slice_get, slice_index_or, ◌⊎◌, inl, inr, refl, sym, ap, ◌∙◌, subst, arith, nat_eq, length-append}
+use Rattle.std.proofs.Common.{◌≡◌, ◌<◌, ◌≤◌, ℕ, zero, suc, ◌+◌, false, List, [], ◌∷◌, ◌++◌, length, Some, None, Option, IfSome, Result, Ok, Err, OnOk, OnErr, set, slice_get, slice_index_or, ◌⊎◌, inl, inr, refl, sym, ap, ◌∙◌, subst, arith, nat_eq, length-append}
 use Rattle.std.specs.List.{IsDistinct}
 use Rattle.std.specs.Cmp.Lexicographic.{pointwise}
-use Rattle.std.proofs.lemmas.List.{length-map, length-set}
+use Rattle.std.proofs.lemmas.List.{get_or_read, length-map, length-set}
 use Rattle.std.proofs.lemmas.Option.{get_or_from_slice_get, slice_get-get_or}
 use Rattle.deck.specs.declared.device.Device.{Device}
 use Rattle.deck.specs.Nets.{net_name, with_net}
@@ -10,12 +10,14 @@ use Rattle.deck.proofs.KnownNumbers.{known_net, known_number}
 use Rattle.deck.proofs.NetNumbers.{IsDistinct-with_net, with_net-grows}
 use Rattle.dom_base.proofs.Lists.{slice_get-append}
 use Rattle.dom_base.proofs.Decided.{lt_or_ge}
-use Rattle.subckt_expand.specs.Definitions.{CallData, DefinitionData, IsCallOf, no_definition}
-use Rattle.subckt_expand.specs.Units.{AreUnits, HasSlots, IsCallBelow, UnitData, definition_at, definitions, no_unit, unit_at}
-use Rattle.subckt_expand.specs.Frames.{ExpandingData, IsEmpty, IsEntered, IsExpanding, IsNumberOf, call_at, definition_of, end_name, name_at, slot_name, unit_of}
+use Rattle.subckt_expand.specs.Definitions.{CallData, DefinitionData, IsCallOf, has_dotted, no_definition, port_names}
+use Rattle.subckt_expand.specs.Units.{AreUnits, HasSlots, IsCallBelow, IsDotted, UnitData, definition_at, definitions, no_unit, unit_at}
+use Rattle.subckt_expand.specs.declared.part.LevelName.{LevelName}
+use Rattle.subckt_expand.specs.Frames.{ExpandingData, IsEmpty, IsEntered, IsExpanding, IsNumberOf, IsWayOut, call_at, definition_of, end_name, name_at, no_way, slot_name, unit_of}
 use Rattle.subckt_expand.proofs.LevelNames.{call_at-more, name_at-more, unit_of-more}
 use Rattle.subckt_expand.proofs.MoreClosed.{all_index}
 use Rattle.subckt_expand.proofs.Places.{index_or-append, index_or-map, index_or-push}
+use Rattle.subckt_expand.proofs.Ways.{way_fewer, way_more}
 
 -- the subcircuit at a level is one of those that were closed
 pub unit_there : (e : ExpandingData) → IsExpanding e → (level : ℕ) → level ≤ length e.calls → unit_of e.main e.calls level < length e.units
@@ -33,14 +35,32 @@ definition_there e is level le =
 pub slots_there : (e : ExpandingData) → IsExpanding e → (level : ℕ) → level ≤ length e.calls → HasSlots (unit_at e.units (unit_of e.main e.calls level))
 slots_there e is level le = all_index HasSlots e.units (unit_of e.main e.calls level) no_unit is.units.slots (unit_there e is level le)
 
+-- the subcircuit at a level, where it was read
+pub unit_read : (e : ExpandingData) → IsExpanding e → (level : ℕ) → level ≤ length e.calls → (units : List UnitData) (place : ℕ) (read : UnitData) → units ≡ e.units
+    → place ≡ unit_of e.main e.calls level → read ≡ slice_index_or units place read → read ≡ unit_at e.units (unit_of e.main e.calls level)
+unit_read e is level le units place read same place_is is_item =
+    let count = ap length same in
+    get_or_read units place read (omega (arith, unit_there e is level le, place_is, count)) is_item no_unit ∙ (λ i. unit_at (same i) (place_is i))
+
+pub definition_here : (e : ExpandingData) → IsExpanding e → (level : ℕ) → level ≤ length e.calls → (read : UnitData) → read ≡ unit_at e.units (unit_of e.main e.calls level)
+    → read.definition ≡ definition_of (definitions e.units) e.main e.calls level
+definition_here e is level le read here = ap (λ (u : UnitData). u.definition) here ∙ sym (definition_there e is level le)
+
+-- where none of its ports has a `.`
+pub undotted : (e : ExpandingData) → IsExpanding e → (level : ℕ) → level ≤ length e.calls → (read : UnitData) → read ≡ unit_at e.units (unit_of e.main e.calls level)
+    → read.dotted ≡ false → has_dotted (port_names (definition_of (definitions e.units) e.main e.calls level)) ≡ false
+undotted e is level le read here none =
+    let known = all_index IsDotted e.units (unit_of e.main e.calls level) no_unit is.units.dots (unit_there e is level le) in
+    ap (λ (d : DefinitionData). has_dotted (port_names d)) (definition_there e is level le) ∙ sym known ∙ ap (λ (u : UnitData). u.dotted) (sym here) ∙ none
+
 -- a net has the slot that it is given
 pub slot_is : (e : ExpandingData) → IsExpanding e → (level net : ℕ) (o : Option ℕ) → level ≤ length e.calls
     → slice_get (unit_at e.units (unit_of e.main e.calls level)).slots.of_net net ≡ Some o → IfSome o (λ slot. slot_name e level slot ≡ end_name e level net)
 slot_is e is level net None le at = tt
 slot_is e is level net (Some slot) le at = ap (end_name e level) (get_or_from_slice_get _ slot net 0 ((slots_there e is level le).0.back net slot at))
 
--- what was read for a net is its slot
-pub slot_read : (items of_net : List (Option ℕ)) (net : ℕ) (read : Option ℕ) → items ≡ of_net → net < length of_net → read ≡ slice_index_or items net read → slice_get of_net net ≡ Some read
+-- what was read at a place of a list stands there
+pub slot_read : {X : Type 0} (items of_net : List X) (net : ℕ) (read : X) → items ≡ of_net → net < length of_net → read ≡ slice_index_or items net read → slice_get of_net net ≡ Some read
 slot_read items of_net net read same lt is_item =
     let size = ap length same in
     sym (ap (λ l. slice_get l net) same) ∙ slice_get-get_or items net read (omega (arith, lt, size)) ∙ ap Some (sym is_item)
@@ -57,7 +77,7 @@ kept_is e is level slot (Some number) le at = number_there e.nets (slot_name e l
 
 -- other devices
 pub more_devices : (e : ExpandingData) (devices : List Device) → IsExpanding e → IsExpanding (record e { devices = devices })
-more_devices e devices is = record { units = is.units; main = is.main; rows = is.rows; entered = is.entered; apart = is.apart; kept = is.kept }
+more_devices e devices is = record { units = is.units; main = is.main; rows = is.rows; entered = is.entered; led = is.led; ways_are = is.ways_are; apart = is.apart; kept = is.kept }
 
 -- more nets
 pub more_nets : (e : ExpandingData) (name : List ℕ) → IsExpanding e → IsExpanding (record e { nets = with_net e.nets name })
@@ -66,6 +86,8 @@ more_nets e name is = record {
   main = is.main;
   rows = is.rows;
   entered = is.entered;
+  led = is.led;
+  ways_are = is.ways_are;
   apart = IsDistinct-with_net e.nets name is.apart;
   kept = λ level slot number le at.
       let grown = with_net-grows e.nets name in
@@ -101,6 +123,8 @@ keep_is e level slot number is new = record {
   main = is.main;
   rows = length-set e.numbers level row ∙ is.rows;
   entered = is.entered;
+  led = is.led;
+  ways_are = is.ways_are;
   apart = is.apart;
   kept = λ other place kept le at. by other place kept le at (index_cases e.numbers level other row []);
 }
@@ -125,12 +149,14 @@ keep_is e level slot number is new = record {
 
 -- at first no number is kept
 pub start_is : (units : List UnitData) (main : ℕ) (row : List (Option ℕ)) (nets : List (List ℕ)) → AreUnits units → main < length units → IsEmpty row → IsDistinct (pointwise nat_eq) nets
-    → IsExpanding (record { units = units; main = main; calls = []; numbers = row ∷ []; nets = nets; devices = [] })
+    → IsExpanding (record { units = units; main = main; calls = []; ways = []; numbers = row ∷ []; nets = nets; devices = [] })
 start_is units main row nets are lt empty apart = record {
   units = are;
   main = lt;
   rows = refl;
   entered = λ level below. absurd (omega (arith, below));
+  led = refl;
+  ways_are = λ level below. absurd (omega (arith, below));
   apart = apart;
   kept = λ level slot number le at. (
       let first : level ≡ 0 = omega (arith, le) in
@@ -138,15 +164,17 @@ start_is units main row nets are lt empty apart = record {
 }
 
 -- a call more is entered: at its level nothing is kept yet
-pub enter_is : (e : ExpandingData) (call : CallData) (fresh : List (Option ℕ)) → IsExpanding e
+pub enter_is : (e : ExpandingData) (call : CallData) (way : LevelName) (fresh : List (Option ℕ)) → IsExpanding e
     → IsEntered (definitions e.units) e.main (e.calls ++ call ∷ []) (length e.calls)
-    → IsEmpty fresh
-    → IsExpanding (record e { calls = e.calls ++ call ∷ []; numbers = e.numbers ++ fresh ∷ [] })
-enter_is e call fresh is enters none = record {
+    → IsWayOut (definitions e.units) e.main (e.calls ++ call ∷ []) (length e.calls) way → IsEmpty fresh
+    → IsExpanding (record e { calls = e.calls ++ call ∷ []; ways = e.ways ++ way ∷ []; numbers = e.numbers ++ fresh ∷ [] })
+enter_is e call way fresh is enters leads none = record {
   units = is.units;
   main = is.main;
   rows = omega (arith, is.rows, long, length-append e.numbers (fresh ∷ []));
   entered = λ level lt. entered_by level lt (lt_or_ge level (length e.calls));
+  led = omega (arith, is.led, long, length-append e.ways (way ∷ []));
+  ways_are = λ level lt. way_by level lt (lt_or_ge level (length e.calls));
   apart = is.apart;
   kept = λ level slot number le at. kept_by level slot number le at (lt_or_ge level (length e.calls + 1));
 }
@@ -182,14 +210,24 @@ enter_is e call fresh is enters none = record {
         let last : level ≡ length e.calls = omega (arith, lt, behind, long) in
         subst (IsEntered (definitions e.units) e.main more) (sym last) enters
 
-    name_same : (level slot : ℕ) → level ≤ length e.calls → slot_name (record e { calls = more; numbers = numbers }) level slot ≡ slot_name e level slot
+    way_by : (level : ℕ) → level < length more → (level < length e.calls) ⊎ (length e.calls ≤ level) → IsWayOut (definitions e.units) e.main more level (slice_index_or (e.ways ++ way ∷ []) level no_way)
+    way_by level lt (inl before) =
+        subst (IsWayOut (definitions e.units) e.main more level) (sym (index_or-append e.ways (way ∷ []) level no_way (omega (arith, before, is.led))))
+        (way_more (definitions e.units) e.main e.calls (call ∷ []) level (slice_index_or e.ways level no_way) before (is.ways_are level before))
+    way_by level lt (inr behind) =
+        let last : level ≡ length e.calls = omega (arith, lt, behind, long) in
+        let at : slice_index_or (e.ways ++ way ∷ []) (length e.calls) no_way ≡ way = ap (λ n. slice_index_or (e.ways ++ way ∷ []) n no_way) (sym is.led) ∙ index_or-push e.ways way no_way in
+        subst (λ n. IsWayOut (definitions e.units) e.main more n (slice_index_or (e.ways ++ way ∷ []) n no_way)) (sym last)
+        (subst (IsWayOut (definitions e.units) e.main more (length e.calls)) (sym at) leads)
+
+    name_same : (level slot : ℕ) → level ≤ length e.calls → slot_name (record e { calls = more; ways = e.ways ++ way ∷ []; numbers = numbers }) level slot ≡ slot_name e level slot
     name_same level slot le =
         let unit = unit_of-more e.main e.calls (call ∷ []) level le in
         name_at-more (definitions e.units) e.main e.calls (call ∷ []) level _ le
         ∙ ap (λ n. name_at (definitions e.units) e.main e.calls level (net_name (definition_at (definitions e.units) n).nets (slice_index_or (unit_at e.units n).slots.nets slot 0))) unit
 
     kept_by : (level slot number : ℕ) → level ≤ length more → slice_get (slice_index_or numbers level []) slot ≡ Some (Some number)
-        → (level < length e.calls + 1) ⊎ (length e.calls + 1 ≤ level) → slice_get e.nets number ≡ Some (slot_name (record e { calls = more; numbers = numbers }) level slot)
+        → (level < length e.calls + 1) ⊎ (length e.calls + 1 ≤ level) → slice_get e.nets number ≡ Some (slot_name (record e { calls = more; ways = e.ways ++ way ∷ []; numbers = numbers }) level slot)
     kept_by level slot number le at (inl before) =
         let low : level ≤ length e.calls = omega (arith, before) in
         is.kept level slot number low (sym (ap (λ l. slice_get l slot) (same level low)) ∙ at) ∙ ap Some (sym (name_same level slot low))
@@ -198,9 +236,10 @@ enter_is e call fresh is enters none = record {
         absurd (none slot number (sym (ap (λ n. slice_get (slice_index_or numbers n []) slot) last ∙ ap (λ l. slice_get l slot) last_row) ∙ at))
 
 -- one call fewer
-pub leave_is : (e : ExpandingData) (init more : List CallData) (rows gone : List (List (Option ℕ))) → e.calls ≡ init ++ more → e.numbers ≡ rows ++ gone
-    → length more ≡ 1 → length gone ≡ 1 → IsExpanding e → IsExpanding (record e { calls = init; numbers = rows })
-leave_is e init more rows gone split parted one one_row is = record {
+pub leave_is : (e : ExpandingData) (init more : List CallData) (ways left : List LevelName) (rows gone : List (List (Option ℕ)))
+    → e.calls ≡ init ++ more → e.ways ≡ ways ++ left → e.numbers ≡ rows ++ gone
+    → length more ≡ 1 → length left ≡ 1 → length gone ≡ 1 → IsExpanding e → IsExpanding (record e { calls = init; ways = ways; numbers = rows })
+leave_is e init more ways left rows gone split led parted one one_way one_row is = record {
   units = is.units;
   main = is.main;
   rows = count;
@@ -212,6 +251,10 @@ leave_is e init more rows gone split parted one one_row is = record {
         nets = subst (λ n. IsCallOf (length (definition_at (definitions e.units) n).nets) (call_at init level)) (unit_of-more e.main init more level (omega (arith, lt)))
             (subst (IsCallOf (length (definition_of (definitions e.units) e.main (init ++ more) level).nets)) at old.nets);
       });
+  led = count_ways;
+  ways_are = λ level lt. way_fewer (definitions e.units) e.main init more level (slice_index_or ways level no_way) lt
+      (subst (IsWayOut (definitions e.units) e.main (init ++ more) level) (ap (λ l. slice_index_or l level no_way) led ∙ index_or-append ways left level no_way (omega (arith, lt, count_ways)))
+      (subst (λ l. IsWayOut (definitions e.units) e.main l level (slice_index_or e.ways level no_way)) split (is.ways_are level (omega (arith, lt, long)))));
   apart = is.apart;
   kept = λ level slot number le at. (
       is.kept level slot number (omega (arith, le, long)) (ap (λ l. slice_get l slot) (same level le) ∙ at)
@@ -224,6 +267,9 @@ leave_is e init more rows gone split parted one one_row is = record {
   where
     long : length e.calls ≡ length init + length more
     long = ap length split ∙ length-append init more
+
+    count_ways : length ways ≡ length init
+    count_ways = let ways_long = ap length led ∙ length-append ways left in omega (arith, ways_long, long, one, one_way, is.led)
 
     count : length rows ≡ length init + 1
     count = let rows_long = ap length parted ∙ length-append rows gone in omega (arith, rows_long, long, one, one_row, is.rows)

@@ -3,6 +3,7 @@ pub mod CallsMade
 pub mod Closing
 pub mod DefinitionGrowth
 pub mod DevicesMade
+pub mod DottedNames
 pub mod FoundCalls
 pub mod FoundSizes
 pub mod InnerNames
@@ -21,4 +22,5 @@ pub mod PartsReached
 pub mod PassedNames
 pub mod Places
 pub mod Pushes
+pub mod Ways
 pub mod WholeCircuit

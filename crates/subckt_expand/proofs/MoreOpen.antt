@@ -1,6 +1,5 @@
 -- An open subcircuit stays whole with more nets, one device or one call more.
-use Rattle.std.proofs.Common.{◌≡◌, ◌<◌, ◌≤◌, ℕ, ◌+◌, ◌==◌, max, Bool, true, false, List, [], ◌∷◌, ◌++◌, length, refl, subst, arith, append-nil, length-append}
-use Rattle.std.specs.List.{AllByRecursion}
+use Rattle.std.proofs.Common.{◌≡◌, ◌≤◌, ℕ, ◌+◌, ◌==◌, max, Bool, true, false, List, [], ◌∷◌, ◌++◌, length, refl, subst, arith, append-nil, length-append}
 use Rattle.dom_base.specs.declared.kind.Kind.{Kind}
 use Rattle.dom_base.proofs.Lists.{AllByRecursion-append}
 use Rattle.deck.specs.Limits.{most_devices}

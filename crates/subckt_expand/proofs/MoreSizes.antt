@@ -1,5 +1,5 @@
 -- A subcircuit by numbers goes on to stand for one by names: with one net, one device or one call more.
-use Rattle.std.proofs.Common.{◌≡◌, ◌<◌, ◌≤◌, ℕ, ◌+◌, ◌==◌, max, not, Bool, true, false, if◌then◌else◌, List, [], ◌∷◌, ◌++◌, filter, length, map, take, Some, refl, sym, ap, ap₂, ◌∙◌, arith, append-nil}
+use Rattle.std.proofs.Common.{◌≡◌, ℕ, ◌+◌, ◌==◌, max, not, Bool, true, false, List, [], ◌∷◌, ◌++◌, filter, length, take, Some, refl, sym, ap, ◌∙◌, arith, append-nil}
 use Rattle.std.proofs.lemmas.Bool.{eqb-true}
 use Rattle.std.proofs.lemmas.List.Elements.{filter-append}
 use Rattle.dom_base.specs.declared.kind.Kind.{Kind}
@@ -7,8 +7,8 @@ use Rattle.deck.specs.NamedDevices.{NamedDevice}
 use Rattle.deck.specs.Nets.{net_name, with_net}
 use Rattle.deck.specs.Subckts.{Single, Size, Subckt, SubcktPart, depth_over, devices_in, part_count, part_depth, size, size_named, sizes}
 use Rattle.subckt_expand.specs.declared.part.Part.TheVariants.{Called as Calling}
-use Rattle.subckt_expand.specs.Definitions.{CallData, DefinitionData, IsDefinition, named_call, named_part, subckt_of, with_call, with_device}
-use Rattle.subckt_expand.specs.Live.{is_live, live, size_of}
+use Rattle.subckt_expand.specs.Definitions.{CallData, DefinitionData, IsDefinition, named_call, with_call, with_device}
+use Rattle.subckt_expand.specs.Live.{is_live, live}
 use Rattle.subckt_expand.specs.StandsFor.{StandsFor}
 use Rattle.subckt_expand.specs.Units.{names_of}
 use Rattle.deck.proofs.Counts.{depth_push, sum_push}

@@ -6,7 +6,7 @@ use Rattle.std.proofs.lemmas.List.{get_or_read, map-append}
 use Rattle.dom_base.proofs.Lists.{AllByRecursion-append}
 use Rattle.deck.specs.Nets.{with_net}
 use Rattle.subckt_expand.specs.Definitions.{DefinitionData, no_definition}
-use Rattle.subckt_expand.specs.Units.{AreClosed, AreUnits, HasSlots, IsClosed, UnitData, definition_at, definitions, names_of, no_unit, unit_at}
+use Rattle.subckt_expand.specs.Units.{AreClosed, AreUnits, HasSlots, IsClosed, IsDotted, UnitData, definition_at, definitions, names_of, no_unit, unit_at}
 use Rattle.subckt_expand.proofs.MoreClosed.{are_closed-push}
 use Rattle.subckt_expand.proofs.Places.{index_or-map}
 
@@ -14,10 +14,11 @@ pub definitions-push : (units : List UnitData) (u : UnitData) → definitions (u
 definitions-push units u = map-append (λ (v : UnitData). v.definition) units (u ∷ [])
 
 pub are_units-push : (units : List UnitData) (u : UnitData) → AreUnits units → IsClosed (definitions units ++ u.definition ∷ []) (length (definitions units)) u.definition
-    → list_any (pointwise nat_eq u.definition.name) (names_of (definitions units)) ≡ false → HasSlots u → AreUnits (units ++ u ∷ [])
-are_units-push units u are is new slots = record {
+    → list_any (pointwise nat_eq u.definition.name) (names_of (definitions units)) ≡ false → HasSlots u → IsDotted u → AreUnits (units ++ u ∷ [])
+are_units-push units u are is new slots dots = record {
   closed = subst AreClosed (sym (definitions-push units u)) (are_closed-push (definitions units) are.closed u.definition is new);
   slots = AllByRecursion-append HasSlots units (u ∷ []) are.slots (slots, tt);
+  dots = AllByRecursion-append IsDotted units (u ∷ []) are.dots (dots, tt);
 }
 
 -- and its name

@@ -155,8 +155,8 @@ module _ (before : ExpandingData) (unit index : ℕ) (after : ExpandingData) (nu
   pub call_entered : IsEntered (definitions after.units) after.main (after.calls ++ call ∷ []) (length after.calls)
   call_entered =
       let Q : ExpandingData → Type 0 = λ e. IsEntered (definitions e.units) e.main (e.calls ++ call ∷ []) (length e.calls) in
-      let same : record after { nets = []; devices = []; numbers = [] } ≡ record before { nets = []; devices = []; numbers = [] } =
-      (λ i. record { units = (reached.place).units i; main = (reached.place).main i; calls = (reached.place).calls i; nets = []; devices = []; numbers = [] }) in
+      let same : record after { nets = []; devices = []; ways = []; numbers = [] } ≡ record before { nets = []; devices = []; ways = []; numbers = [] } =
+      (λ i. record { units = (reached.place).units i; main = (reached.place).main i; calls = (reached.place).calls i; ways = []; nets = []; devices = []; numbers = [] }) in
       subst Q (sym same) entered_before
 
   call_devices : part_made before unit (Calling number)

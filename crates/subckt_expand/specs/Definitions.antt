@@ -1,6 +1,6 @@
 -- Subcircuits by numbers: each net of a subcircuit has a number there, its ports the first ones.
-use Rattle.std.specs.Prelude.{ℕ, ◌<◌, ◌≤◌, ◌+◌, ◌==◌, max, if◌then◌else◌, List, [], ◌∷◌, ◌++◌, length, map, take, slice_index_or}
-use Rattle.std.specs.List.{AllByRecursion}
+use Rattle.std.specs.Prelude.{ℕ, Bool, ◌<◌, ◌≤◌, ◌+◌, ◌==◌, max, if◌then◌else◌, List, [], ◌∷◌, ◌++◌, length, map, take, slice_index_or}
+use Rattle.std.specs.List.{AllByRecursion, list_any}
 use Rattle.dom_base.specs.declared.kind.Kind.{Kind}
 use Rattle.deck.specs.NamedDevices.{NamedDevice}
 use Rattle.deck.specs.Nets.{net_name, net_number, with_net, with_nets}
@@ -49,6 +49,14 @@ named_part names d (Calling index) = named_call names d.nets (slice_index_or d.c
 -- the names of the ports
 abbrev pub port_names : DefinitionData → List (List ℕ)
 port_names d = take d.ports d.nets
+
+-- a name with a `.`, as an inner net of a call has one
+abbrev pub has_dot : List ℕ → Bool
+has_dot name = list_any (λ byte. byte == 46) name
+
+-- names of which one has a `.`
+abbrev pub has_dotted : List (List ℕ) → Bool
+has_dotted names = list_any has_dot names
 
 -- a subcircuit by names
 abbrev pub subckt_of : List (List ℕ) → DefinitionData → Subckt

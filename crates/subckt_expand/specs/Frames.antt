@@ -1,5 +1,6 @@
 -- A subcircuit that is being expanded: the calls that lead to the parts that are read, and the numbers of nets by slots.
-use Rattle.std.specs.Prelude.{ℕ, ◌≡◌, ◌<◌, ◌≤◌, ◌+◌, ◌-◌, zero, suc, List, [], length, map, Option, Some, slice_get, slice_index_or, nat_eq}
+use Rattle.std.specs.Prelude.{ℕ, ◌≡◌, ◌<◌, ◌≤◌, ◌+◌, ◌-◌, zero, suc, List, [], ◌∷◌, ◌++◌, length, map, Option, Some, MatchOption}
+use Rattle.std.specs.Prelude.{slice_get, slice_index_or, nat_eq}
 use Rattle.std.specs.List.{IsDistinct}
 use Rattle.std.specs.Cmp.Lexicographic.{pointwise}
 use Rattle.deck.specs.declared.device.Device.{Device}
@@ -7,17 +8,20 @@ use Rattle.deck.specs.CircuitData.{CircuitData}
 use Rattle.deck.specs.NamedDevices.{NamedDevice, with_devices}
 use Rattle.deck.specs.Nets.{net_name, net_number, with_net}
 use Rattle.deck.specs.Subckts.{passed_net}
+use Rattle.subckt_expand.specs.declared.part.LevelName.{LevelName}
 use Rattle.subckt_expand.specs.declared.part.Outer.{Outer}
 use Rattle.subckt_expand.specs.declared.part.Outer.TheVariants.{Net, Name}
 use Rattle.subckt_expand.specs.Definitions.{CallData, DefinitionData, IsCallOf, no_call, port_names}
 use Rattle.subckt_expand.specs.Units.{AreUnits, IsCallBelow, UnitData, definition_at, definitions, unit_at}
 
 -- an expansion: the closed subcircuits, the number of the one that is expanded, the calls within one another that lead to the
--- parts that are read, for each level the numbers of nets by slots, and the nets and devices so far
+-- parts that are read, for each call where the names of its inner nets lead, for each level the numbers of nets by slots, and the
+-- nets and devices so far
 pub record ExpandingData : Type 0 where
   pub units : List UnitData
   pub main : ℕ
   pub calls : List CallData
+  pub ways : List LevelName
   pub numbers : List (List (Option ℕ))
   pub nets : List (List ℕ)
   pub devices : List Device
@@ -49,12 +53,25 @@ pub record IsEntered (all : List DefinitionData) (main : ℕ) (calls : List Call
   pub below : IsCallBelow all (length all) (call_at calls level)
   pub nets : IsCallOf (length (definition_of all main calls level).nets) (call_at calls level)
 
+-- what stands for a way that isn't there
+abbrev pub no_way : LevelName
+no_way = record { level = 0; name = [] }
+
+-- the names of the inner nets of the call of this level lead to this level outwards, with this name of the calls between before them
+pub record IsWayOut (all : List DefinitionData) (main : ℕ) (calls : List CallData) (level : ℕ) (way : LevelName) : Type 0 where
+  pub outer : way.level ≤ level
+  pub same : (own : List ℕ)
+      → name_at all main calls level ((call_at calls level).name ++ 46 ∷ own) ≡ name_at all main calls way.level (way.name ++ 46 ∷ own)
+
 -- what holds of an expansion: each number that is kept is that of its net
 pub record IsExpanding (e : ExpandingData) : Type 0 where
   pub units : AreUnits e.units
   pub main : e.main < length e.units
   pub rows : length e.numbers ≡ length e.calls + 1
   pub entered : (level : ℕ) → level < length e.calls → IsEntered (definitions e.units) e.main e.calls level
+  pub led : length e.ways ≡ length e.calls
+  pub ways_are : (level : ℕ) → level < length e.calls
+      → IsWayOut (definitions e.units) e.main e.calls level (slice_index_or e.ways level no_way)
   pub apart : IsDistinct (pointwise nat_eq) e.nets
   pub kept : (level slot number : ℕ) → level ≤ length e.calls
       → slice_get (slice_index_or e.numbers level []) slot ≡ Some (Some number)
@@ -90,12 +107,27 @@ pub record IsNumberOf (nets : List (List ℕ)) (name : List ℕ) (number : ℕ) 
   pub number_is : number ≡ net_number nets name
   pub nets_are : with_net nets name ≡ nets
 
--- what the net of this name at a level is one level outwards: a net there by its number, or one by its name
+-- the port that has this name at a level, or none where no port has it
+abbrev pub IsPortAt : ExpandingData → ℕ → List ℕ → Option ℕ → Type 0
+IsPortAt e level own port = MatchOption port
+    ((definition_of (definitions e.units) e.main e.calls level).ports
+    ≤ net_number (definition_of (definitions e.units) e.main e.calls level).nets own)
+    (λ i. (i ≡ net_number (definition_of (definitions e.units) e.main e.calls level).nets own)
+    × (i < (definition_of (definitions e.units) e.main e.calls level).ports))
+
+-- a net outside a level is there: one of the next level outwards by its number, or one of an outer level by its name
+abbrev pub IsOuterThere : ExpandingData → ℕ → Outer → Type 0
+IsOuterThere e level (Net net) = net < length (definition_of (definitions e.units) e.main e.calls (level - 1)).nets
+IsOuterThere e level (Name at) = at.level < level
+
+-- the name that it has in the end
+abbrev pub outer_end : ExpandingData → ℕ → Outer → List ℕ
+outer_end e level (Net net) = end_name e (level - 1) net
+outer_end e level (Name at) = name_at (definitions e.units) e.main e.calls at.level at.name
+
+-- what the net of this name at a level is outwards
 abbrev pub IsOuter : ExpandingData → ℕ → List ℕ → Outer → Type 0
-IsOuter e level own (Net net) =
-    (net < length (definition_of (definitions e.units) e.main e.calls (level - 1)).nets)
-    × (name_at (definitions e.units) e.main e.calls level own ≡ end_name e (level - 1) net)
-IsOuter e level own (Name outer) = name_at (definitions e.units) e.main e.calls level own ≡ name_at (definitions e.units) e.main e.calls (level - 1) outer
+IsOuter e level own outer = IsOuterThere e level outer × (name_at (definitions e.units) e.main e.calls level own ≡ outer_end e level outer)
 
 -- these nets and devices are those that devices make, given by names, after these ports
 abbrev pub IsMade : List (List ℕ) → List (NamedDevice (List ℕ)) → List (List ℕ) → List Device → Type 0

@@ -1,10 +1,11 @@
 -- The subcircuits that were closed, by numbers, and what they stand for.
-use Rattle.std.specs.Prelude.{ℕ, ◌≡◌, ◌<◌, ◌≤◌, List, [], length, map, reverse, take, Option, Some, slice_get, slice_index_or, nat_eq}
+use Rattle.std.specs.Prelude.{ℕ, Bool, false, ◌≡◌, ◌<◌, ◌≤◌, List, [], length, map, reverse, take, Option, Some}
+use Rattle.std.specs.Prelude.{slice_get, slice_index_or, nat_eq}
 use Rattle.std.specs.List.{AllByRecursion, IsDistinct}
 use Rattle.std.specs.Cmp.Lexicographic.{pointwise}
 use Rattle.deck.specs.Limits.{most_devices, most_ports}
 use Rattle.deck.specs.Subckts.{Subckt, Expansion, expansion, expansions}
-use Rattle.subckt_expand.specs.Definitions.{CallData, DefinitionData, IsDefinition, no_definition, subckt_of}
+use Rattle.subckt_expand.specs.Definitions.{CallData, DefinitionData, IsDefinition, has_dotted, no_definition, port_names, subckt_of}
 
 -- the closed subcircuit of this number, where these were closed in turn
 abbrev pub definition_at : List DefinitionData → ℕ → DefinitionData
@@ -50,13 +51,14 @@ pub record SlotsData : Type 0 where
 pub record AreSlots (s : SlotsData) : Type 0 where
   pub back : (net slot : ℕ) → slice_get s.of_net net ≡ Some (Some slot) → slice_get s.nets slot ≡ Some net
 
--- a closed subcircuit, with the slots of its nets
+-- a closed subcircuit, with the slots of its nets, and whether a port has a `.` in its name
 pub record UnitData : Type 0 where
   pub definition : DefinitionData
   pub slots : SlotsData
+  pub dotted : Bool
 
 abbrev pub no_unit : UnitData
-no_unit = record { definition = no_definition; slots = record { of_net = []; nets = [] } }
+no_unit = record { definition = no_definition; slots = record { of_net = []; nets = [] }; dotted = false }
 
 -- the one of this number
 abbrev pub unit_at : List UnitData → ℕ → UnitData
@@ -69,7 +71,12 @@ definitions units = map (λ u. u.definition) units
 abbrev pub HasSlots : UnitData → Type 0
 HasSlots u = AreSlots u.slots × (length u.slots.of_net ≡ length u.definition.nets)
 
+-- it is known whether a port has a `.` in its name
+abbrev pub IsDotted : UnitData → Type 0
+IsDotted u = u.dotted ≡ has_dotted (port_names u.definition)
+
 -- what holds of the closed subcircuits and their slots
 pub record AreUnits (units : List UnitData) : Type 0 where
   pub closed : AreClosed (definitions units)
   pub slots : AllByRecursion HasSlots units
+  pub dots : AllByRecursion IsDotted units

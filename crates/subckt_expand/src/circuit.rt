@@ -50,6 +50,7 @@ impl Units {
             units,
             main: unit,
             calls: Vec::new(alloc),
+            ways: Vec::new(alloc),
             numbers,
             nets: ports,
             devices: Vec::new(alloc),

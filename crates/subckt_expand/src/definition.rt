@@ -3,7 +3,7 @@ ghost use Rattle.std.specs.Prelude.{◌≡◌, ◌<◌, ◌≤◌, ◌+◌, ◌^
 ghost use Rattle.std.specs.List.{AllByRecursion};
 ghost use Rattle.deck.specs.Limits.{most_devices};
 ghost use Rattle.deck.specs.Nets.{net_number, with_net};
-ghost use Rattle.subckt_expand.specs.Definitions.{opened, port_names, with_call, with_device};
+ghost use Rattle.subckt_expand.specs.Definitions.{has_dot, has_dotted, opened, port_names, with_call, with_device};
 
 use crate::net::number;
 use crate::part::{Call, LocalDevice, Part};
@@ -11,6 +11,20 @@ use deck::NetSet;
 use dom_base::{Kind, NetName, OutOfMemory};
 use std::alloc::Global;
 use std::marker::Model;
+
+/// Whether a name has a `.`.
+fn has_dot(name: &NetName) -> bool
+    ensures { result ≡ has_dot name.now }
+{
+    name.as_bytes().iter().any(|byte| *byte == b'.')
+}
+
+/// Whether one of these names has a `.`.
+fn has_dotted(names: &[NetName]) -> bool
+    ensures { result ≡ has_dotted names.now }
+{
+    names.iter().any(|name| has_dot(name))
+}
 
 /// A subcircuit: its name, its nets with the ports first, its devices and its calls of subcircuits
 /// with devices in the order of their cards, the number of devices that it stands for, and its depth,
@@ -125,6 +139,13 @@ impl Definition {
         ensures { result.now ≡ port_names self.now }
     {
         &self.nets.as_slice()[..self.ports]
+    }
+
+    /// Whether a port has a `.` in its name, as inner nets of calls have.
+    pub fn has_dotted_port(&self) -> bool
+        ensures { result ≡ has_dotted (port_names self.now) }
+    {
+        has_dotted(self.port_names())
     }
 
     /// The number of a port by its name.

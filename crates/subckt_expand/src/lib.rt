@@ -5,6 +5,7 @@ mod circuit;
 mod definition;
 mod expand;
 mod net;
+mod numbering;
 mod part;
 mod slots;
 mod units;

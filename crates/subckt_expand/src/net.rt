@@ -21,7 +21,9 @@ pub fn number(nets: &mut NetSet, name: NetName) -> Result<usize, OutOfMemory>
 pub fn inner_name(alloc: Global, call: &NetName, own: &NetName) -> Result<NetName, OutOfMemory>
     ensures { IfOk result (λ name. name ≡ call.now ++ 46 ∷ own.now) }
 {
-    let mut bytes = NameBytes::new(alloc);
+    let call_size = call.as_bytes().len();
+    let own_size = own.as_bytes().len();
+    let mut bytes = NameBytes::with_capacity(alloc, call_size + own_size + 1)?;
     append_to_name(&mut bytes, call.as_bytes())?;
     append_to_name(&mut bytes, b".")?;
     append_to_name(&mut bytes, own.as_bytes())?;

@@ -18,11 +18,18 @@ pub enum Part {
     Called(usize),
 }
 
-/// A net outside a call: by its number in the calling subcircuit, or by its name there.
+/// A name at a level of the calls within one another.
+#[derive(Drop)]
+pub struct LevelName {
+    pub level: usize,
+    pub name: NetName,
+}
+
+/// A net outside a call: by its number in the calling subcircuit, or by its name at an outer level.
 #[derive(Drop)]
 pub enum Outer {
     Net(usize),
-    Name(NetName),
+    Name(LevelName),
 }
 
 /// The call of a subcircuit: its own name, the number of the subcircuit, and for each port the

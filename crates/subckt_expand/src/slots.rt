@@ -14,8 +14,8 @@ use std::marker::Model;
 /// A frame of its expansion has a place for each slot, and none for the other nets.
 #[derive(Drop)]
 pub struct Slots {
-    pub of_net: Vec<Option<usize>>,
-    pub nets: Vec<usize>,
+    pub of_net: Vec<Option<u32>>,
+    pub nets: Vec<u32>,
 }
 
 impl Model for Slots {
@@ -81,13 +81,18 @@ impl Slots {
         matches!(self.of_net.get(net), Some(Some(_)))
     }
 
-    /// Gives a net a slot, if it is there and has none.
+    /// Gives a net a slot, if it is there and has none, and the numbers of both are small.
     fn name(&mut self, net: usize) -> Result<(), OutOfMemory>
         ensures { length self.new.of_net ≡ length self.old.of_net }
     {
+        let Ok(place) = u32::try_from(net) else {
+            return Ok(());
+        };
+        let Ok(slot) = u32::try_from(self.nets.len()) else {
+            return Ok(());
+        };
         if net < self.of_net.len() && self.of_net[net].is_none() {
-            let slot = self.nets.len();
-            self.nets.push(net)?;
+            self.nets.push(place)?;
             self.of_net[net] = Some(slot);
         }
         Ok(())

@@ -14,11 +14,12 @@ use dom_base::{NameHash, NetName, OutOfMemory};
 use std::alloc::Global;
 use std::marker::Model;
 
-/// A subcircuit that was closed, with the slots of its nets.
+/// A subcircuit that was closed, with the slots of its nets, and whether a port has a `.` in its name.
 #[derive(Drop)]
 pub struct Unit {
     pub definition: Definition,
     pub slots: Slots,
+    pub dotted: bool,
 }
 
 impl Model for Unit {
@@ -26,7 +27,7 @@ impl Model for Unit {
 
     ghost Value = { UnitData };
 
-    ghost view = { λ u. record { definition = u.definition; slots = u.slots } };
+    ghost view = { λ u. record { definition = u.definition; slots = u.slots; dotted = u.dotted } };
 }
 
 /// The subcircuits that were closed, in the order of their text: the place of each is its number.
@@ -89,9 +90,16 @@ impl Units {
         ensures { OnOk result (self.new ≡ self.old ++ definition ∷ []) }
     {
         let slots = Slots::of_definition(alloc, self.closed.as_slice(), &definition)?;
+        let dotted = definition.has_dotted_port();
         self.closed.reserve(1)?;
         number(&mut self.names, name)?;
-        self.closed.push(Unit { definition, slots }).unwrap();
+        self.closed
+            .push(Unit {
+                definition,
+                slots,
+                dotted,
+            })
+            .unwrap();
         Ok(())
     }
 }

@@ -10,6 +10,7 @@ use Rattle.subckt_expand.proofs.expand.Expanding.keep.Goals as goal
 
 pub invariant_of-self : goal.invariant_of-self
 invariant_of-self c =
+    let small : c.in-Ok.number ≡ c.args.number = (c.in-Ok.ensures).1 in
     let items : Vec (Option ℕ) Global → List (Option ℕ) = λ n. n.items in
     let all = c.self.inside.numbers.items in
     let count = ap (λ (v : ExpandingData). length v.calls) c.self.view_is in
@@ -19,6 +20,6 @@ invariant_of-self c =
     let there = subst (λ (v : ExpandingData). slice_get v.nets c.args.number ≡ Some (end_name v c.args.level (slice_index_or (unit_at v.units (unit_of v.main v.calls c.args.level)).slots.nets c.args.slot 0)))
     (sym c.self.view_is) c.requires.number in
     let kept = keep_is _ c.args.level c.args.slot c.args.number c.self.invariant there in
-    let last = with_item c.index_mut-numbers.result.now c.args.slot (Some c.args.number) in
-    let same = map_set items all c.args.level last ∙ ap (λ l. set (map items all) c.args.level (set l c.args.slot (Some c.args.number))) row in
+    let last = with_item c.index_mut-numbers.result.now c.args.slot (Some c.in-Ok.number) in
+    let same = map_set items all c.args.level last ∙ (λ i. set (map items all) c.args.level (set (row i) c.args.slot (Some (small i)))) in
     rw same kept

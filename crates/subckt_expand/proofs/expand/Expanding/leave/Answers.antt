@@ -15,14 +15,18 @@ invariant_of-self c =
     let calls = c.self.inside.calls.items in
     let numbers = c.self.inside.numbers.items in
     let more = option_to_list c.pop.result in
-    let gone = option_to_list c.pop-2.result in
+    let left = option_to_list c.pop-2.result in
+    let gone = option_to_list c.pop-5.result in
     let split = ap (map value) c.pop.ensures.items ∙ map-append value c.pop.new.self.items more in
-    let parted = ap (map items) c.pop-2.ensures.items ∙ map-append items c.pop-2.new.self.items gone in
+    let parted = ap (map items) c.pop-5.ensures.items ∙ map-append items c.pop-5.new.self.items gone in
     let count : vec_len c.self.inside.calls ≡ length calls = search rules in
     let count_rows : vec_len c.self.inside.numbers ≡ length numbers = search rules in
     let inside = ap (λ (v : ExpandingData). length v.calls) c.self.view_is in
     let some : 0 < vec_len c.self.inside.calls = omega (arith, count, length-map calls value, inside, c.requires) in
     let some_rows : 0 < vec_len c.self.inside.numbers = omega (arith, count_rows, length-map numbers items, c.self.invariant.rows) in
     let one : length (map value more) ≡ 1 = omega (arith, length-map more value, popped_one _ _ _ c.pop.ensures.cases some, c.pop.ensures.len) in
-    let one_row : length (map items gone) ≡ 1 = omega (arith, length-map gone items, popped_one _ _ _ c.pop-2.ensures.cases some_rows, c.pop-2.ensures.len) in
-    leave_is _ _ _ _ _ split parted one one_row c.self.invariant
+    let count_ways : vec_len c.self.inside.ways ≡ length c.self.inside.ways.items = search rules in
+    let some_ways : 0 < vec_len c.self.inside.ways = omega (arith, count_ways, c.self.invariant.led, length-map calls value, inside, c.requires) in
+    let one_way : length left ≡ 1 = omega (arith, popped_one _ _ _ c.pop-2.ensures.cases some_ways, c.pop-2.ensures.len) in
+    let one_row : length (map items gone) ≡ 1 = omega (arith, length-map gone items, popped_one _ _ _ c.pop-5.ensures.cases some_rows, c.pop-5.ensures.len) in
+    leave_is _ _ _ _ _ _ _ split c.pop-2.ensures.items parted one one_way one_row c.self.invariant

@@ -1,9 +1,9 @@
-use Rattle.std.proofs.Common.{◌≡◌, ◌<◌, ◌∙◌, length, ap, subst, arith}
+use Rattle.std.proofs.Common.{◌≡◌, ◌<◌, ◌∙◌, IfSome, length, ap, subst, arith}
 use Rattle.std.proofs.lemmas.List.{get_or_read}
 use Rattle.subckt_expand.specs.declared.units.Unit.TheInside.{Inside}
 use Rattle.subckt_expand.specs.Definitions.{DefinitionData}
 use Rattle.subckt_expand.specs.Units.{UnitData, no_unit, unit_at}
-use Rattle.subckt_expand.specs.Frames.{ExpandingData, IsExpanding, unit_of}
+use Rattle.subckt_expand.specs.Frames.{ExpandingData, IsExpanding, end_name, slot_name, unit_of}
 use Rattle.subckt_expand.proofs.Kept.{definition_there, slot_is, slot_read, slots_there, unit_there}
 use Rattle.subckt_expand.proofs.expand.Expanding.slot.Goals as goal
 
@@ -20,4 +20,5 @@ returns c =
     let items = ap (λ (s : Inside). s.slots.of_net) c.here-inside.view_is ∙ ap (λ (u : UnitData). u.slots.of_net) (c.here.view_is ∙ here) in
     let there = slots_there e is level c.requires.level in
     let nets = ap (λ (d : DefinitionData). length d.nets) (definition_there e is level c.requires.level) in
-    slot_is e is level c.args.net c.index.result.now c.requires.level (slot_read _ _ c.args.net c.index.result.now items (omega (arith, c.requires.net, there.1, nets)) c.index.ensures)
+    let read = slot_is e is level c.args.net c.index.result.now c.requires.level (slot_read _ _ c.args.net c.index.result.now items (omega (arith, c.requires.net, there.1, nets)) c.index.ensures) in
+    subst (λ o. IfSome o (λ slot. slot_name e level slot ≡ end_name e level c.args.net)) c.in_ok-slot.was read
