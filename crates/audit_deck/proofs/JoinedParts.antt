@@ -1,6 +1,6 @@
 -- The cells, complements and latches that were found are those of the circuit, and rules 4 to 6 hold as facts.
-use Rattle.std.specs.Prelude.{Contains, Some, slice_get, ◌⊎◌}
-use Rattle.std.proofs.Common.{Bool, List, ap, arith, false, get_or, inl, inr, refl, subst, sym, true, ℕ, ◌<◌, ◌∙◌, ◌≡◌, ◌≤◌}
+use Rattle.std.specs.Prelude.{Contains, Option, Some, slice_get}
+use Rattle.std.proofs.Common.{Bool, List, ap, arith, false, get_or, inl, inr, length, refl, true, ℕ, ◌+◌, ◌<◌, ◌∙◌, ◌≡◌, ◌≤◌}
 use Rattle.std.proofs.lemmas.Option.{slice_get-get_or}
 use Rattle.dom_base.specs.Decided.{Decided}
 use Rattle.dom_base.proofs.Decided.{dec_and, dec_any, dec_map, dec_nat, dec_or, lt_or_ge}
@@ -13,40 +13,38 @@ use Rattle.switch_model.specs.Laws.{EndsAt}
 use Rattle.port_runs.specs.Periods.{vdd_port}
 use Rattle.deck_audit.specs.Audits.{bridge, leaf, loop}
 use Rattle.deck_audit.specs.Rules.{IsLeafNet, IsSinkNet, KeepsUse}
-use Rattle.deck_audit.specs.Words.{Group, IsCellOutput, IsGroup, IsInverterOutput, IsLatchOutput, own_nets}
-use Rattle.found_decks.specs.FoundDecks.{AreFound, FoundLatch}
+use Rattle.deck_audit.specs.Words.{Group, IsCellOutput, IsGroup, IsInverterOutput, IsLatchOutput}
+use Rattle.found_decks.specs.FoundDecks.{AreFound, FoundLatch, FoundParts}
 use Rattle.audit_deck.specs.Broken.{IsKept}
 use Rattle.audit_deck.specs.Groups.{AreAllGroups, KeepsLatches}
-use Rattle.audit_deck.specs.Indexes.{AreInRange, AreThose}
+use Rattle.audit_deck.specs.Indexes.{AreInRange}
+use Rattle.audit_deck.specs.LeafOrders.{AreByPlace, IsOfLeaf}
 use Rattle.audit_deck.specs.Loops.{IsCellOrder}
-use Rattle.audit_deck.specs.Marks.{AreMarks, AreNetMarks, IsSomeComplement}
+use Rattle.audit_deck.specs.Marks.{AreComplements, AreMarks, AreNetMarks, IsSomeComplement}
 use Rattle.audit_deck.specs.Numberings.{IsMet}
 use Rattle.audit_deck.specs.Uses.{KeepsUses}
 use Rattle.audit_deck.specs.declared.marks.Marks.{Marks}
 use Rattle.audit_deck.proofs.Breaks.{end_low}
 use Rattle.audit_deck.proofs.DeckYes.{KeepsOthers}
-use Rattle.audit_deck.proofs.LatchLists.{kept_alone, one_alone, own_output}
+use Rattle.audit_deck.proofs.FoundComplements.{latch_once, latches_there, placed_full, placed_ordered, placed_sound}
 
 module _ (ds : List Device) (roles : Roles) where
-  pub are_found : (tops complements : List ℕ) (latches : List FoundLatch) → IsCellOrder ds roles tops → AreThose (IsSomeComplement ds roles) complements
-      → KeepsLatches ds roles → AreAllGroups ds roles latches → AreFound ds roles (record { tops = tops; complements = complements; latches = latches })
-  are_found tops complements latches cells outs keeps groups = record {
+  pub are_found : (tops complements : List ℕ) (latches : List FoundLatch) → IsCellOrder ds roles tops → KeepsLatches ds roles
+      → AreAllGroups ds roles latches
+      → (nets : ℕ) → AreInRange ds nets → (table : List (Option ℕ)) → AreComplements ds roles nets table
+      → AreByPlace (IsOfLeaf roles latches table) (roles.pins + length latches) complements
+      → AreFound ds roles (record { tops = tops; complements = complements; latches = latches })
+  are_found tops complements latches cells keeps groups nets in_range table are placed = record {
     tops_sound = cells.are.sound;
     tops_full = cells.are.full;
     tops_once = cells.are.once;
     in_order = cells.earlier;
-    complements_sound = outs.sound;
-    complements_full = λ n i is. outs.full n (i, is);
-    complements_once = outs.once;
+    complements_sound = placed_sound ds roles keeps latches groups nets in_range table are complements placed;
+    complements_full = placed_full ds roles keeps latches groups nets in_range table are complements placed;
+    complements_ordered = placed_ordered ds roles keeps latches groups nets in_range table are complements placed;
     latches_sound = groups.sound;
-    latches_full = λ g places is. let z = groups.full g places is in (z.0, record { group = g; places = places }, z.1, refl);
-    latches_once = λ i j l m at there same.
-        let k = kept_alone ds roles keeps l.group l.places (groups.sound i l at) in
-        let own = own_output ds roles m.group in
-        let z = one_alone ds roles l.group m.group l.places m.places k (groups.sound j m there) (m.group).output
-        (subst (λ (g : Group). Contains (own_nets g) (m.group).output) (sym same) own) own in
-        let e : l ≡ m = λ t. record { group = sym z.0 t; places = sym z.1 t } in
-        groups.once i j l at (subst (λ x. slice_get latches j ≡ Some x) (sym e) there);
+    latches_full = latches_there ds roles keeps latches groups;
+    latches_once = λ i j l m at there same. latch_once ds roles keeps latches groups i j l m at there (ap (λ (g : Group). g.output) same);
   }
 
   -- a sink net that keeps rule 5 is an inverter output
@@ -91,12 +89,14 @@ at_least a b = elim (lt_or_ge b a) [ inl lt ↦ inr (λ le. omega (arith, lt, le
 below : (a b : ℕ) → Decided (a < b)
 below a b = elim (lt_or_ge a b) [ inl lt ↦ inl lt | inr ge ↦ inr (λ lt. omega (arith, lt, ge)) ]
 
-module _ (ds : List Device) (roles : Roles) (nets : ℕ) (m : Marks) (are : AreNetMarks ds roles nets m) (complements : List ℕ) (outs : AreThose (IsSomeComplement ds roles) complements) where
+module _ (ds : List Device) (roles : Roles) (nets : ℕ) (m : Marks) (are : AreNetMarks ds roles nets m)
+    (f : FoundParts) (found : AreFound ds roles f) where
   leaf_or : (n : ℕ) → n < nets → Decided (IsLeafNet ds roles n)
   leaf_or n lt =
       dec_or (dec_and (at_least (first_pin roles) n) (below n (source_count roles)))
       (dec_or (marked_or (IsLatchOutput ds roles) nets m.latch_outputs are.latch_outputs n lt)
-      (dec_or (dec_map {A = IsMet complements n} {B = IsSomeComplement ds roles n} (λ z. outs.sound z.0 n z.1) (outs.full n) (met_or complements n))
+      (dec_or (dec_map {A = IsMet f.complements n} {B = IsSomeComplement ds roles n} (λ z. found.complements_sound z.0 n z.1)
+      (λ z. found.complements_full n z.0 z.1) (met_or f.complements n))
       (marked_or (IsCellOutput ds roles) nets m.outputs are.outputs n lt)))
 
   pub keeps_others : AreInRange ds nets → KeepsLatches ds roles → KeepsUses ds roles nets

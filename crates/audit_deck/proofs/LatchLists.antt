@@ -19,7 +19,8 @@ use Rattle.audit_deck.specs.Numberings.{AddsOne, IsMet}
 use Rattle.audit_deck.specs.Walks.{MeetsThose}
 use Rattle.audit_deck.specs.Groups.{AreAllGroups, AreGroups, IsAlone, KeepsLatches}
 use Rattle.found_decks.specs.FoundDecks.{FoundLatch}
-use Rattle.audit_deck.specs.Latches.{AreGroupsBelow, HasNoLatch, IsLatchAt, with_latch}
+use Rattle.audit_deck.specs.Latches.{AreGroupsBelow, HasNoLatch, IsLatchAt}
+use Rattle.audit_deck.specs.LeafOrders.{with_option}
 use Rattle.audit_deck.proofs.Breaks.{end_low}
 use Rattle.audit_deck.proofs.AloneGroups.{nine_of}
 use Rattle.audit_deck.proofs.Meets.{meets_added, meets_same, meets_then}
@@ -135,7 +136,7 @@ module _ (ds : List Device) (roles : Roles) where
 
   -- after a net was looked at
   pub below_next : (n : ℕ) (groups : List FoundLatch) (o : Option FoundLatch) → AreGroupsBelow ds roles n groups → IfSome o (IsLatchAt ds roles n)
-      → IfNone o (HasNoLatch ds roles n) → AreGroupsBelow ds roles (n + 1) (with_latch groups o)
+      → IfNone o (HasNoLatch ds roles n) → AreGroupsBelow ds roles (n + 1) (with_option groups o)
   below_next n groups None b some none = below_past n groups b none
   below_next n groups (Some a) b some none = below_more n groups a b some
 

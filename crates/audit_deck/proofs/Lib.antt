@@ -9,12 +9,14 @@ pub mod DeckOrders
 pub mod DeckYes
 pub mod FirstComplements
 pub mod Found
+pub mod FoundComplements
 pub mod FoundMarks
 pub mod GroupCards
 pub mod JoinedParts
 pub mod LatchBranches
 pub mod LatchLists
 pub mod LaterBreaks
+pub mod LeafOrders
 pub mod Listings
 pub mod LocalLinks
 pub mod MarkedNets

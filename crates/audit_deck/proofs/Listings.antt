@@ -21,7 +21,7 @@ module _ (P : ℕ → Type 0) (bound : ℕ) (numbers : List ℕ) (h : AreThose (
   past j at = let y = (h.sound j bound at).0 in absurd (omega (arith, y))
 
   -- the next number has the property
-  pub one_more : P bound → AreThose (Below P (bound + 1)) (numbers ++ bound ∷ [])
+  one_more : P bound → AreThose (Below P (bound + 1)) (numbers ++ bound ∷ [])
   one_more has = record {
     sound = λ j p at. elim (slice_get-push_cases numbers bound j p at) [
       | inl y ↦ let z = h.sound j p y in (omega (arith, z.0), z.1)
@@ -42,7 +42,7 @@ module _ (P : ℕ → Type 0) (bound : ℕ) (numbers : List ℕ) (h : AreThose (
       only j k p (inr y) (inl z) = absurd (past k (z ∙ ap Some (sym y.1)))
 
   -- it has not
-  pub none_more : (P bound → ⊥) → AreThose (Below P (bound + 1)) numbers
+  none_more : (P bound → ⊥) → AreThose (Below P (bound + 1)) numbers
   none_more hasnt = record {
     sound = λ j p at. let z = h.sound j p at in (omega (arith, z.0), z.1);
     full = λ p low. elim (dec_nat p bound) [

@@ -1,6 +1,6 @@
 -- The parts of a latch: the branches of its two clocked inverters, and its reset.
 use Rattle.std.specs.List.{AllByRecursion}
-use Rattle.std.specs.Prelude.{Bool, Contains, List, None, Option, Some, [], drop, false, length, slice_get, slice_index_or, true, ℕ, ◌++◌, ◌+◌, ◌<◌, ◌∷◌, ◌≡◌, ◌≤◌}
+use Rattle.std.specs.Prelude.{Bool, Contains, List, None, Option, Some, drop, false, length, slice_get, slice_index_or, true, ℕ, ◌+◌, ◌<◌, ◌≡◌, ◌≤◌}
 use Rattle.dom_base.specs.declared.kind.Kind.{Kind}
 use Rattle.dom_base.specs.declared.kind.Kind.TheVariants.{N as nch, P as pch}
 use Rattle.deck.specs.PortLayout.{master_pair, reset_pair, slave_pair}
@@ -98,11 +98,6 @@ HasNoLatch ds roles n = (l : FoundLatch) → IsAlone ds roles l.group l.places �
 -- the latch of an output
 abbrev pub IsLatchAt : List Device → Roles → ℕ → FoundLatch → Type 0
 IsLatchAt ds roles n l = IsAlone ds roles l.group l.places × (l.group.output ≡ n)
-
--- the list with a latch at its end, if there is one
-abbrev pub with_latch : List FoundLatch → Option FoundLatch → List FoundLatch
-with_latch groups None = groups
-with_latch groups (Some latch) = groups ++ latch ∷ []
 
 -- the list has the latches whose outputs are below the bound
 pub record AreGroupsBelow (ds : List Device) (roles : Roles) (bound : ℕ) (groups : List FoundLatch) : Type 0 where

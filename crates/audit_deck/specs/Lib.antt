@@ -7,6 +7,7 @@ pub mod Fronts
 pub mod Groups
 pub mod Indexes
 pub mod Latches
+pub mod LeafOrders
 pub mod Loops
 pub mod Marks
 pub mod Numberings

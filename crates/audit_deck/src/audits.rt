@@ -48,7 +48,7 @@ impl<'a> Index<'a> {
             return Ok(Audit::No { rule: 6, net });
         }
         let cells = self.cell_order(alloc, roles, marks, nodes)?;
-        let complements = self.complement_nets(alloc, &marks.complements, roles, count)?;
+        let complements = marks.complements.in_order(alloc, roles, latches)?;
         let tops = cells.nets();
         let order = self.deck_order(
             alloc,

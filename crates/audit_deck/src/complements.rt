@@ -1,17 +1,31 @@
 //! The complements of pins and latch outputs.
-ghost use Rattle.std.specs.Prelude.{◌≡◌, ◌<◌, ◌^◌, IfNone, IfOk, IfSome, None, Some, false, length, replicate, slice_get, slice_set, true, ℕ};
+ghost use Rattle.std.specs.Prelude.{◌≡◌, ◌+◌, ◌<◌, ◌≤◌, ◌^◌, All, IfNone, IfOk, IfSome, List, None, OnOk, Some, false, length, replicate, slice_get, slice_set, true, ℕ};
 ghost use Rattle.deck.specs.PortLayout.{first_output};
-ghost use Rattle.audit_deck.specs.Indexes.{AreInRange, AreThose};
-ghost use Rattle.audit_deck.specs.Marks.{AreComplements, AreMarks, IsSomeComplement};
+ghost use Rattle.audit_deck.specs.Indexes.{AreInRange};
+ghost use Rattle.audit_deck.specs.LeafOrders.{AreByPlace, IsOfLeaf, with_option};
+ghost use Rattle.audit_deck.specs.Marks.{AreComplements, AreMarks, IsSomeComplement, IsWithin};
 ghost use Rattle.deck_audit.specs.Words.{IsLatchData, IsLatchOutput, MayBeComplement};
+ghost use Rattle.found_decks.specs.FoundDecks.{FoundLatch};
 
 use crate::index::Index;
+use crate::latches::LatchGroup;
 use crate::net_marks::NetMarks;
 use crate::ports::{is_out_port, is_pin};
 use deck::Roles;
 use dom_base::OutOfMemory;
 use std::alloc::Global;
 use std::marker::Model;
+
+/// Puts a net at the end of a list, if there is one. The one error is out of memory.
+fn put_net(nets: &mut Vec<u32>, net: Option<u32>) -> Result<(), OutOfMemory>
+    ensures { OnOk result (nets.new.items ≡ with_option nets.old.items net) }
+{
+    let Some(net) = net else {
+        return Ok(());
+    };
+    nets.push(net)?;
+    Ok(())
+}
 
 /// For each net its complement, where one is known.
 #[derive(Drop)]
@@ -48,6 +62,40 @@ impl Complements {
         ensures { self.new ≡ slice_set self.old input (Some net) }
     {
         self.0[input as usize] = Some(net);
+    }
+
+    /// The complements of the pins, in order. The one error is out of memory.
+    fn of_pins(&self, alloc: Global, roles: Roles) -> Result<Vec<u32>, OutOfMemory>
+        requires ports { first_output roles ≤ length self.now }
+        requires few { length self.now < 2 ^ 32 }
+        ensures { IfOk result (λ pins. (latches : List FoundLatch) → AreByPlace (IsOfLeaf roles latches self.now) roles.pins pins.items) }
+    {
+        let mut pins = Vec::new(alloc);
+        let first = roles.first_pin();
+        for pin in 0..roles.pins {
+            put_net(&mut pins, self.of(first + pin))?;
+        }
+        Ok(pins)
+    }
+
+    /// The complements of the pins and behind them those of the outputs of latches, in order. The time is linear in pins and
+    /// latches. The one error is out of memory.
+    pub fn in_order(
+        &self,
+        alloc: Global,
+        roles: Roles,
+        latches: &[LatchGroup],
+    ) -> Result<Vec<u32>, OutOfMemory>
+        requires ports { first_output roles ≤ length self.now }
+        requires few { length self.now < 2 ^ 32 }
+        requires within { All (IsWithin (length self.now)) latches.now }
+        ensures { IfOk result (λ nets. AreByPlace (IsOfLeaf roles latches.now self.now) (roles.pins + length latches.now) nets.items) }
+    {
+        let mut nets = self.of_pins(alloc, roles)?;
+        for latch in latches {
+            put_net(&mut nets, self.of(latch.output))?;
+        }
+        Ok(nets)
     }
 }
 
@@ -135,28 +183,5 @@ impl<'a> Index<'a> {
             return false;
         };
         first == net
-    }
-
-    /// The nets that are complements, by rising number. The one error is out of memory.
-    pub fn complement_nets(
-        &self,
-        alloc: Global,
-        complements: &Complements,
-        roles: Roles,
-        count: u32,
-    ) -> Result<Vec<u32>, OutOfMemory>
-        requires count { count ≡ self.now.nets }
-        requires ports { first_output roles < 2 ^ 32 }
-        requires in_range { AreInRange self.now.devices self.now.nets }
-        requires are { AreComplements self.now.devices roles self.now.nets complements.now }
-        ensures { IfOk result (λ nets. AreThose (IsSomeComplement self.now.devices roles) nets.items) }
-    {
-        let mut nets = Vec::new(alloc);
-        for net in 0..count {
-            if self.is_complement(complements, roles, net) {
-                nets.push(net)?;
-            }
-        }
-        Ok(nets)
     }
 }

@@ -6,7 +6,8 @@ ghost use Rattle.deck.specs.PortLayout.{first_output};
 ghost use Rattle.audit_deck.specs.Broken.{IsKept, IsSmallest};
 ghost use Rattle.audit_deck.specs.Groups.{AreGroups, IsAlone, KeepsLatches};
 ghost use Rattle.audit_deck.specs.Indexes.{AreInRange, EndingAt};
-ghost use Rattle.audit_deck.specs.Latches.{AreParts, Covers, GatesNone, HasControl, HasNoLatch, IsLatchAt, StandsAlone, with_latch};
+ghost use Rattle.audit_deck.specs.Latches.{AreParts, Covers, GatesNone, HasControl, HasNoLatch, IsLatchAt, StandsAlone};
+ghost use Rattle.audit_deck.specs.LeafOrders.{with_option};
 ghost use Rattle.audit_deck.specs.Numberings.{IsMet};
 ghost use Rattle.audit_deck.specs.Walks.{MeetsThose};
 ghost use Rattle.deck_audit.specs.Rules.{IsAtControl};
@@ -130,7 +131,7 @@ fn meet_own(group: &LatchGroup, met: &mut Numbering) -> Result<(), OutOfMemory>
 
 /// Puts a latch at the end of a list, if there is one. The one error is out of memory.
 fn put_latch(groups: &mut Vec<LatchGroup>, latch: Option<LatchGroup>) -> Result<(), OutOfMemory>
-    ensures { OnOk result (groups.new.items ≡ with_latch groups.old.items latch) }
+    ensures { OnOk result (groups.new.items ≡ with_option groups.old.items latch) }
 {
     let Some(latch) = latch else {
         return Ok(());

@@ -4,6 +4,7 @@ use crate::design::{Card, Design, VDD, VSS};
 use crate::latches::Group;
 use crate::leaves::reads;
 use crate::parts::Parts;
+use crate::words::input_of;
 use dom_base::Kind;
 use std::alloc::{AllocError, Global};
 
@@ -156,19 +157,27 @@ fn latches_in_order(
     Ok(latches)
 }
 
-/// The places of the complements' inverters, in the order in which their first devices stand.
+/// The places of the complements' inverters by rising signal: those of pins, then those of the outputs of latches as they are listed.
 fn complements_in_order(
     alloc: Global,
     design: &Design,
-    complements: &[usize],
-    order: &[usize],
+    parts: &Parts,
+    latches: &[usize],
 ) -> Result<Vec<usize>, AllocError> {
+    let mut inputs = Vec::new(alloc);
+    for pin in design.ports.first_pin()..design.ports.sources() {
+        inputs.push(pin)?;
+    }
+    for latch in latches {
+        if let Some(group) = parts.groups.get(*latch) {
+            inputs.push(group.output)?;
+        }
+    }
     let mut places = Vec::new(alloc);
-    for place in order {
-        for net in complements {
-            let pair = inverter(alloc, design, *net)?;
-            if pair.first() == Some(place) {
-                places.extend_from_slice(&pair)?;
+    for input in inputs.iter() {
+        for net in parts.complements.iter() {
+            if input_of(&parts.inputs, *net) == Some(*input) {
+                places.extend_from_slice(&inverter(alloc, design, *net)?)?;
             }
         }
     }
@@ -217,7 +226,7 @@ pub fn is_order(
         return Ok(false);
     };
     let latches = latches_in_order(alloc, &parts.groups, rest)?;
-    let complements = complements_in_order(alloc, design, &parts.complements, rest)?;
+    let complements = complements_in_order(alloc, design, parts, &latches)?;
     let wanted = places_behind(alloc, design, parts, &complements, &latches)?;
     Ok(rest == wanted.as_slice())
 }

@@ -134,6 +134,7 @@ module _ (s : Shape) (cells : List DominoCell) (same : s.cells ≡ map whole_cel
         has.1 (IsLeafOf split_shape k.cell) (each_leaf (IsLeafOf s k.cell) (IsLeafOf split_shape k.cell) (leaf_is k.cell) (whole (at.0).tree (at.0).right) all);
     simple = λ e. absurd (let other = sym precharged ∙ e in cc);
     complements_are = is.complements_are;
+    complements_ordered = is.complements_ordered;
     nexts = λ j b e. gate_is b.next (is.nexts j b e);
     outputs_are = λ i g e. gate_is g (is.outputs_are i g e);
     overlap = λ e. absurd (let other = sym together ∙ e in cc);

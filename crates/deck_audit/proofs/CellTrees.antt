@@ -86,11 +86,12 @@ right_inners x ls rs inner k m n c h j lt =
     shift : (k l m j : ℕ) → l ≡ m → k + suc (l + j) ≡ k + 1 + m + j
     shift k l m j c = omega arith
 
-left_side : (ls rs : List ℕ) (inner : ℕ → ℕ) (k m n : ℕ) → length ls ≡ m → Inners (ls ++ rs) inner k (m + n) → Inners ls inner k m
-left_side ls rs inner k m n c h j lt = sym (slice_get-left ls rs j (omega (arith, c, lt))) ∙ h j (omega (arith, lt))
+-- the inner nets of the left part of two, and of the right one
+pub inners_front : (ls rs : List ℕ) (inner : ℕ → ℕ) (k m n : ℕ) → length ls ≡ m → Inners (ls ++ rs) inner k (m + n) → Inners ls inner k m
+inners_front ls rs inner k m n c h j lt = sym (slice_get-left ls rs j (omega (arith, c, lt))) ∙ h j (omega (arith, lt))
 
-right_side : (ls rs : List ℕ) (inner : ℕ → ℕ) (k m n : ℕ) → length ls ≡ m → Inners (ls ++ rs) inner k (m + n) → Inners rs inner (k + m) n
-right_side ls rs inner k m n c h j lt =
+pub inners_back : (ls rs : List ℕ) (inner : ℕ → ℕ) (k m n : ℕ) → length ls ≡ m → Inners (ls ++ rs) inner k (m + n) → Inners rs inner (k + m) n
+inners_back ls rs inner k m n c h j lt =
     sym (slice_get-behind ls rs j) ∙ h (length ls + j) (omega (arith, c, lt)) ∙ ap (λ i. Some (inner i)) (shift k (length ls) m j c)
   where
     shift : (k l m j : ℕ) → l ≡ m → k + (l + j) ≡ k + m + j
@@ -113,8 +114,8 @@ module _ (ds : List Device) (inner : ℕ → ℕ) where
       (AllByRecursion-append (IsOneOf ds) (cards_of inner m a x (k + 1)) (cards_of inner n x b (k + 1 + inner_count m)) first second))
   spelling_there (Parallel l r) (Parallel m n) a b k (p, q, u, o) s from i =
       let c = inner_same ds l m a b p s.0 in
-      let first = spelling_there l m a b k p s.0 (λ e z. from e (inl z)) (left_side (mids l a b p) (mids r a b q) inner k (inner_count m) (inner_count n) c i) in
-      let second = spelling_there r n a b (k + inner_count m) q s.1 (λ e z. from e (inr z)) (right_side (mids l a b p) (mids r a b q) inner k (inner_count m) (inner_count n) c i) in
+      let first = spelling_there l m a b k p s.0 (λ e z. from e (inl z)) (inners_front (mids l a b p) (mids r a b q) inner k (inner_count m) (inner_count n) c i) in
+      let second = spelling_there r n a b (k + inner_count m) q s.1 (λ e z. from e (inr z)) (inners_back (mids l a b p) (mids r a b q) inner k (inner_count m) (inner_count n) c i) in
       rw (map-append device_of (spell nch inner m a b k) (spell nch inner n a b (k + inner_count m)))
       (AllByRecursion-append (IsOneOf ds) (cards_of inner m a b k) (cards_of inner n a b (k + inner_count m)) first second)
   spelling_there (Leaf e) (Series m n) a b k h s from i = absurd s
@@ -151,9 +152,9 @@ module _ (ds : List Device) (inner : ℕ → ℕ) where
       let w = inner_same ds l m a b p s.0 in
       elim c [
         | inl z ↦ one_of_left (spell nch inner m a b k) (spell nch inner n a b (k + inner_count m)) d
-            (link_spelled l m a b k p s.0 (λ e z. from e (inl z)) (left_side (mids l a b p) (mids r a b q) inner k (inner_count m) (inner_count n) w i) f z d at)
+            (link_spelled l m a b k p s.0 (λ e z. from e (inl z)) (inners_front (mids l a b p) (mids r a b q) inner k (inner_count m) (inner_count n) w i) f z d at)
         | inr z ↦ one_of_right (spell nch inner m a b k) (spell nch inner n a b (k + inner_count m)) d
-            (link_spelled r n a b (k + inner_count m) q s.1 (λ e z. from e (inr z)) (right_side (mids l a b p) (mids r a b q) inner k (inner_count m) (inner_count n) w i) f z d at)
+            (link_spelled r n a b (k + inner_count m) q s.1 (λ e z. from e (inr z)) (inners_back (mids l a b p) (mids r a b q) inner k (inner_count m) (inner_count n) w i) f z d at)
       ]
   link_spelled (Leaf e) (Series m n) a b k h s from i f c d at = absurd s
   link_spelled (Leaf e) (Parallel m n) a b k h s from i f c d at = absurd s

@@ -15,7 +15,7 @@ use Rattle.circuit_law.specs.Exchanged.{exchange}
 use Rattle.domino_law.specs.DominoDeck.{IsLooseDominoDeck}
 use Rattle.domino_law.specs.LooseDeck.{IsNet, IsSourceNet}
 use Rattle.domino_law.proofs.SimpleCells.{AreSimple}
-use Rattle.domino_law.specs.Nets.{At, DeckSignal, Gate, High, Net, Part, Sink, Vdd, Vss}
+use Rattle.domino_law.specs.Nets.{At, Gate, High, Net, Part, Sink, Vdd, Vss}
 use Rattle.domino_law.specs.Shape.{IsOutputAt, Shape}
 use Rattle.domino_cell.specs.declared.style.Style.TheVariants.{Keeper as WithKeeper}
 use Rattle.domino_law.specs.Spelled.{deck_devices, shape_cards}
@@ -28,7 +28,7 @@ use Rattle.deck_audit.proofs.RuleFacts.{twin_ends, twin_gate, twin_kind}
 use Rattle.std.proofs.lemmas.Option.{same_Some, slice_get-get_or, slice_get-map}
 use Rattle.std.specs.Option.{option_map}
 
--- a circuit whose devices are, in some order, those of a loose deck with keepers in which no complement stands twice
+-- a circuit whose devices are, in some order, those of a loose deck with keepers
 pub record OwnDeck : Type 0 where
   pub circuit : CircuitData
   pub roles : Roles
@@ -37,7 +37,6 @@ pub record OwnDeck : Type 0 where
   pub order : List ℕ
   pub keepers : shape.style ≡ WithKeeper
   pub deck : IsLooseDominoDeck roles (links_of (with_cards circuit (deck_devices net shape)) roles) net shape
-  pub once : (i j : ℕ) (l : DeckSignal) → slice_get shape.complements i ≡ Some l → slice_get shape.complements j ≡ Some l → i ≡ j
   pub in_order : IsOrder circuit.devices order (deck_devices net shape)
 
 -- the devices of the circuit

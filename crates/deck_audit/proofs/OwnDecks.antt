@@ -178,4 +178,4 @@ module _ (w : OwnDeck) where
   }
 
 pub keeper_decks_get_yes : KeeperDecksGetYes
-keeper_decks_get_yes c roles net s order keepers deck once o = gets_yes (record { circuit = c; roles = roles; net = net; shape = s; order = order; keepers = keepers; deck = deck; once = once; in_order = o })
+keeper_decks_get_yes c roles net s order keepers deck o = gets_yes (record { circuit = c; roles = roles; net = net; shape = s; order = order; keepers = keepers; deck = deck; in_order = o })

@@ -52,6 +52,7 @@ shape_is = record {
       subst (λ (x : DynamicStage). EachLeaf (IsLeafOf and_shape k.cell) x.tree) y.3 (subst (λ (x : DominoCell). EachLeaf (IsLeafOf and_shape k.cell) x.tree) o.1 (omega arith, omega arith));
   simple = λ z. and_simple;
   complements_are = λ l h. no_signal l h;
+  complements_ordered = λ i j l m lt e f. absurd (cc);
   nexts = λ j b i. no_latch j b i;
   outputs_are = λ k g i. let o = one_output k g i in subst (IsGate and_shape) o.1 (record { clock = 0; tree = Series (Leaf (Plus (FromPin 0))) (Leaf (Plus (FromPin 1))); right = None }, refl);
   overlap = λ e. absurd (cc);

@@ -10,8 +10,8 @@ use Rattle.deck.specs.Nets.{net_number}
 use Rattle.deck_form.specs.NameParts.{NoDigit, behind, front, leading_letter}
 use Rattle.deck_form.proofs.NameParts.{behind-digits, front-digits}
 use Rattle.domino_cell.specs.Stage.{Inside, Top}
-use Rattle.domino_law.specs.Nets.{At, Clock, Complement, Dynamic, FromLatch, FromPin, Lm, Lmb, Ls, Lsb, Master, Net, Next, Output, Part, Pin, Rs, Rsb, DeckSignal, Sink, Slave, Vdd, Vss, left_side, right_side}
-use Rattle.deck_law.specs.NetNames.{leaf_of, deck_name, leaf_signal}
+use Rattle.domino_law.specs.Nets.{At, Clock, Complement, Dynamic, FromLatch, FromPin, Lm, Lmb, Ls, Lsb, Master, Net, Next, Output, Part, Pin, Rs, Rsb, DeckSignal, Sink, Slave, Vdd, Vss, leaf_of, left_side, right_side}
+use Rattle.deck_law.specs.NetNames.{deck_name, leaf_signal}
 
 -- a byte that no escape has behind `_`
 abbrev pub is_mark : ℕ → Bool

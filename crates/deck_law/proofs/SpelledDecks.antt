@@ -1,8 +1,8 @@
 -- A loose deck by names is one by numbers, with its ports in order.
-use Rattle.std.specs.Prelude.{Contains, ◌==◌, ◌||◌, slice_index_or}
+use Rattle.std.specs.Prelude.{AllPairs, Contains, ◌==◌, ◌||◌, slice_index_or}
 use Rattle.std.specs.List.{list_any}
 use Rattle.std.proofs.Common.{◌≡◌, ℕ, zero, suc, ◌+◌, ◌-◌, ◌*◌, ◌/◌, ◌%◌, ◌<◌, ◌≤◌, Bool, true, false, List, [], ◌∷◌, ◌++◌, length, map, take, drop, refl, sym, ap, ◌∙◌, subst, inl, inr, arith, zip, Some, slice_get, length-append, length-drop, nat_lt, eq-eqb, ltb-true, ltb-false, length-take}
-use Rattle.std.proofs.lemmas.Option.{slice_get_within}
+use Rattle.std.proofs.lemmas.Option.{get_or_from_slice_get, slice_get_within}
 use Rattle.std.proofs.lemmas.Bool.{cases_lt, eqb-false}
 use Rattle.dom_base.proofs.Lists.{Contains-slice_get, slice_get-contained, All-at}
 use Rattle.deck.specs.CircuitData.{CircuitData}
@@ -12,7 +12,7 @@ use Rattle.sp_network.specs.Tree.{EachLeaf, Leaf, Parallel, Series, Tree, map_tr
 use Rattle.domino_cell.specs.Stage.{Spot, Top}
 use Rattle.switch_model.specs.LinksData.{links_of}
 use Rattle.domino_law.specs.LooseDeck.{IsNet, IsSourceNet}
-use Rattle.domino_law.specs.Nets.{At, Clock, Gate, Lm, Lmb, Ls, Lsb, Net, Part, Pin, Rs, Rsb, DeckSignal, Vdd, Vss, Sink}
+use Rattle.domino_law.specs.Nets.{At, Clock, Gate, Lm, Lmb, Ls, Lsb, Net, Part, Pin, Rs, Rsb, DeckSignal, Vdd, Vss, Sink, leaf_of}
 use Rattle.domino_law.specs.Settings.{HasPorts, port_number}
 use Rattle.domino_law.specs.Shape.{DominoCell, HasComplement, IsCellAt, IsGate, IsLeafOf, IsShape, IsSignal, Latch, IsOutputAt, DynamicStage}
 use Rattle.domino_cell.specs.declared.style.Style.{Style}
@@ -20,6 +20,7 @@ use Rattle.domino_law.specs.Spelled.{IsSpelledDeck}
 use Rattle.deck_form.specs.DeckNets.{SinkEnd, Fixed, OfDynamic, OfLeaf, OfOutput, CellPlan}
 use Rattle.deck_form.specs.NamedDecks.{IsEndIn, IsNamedDeck, is_plus_literal, names_complement, reads}
 use Rattle.deck_law.specs.NetNames.{cell_shape, end_gate, gate_of, latch_shape, rail_of, leaf_signal}
+use Rattle.deck_law.proofs.GateNames.{leaf_back}
 use Rattle.deck_law.proofs.NamedNets.{apart, named_net}
 use Rattle.deck_law.proofs.Numbers.{grew, lead_count, name_of, nets_are, parts_are, source_at, the_net, the_roles, the_shape, out_at}
 use Rattle.deck_law.proofs.PortNumbers.{number_is}
@@ -82,6 +83,9 @@ dropped_get : {X : Type 0} (n : ℕ) (xs : List X) (i : ℕ) (x : X) → slice_g
 dropped_get zero xs i x e = (i, e)
 dropped_get (suc n) [] i x e = absurd (cc)
 dropped_get (suc n) (y ∷ xs) i x e = let r = dropped_get n xs i x e in (suc r.0, r.1)
+
+rises : (xs : List ℕ) → AllPairs (λ a b. a < b) xs → (i j x y : ℕ) → i < j → slice_get xs i ≡ Some x → slice_get xs j ≡ Some y → x < y
+rises xs h i j x y l e f = omega (arith, h i j 0 l (slice_get_within xs j y f), get_or_from_slice_get xs i x 0 e, get_or_from_slice_get xs j y 0 f)
 
 module _ {style : Style} {circuit : CircuitData} (d : IsNamedDeck style circuit) where
   abbrev lc : ℕ
@@ -163,6 +167,12 @@ module _ {style : Style} {circuit : CircuitData} (d : IsNamedDeck style circuit)
         let c = slice_get-contained (map (leaf_signal (length d.pins)) d.complements) l h in
         let m = get_of_map (leaf_signal (length d.pins)) d.complements c.0 l c.1 in
         subst (IsSignal (the_shape d)) m.2 (signal_is m.0 (All-at (λ leaf. leaf < length d.pins + length d.starts) d.complements c.0 m.0 d.of_leaves m.1));
+    complements_ordered = λ i j l m lt e f.
+        let x = get_of_map (leaf_signal (length d.pins)) d.complements i l e in
+        let y = get_of_map (leaf_signal (length d.pins)) d.complements j m f in
+        let first : leaf_of (length d.pins) l ≡ x.0 = ap (leaf_of (length d.pins)) (sym x.2) ∙ leaf_back d.pins d.outs x.0 in
+        let second : leaf_of (length d.pins) m ≡ y.0 = ap (leaf_of (length d.pins)) (sym y.2) ∙ leaf_back d.pins d.outs y.0 in
+        omega (arith, first, second, rises d.complements d.in_order i j x.0 y.0 lt x.1 y.1);
     nexts = λ j b e.
         let m = get_of_map (latch_shape (length d.pins)) (zip d.starts (drop (length d.outs) d.ends)) j b e in
         let z = zipped_get d.starts (drop (length d.outs) d.ends) j m.0 m.1 in

@@ -5,16 +5,11 @@ use Rattle.std.specs.List.{zip}
 use Rattle.deck.specs.Nets.{net_number}
 use Rattle.sp_network.specs.Tree.{map_tree}
 use Rattle.domino_cell.specs.Stage.{Inside, Top, Spot}
-use Rattle.domino_law.specs.Nets.{At, Clock, Complement, Dynamic, FromDynamic, FromLatch, FromOutput, FromPin, Gate, High, Lm, Lmb, Low, Ls, Lsb, Master, Minus, Net, Next, Output, Pin, Plus, Rs, Rsb, DeckSignal, Sink, Slave, Vdd, Vss, Left, Right, Side}
+use Rattle.domino_law.specs.Nets.{At, Clock, Complement, Dynamic, FromDynamic, FromLatch, FromOutput, FromPin, Gate, High, Lm, Lmb, Low, Ls, Lsb, Master, Minus, Net, Next, Output, Pin, Plus, Rs, Rsb, DeckSignal, Sink, Slave, Vdd, Vss, Left, Right, Side, leaf_of}
 use Rattle.domino_law.specs.Shape.{DominoCell, Latch, Shape}
 use Rattle.domino_cell.specs.declared.style.Style.{Style}
 use Rattle.deck_form.specs.DeckNets.{SinkEnd, Fixed, OfDynamic, OfLeaf, OfOutput, CellPlan, clock_net, complement_net, data_net, dynamic_net, output_net, vdd, vss}
 use Rattle.port_runs.specs.declared.clocking.Clocking.TheVariants.{Together}
-
--- the number of a signal's leaf: pins first, then latches
-abbrev pub leaf_of : ℕ → DeckSignal → ℕ
-leaf_of pins (FromPin p) = p
-leaf_of pins (FromLatch j) = pins + j
 
 -- the name of a spot of a side of a cell
 abbrev pub side_name : Side → ℕ → Spot → List ℕ

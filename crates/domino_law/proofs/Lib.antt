@@ -5,6 +5,7 @@ pub mod CellCards
 pub mod CellStates
 pub mod Cells
 pub mod ClockOrder
+pub mod Complements
 pub mod Contests
 pub mod DeckLists
 pub mod DeckParts

@@ -153,6 +153,7 @@ or_is_shape =
       leaves = λ k c e. let f = or_side k c e in leaf k.cell k.side c f.1;
       simple = λ z k c e. absurd (no z);
       complements_are = λ l c. absurd (none l c);
+      complements_ordered = λ i j l m lt e f. absurd (cc);
       nexts = λ j b e. absurd (no_latch j b e);
       outputs_are = λ i g e. let f = only_first (FromDynamic 0) g i e in rw (← f.1) (or_cell, refl);
       overlap = λ e. absurd (cc);

@@ -10,7 +10,7 @@ use Rattle.domino_cell.specs.Stage.{Inside, Spot, Top}
 use Rattle.switch_model.specs.LinksData.{is_first}
 use Rattle.port_runs.specs.Environment.{Reset, none_fallen}
 use Rattle.domino_law.specs.LooseDeck.{IsNet, IsSourceNet}
-use Rattle.domino_law.specs.Nets.{At, Clock, Complement, Dynamic, FromDynamic, FromLatch, FromPin, Lm, Lmb, Ls, Lsb, Master, Minus, Net, Next, Output, Part, Pin, Rs, Rsb, Sink, Slave, Vdd, Vss, CellSide, Left, Right, Side, left_side}
+use Rattle.domino_law.specs.Nets.{At, Clock, Complement, Dynamic, FromDynamic, FromLatch, FromPin, Lm, Lmb, Ls, Lsb, Master, Minus, Net, Next, Output, Part, Pin, Rs, Rsb, Sink, Slave, Vdd, Vss, CellSide, DeckSignal, Left, Right, Side, leaf_of, left_side}
 use Rattle.domino_law.specs.OwnRun.{bit_at}
 use Rattle.domino_law.specs.Places.{AreSources}
 use Rattle.domino_law.specs.Shape.{HasComplement, IsShape, IsSignal, Latch, DynamicStage, IsSideAt, dynamic_nets, gate_tree, left_stage, side_of}
@@ -149,6 +149,13 @@ pin_has = Contains-first (FromPin 0) (FromLatch 0 ∷ [])
 latch_has : HasComplement toggle_shape (FromLatch 0)
 latch_has = Contains-later (FromPin 0) (FromLatch 0 ∷ []) (FromLatch 0) (Contains-first (FromLatch 0) [])
 
+toggle_ordered : (i j : ℕ) (l m : DeckSignal) → i < j → slice_get (FromPin 0 ∷ FromLatch 0 ∷ []) i ≡ Some l
+    → slice_get (FromPin 0 ∷ FromLatch 0 ∷ []) j ≡ Some m → leaf_of 1 l < leaf_of 1 m
+toggle_ordered i zero l m lt e f = absurd (omega (arith, lt))
+toggle_ordered zero (suc zero) l m lt e f = let y : FromPin 0 ≡ l = cc in let z : FromLatch 0 ≡ m = cc in rw (← y) (rw (← z) (omega arith))
+toggle_ordered (suc i) (suc zero) l m lt e f = absurd (omega (arith, lt))
+toggle_ordered i (suc (suc j)) l m lt e f = absurd (cc)
+
 toggle_is_shape : IsShape toggle_shape
 unfolding toggle_latch
 toggle_is_shape =
@@ -157,6 +164,7 @@ toggle_is_shape =
       leaves = λ k c e. let f = toggle_side k c e in rw (← f.1) ((omega arith, latch_has), (pin_has, (toggle_latch, refl)));
       simple = λ z k c e. absurd (no z);
       complements_are = λ l c. AllByRecursion-contains (IsSignal toggle_shape) (FromPin 0 ∷ FromLatch 0 ∷ []) l (omega arith, ((toggle_latch, refl), tt)) c;
+      complements_ordered = toggle_ordered;
       nexts = λ j b e. let f = only_first toggle_latch b j e in rw (← f.1) (toggle_cell, refl);
       outputs_are = λ i g e. let f = only_first (Minus (FromLatch 0)) g i e in rw (← f.1) latch_has;
       overlap = λ e. absurd (cc);

@@ -1,11 +1,16 @@
 -- The nets of a domino deck, by what they are.
-use Rattle.std.specs.Prelude.{ℕ}
+use Rattle.std.specs.Prelude.{ℕ, ◌+◌}
 use Rattle.domino_cell.specs.Stage.{Spot, Top}
 
 -- a pin, or the output of a latch, by its number
 pub data DeckSignal : Type 0 where
   FromPin : ℕ → DeckSignal
   FromLatch : ℕ → DeckSignal
+
+-- the number of a signal's leaf, where there are so many pins: pins first, then latches
+abbrev pub leaf_of : ℕ → DeckSignal → ℕ
+leaf_of pins (FromPin p) = p
+leaf_of pins (FromLatch j) = pins + j
 
 -- the sides of a cell: a simple cell has the left one, a compound cell both
 pub data Side : Type 0 where

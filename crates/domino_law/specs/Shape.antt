@@ -1,11 +1,11 @@
 -- What a loose domino deck consists of.
 use Rattle.domino_cell.specs.declared.style.Style.{Style}
-use Rattle.domino_cell.specs.declared.style.Style.TheVariants.{Keeper as WithKeeper, Precharge as WithPrecharge}
+use Rattle.domino_cell.specs.declared.style.Style.TheVariants.{Keeper as WithKeeper}
 use Rattle.std.specs.Prelude.{Bool, Contains, List, Some, slice_get, ℕ, ◌+◌, ◌<◌, ◌≡◌, ◌⊎◌, None, Option}
 use Rattle.port_runs.specs.declared.clocking.Clocking.{Clocking}
 use Rattle.port_runs.specs.declared.clocking.Clocking.TheVariants.{Overlapping}
 use Rattle.sp_network.specs.Tree.{EachLeaf, Tree, Leaf, Series}
-use Rattle.domino_law.specs.Nets.{FromDynamic, FromLatch, FromOutput, FromPin, Gate, High, Low, Minus, Plus, DeckSignal, At, CellSide, Dynamic, Left, Net, Right, Side, gate_net, left_side, right_side}
+use Rattle.domino_law.specs.Nets.{FromDynamic, FromLatch, FromOutput, FromPin, Gate, High, Low, Minus, Plus, DeckSignal, At, CellSide, Dynamic, Left, Net, Right, Side, gate_net, leaf_of, left_side, right_side}
 use Rattle.domino_cell.specs.Stage.{Top}
 
 -- a domino cell: the number of its clock, from 0, its tree, and the right tree of a compound cell
@@ -127,6 +127,9 @@ pub record IsShape (s : Shape) : Type 0 where
   -- cells with keepers are simple
   pub simple : s.style ≡ WithKeeper → (k : ℕ) (c : DominoCell) → IsCellAt s k c → c.right ≡ None
   pub complements_are : (l : DeckSignal) → HasComplement s l → IsSignal s l
+  -- each stands at most once, in order of the leaves
+  pub complements_ordered : (i j : ℕ) (l m : DeckSignal) → i < j → slice_get s.complements i ≡ Some l → slice_get s.complements j ≡ Some m
+      → leaf_of s.pins l < leaf_of s.pins m
   pub nexts : (j : ℕ) (b : Latch) → IsLatchAt s j b → IsGate s b.next
   pub outputs_are : (i : ℕ) (g : Gate) → IsOutputAt s i g → IsGate s g
   pub overlap : s.clocking ≡ Overlapping → MayOverlap s

@@ -1,6 +1,7 @@
 -- Where all rules hold, the places that an audit lists are the order of a yes.
-use Rattle.std.proofs.Common.{arith, inl, inr, length, refl, subst, ℕ, ◌≡◌, ◌≤◌}
+use Rattle.std.proofs.Common.{length, refl, subst, ℕ, ◌≡◌}
 use Rattle.deck_audit.specs.Audits.{HasMeasure, IsGreatest, IsOrder, IsYes}
+use Rattle.deck_audit.proofs.Answers.{one_greatest}
 use Rattle.deck_audit.proofs.OwnDecks.{keeper_decks_get_yes}
 use Rattle.domino_law.specs.Spelled.{deck_devices}
 use Rattle.sp_reduction.specs.Networks.{whole_height, whole_width}
@@ -8,23 +9,10 @@ use Rattle.found_decks.specs.FoundDecks.{FoundDecksGetYes}
 use Rattle.found_decks.proofs.FoundGates.{dominoes}
 use Rattle.found_decks.proofs.FoundNets.{Found, devices, net}
 use Rattle.found_decks.proofs.FoundShapes.{shape}
-use Rattle.found_decks.proofs.Owners.{exchanged, signals_once}
+use Rattle.found_decks.proofs.Owners.{exchanged}
 use Rattle.found_decks.proofs.PlacesAll.{all_listed}
 use Rattle.found_decks.proofs.PlacesAt.{cards_at}
 use Rattle.found_decks.proofs.PlacesOnce.{places_once}
-
--- the greatest number is one
-one_greatest : (P : ℕ → Type 0) (v w : ℕ) → IsGreatest P v → IsGreatest P w → v ≡ w
-one_greatest P v w g h = both (below v w g h) (below w v h g)
-  where
-    below : (v w : ℕ) → IsGreatest P v → IsGreatest P w → v ≤ w
-    below v w g h = elim g.had [
-      | inl z ↦ omega (arith, z)
-      | inr z ↦ h.bound v z
-    ]
-
-    both : v ≤ w → w ≤ v → v ≡ w
-    both a b = omega (arith, a, b)
 
 in_order : (w : Found) → IsOrder (devices w) w.order (deck_devices (net w) (shape w))
 in_order w = record { once = places_once w; all = λ p d at. all_listed w p d at; cards_are = cards_at w }
@@ -39,7 +27,7 @@ with_numbers w {cells} {v} {h} count width height c e f y =
 yes : (w : Found) (width height : ℕ) → IsGreatest (HasMeasure (devices w) w.roles whole_width) width → IsGreatest (HasMeasure (devices w) w.roles whole_height) height
     → IsYes w.circuit w.roles w.order (length (w.parts).tops) width height
 yes w width height g h =
-    let y = keeper_decks_get_yes w.circuit w.roles (net w) (shape w) w.order refl (exchanged w).deck (signals_once w) (in_order w) in
+    let y = keeper_decks_get_yes w.circuit w.roles (net w) (shape w) w.order refl (exchanged w).deck (in_order w) in
     with_numbers w (length (w.parts).tops) width height (dominoes w).count
     (one_greatest (HasMeasure (devices w) w.roles whole_width) _ width y.width_is g) (one_greatest (HasMeasure (devices w) w.roles whole_height) _ height y.height_is h) y
 

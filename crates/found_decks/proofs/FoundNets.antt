@@ -15,8 +15,9 @@ use Rattle.domino_law.specs.Settings.{port_number}
 use Rattle.sp_reduction.specs.Networks.{Link, mids}
 use Rattle.deck_audit.specs.Rules.{KeepsRules}
 use Rattle.deck_audit.specs.Words.{Group, IsComplement, IsDynamic, IsLatchOutput, IsPin, StandsAt}
-use Rattle.found_decks.specs.FoundDecks.{AreFound, ArePlaces, FoundLatch, FoundParts, IsCellPlaces}
+use Rattle.found_decks.specs.FoundDecks.{AreFound, ArePlaces, FoundLatch, FoundParts, IsCellPlaces, IsSignalNet}
 use Rattle.found_decks.proofs.Choices.{Chosen, choose, there}
+use Rattle.found_decks.proofs.Signals.{signal_at}
 
 -- a cell by its nets: its dynamic net, the number of its clock, its output, its foot net, its tree, the inner nets of that, and its places
 pub record CellParts : Type 0 where
@@ -125,19 +126,22 @@ module _ (w : Found) where
   pub latch_is : (j : ℕ) (l : FoundLatch) → slice_get (w.parts).latches j ≡ Some l → latch_at w.parts j ≡ l
   latch_is j l e = same_Some _ _ (sym (slice_get-get_or (w.parts).latches j no_latch (slice_get_within (w.parts).latches j l e)) ∙ e)
 
+  -- the net of a signal is its number
+  pub net_of : (l : DeckSignal) → IsFoundSignal w.roles w.parts l → IsSignalNet w.roles (w.parts).latches l (own_number w.roles w.parts l)
+  net_of (FromPin p) i = (i, refl)
+  net_of (FromLatch j) i = (i.0, i.1, ap (λ (l : FoundLatch). (l.group).output) (sym (latch_is j i.0 i.1)))
+
+  number_of : (l : DeckSignal) (i : ℕ) → IsSignalNet w.roles (w.parts).latches l i
+      → IsFoundSignal w.roles w.parts l × (own_number w.roles w.parts l ≡ i)
+  number_of (FromPin p) i h = h
+  number_of (FromLatch j) i h = ((h.0, h.1), ap (λ (l : FoundLatch). (l.group).output) (latch_is j h.0 h.1) ∙ h.2)
+
   -- the signal of a pin or a latch output
   pub signal_of : (i : ℕ) → IsPin w.roles i ⊎ IsLatchOutput (devices w) w.roles i → (l : DeckSignal) × IsFoundSignal w.roles w.parts l × (own_number w.roles w.parts l ≡ i)
-  signal_of i (inl z) = (FromPin (i - first_pin w.roles), pin_low i (first_pin w.roles) w.roles.pins z.0 z.1, pin_same i (first_pin w.roles) z.0)
-    where
-      pin_low : (i a p : ℕ) → a ≤ i → i < a + p → i - a < p
-      pin_low i a p l m = omega (arith, l, m)
-
-      pin_same : (i a : ℕ) → a ≤ i → a + (i - a) ≡ i
-      pin_same i a l = omega (arith, l)
-  signal_of i (inr z) =
-      let q = (w.found).latches_full z.0 z.1 z.2 in
-      let same : group_at w.parts q.0 ≡ z.0 = ap (λ (l : FoundLatch). l.group) (latch_is q.0 q.1 q.2) ∙ q.3 in
-      (FromLatch q.0, (q.1, q.2), ap (λ (g : Group). g.output) same ∙ z.3)
+  signal_of i z =
+      let l = signal_at (devices w) w.roles (w.parts).latches (w.found).latches_full i z in
+      let n = number_of l.0 i l.1 in
+      (l.0, n.0, n.1)
 
   the_signal : (k n : ℕ) → slice_get (w.parts).complements k ≡ Some n → (l : DeckSignal) × IsSignalOf (devices w) w.roles w.parts k n l
   the_signal k n e =

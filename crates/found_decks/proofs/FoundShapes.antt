@@ -24,7 +24,7 @@ use Rattle.deck_audit.proofs.RuleFacts.{one_group}
 use Rattle.found_decks.specs.FoundDecks.{FoundLatch, numbers_from}
 use Rattle.found_decks.proofs.Choices.{chosen_from}
 use Rattle.found_decks.proofs.FoundGates.{HasFoundComplement, HasTop, IsDominoOf, IsFoundGate, IsFoundLeaf, IsLatchOf, IsOutputGate, dominoes, latches, numbers_at, out_ports, outputs}
-use Rattle.found_decks.proofs.FoundNets.{Found, IsFoundSignal, IsSignalOf, cell_at, cell_is, complement_at, devices, group_at, latch_is, net, own_is, signals}
+use Rattle.found_decks.proofs.FoundNets.{Found, IsFoundSignal, IsSignalOf, cell_at, cell_is, complement_at, devices, group_at, latch_is, net, net_of, own_is, own_number, signals}
 
 pub length-numbers : (a k : ℕ) → length (numbers_from a k) ≡ k
 length-numbers a zero = refl
@@ -104,6 +104,11 @@ module _ (w : Found) where
     complements_are = λ l h.
         let k = slice_get-contained (signals w).list l h in
         signal_is l (signal_from k.0 l k.1).2.0;
+    complements_ordered = λ i j l m lt e f.
+        let y = signal_from i l e in
+        let z = signal_from j m f in
+        (w.found).complements_ordered i j y.0 z.0 l m lt y.1 z.1 (own_number w.roles w.parts l, net_of w l y.2.0, y.2.1)
+        (own_number w.roles w.parts m, net_of w m z.2.0, z.2.1);
     nexts = λ j b i. gate_is b.next (latch_from j b i).2.1;
     outputs_are = λ i g h. gate_is g (output_from i g h).2.0;
     overlap = λ e. absurd (apart e);

@@ -7,4 +7,5 @@ pub mod Owners
 pub mod PlacesAll
 pub mod PlacesAt
 pub mod PlacesOnce
+pub mod Signals
 pub mod StagesOnce

@@ -22,8 +22,8 @@ use Rattle.deck_audit.proofs.OwnCards.{IsTwin, OwnDeck, apart, card_of_device, d
 use Rattle.deck_audit.proofs.OwnFacts.{Facts, facts}
 use Rattle.deck_audit.proofs.RuleFacts.{end_of, twin_ends}
 use Rattle.found_decks.specs.FoundDecks.{numbers_from}
-use Rattle.found_decks.proofs.FoundNets.{Found, complement_at, devices, net, signals}
-use Rattle.found_decks.proofs.FoundShapes.{cells_simple, numbered_found, shape, signal_from}
+use Rattle.found_decks.proofs.FoundNets.{Found, devices, net}
+use Rattle.found_decks.proofs.FoundShapes.{cells_simple, numbered_found, shape}
 use Rattle.found_decks.proofs.PlacesAll.{numbers_have}
 
 -- a list at its own indices
@@ -97,13 +97,6 @@ module _ (w : Found) where
   pub exchanged : IsExchangedDeck w.circuit w.roles (net w) (shape w)
   exchanged = rules_make_deck w.circuit w.roles (net w) (shape w) w.rules (numbered_found w) w.range
 
-  pub signals_once : (i j : ℕ) (l : DeckSignal) → slice_get (signals w).list i ≡ Some l → slice_get (signals w).list j ≡ Some l → i ≡ j
-  signals_once i j l a b =
-      let y = signal_from w i l a in
-      let z = signal_from w j l b in
-      let same : z.0 ≡ y.0 = sym (complement_at w j z.0 l z.1 b) ∙ complement_at w i y.0 l y.1 a in
-      (w.found).complements_once i j y.0 y.1 (subst (λ n. slice_get (w.parts).complements j ≡ Some n) same z.1)
-
   -- the deck itself, with its devices in its own order
   abbrev pub cards : List Device
   cards = deck_devices (net w) (shape w)
@@ -117,7 +110,6 @@ module _ (w : Found) where
     order = numbers_from 0 (length cards);
     keepers = refl;
     deck = exchanged.deck;
-    once = signals_once;
     in_order = record {
       once = indices_distinct 0 (length cards);
       all = λ p d e. index_listed p (length cards) (slice_get_within cards p d e);

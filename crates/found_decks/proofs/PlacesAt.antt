@@ -3,7 +3,7 @@ use Rattle.std.specs.Prelude.{Bool, Some, false, slice_get, true, ◌⊎◌}
 use Rattle.std.proofs.Common.{List, None, [], ap, arith, inl, inr, length, map, refl, subst, suc, sym, ℕ, ◌++◌, ◌+◌, ◌∙◌, ◌∷◌, ◌≡◌}
 use Rattle.std.proofs.lemmas.List.{map-append}
 use Rattle.std.proofs.lemmas.Option.{same_Some}
-use Rattle.dom_base.proofs.Lists.{Contains-slice_get, slice_get-behind, slice_get-left}
+use Rattle.dom_base.proofs.Lists.{Contains-slice_get}
 use Rattle.dom_base.specs.declared.kind.Kind.TheVariants.{N as nch, P as pch}
 use Rattle.deck.specs.NamedDevices.{NamedDevice, device_of, map_device}
 use Rattle.deck.specs.Paths.{Ends}
@@ -26,7 +26,7 @@ use Rattle.deck_audit.specs.Numbered.{Spells, group_of}
 use Rattle.deck_audit.specs.Rules.{HasTree}
 use Rattle.deck_audit.specs.Words.{AreAt, Group, IsDevice, IsInverterOutput, StandsAt, group_cards, link_at, reset_of}
 use Rattle.deck_audit.proofs.Blocks.{blocks}
-use Rattle.deck_audit.proofs.CellTrees.{FromDevices, Inners, card_of, inner_same, one_device}
+use Rattle.deck_audit.proofs.CellTrees.{FromDevices, Inners, card_of, inner_same, inners_back, inners_front, one_device}
 use Rattle.deck_audit.proofs.OwnBlocks.{cards_are, cell_block, complement_block, down_card, foot_card, keeper_card, keeper_cards, latch_block, next_block, precharge_card, sink_block, tree_list, up_card}
 use Rattle.deck_audit.proofs.OwnCards.{dev_of, devices_of}
 use Rattle.deck_audit.proofs.RuleFacts.{one_input}
@@ -68,17 +68,6 @@ are_blocks ds net g o (b ∷ bs) [] c h = absurd (cc)
 pub complements_same : (o : ℕ) (ls : List DeckSignal) → complement_cards ls ≡ blocks (λ k l. complement_block l) o ls
 complements_same o [] = refl
 complements_same o (l ∷ ls) = ap (λ xs. complement_block l ++ xs) (complements_same (o + 1) ls)
-
--- inner nets of a part in front, and of the part behind it
-inners_front : (ls rs : List ℕ) (inner : ℕ → ℕ) (k m n : ℕ) → length ls ≡ m → Inners (ls ++ rs) inner k (m + n) → Inners ls inner k m
-inners_front ls rs inner k m n c h j lt = sym (slice_get-left ls rs j (omega (arith, c, lt))) ∙ h j (omega (arith, lt))
-
-inners_back : (ls rs : List ℕ) (inner : ℕ → ℕ) (k m n : ℕ) → length ls ≡ m → Inners (ls ++ rs) inner k (m + n) → Inners rs inner (k + m) n
-inners_back ls rs inner k m n c h j lt =
-    sym (slice_get-behind ls rs j) ∙ h (length ls + j) (omega (arith, c, lt)) ∙ ap (λ i. Some (inner i)) (shift k (length ls) m j c)
-  where
-    shift : (k l m j : ℕ) → l ≡ m → k + (l + j) ≡ k + m + j
-    shift k l m j c = omega (arith, c)
 
 inners_head : (x : ℕ) (ms : List ℕ) (inner : ℕ → ℕ) (k n : ℕ) → Inners (x ∷ ms) inner k (1 + n) → inner k ≡ x
 inners_head x ms inner k n h = sym (same_Some _ _ (h 0 (omega arith)) ∙ ap inner (plus k))

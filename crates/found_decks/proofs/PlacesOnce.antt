@@ -1,5 +1,5 @@
 -- No device stands twice in the list of places that an audit makes.
-use Rattle.found_decks.proofs.Owners.{EndsOf, Nobody, OneCell, OneComplement, OneLatch, OneNext, OneSink, Owned, Owner, cell_owner, from_zero, latch_owner, one_owner, own_deck, owned, owner, signals_once}
+use Rattle.found_decks.proofs.Owners.{EndsOf, Nobody, OneCell, OneComplement, OneLatch, OneNext, OneSink, Owned, Owner, cell_owner, from_zero, latch_owner, one_owner, own_deck, owned, owner}
 use Rattle.found_decks.proofs.StagesOnce.{cell_distinct, distinct_append, inverter_distinct}
 use Rattle.std.specs.List.{AllByRecursion}
 use Rattle.std.specs.Prelude.{Some, slice_get, ◌⊎◌}
@@ -9,6 +9,7 @@ use Rattle.dom_base.proofs.Lists.{AllByRecursion-append, AllByRecursion-left, Al
 use Rattle.deck.specs.NamedDevices.{NamedDevice}
 use Rattle.deck.specs.declared.device.Device.{Device}
 use Rattle.circuit_law.specs.Counts.{Distinct}
+use Rattle.domino_law.proofs.Complements.{complement_once}
 use Rattle.domino_law.specs.LooseDeck.{IsNet}
 use Rattle.domino_law.specs.Nets.{DeckSignal, FromPin, Net}
 use Rattle.domino_law.specs.Spelled.{complement_cards}
@@ -21,7 +22,7 @@ use Rattle.found_decks.specs.FoundDecks.{whole}
 use Rattle.found_decks.proofs.Choices.{there}
 use Rattle.found_decks.proofs.FoundGates.{dominoes, latches, out_ports, outputs}
 use Rattle.found_decks.proofs.FoundNets.{Found, devices, net, signals}
-use Rattle.found_decks.proofs.FoundShapes.{shape}
+use Rattle.found_decks.proofs.FoundShapes.{is_shape, shape}
 use Rattle.found_decks.proofs.PlacesAt.{cell_block_at, complement_block_at, complements_same, latch_block_at, next_block_at, output_block_at}
 
 all_at_indices : {X : Type 0} (P : X → Type 0) (xs : List X) → ((i : ℕ) (x : X) → slice_get xs i ≡ Some x → P x) → AllByRecursion P xs
@@ -157,7 +158,7 @@ module _ (w : Found) where
       known i l = slice_get-get_or (signals w).list i (FromPin 0) (omega (arith, l, (signals w).count, ((w.places).complements_are).count))
 
       one : (i j : ℕ) → i < length (w.places).complements → j < length (w.places).complements → OneComplement (signal_at i) ≡ OneComplement (signal_at j) → i ≡ j
-      one i j l m e = signals_once w i j (signal_at j) (known i l ∙ ap (λ x. Some x) (same_complement (signal_at i) (signal_at j) e)) (known j m)
+      one i j l m e = complement_once (shape w) (is_shape w) i j (signal_at j) (known i l ∙ ap (λ x. Some x) (same_complement (signal_at i) (signal_at j) e)) (known j m)
 
       each : (k : ℕ) (b : List ℕ) → slice_get (w.places).complements k ≡ Some b → Distinct b × AllByRecursion (EndsOf w (OneComplement (signal_at k))) b
       each k b e =

@@ -2,10 +2,11 @@
 -- complements and its latches; and the places of its devices, part by part, in the order of a deck (SPICE M cards).
 use Rattle.std.specs.Prelude.{List, Some, [], flat_map, length, slice_get, suc, zero, ℕ, ◌++◌, ◌+◌, ◌<◌, ◌∷◌, ◌≡◌, ◌≤◌}
 use Rattle.deck.specs.CircuitData.{CircuitData}
-use Rattle.deck.specs.PortLayout.{first_output, source_count}
+use Rattle.deck.specs.PortLayout.{first_output, first_pin, source_count}
 use Rattle.deck.specs.declared.device.Device.{Device}
 use Rattle.deck.specs.declared.role.Roles.{Roles}
 use Rattle.sp_network.specs.Tree.{Tree}
+use Rattle.domino_law.specs.Nets.{DeckSignal, FromLatch, FromPin, leaf_of}
 use Rattle.sp_reduction.specs.Networks.{Link, whole_height, whole_width}
 use Rattle.link_reduce.specs.Parts.{IsOnce, numbers_of}
 use Rattle.deck_audit.specs.Audits.{HasMeasure, IsGreatest, IsYes}
@@ -22,7 +23,17 @@ pub record FoundParts : Type 0 where
   pub complements : List ℕ
   pub latches : List FoundLatch
 
--- these are all dynamic nets, all complements and all latches, each once; and each cell reads cells before it alone
+-- the net is that of the signal: a pin, or the output of one of the latches
+abbrev pub IsSignalNet : Roles → List FoundLatch → DeckSignal → ℕ → Type 0
+IsSignalNet roles latches (FromPin p) n = (p < roles.pins) × (first_pin roles + p ≡ n)
+IsSignalNet roles latches (FromLatch j) n = (l : FoundLatch) × (slice_get latches j ≡ Some l) × ((l.group).output ≡ n)
+
+-- the net is the complement of the signal
+abbrev pub IsOfSignal : List Device → Roles → List FoundLatch → ℕ → DeckSignal → Type 0
+IsOfSignal ds roles latches n l = (i : ℕ) × IsSignalNet roles latches l i × IsComplement ds roles n i
+
+-- these are all dynamic nets, all complements and all latches, each once; each cell reads cells before it alone, and the complements stand
+-- in order of the leaves of their signals: pins first, then the latches as they are listed
 pub record AreFound (ds : List Device) (roles : Roles) (f : FoundParts) : Type 0 where
   pub tops_sound : (k x : ℕ) → slice_get f.tops k ≡ Some x → IsDynamic ds roles x
   pub tops_full : (x : ℕ) → IsDynamic ds roles x → (k : ℕ) × (slice_get f.tops k ≡ Some x)
@@ -30,7 +41,8 @@ pub record AreFound (ds : List Device) (roles : Roles) (f : FoundParts) : Type 0
   pub in_order : (k x y : ℕ) → slice_get f.tops k ≡ Some x → Reads ds roles x y → (j : ℕ) × (j < k) × (slice_get f.tops j ≡ Some y)
   pub complements_sound : (k n : ℕ) → slice_get f.complements k ≡ Some n → (i : ℕ) × IsComplement ds roles n i
   pub complements_full : (n i : ℕ) → IsComplement ds roles n i → (k : ℕ) × (slice_get f.complements k ≡ Some n)
-  pub complements_once : IsOnce f.complements
+  pub complements_ordered : (i j m n : ℕ) (a b : DeckSignal) → i < j → slice_get f.complements i ≡ Some m → slice_get f.complements j ≡ Some n
+      → IsOfSignal ds roles f.latches m a → IsOfSignal ds roles f.latches n b → leaf_of roles.pins a < leaf_of roles.pins b
   pub latches_sound : (j : ℕ) (l : FoundLatch) → slice_get f.latches j ≡ Some l → IsGroup ds roles l.group l.places
   pub latches_full : (g : Group) (places : List ℕ) → IsGroup ds roles g places
       → (j : ℕ) × (l : FoundLatch) × (slice_get f.latches j ≡ Some l) × (l.group ≡ g)

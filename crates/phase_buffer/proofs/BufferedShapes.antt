@@ -214,6 +214,7 @@ module _ (s : Shape) (may : MayBeBuffered s) where
             (EachLeaf-weaker _ (IsLeafOf (buffered s) m.cell) (λ g q. q.0) (x.0).tree (new_leaves m.cell x.0 x.1));
         simple = λ z. new_simple;
         complements_are = λ l h. signal_there l (may.shape.complements_are l h);
+        complements_ordered = may.shape.complements_ordered;
         nexts = λ j b e. let m = map_back (ended_latch s) s.latches j b e in subst (λ (x : Latch). IsGate (buffered s) x.next) (sym m.2) (ended_next j m.0 m.1).0;
         outputs_are = λ i g e. let m = map_back (ended s) s.outputs i g e in subst (IsGate (buffered s)) (sym m.2) (ended_output i m.0 m.1).0;
         overlap = λ o. record {

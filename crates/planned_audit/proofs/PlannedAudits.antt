@@ -1,10 +1,7 @@
 -- Loose decks by names, and so planned decks, get a yes.
 use Rattle.std.specs.List.{zip}
-use Rattle.std.specs.Prelude.{AllPairs, Some, slice_get}
-use Rattle.std.proofs.Common.{List, [], ap, arith, inl, inr, length, map, max, refl, subst, sym, ℕ, ◌+◌, ◌<◌, ◌∙◌, ◌∷◌, ◌≡◌}
+use Rattle.std.proofs.Common.{List, [], ap, arith, length, map, max, refl, subst, ℕ, ◌+◌, ◌∙◌, ◌∷◌, ◌≡◌}
 use Rattle.std.proofs.lemmas.List.{length-map}
-use Rattle.std.proofs.lemmas.Option.{get_or_from_slice_get, slice_get_within}
-use Rattle.dom_base.proofs.Decided.{lt_or_ge}
 use Rattle.deck.specs.CircuitData.{CircuitData}
 use Rattle.deck.specs.Nets.{IsCircuit}
 use Rattle.deck.specs.declared.role.Roles.{Roles}
@@ -13,7 +10,7 @@ use Rattle.sp_network.proofs.TreeImages.{height-map_tree, width-map_tree}
 use Rattle.domino_cell.specs.declared.style.Style.TheVariants.{Keeper as WithKeeper}
 use Rattle.switch_model.specs.LinksData.{links_of}
 use Rattle.domino_law.specs.DominoDeck.{IsLooseDominoDeck}
-use Rattle.domino_law.specs.Nets.{DeckSignal, Net}
+use Rattle.domino_law.specs.Nets.{Net}
 use Rattle.domino_law.specs.Shape.{Shape}
 use Rattle.clock_phase.specs.Levels.{clock_of, greatest}
 use Rattle.gate_decompose.proofs.NetworkOrder.{networks_are_ordered}
@@ -22,25 +19,13 @@ use Rattle.deck_form.specs.DeckNets.{CellPlan}
 use Rattle.deck_form.specs.NamedDecks.{IsNamedDeck}
 use Rattle.deck_form.proofs.DeckForms.{domino_decks_are_loose, planned_decks_are_domino}
 use Rattle.deck_law.specs.Laws.{roles_of_deck}
-use Rattle.deck_law.specs.NetNames.{cell_shape, deck_shape, gate_of, leaf_of, leaf_signal, numbering}
-use Rattle.deck_law.proofs.GateNames.{leaf_back}
+use Rattle.deck_law.specs.NetNames.{cell_shape, deck_shape, gate_of, numbering}
 use Rattle.deck_law.proofs.SpelledDecks.{loose_deck}
 use Rattle.deck_audit.specs.Audits.{IsOrder, IsYes}
 use Rattle.deck_audit.specs.OwnDecks.{greatest_of}
-use Rattle.network.proofs.Lists.{get_of_map}
 use Rattle.deck_audit.proofs.OwnDecks.{keeper_decks_get_yes}
 use Rattle.planned_audit.specs.PlannedAudits.{IsReordered, NamedDecksGetYes, PlannedDecksGetYes, roles_of_planned}
 use Rattle.planned_audit.proofs.RenumberedDecks.{devices_anew, loose_anew}
-
--- no leaf stands twice among rising ones
-one_place : (xs : List ℕ) → AllPairs (λ a b. a < b) xs → (i j x : ℕ) → slice_get xs i ≡ Some x → slice_get xs j ≡ Some x → i ≡ j
-one_place xs h i j x e f = elim (lt_or_ge i j) [
-  | inl l ↦ absurd (rises i j l e f)
-  | inr g ↦ elim (lt_or_ge j i) [ inl l ↦ absurd (rises j i l f e) | inr k ↦ omega (arith, g, k) ]
-]
-  where
-    rises : (i j : ℕ) → i < j → slice_get xs i ≡ Some x → slice_get xs j ≡ Some x → ⊥
-    rises i j l e f = omega (arith, h i j 0 l (slice_get_within xs j x f), get_or_from_slice_get xs i x 0 e, get_or_from_slice_get xs j x 0 f)
 
 -- the greatest of a measure by another
 greatest_map : {X Y : Type 0} (f : X → Y) (m : Y → ℕ) (n : X → ℕ) → ((x : X) → m (f x) ≡ n x) → (xs : List X) → greatest_of m (map f xs) ≡ greatest_of n xs
@@ -74,21 +59,13 @@ module _ (deck : CircuitData) (d : IsNamedDeck WithKeeper deck) (ok : IsCircuit 
   loose : IsLooseDominoDeck roles (links_of deck roles) net s
   loose = loose_deck d ok
 
-  -- no complement stands twice
-  once : (i j : ℕ) (l : DeckSignal) → slice_get (map (leaf_signal (length d.pins)) d.complements) i ≡ Some l → slice_get (map (leaf_signal (length d.pins)) d.complements) j ≡ Some l → i ≡ j
-  once i j l e f =
-      let x = get_of_map (leaf_signal (length d.pins)) d.complements i l e in
-      let y = get_of_map (leaf_signal (length d.pins)) d.complements j l f in
-      let same : x.0 ≡ y.0 = sym (leaf_back d.pins d.outs x.0) ∙ ap (leaf_of (length d.pins)) (x.2 ∙ sym y.2) ∙ leaf_back d.pins d.outs y.0 in
-      one_place d.complements d.in_order i j x.0 x.1 (subst (λ z. slice_get d.complements j ≡ Some z) (sym same) y.1)
-
   gets_yes : (c : CircuitData) (order : List ℕ) → IsReordered roles deck c order
       → IsYes c roles order (length d.cells) (greatest_of (λ cell. width cell.tree) d.cells) (greatest_of (λ cell. height cell.tree) d.cells)
   gets_yes c order r =
       with_numbers c roles order (length-map d.cells (cell_shape (length d.pins) (length d.pins + length d.starts)))
       (greatest_map (cell_shape (length d.pins) (length d.pins + length d.starts)) (λ cell. width cell.tree) (λ p. width p.tree) (λ p. width-map_tree (gate_of (length d.pins) (length d.pins + length d.starts)) p.tree) d.cells)
       (greatest_map (cell_shape (length d.pins) (length d.pins + length d.starts)) (λ cell. height cell.tree) (λ p. height p.tree) (λ p. height-map_tree (gate_of (length d.pins) (length d.pins + length d.starts)) p.tree) d.cells)
-      (keeper_decks_get_yes c roles (λ a. r.anew (net a)) s order refl (loose_anew deck c roles net s loose r.anew r.renumbers) once
+      (keeper_decks_get_yes c roles (λ a. r.anew (net a)) s order refl (loose_anew deck c roles net s loose r.anew r.renumbers)
       (subst (IsOrder c.devices order) (devices_anew deck c roles net s loose r.anew r.renumbers) r.in_order))
 
 pub named_decks_get_yes : NamedDecksGetYes
