@@ -45,11 +45,31 @@ pub fn push_held_latch(
     ensures devices { OnOk result (circuit.new ≡ with_devices circuit.old (named_latch (j, init))) }
     ensures refused { OnErr result (circuit.new ≡ circuit.old) }
 {
+    let input = numbered_name(alloc, b"x", j)?;
     let master = StageNames::new(alloc, b"m", j)?;
     let slave = StageNames::new(alloc, b"q", j)?;
-    let input = numbered_name(alloc, b"x", j)?;
+    push_named_latch(circuit, ports, &master, &slave, &input, init)
+}
+
+/// Appends the master, the slave and the reset device of a latch. The one error is out of memory, and it leaves the
+/// circuit as it was.
+fn push_named_latch(
+    circuit: &mut Circuit,
+    ports: &LatchPorts,
+    master: &StageNames,
+    slave: &StageNames,
+    input: &NetName,
+    init: bool,
+) -> Result<(), OutOfMemory>
+    requires { length circuit.old.devices + 9 ≤ most_devices }
+    ensures devices { OnOk result (circuit.new ≡ with_devices circuit.old
+        (held_inverter ports.now.supplies master.now ports.now.master ports.now.master_opposite input.now
+        ++ held_inverter ports.now.supplies slave.now ports.now.slave ports.now.slave_opposite master.now.out
+        ++ held_reset ports.now slave.now.out init ∷ [])) }
+    ensures refused { OnErr result (circuit.new ≡ circuit.old) }
+{
     let before = circuit.device_count();
-    match push_parts(circuit, ports, &master, &slave, &input, init) {
+    match push_parts(circuit, ports, master, slave, input, init) {
         Ok(()) => Ok(()),
         Err(failed) => {
             circuit.cut(before);

@@ -1,7 +1,7 @@
 //! Names of the nets of a latch.
 ghost use Rattle.std.specs.Prelude.{◌≡◌, ◌++◌, All, IfOk, codes};
 ghost use Rattle.std.specs.Fmt.{decimal};
-ghost use Rattle.dom_base.specs.Names.{IsNetByte};
+ghost use Rattle.dom_base.specs.Names.{IsNetByte, IsNetName};
 ghost use Rattle.latch_bind.specs.HeldNames.{AreLatchPorts, AreNamesOfStage, AreSupplies};
 
 use deck::{Circuit, NetAt, fixed_name, joined_name, numbered_name};
@@ -60,16 +60,19 @@ impl LatchPorts {
     pub fn new(alloc: Global, circuit: &Circuit) -> Result<LatchPorts, OutOfMemory>
         ensures { IfOk result AreLatchPorts }
     {
-        let master = fixed_name(alloc, b"lm")?;
+        let (master, master_opposite) = fixed_names(alloc, b"lm", b"lmb")?;
+        let (slave, slave_opposite) = fixed_names(alloc, b"ls", b"lsb")?;
+        let (reset, reset_opposite) = fixed_names(alloc, b"rs", b"rsb")?;
+        let supplies = SupplyNames::new(alloc)?;
         let first = NetAt::found(circuit, &master).number.unwrap_or(0);
         Ok(LatchPorts {
-            supplies: SupplyNames::new(alloc)?,
+            supplies,
             master,
-            master_opposite: fixed_name(alloc, b"lmb")?,
-            slave: fixed_name(alloc, b"ls")?,
-            slave_opposite: fixed_name(alloc, b"lsb")?,
-            reset: fixed_name(alloc, b"rs")?,
-            reset_opposite: fixed_name(alloc, b"rsb")?,
+            master_opposite,
+            slave,
+            slave_opposite,
+            reset,
+            reset_opposite,
             first,
         })
     }
@@ -116,6 +119,18 @@ impl LatchPorts {
     {
         NetAt::named(name).at(self.first.saturating_add(place))
     }
+}
+
+/// The names of these bytes. The one error is out of memory.
+fn fixed_names(alloc: Global, bytes: &[u8], more: &[u8]) -> Result<(NetName, NetName), OutOfMemory>
+    requires bytes { IsNetName bytes.now }
+    requires more { IsNetName more.now }
+    ensures one { IfOk result (λ names. names.0 ≡ bytes.now) }
+    ensures other { IfOk result (λ names. names.1 ≡ more.now) }
+{
+    let one = fixed_name(alloc, bytes)?;
+    let other = fixed_name(alloc, more)?;
+    Ok((one, other))
 }
 
 /// The clock of a clocked inverter, and its opposite.
