@@ -23,8 +23,7 @@ use network::Network;
 use spice_text::{write, write_cells};
 use std::alloc::Global;
 use synth_flow::{
-    DeckVersion, Grouped, SynthOptions, synth as deck_circuit, synth_grouped, synth_signs,
-    synth_skew,
+    DeckVersion, Grouped, SynthOptions, deck_text, synth_grouped, synth_signs, synth_skew,
 };
 use trace_tool::network_of_text;
 
@@ -105,10 +104,8 @@ fn plain_text(
 {
     match version {
         DeckVersion::One => {
-            let circuit = deck_circuit(alloc, &network, options)?;
-            drop(network);
-            circuit.whole();
-            write(alloc, &circuit)
+            let text = deck_text(alloc, network, options)?;
+            Ok(text)
         }
         DeckVersion::Two => {
             let Grouped { circuit, ends } = synth_grouped(alloc, &network, options)?;

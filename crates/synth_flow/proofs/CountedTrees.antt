@@ -7,12 +7,10 @@ use Rattle.std.proofs.lemmas.Option.{same_Some, slice_get-get_or}
 use Rattle.clock_phase.proofs.Greatest.{level_of_both}
 use Rattle.dual_rail.specs.ForestData.{ForestData}
 use Rattle.dual_rail.specs.Forests.{left_arm, right_arm}
-use Rattle.dual_rail.specs.declared.forest.Arm.{Arm}
-use Rattle.dual_rail.specs.declared.forest.Arm.TheVariants.{Pair as pair_arm}
 use Rattle.dual_rail.specs.declared.forest.Pair.{Pair}
 use Rattle.dual_rail.specs.declared.forest.Pair.TheVariants.{And, Or}
 use Rattle.sp_network.specs.Tree.{Tree, Leaf, Series, Parallel}
-use Rattle.tree_map.specs.Plans.{IsArmTree, literal, cut, series, parallel, IsTreeOf, is_kept, roots}
+use Rattle.tree_map.specs.Plans.{IsArmTree, IsTreeOf, is_kept, roots}
 use Rattle.dual_rail.proofs.Zips.{all_zip_get}
 use Rattle.synth_flow.specs.CellCounts.{AreTreesOf, greatest_read}
 use Rattle.synth_flow.specs.NamedComplements.{MarksAlso}
@@ -36,13 +34,6 @@ module _ (forest : ForestData) (kept : List Bool) where
   parts_of place pair (Parallel l r) at (a, b, e, x, y) =
       let same : Or a b ≡ pair = same_Some _ _ (sym e ∙ at) in
       (l, r, subst (λ (p : Pair). IsArmTree forest kept (left_arm p) l) same x, subst (λ (p : Pair). IsArmTree forest kept (right_arm p) r) same y, inr refl)
-
-  -- the tree below an arm to a kept pair is the tree of the pair
-  pub tree_at_kept : {arm : Arm} {tree : Tree ℕ} → IsArmTree forest kept arm tree → (place : ℕ) → arm ≡ pair_arm place → is_kept kept place ≡ true → IsTreeOf forest kept place tree
-  tree_at_kept literal place e k = absurd (cc)
-  tree_at_kept (cut {place = q} c) place e k = let here : q ≡ place = cc in absurd (let f : is_kept kept place ≡ false = subst (λ n. is_kept kept n ≡ false) here c in cc)
-  tree_at_kept (series {place = q} {a = a} {b = b} c at l r) place e k = let here : q ≡ place = cc in (a, b, ap (slice_get forest.pairs) (sym here) ∙ at, l, r)
-  tree_at_kept (parallel {place = q} {a = a} {b = b} c at l r) place e k = let here : q ≡ place = cc in (a, b, ap (slice_get forest.pairs) (sym here) ∙ at, l, r)
 
 -- levels and marks of a tree by those of its parts
 pub both_levels : (leaf_count : ℕ) (levels : List ℕ) (tree l r : Tree ℕ) (a b n : ℕ) → IsJoined tree l r → a ≡ greatest_read leaf_count levels l → b ≡ greatest_read leaf_count levels r

@@ -15,6 +15,7 @@ pub mod LoopItems
 pub mod MadeAsNamed
 pub mod MadeCircuits
 pub mod NetworkDecks
+pub mod PlainDevices
 pub mod PlanCosts
 pub mod PortNets
 pub mod PushedDecks
@@ -23,3 +24,4 @@ pub mod SummaryFacts
 pub mod SkewDecks
 pub mod SynthFacts
 pub mod TakenCells
+pub mod WholeTexts

@@ -1,15 +1,12 @@
 -- What the chosen plan of a forest says of the plans of a deck.
+pub use Rattle.plan_text.proofs.SinkLoops.{ends_have_cells}
 use Rattle.std.proofs.Common.{◌≡◌, ℕ, ◌+◌, ◌*◌, ◌≤◌, ◌<◌, Bool, not, List, Some, length, map, sym, ap, ◌∙◌, subst, arith, slice_get, get_or, option_map, All}
 use Rattle.std.specs.List.{range_with_len}
 use Rattle.std.proofs.lemmas.List.{length-map}
 use Rattle.std.proofs.lemmas.List.FromFn.{length-range_with_len}
 use Rattle.std.proofs.lemmas.Option.{slice_get-map, slice_get_within, slice_get-get_or}
 use Rattle.dual_rail.specs.ForestData.{ForestData}
-use Rattle.std.proofs.lemmas.List.Elements.{All-weaker}
-use Rattle.dual_rail.specs.ForestOrder.{IsEndOfForest, IsForest}
-use Rattle.dual_rail.specs.declared.forest.End.{End}
-use Rattle.dual_rail.specs.declared.forest.End.TheVariants.{Const, Literal, FromDynamic, FromOutput}
-use Rattle.dual_rail.specs.Uses.{IsEndThere}
+use Rattle.dual_rail.specs.ForestOrder.{IsForest}
 use Rattle.dual_rail.proofs.Zips.{all_zip_back, all_from}
 use Rattle.domino_cell.specs.declared.style.Style.{Style}
 use Rattle.sp_network.specs.Tree.{Tree, EachLeaf, Leaf}
@@ -74,14 +71,3 @@ clocks_fit leaves phases trees levels plans some is same =
     subst (λ n. (1 ≤ n) × (n ≤ phases)) level.2 (clock_within phases (greatest levels) level.0 some (omega (arith, from_one)) (level_at_most levels k level.0 level.1)))
 
 pub ruleset synth_facts = (reads_earlier, few_trees, cheap_trees, plans_are, clocks_fit)
-
--- ends that name pairs name cells
-pub ends_have_cells : (forest : ForestData) (n : ℕ) → n ≡ length forest.pairs → All (IsEndOfForest forest) forest.ends → All (IsEndThere n) forest.ends
-ends_have_cells forest n same =
-    All-weaker (IsEndOfForest forest) (IsEndThere n) one forest.ends
-  where
-    one : (e : End) → IsEndOfForest forest e → IsEndThere n e
-    one (Const b) h = tt
-    one (Literal rail) h = tt
-    one (FromDynamic place) h = omega (arith, h, same)
-    one (FromOutput place) h = omega (arith, h, same)

@@ -14,3 +14,4 @@ pub mod SummaryLaws
 pub mod SummaryLines
 pub mod SummaryParts
 pub mod TakenCells
+pub mod WholeTexts

@@ -23,7 +23,7 @@ use sp_network::GatePlan;
 use std::alloc::Global;
 
 /// The bytes of names are below 256.
-fn see_names(names: &[Name])
+pub fn see_names(names: &[Name])
     ensures { All (λ name. All (λ b. b < 256) name) names.now }
 {
     'names: for name in names {
@@ -33,7 +33,7 @@ fn see_names(names: &[Name])
 
 /// Bytes are below 256.
 #[tactic(auto, using(crate::proofs::PortNets::port_nets))]
-fn see_bytes(bytes: &[u8])
+pub fn see_bytes(bytes: &[u8])
     ensures { All (λ b. b < 256) bytes.now }
 {}
 

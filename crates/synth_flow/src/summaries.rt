@@ -1,14 +1,12 @@
 //! The figures of the deck of a network, without the deck.
 ghost use Rattle.std.specs.Prelude.{◌≡◌, ◌≤◌, ◌<◌, ◌*◌, ◌^◌, All, IfOk, count_by, length};
 ghost use Rattle.network.specs.NetworkData.{NetworkData};
-ghost use Rattle.tree_map.specs.Plans.{roots};
 ghost use Rattle.synth_flow.specs.Summaries.{IsSummaryOf};
 ghost use Rattle.style_costs.specs.Styles.{is_series};
 ghost use Rattle.synth_flow.specs.SummaryParts.{cost_of_plan, figures_by};
 
 use crate::both::both_signs;
-use crate::cell_counts::count_cells;
-use crate::complements::marked_leaves;
+use crate::counted::{CountedCover, counted_cover};
 use crate::counts::{clock_counts, greatest_level, minus_count};
 use crate::figures::Summary;
 use deck_form::SynthOptions;
@@ -19,7 +17,6 @@ use gate_decompose::decompose;
 use network::Network;
 use phase_assign::assign;
 use std::alloc::Global;
-use tree_map::{cell_numbers, kept_edges};
 
 /// The figures of the circuit that `synth` gives of a network with the same options. It doesn't make the
 /// circuit, whose devices it counts: those of the cells, 2 for each complement, 9 for each latch and 2 for
@@ -41,20 +38,16 @@ pub fn summary(
     let signs = assign(alloc, &gates)?;
     let forest = rails(alloc, &gates, signs.as_slice())?;
     let both = both_signs(alloc, forest.origin.as_slice(), gates.nodes.len())?;
-    let kept = kept_edges(alloc, &forest, options.bounds)?;
-    let cells = cell_numbers(alloc, kept.as_slice())?;
-    let places = places_of_roots(alloc, kept.as_slice())?;
-    let mut levels = vec![in alloc; 0u32; places.len()]?;
-    let mut marks = vec![in alloc; false; forest.leaves as usize]?;
-    count_cells(
-        &forest,
-        kept.as_slice(),
-        cells.as_slice(),
-        places.as_slice(),
-        levels.as_mut_slice(),
-        marks.as_mut_slice(),
-    );
-    let named = marked_leaves(alloc, marks.as_slice(), forest.leaves)?;
+    let CountedCover {
+        kept,
+        cells,
+        places,
+        levels,
+        complements,
+    } = counted_cover(alloc, &forest, options.bounds)?;
+    drop(kept);
+    drop(cells);
+    drop(places);
     let figures = figures_of(
         alloc,
         network,
@@ -63,23 +56,10 @@ pub fn summary(
         signs.as_slice(),
         &forest,
         levels.as_slice(),
-        named.as_slice(),
+        complements.as_slice(),
         both,
     )?;
     Ok(figures)
-}
-
-/// The places of the roots of the cells, in order: of the pairs that aren't kept.
-fn places_of_roots(alloc: Global, kept: &[bool]) -> Result<Vec<usize>, OutOfMemory>
-    ensures { IfOk result (λ places. places.items ≡ roots kept.now) }
-{
-    let mut places = Vec::new(alloc);
-    'pairs: for place in 0..kept.len() {
-        if !kept[place] {
-            places.push(place)?;
-        }
-    }
-    Ok(places)
 }
 
 /// What a plan with so many cells of these pairs costs: a device for each pair and 6 for each cell, or where inner nets

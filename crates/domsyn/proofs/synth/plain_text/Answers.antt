@@ -25,7 +25,7 @@ returns-in_ok-circuit-in-Two c =
     record {
       circuit = circuit;
       is_chosen = is.0;
-      whole = c.whole-in-Two.ensures.whole;
+      whole = c.whole.ensures.whole;
       written =
           subst (λ (version : DeckVersion). IsWrittenAs version (planned is.0) text.items) (sym c.in-Two.is)
           (subst (λ (places : List ℕ). IsWrittenByCells circuit places text.items) (c.as_slice.ensures.value ∙ is.1) written);

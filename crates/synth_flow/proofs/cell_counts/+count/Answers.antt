@@ -8,7 +8,8 @@ use Rattle.tree_map.proofs.ArmTrees.{cell_at, cell_within, length-cells, pair_at
 use Rattle.tree_map.proofs.PlanOne.{arm_tree_one}
 use Rattle.synth_flow.specs.CellCounts.{greatest_read}
 use Rattle.deck_form.specs.NamedDecks.{reads}
-use Rattle.synth_flow.proofs.CountedTrees.{both_levels, marks_of_parts, parts_of, tree_at_kept}
+use Rattle.plan_text.proofs.PairTrees.{tree_at_kept}
+use Rattle.synth_flow.proofs.CountedTrees.{both_levels, marks_of_parts, parts_of}
 use Rattle.synth_flow.proofs.cell_counts.+count.Goals as goal
 
 pub arm_count-bounds-cells-place : goal.arm_count-bounds-cells-place

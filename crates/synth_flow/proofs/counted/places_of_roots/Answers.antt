@@ -1,7 +1,7 @@
 use Rattle.std.proofs.Common.{◌++◌, ◌∷◌, [], ap, sym, ◌∙◌}
 use Rattle.tree_map.proofs.RootTrees.{roots_kept, roots_more}
-use Rattle.synth_flow.proofs.summaries.places_of_roots.Goals.{then-not-kept-place+in_ok-push, else-not-kept-place}
-use Rattle.synth_flow.proofs.summaries.places_of_roots.Goals as goal
+use Rattle.synth_flow.proofs.counted.places_of_roots.Goals.{then-not-kept-place+in_ok-push, else-not-kept-place}
+use Rattle.synth_flow.proofs.counted.places_of_roots.Goals as goal
 
 pub pairs-preserved : goal.pairs-preserved
 pairs-preserved c =

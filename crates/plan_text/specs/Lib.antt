@@ -1,0 +1,5 @@
+pub mod CardTexts
+pub mod DeckTexts
+pub mod Nets
+pub mod PutCells
+pub mod PutGroups

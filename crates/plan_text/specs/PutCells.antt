@@ -1,0 +1,28 @@
+-- The tree of a cell over the nets that gate it, and trees that are small.
+use Rattle.std.specs.Prelude.{ℕ, ◌+◌, ◌≤◌, All, Bool, List}
+use Rattle.std.specs.List.{AllZip}
+use Rattle.dual_rail.specs.ForestData.{ForestData}
+use Rattle.dual_rail.specs.declared.forest.Arm.{Arm}
+use Rattle.deck_form.specs.DeckNets.{named_gate}
+use Rattle.sp_network.specs.Tree.{Tree, leaves, map_tree}
+use Rattle.tree_map.specs.Plans.{IsArmTree, IsTreeOf, roots}
+
+-- a tree over the nets of its gates, of so many leaves of a forest
+abbrev pub netted : List (List ℕ) → ℕ → Tree ℕ → Tree (List ℕ)
+netted pins leaf_count tree = map_tree (named_gate pins leaf_count) tree
+
+-- A tree whose root is this pair, with so few leaves that its inner nets have numbers below 48 from this one on; and one
+-- below an arm.
+abbrev pub HasRoomForTree : ForestData → List Bool → ℕ → ℕ → Type 0
+HasRoomForTree forest kept place inner = (tree : Tree ℕ) × IsTreeOf forest kept place tree × (inner + leaves tree ≤ 48)
+
+abbrev pub HasRoomForArm : ForestData → List Bool → Arm → ℕ → Type 0
+HasRoomForArm forest kept arm inner = (tree : Tree ℕ) × IsArmTree forest kept arm tree × (inner + leaves tree ≤ 48)
+
+-- the trees of the roots, in order
+abbrev pub AreRootTrees : ForestData → List Bool → List (Tree ℕ) → Type 0
+AreRootTrees forest kept trees = AllZip (IsTreeOf forest kept) (roots kept) trees
+
+-- small ones
+abbrev pub HasSmallTrees : ForestData → List Bool → Type 0
+HasSmallTrees forest kept = (trees : List (Tree ℕ)) × AreRootTrees forest kept trees × All (λ tree. leaves tree ≤ 48) trees

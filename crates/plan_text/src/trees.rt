@@ -1,0 +1,149 @@
+//! The devices of the trees of a cover, from its kept edges.
+ghost use Rattle.std.specs.Prelude.{ℕ, ◌≡◌, ◌<◌, ◌+◌, IfOk, OnOk, length};
+ghost use Rattle.dom_base.specs.declared.kind.Kind.TheVariants.{N as nch};
+ghost use Rattle.dual_rail.specs.ForestOrder.{IsForest};
+ghost use Rattle.domino_cell.specs.NamedTrees.{inner_net};
+ghost use Rattle.domino_cell.specs.Spelling.{spell};
+ghost use Rattle.sp_network.specs.Tree.{Tree, inner_count};
+ghost use Rattle.tree_map.specs.MappedCover.{IsArmInForest, root_cell_numbers};
+ghost use Rattle.tree_map.specs.Plans.{IsArmTree, IsTreeOf};
+ghost use Rattle.plan_text.specs.CardTexts.{with_cards};
+ghost use Rattle.plan_text.specs.Nets.{net_text};
+ghost use Rattle.plan_text.specs.PutCells.{HasRoomForArm, HasRoomForTree, netted};
+
+use crate::card_text::CardText;
+use crate::net::{Net, rail_net};
+use dom_base::{Kind, NetName, OutOfMemory};
+use dual_rail::{Arm, Forest, Pair};
+
+/// How many inner nets the tree of a pair takes: one for each series.
+#[cycle(count)]
+pub fn pair_inner(forest: &Forest, kept: &[bool], place: usize) -> u32
+    requires forest { IsForest forest.now }
+    requires one_each { length kept.now ≡ length forest.now.pairs }
+    requires there { place < length forest.now.pairs }
+    requires small { HasRoomForTree forest.now kept.now place 0 }
+    ensures { (tree : Tree ℕ) → IsTreeOf forest.now kept.now place tree → result ≡ inner_count tree }
+{
+    match forest.pairs[place] {
+        Pair::And(left, right) => {
+            1 + arm_inner(forest, kept, left) + arm_inner(forest, kept, right)
+        }
+        Pair::Or(left, right) => arm_inner(forest, kept, left) + arm_inner(forest, kept, right),
+    }
+}
+
+/// So for the tree below an arm.
+#[cycle(count)]
+fn arm_inner(forest: &Forest, kept: &[bool], arm: Arm) -> u32
+    requires forest { IsForest forest.now }
+    requires one_each { length kept.now ≡ length forest.now.pairs }
+    requires there { IsArmInForest forest.now arm }
+    requires small { HasRoomForArm forest.now kept.now arm 0 }
+    ensures { (tree : Tree ℕ) → IsArmTree forest.now kept.now arm tree → result ≡ inner_count tree }
+{
+    match arm {
+        Arm::Literal(_) => 0,
+        Arm::Pair(place) => {
+            let place = place as usize;
+            if kept[place] {
+                pair_inner(forest, kept, place)
+            } else {
+                0
+            }
+        }
+    }
+}
+
+/// Appends the cards of the tree of a pair from a net to another, with inner nets from a number on, and gives the
+/// next number.
+#[cycle(put)]
+pub fn put_pair(
+    cards: &mut CardText,
+    forest: &Forest,
+    kept: &[bool],
+    cells: &[u32],
+    pins: &[NetName],
+    place: usize,
+    top: Net<'_>,
+    bottom: Net<'_>,
+    front: &[u8],
+    inner: u32,
+) -> Result<u32, OutOfMemory>
+    requires forest { IsForest forest.now }
+    requires one_each { length kept.now ≡ length forest.now.pairs }
+    requires cells { cells.now ≡ root_cell_numbers kept.now }
+    requires there { place < length forest.now.pairs }
+    requires room { HasRoomForTree forest.now kept.now place inner }
+    ensures next { IfOk result (λ next. (tree : Tree ℕ) → IsTreeOf forest.now kept.now place tree → next ≡ inner + inner_count tree) }
+    ensures cards { OnOk result ((tree : Tree ℕ) → IsTreeOf forest.now kept.now place tree
+        → cards.new ≡ with_cards cards.old
+        (spell nch (inner_net front.now) (netted pins.now forest.now.leaves tree) (net_text top.entry) (net_text bottom.entry) inner)) }
+{
+    match forest.pairs[place] {
+        Pair::And(left, right) => {
+            let middle = Net::numbered(front, inner);
+            let next = inner + 1;
+            let next = put_arm(
+                cards, forest, kept, cells, pins, left, top, middle, front, next,
+            )?;
+            let next = put_arm(
+                cards, forest, kept, cells, pins, right, middle, bottom, front, next,
+            )?;
+            Ok(next)
+        }
+        Pair::Or(left, right) => {
+            let next = put_arm(
+                cards, forest, kept, cells, pins, left, top, bottom, front, inner,
+            )?;
+            let next = put_arm(
+                cards, forest, kept, cells, pins, right, top, bottom, front, next,
+            )?;
+            Ok(next)
+        }
+    }
+}
+
+/// So for the tree below an arm.
+#[cycle(put)]
+fn put_arm(
+    cards: &mut CardText,
+    forest: &Forest,
+    kept: &[bool],
+    cells: &[u32],
+    pins: &[NetName],
+    arm: Arm,
+    top: Net<'_>,
+    bottom: Net<'_>,
+    front: &[u8],
+    inner: u32,
+) -> Result<u32, OutOfMemory>
+    requires forest { IsForest forest.now }
+    requires one_each { length kept.now ≡ length forest.now.pairs }
+    requires cells { cells.now ≡ root_cell_numbers kept.now }
+    requires there { IsArmInForest forest.now arm }
+    requires room { HasRoomForArm forest.now kept.now arm inner }
+    ensures next { IfOk result (λ next. (tree : Tree ℕ) → IsArmTree forest.now kept.now arm tree → next ≡ inner + inner_count tree) }
+    ensures cards { OnOk result ((tree : Tree ℕ) → IsArmTree forest.now kept.now arm tree
+        → cards.new ≡ with_cards cards.old
+        (spell nch (inner_net front.now) (netted pins.now forest.now.leaves tree) (net_text top.entry) (net_text bottom.entry) inner)) }
+{
+    match arm {
+        Arm::Literal(rail) => {
+            cards.put(Kind::N, top, rail_net(pins, rail), bottom)?;
+            Ok(inner)
+        }
+        Arm::Pair(place) => {
+            let place = place as usize;
+            if kept[place] {
+                let next = put_pair(
+                    cards, forest, kept, cells, pins, place, top, bottom, front, inner,
+                )?;
+                Ok(next)
+            } else {
+                cards.put(Kind::N, top, Net::numbered(b"z", cells[place]), bottom)?;
+                Ok(inner)
+            }
+        }
+    }
+}
