@@ -2,11 +2,11 @@
 #![tactic(auto)]
 
 #[cfg(test)]
-mod cards;
-#[cfg(test)]
 mod deep;
 #[cfg(test)]
 mod events;
+#[cfg(test)]
+mod generation;
 #[cfg(test)]
 mod names;
 #[cfg(test)]
@@ -25,8 +25,6 @@ mod read_decks;
 mod stimuli;
 #[cfg(test)]
 mod targets;
-#[cfg(test)]
-mod traces;
 #[cfg(test)]
 mod trees;
 #[cfg(test)]

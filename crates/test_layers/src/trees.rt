@@ -9,7 +9,7 @@ use std::alloc::Global;
 use std::test::Fail;
 
 /// Two leaves in series towards ground, with the gates 0 and 1.
-pub fn series_of_two(alloc: Global) -> Result<Sp<ToVss>, OutOfMemory>
+fn series_of_two(alloc: Global) -> Result<Sp<ToVss>, OutOfMemory>
     ensures { IfOk result (λ tree. tree_of tree ≡ Series (Leaf 0) (Leaf 1)) }
 {
     let upper = Box::new(

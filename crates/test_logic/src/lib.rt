@@ -21,6 +21,4 @@ mod logic;
 #[cfg(test)]
 mod signs;
 #[cfg(test)]
-mod skew_decks;
-#[cfg(test)]
 mod words;

@@ -3,4 +3,4 @@
 
 mod texts;
 
-pub use texts::{AND_DECK, AND_SKEW_DECK, CHARGES, RING};
+pub use texts::{AND_DECK, CHARGES};

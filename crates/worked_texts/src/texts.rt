@@ -17,42 +17,6 @@ pub const AND_DECK: &[u8] = b"* domsyn deck 1\n\
     m8 o_f d0 vss vss nch\n\
     .ends and2\n";
 
-/// The deck of an And of two inputs on two clocks: its cell, the buffer on the second clock, and the inverter of the
-/// output, which the buffer's dynamic net gates.
-pub const AND_SKEW_DECK: &[u8] = b"* domsyn deck 1\n\
-    * phase o_f +\n\
-    .subckt and2 vdd vss ck1 ck2 lm lmb ls lsb rs rsb\n\
-    + i_a i_b\n\
-    + o_f\n\
-    m0 d0 ck1 vdd vdd pch\n\
-    m1 d0 z0 vdd vdd pkeep\n\
-    m2 d0 i_a t0_0 vss nch\n\
-    m3 t0_0 i_b f0 vss nch\n\
-    m4 f0 ck1 vss vss nch\n\
-    m5 z0 d0 vdd vdd pch\n\
-    m6 z0 d0 vss vss nch\n\
-    m7 d1 ck2 vdd vdd pch\n\
-    m8 d1 z1 vdd vdd pkeep\n\
-    m9 d1 z0 f1 vss nch\n\
-    m10 f1 ck2 vss vss nch\n\
-    m11 z1 d1 vdd vdd pch\n\
-    m12 z1 d1 vss vss nch\n\
-    m13 o_f d1 vdd vdd pch\n\
-    m14 o_f d1 vss vss nch\n\
-    .ends and2\n";
-
-/// A ring of three inverters, held still by `rs`. Its nets from 9 on are `a`, `c`, `u`, `b`.
-pub const RING: &[u8] = b".subckt ring vdd vss ck1 lm lmb ls lsb rs rsb\n\
-    m0 a c u vss pch\n\
-    m1 u rs vdd vdd pch\n\
-    m2 a c vss vss nch\n\
-    m3 a rs vss vss nch\n\
-    m4 b a vdd vdd pch\n\
-    m5 b a vss vss nch\n\
-    m6 c b vdd vdd pch\n\
-    m7 c b vss vss nch\n\
-    .ends ring\n";
-
 /// Two nets that are charged apart and meet at `ck1`: `o_a` and `o_b`, at 9 and 10.
 pub const CHARGES: &[u8] = b".subckt charges vdd vss ck1 lm lmb ls lsb rs rsb o_a o_b\n\
     m0 o_a rs vss vss nch\n\
