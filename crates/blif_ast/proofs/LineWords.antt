@@ -5,6 +5,7 @@ use Rattle.std.specs.Cmp.Lexicographic.{pointwise}
 use Rattle.std.proofs.lemmas.Bool.Decides.{nat_tests}
 use Rattle.std.proofs.lemmas.Grind.{flat_map-append}
 use Rattle.std.specs.List.{flat_map, join_with_byte}
+use Rattle.dom_base.proofs.Lists.{slice_index_or-push}
 use Rattle.blif_ast.specs.Cards.{last_word}
 use Rattle.blif_ast.specs.LogicalLines.{is_joined, last_byte}
 use Rattle.blif_ast.specs.Printed.{guard, printed_line, ports_card}
@@ -19,14 +20,10 @@ joined_words first [] = search (rules, append-nil)
 joined_words first (word ∷ words) = ap (λ rest. first ++ 32 ∷ rest) (joined_words word words)
 
 -- the last of some words
-at_end : {X : Type 0} (front : List X) (x d : X) → slice_index_or (front ++ x ∷ []) (length front) d ≡ x
-at_end [] x d = refl
-at_end (y ∷ front) x d = at_end front x d
-
 pub last_word-end : (words : List (List ℕ)) (word : List ℕ) → last_word (words ++ word ∷ []) ≡ word
 last_word-end words word =
     let count : length (words ++ word ∷ []) - 1 ≡ length words = omega (arith, length-append words (word ∷ [])) in
-    ap (λ n. slice_index_or (words ++ word ∷ []) n []) count ∙ at_end words word []
+    ap (λ n. slice_index_or (words ++ word ∷ []) n []) count ∙ slice_index_or-push words word []
 
 -- a line, by what is appended to a text in turn
 pub line_end : (text first : List ℕ) (words : List (List ℕ)) (last : List ℕ)

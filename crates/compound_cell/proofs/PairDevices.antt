@@ -1,9 +1,9 @@
 -- The devices of a compound cell, appended part by part.
 use Rattle.std.proofs.Common.{◌≡◌, ℕ, List, ◌++◌, ap, sym, ◌∙◌}
+use Rattle.deck.proofs.CircuitGrowth.{with_devices-append}
 use Rattle.deck.specs.CircuitData.{CircuitData}
 use Rattle.deck.specs.NamedDevices.{with_devices}
 use Rattle.sp_network.specs.Tree.{Tree}
-use Rattle.domino_cell.proofs.CellCircuits.{with_devices-append}
 use Rattle.compound_cell.proofs.PairCells.{left_stage, pair_gate, right_stage}
 
 -- both stages and the static gate

@@ -7,4 +7,4 @@ mod push;
 mod right_names;
 
 pub use laws::simple_cells_are_styled;
-pub use push::push_compound;
+pub use push::{push_compound, series_of_two};

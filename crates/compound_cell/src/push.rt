@@ -236,8 +236,8 @@ fn push_side(
     Ok(())
 }
 
-/// Two leaves in series towards ground, with the gates 0 and 1.
-fn series_of_two(alloc: Global) -> Result<Sp<ToVss>, OutOfMemory>
+/// Two leaves in series towards ground, with the gates 0 and 1. The one error is out of memory.
+pub fn series_of_two(alloc: Global) -> Result<Sp<ToVss>, OutOfMemory>
     ensures { IfOk result (λ tree. tree_of tree ≡ Series (Leaf 0) (Leaf 1)) }
 {
     let first = Sp::Leaf {

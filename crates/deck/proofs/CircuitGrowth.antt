@@ -67,6 +67,10 @@ pub Grew-then : {a b c : CircuitData} → Grew a b → Grew b c → Grew a c
 Grew-then {a} {b} {c} x y = Grew-trans a b c x y
 
 -- one more device, at the end
+pub with_devices-append : (c : CircuitData) (xs ys : List (NamedDevice (List ℕ))) → with_devices c (xs ++ ys) ≡ with_devices (with_devices c xs) ys
+with_devices-append c [] ys = refl
+with_devices-append c (x ∷ xs) ys = with_devices-append (pushed c x.kind x.drain x.gate x.source) xs ys
+
 pub with_devices-push : (c : CircuitData) (ds : List (NamedDevice (List ℕ))) (d : NamedDevice (List ℕ)) → with_devices c (ds ++ d ∷ []) ≡ pushed (with_devices c ds) d.kind d.drain d.gate d.source
 with_devices-push c [] d = refl
 with_devices-push c (e ∷ ds) d = with_devices-push (pushed c e.kind e.drain e.gate e.source) ds d

@@ -14,7 +14,7 @@ use crate::number::{NetSet, add_all};
 use crate::ports::leading_nets;
 use crate::push::push_held;
 use crate::{Device, Phase};
-use dom_base::{Kind, NameDigest, NameHash, NetName, OutOfMemory};
+use dom_base::{Crowd, Kind, NameDigest, NameHash, NetName, OutOfMemory};
 use std::alloc::Global;
 use std::marker::Model;
 
@@ -118,10 +118,23 @@ impl Circuit {
 
 /// A hash for a circuit with these pins and outputs, whose other nets no stranger names.
 fn hash_of(alloc: Global, pins: &[NetName], outs: &[NetName]) -> Result<NameHash, OutOfMemory> {
+    let mut crowd = Crowd::new(alloc, NameHash::known());
+    crowd.make_room(pins.len().saturating_add(outs.len()))?;
+    count_names(&mut crowd, pins);
+    count_names(&mut crowd, outs);
+    if !crowd.is_crowded() {
+        return Ok(crowd.hash());
+    }
     let mut digest = NameDigest::new(alloc);
     add_names(&mut digest, pins)?;
     add_names(&mut digest, outs)?;
     Ok(digest.hash())
+}
+
+fn count_names(crowd: &mut Crowd, names: &[NetName]) {
+    for name in names {
+        crowd.count(name);
+    }
 }
 
 fn add_names<'a>(digest: &mut NameDigest<'a>, names: &'a [NetName]) -> Result<(), OutOfMemory> {

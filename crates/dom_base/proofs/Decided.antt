@@ -34,6 +34,9 @@ dec_nat a b = elim (eqb_tells a b) [ inl h ↦ inl h.1 | inr h ↦ inr h.1 ]
 pub lt_or_ge : (a b : ℕ) → (a < b) ⊎ (b ≤ a)
 lt_or_ge a b = grind arith
 
+pub dec_less : (a b : ℕ) → Decided (a < b)
+dec_less a b = elim (lt_or_ge a b) [ inl less ↦ inl less | inr more ↦ inr (λ less. omega (arith, less, more)) ]
+
 pub dec_bool : (a b : Bool) → Decided (a ≡ b)
 dec_bool true true = inl refl
 dec_bool true false = inr (λ e. cc)

@@ -1,6 +1,6 @@
 -- Facts of each element of a list, by recursion; fronts that pass a test; reverses; elements by index; lists that are apart.
 use Rattle.std.proofs.Common.{◌≡◌, ℕ, zero, suc, Bool, true, false, List, [], ◌∷◌, ◌++◌, map, filter, take, drop, refl, ap, arith, ◌≢◌, ◌<◌, ◌+◌, cond, not, ◌==◌, length, get_or, reverse, All, Option, None, eqb-true, sym, ap₂, ◌∙◌, subst, append_assoc, set, ◌⊎◌, inl, inr}
-use Rattle.std.specs.Prelude.{◌&&◌, ◌||◌, Contains, Some, slice_get}
+use Rattle.std.specs.Prelude.{◌&&◌, ◌||◌, Contains, Some, replicate, slice_get, slice_index_or}
 use Rattle.std.specs.List.{AllByRecursion, flat_map, list_all, list_any, prefix_len, take_while, before_first, cons_option, filter_map, IsDistinct, AllZip, enumerate_from}
 use Rattle.std.proofs.lemmas.List.Elements.{recursion_from_All, All-contains, All-from_recursion, Contains-append_left, Contains-append_right, All-head, All-tail}
 use Rattle.std.specs.Option.{option_to_list}
@@ -26,6 +26,11 @@ pub AllByRecursion-groups : {X : Type 0} (P : X → Type 0) (groups : List (List
 AllByRecursion-groups P [] h = tt
 AllByRecursion-groups P (group ∷ groups) h =
     (AllByRecursion-left P group (flat_map (λ g. g) groups) h, AllByRecursion-groups P groups (AllByRecursion-right P group (flat_map (λ g. g) groups) h))
+
+-- what holds of each element at its place
+pub AllByRecursion-from_places : {X : Type 0} (P : X → Type 0) (xs : List X) → ((i : ℕ) (x : X) → slice_get xs i ≡ Some x → P x) → AllByRecursion P xs
+AllByRecursion-from_places P [] h = tt
+AllByRecursion-from_places P (x ∷ xs) h = (h 0 x refl, AllByRecursion-from_places P xs (λ i. h (suc i)))
 
 -- a fact of every value
 pub AllByRecursion-every : {X : Type 0} (P : X → Type 0) → ((x : X) → P x) → (xs : List X) → AllByRecursion P xs
@@ -206,6 +211,23 @@ slice_get-set_other (x ∷ xs) zero zero y other = absurd (other refl)
 slice_get-set_other (x ∷ xs) zero (suc j) y other = refl
 slice_get-set_other (x ∷ xs) (suc i) zero y other = refl
 slice_get-set_other (x ∷ xs) (suc i) (suc j) y other = slice_get-set_other xs i j y (λ e. other (ap suc e))
+
+-- in a list of marks of which none is set none stands
+pub none_set : (count i : ℕ) → slice_get (replicate count false) i ≡ Some true → ⊥
+none_set zero i e = cc
+none_set (suc count) zero e = let z : Some false ≡ Some true = e in cc
+none_set (suc count) (suc i) e = none_set count i e
+
+-- within a list something stands at each index
+pub slice_get-there : {X : Type 0} (xs : List X) (i : ℕ) → i < length xs → (x : X) × (slice_get xs i ≡ Some x)
+slice_get-there [] i lt = absurd (omega arith)
+slice_get-there (x ∷ xs) zero lt = (x, refl)
+slice_get-there (x ∷ xs) (suc i) lt = slice_get-there xs i (omega arith)
+
+-- what stands at the end of a list that was appended to, by its place
+pub slice_index_or-push : {X : Type 0} (xs : List X) (y d : X) → slice_index_or (xs ++ y ∷ []) (length xs) d ≡ y
+slice_index_or-push [] y d = refl
+slice_index_or-push (x ∷ xs) y d = slice_index_or-push xs y d
 
 -- what a list has stands at an index
 pub slice_get-contained : {X : Type 0} (xs : List X) (x : X) → Contains xs x → (i : ℕ) × (slice_get xs i ≡ Some x)

@@ -7,6 +7,7 @@ pub mod FaultKinds
 pub mod Joined
 pub mod LineFaults
 pub mod Lines
+pub mod NameHashes
 pub mod Names
 pub mod Polarity
 pub mod Tri

@@ -1,59 +1,56 @@
 //! Hashes of names that strangers choose.
-ghost use Rattle.std.specs.Hash.DefaultHasher as sip;
+ghost use Rattle.dom_base.specs.NameHashes.{first_hasher};
 
-use crate::{OutOfMemory, append, mark_of};
+use crate::{NameHasher, OutOfMemory, append, mark_of};
 use core::hash::keyed_hasher;
 use sha2::{Digest, Sha512};
 use std::alloc::Global;
-use std::hash::{BuildHasher, DefaultHasher};
+use std::hash::{BuildHasher, FoldHasher};
 
-/// So few bytes hold too few names for a table that is slow.
-const FEW_BYTES: usize = 8192;
-
-/// Hashes by SipHash 1-3 with a key. The key is a digest of all that is read, so that whoever writes a file cannot
-/// choose names that meet in one slot of a table: with other names the key is another.
+/// How names are hashed: fast, which whoever chooses the names knows beforehand, or by SipHash 1-3 with a key. The key is
+/// a digest of all that is read, so that whoever writes a file cannot choose names that meet in one slot of a table: with
+/// other names the key is another. So names are hashed fast first, and with a key where a `Crowd` finds them crowded.
 #[derive(Clone, Copy, Debug)]
-pub struct NameHash {
-    key0: u64,
-    key1: u64,
+pub enum NameHash {
+    Fast,
+    Keyed(u64, u64),
 }
 
 impl NameHash {
-    /// A hash with a known key, for few names.
+    /// The fast hash, for few names, and for names that a `Crowd` counts.
     pub fn known() -> NameHash {
-        NameHash { key0: 0, key1: 0 }
+        NameHash::Fast
     }
 
-    /// A hash for names that stand in this text.
+    /// A hash with a key, for names that stand in this text.
     pub fn of_text(text: &[u8]) -> NameHash {
-        if text.len() < FEW_BYTES {
-            NameHash::known()
-        } else {
-            NameHash::of_digest(Sha512::digest(text))
-        }
+        NameHash::of_digest(Sha512::digest(text))
     }
 
     fn of_digest(digest: [u8; 64]) -> NameHash {
         let [a, b, c, d, e, f, g, h, i, j, k, l, m, n, o, p, ..] = digest;
-        NameHash {
-            key0: u64::from_le_bytes([a, b, c, d, e, f, g, h]),
-            key1: u64::from_le_bytes([i, j, k, l, m, n, o, p]),
-        }
+        NameHash::Keyed(
+            u64::from_le_bytes([a, b, c, d, e, f, g, h]),
+            u64::from_le_bytes([i, j, k, l, m, n, o, p]),
+        )
     }
 }
 
 impl BuildHasher for NameHash {
-    type Hasher = DefaultHasher;
+    type Hasher = NameHasher;
 
-    ghost build_hasher = { λ s. sip.with_keys s.key0 s.key1 };
+    ghost build_hasher = { first_hasher };
 
-    fn build_hasher(&self) -> DefaultHasher {
-        keyed_hasher(self.key0, self.key1)
+    fn build_hasher(&self) -> NameHasher {
+        match self {
+            NameHash::Fast => NameHasher::Folding(FoldHasher::default()),
+            NameHash::Keyed(key0, key1) => NameHasher::Sipping(keyed_hasher(*key0, *key1)),
+        }
     }
 }
 
 /// How many bytes of names are digested at once.
-const PIECE: usize = FEW_BYTES;
+const PIECE: usize = 8192;
 
 /// How many names are kept, so that one which comes again soon is taken in once.
 const KEPT: usize = 1024;
@@ -64,7 +61,6 @@ const KEPT: usize = 1024;
 pub struct NameDigest<'a> {
     digest: Sha512,
     piece: Vec<u8>,
-    is_first: bool,
     kept: Vec<&'a [u8]>,
 }
 
@@ -74,7 +70,6 @@ impl<'a> NameDigest<'a> {
         NameDigest {
             digest: Sha512::new(),
             piece: Vec::new(alloc),
-            is_first: true,
             kept: Vec::new(alloc),
         }
     }
@@ -90,7 +85,6 @@ impl<'a> NameDigest<'a> {
         if PIECE <= self.piece.len() {
             self.digest.update(self.piece.as_slice());
             self.piece.clear();
-            self.is_first = false;
             self.kept.resize(KEPT, &[])?;
         }
         Ok(())
@@ -108,11 +102,8 @@ impl<'a> NameDigest<'a> {
         }
     }
 
-    /// A hash for the names that were taken in.
+    /// A hash with a key, for the names that were taken in.
     pub fn hash(self) -> NameHash {
-        if self.is_first {
-            return NameHash::known();
-        }
         let NameDigest {
             mut digest,
             piece,

@@ -4,6 +4,7 @@ use Rattle.std.specs.Prelude.{All, slice_index_or}
 use Rattle.std.proofs.lemmas.Bool.{cases_lt}
 use Rattle.std.proofs.lemmas.Option.{get_or_from_slice_get, slice_get_within}
 use Rattle.std.proofs.lemmas.Slice.Zip.{AllZip-long}
+use Rattle.dom_base.proofs.Lists.{slice_get-there}
 use Rattle.gate_decompose.specs.declared.gates.Node.TheVariants.{And as and_node, Not as not_node, Or as or_node}
 use Rattle.gate_decompose.specs.declared.gates.Ref.{Ref}
 use Rattle.gate_decompose.specs.declared.gates.Ref.TheVariants.{Const as constant_ref, Leaf as leaf_ref, Node as node_ref}
@@ -19,7 +20,7 @@ use Rattle.dual_rail.specs.declared.forest.Pair.TheVariants.{And as and_pair, Or
 use Rattle.dual_rail.specs.ForestData.{ForestData}
 use Rattle.dual_rail.specs.ForestOrder.{AreInOrder, ForestsAreInPlace, HasLeaves, IsEndOfForest, ReadsBefore as ArmBefore, ReadsLeaves}
 use Rattle.dual_rail.specs.Forests.{IsArm, IsEndOf, IsForestOf, IsPairOf, left_arm, right_arm}
-use Rattle.dual_rail.proofs.Zips.{all_from, all_zip_back, get_some}
+use Rattle.dual_rail.proofs.Zips.{all_from, all_zip_back}
 
 -- an arm that reads before a place reads before each later one
 pub reads_later : (q p : ℕ) (arm : Arm) → ArmBefore q arm → q ≤ p → ArmBefore p arm
@@ -137,8 +138,8 @@ module _ (gates : GatesData) (is : AreInPlace gates) (signs : List Bool) (forest
       end_at : (k : ℕ) (e : End) → slice_get forest.ends k ≡ Some e → IsEndOfForest forest e
       end_at k e at =
           let lt = slice_get_within forest.ends k e at in
-          let r = get_some gates.sinks k (omega (arith, lt, of.ends_count)) in
-          let sign = get_some signs k (omega (arith, lt, of.ends_count, of.signs_are)) in
+          let r = slice_get-there gates.sinks k (omega (arith, lt, of.ends_count)) in
+          let sign = slice_get-there signs k (omega (arith, lt, of.ends_count, of.signs_are)) in
           by r.0 sign.0 e (there_low gates.leaves (length gates.nodes) r.0 (is.sinks k r.0 r.1)) (of.ends_are k r.0 sign.0 e r.1 sign.1 at)
         where
           by : (r : Ref) (sign : Bool) (x : End) → IsLow gates.leaves r → IsEndOf gates.nodes forest.origin r sign x → IsEndOfForest forest x

@@ -3,7 +3,7 @@ use Rattle.std.proofs.Common.{◌≡◌, ◌⊎◌, inl, inr, refl, sym, subst, 
 use Rattle.std.specs.List.{AllZip}
 use Rattle.std.proofs.lemmas.Option.{slice_get_within}
 use Rattle.std.proofs.lemmas.Slice.Zip.{AllZip-long}
-use Rattle.dom_base.proofs.Lists.{Contains-slice_get}
+use Rattle.dom_base.proofs.Lists.{Contains-slice_get, slice_get-there}
 use Rattle.gate_decompose.specs.declared.gates.Node.{Node}
 use Rattle.gate_decompose.specs.declared.gates.Node.TheVariants.{And as and_node, Not as not_node, Or as or_node}
 use Rattle.gate_decompose.specs.declared.gates.Ref.{Ref}
@@ -21,7 +21,7 @@ use Rattle.dual_rail.specs.Places.{ArePlaces, place_at}
 use Rattle.dual_rail.specs.ForestOrder.{ReadsBefore}
 use Rattle.dual_rail.specs.Uses.{HasArmsThere, IsEndThere}
 use Rattle.dual_rail.specs.WantedNodes.{AreOrderedNodes, HasPlainParts, IsPlainPart}
-use Rattle.dual_rail.proofs.Zips.{all_from, all_zip_back, get_some}
+use Rattle.dual_rail.proofs.Zips.{all_from, all_zip_back}
 use Rattle.dual_rail.specs.declared.forest.Arm.{Arm}
 use Rattle.dual_rail.specs.declared.forest.Arm.TheVariants.{Literal as literal_arm, Pair as pair_arm}
 use Rattle.dual_rail.specs.declared.forest.End.{End}
@@ -111,6 +111,6 @@ ends_there gates signs origin n ends same signs_are count are = all_from (IsEndT
     there : (k : ℕ) (e : End) → slice_get ends k ≡ Some e → IsEndThere n e
     there k e at =
         let lt = slice_get_within ends k e at in
-        let r = get_some gates.sinks k (omega (arith, lt, count)) in
-        let sign = get_some signs k (omega (arith, lt, count, signs_are)) in
+        let r = slice_get-there gates.sinks k (omega (arith, lt, count)) in
+        let sign = slice_get-there signs k (omega (arith, lt, count, signs_are)) in
         by r.0 sign.0 e (are k r.0 sign.0 e r.1 sign.1 at)

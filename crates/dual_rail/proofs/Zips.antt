@@ -19,8 +19,3 @@ all_zip_back R (x ∷ xs) (z ∷ ys) (suc k) y h e = all_zip_back R xs ys k y h.
 
 pub all_from : {X : Type 0} (P : X → Type 0) (xs : List X) → ((k : ℕ) (x : X) → slice_get xs k ≡ Some x → P x) → All P xs
 all_from P xs h = λ k d lt. h k (get_or xs k d) (slice_get-get_or xs k d lt)
-
-pub get_some : {X : Type 0} (xs : List X) (k : ℕ) → k < length xs → (x : X) × (slice_get xs k ≡ Some x)
-get_some [] k lt = absurd (omega arith)
-get_some (x ∷ xs) zero lt = (x, refl)
-get_some (x ∷ xs) (suc k) lt = get_some xs k (omega arith)

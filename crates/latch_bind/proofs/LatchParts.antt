@@ -6,8 +6,7 @@ use Rattle.dom_base.specs.declared.kind.Kind.TheVariants.{N as nch, P as pch}
 use Rattle.deck.specs.CircuitData.{CircuitData}
 use Rattle.deck.specs.CircuitGrowth.{Grew}
 use Rattle.deck.specs.NamedDevices.{NamedDevice, with_devices}
-use Rattle.deck.proofs.CircuitGrowth.{Grew-trans, with_devices-grew}
-use Rattle.domino_cell.proofs.CellCircuits.{with_devices-append}
+use Rattle.deck.proofs.CircuitGrowth.{Grew-trans, with_devices-append, with_devices-grew}
 use Rattle.latch_bind.specs.HeldNames.{AreLatchPorts, AreNamesOfStage, held_inverter, held_reset}
 use Rattle.latch_bind.specs.Latches.{data_net, named_latch}
 use Rattle.latch_bind.specs.declared.names.LatchPorts.{LatchPorts}

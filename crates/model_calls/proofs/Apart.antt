@@ -2,9 +2,8 @@
 use Rattle.std.proofs.Common.{◌≡◌, ℕ, zero, suc, ◌<◌, Bool, true, false, List, [], ◌∷◌, ◌++◌, take, Some, refl, ap, sym, ◌∙◌, arith}
 use Rattle.std.specs.Prelude.{◌≢◌, Contains, nat_lt, slice_get, if◌then◌else◌}
 use Rattle.std.specs.List.{AllByRecursion}
-use Rattle.dom_base.proofs.Lists.{AllByRecursion-append, AllByRecursion-contains, Contains-first, Contains-later, Contains-slice_get}
+use Rattle.dom_base.proofs.Lists.{AllByRecursion-append, AllByRecursion-contains, AllByRecursion-from_places, Contains-first, Contains-later, Contains-slice_get}
 use Rattle.model_calls.specs.Ordered.{in_order, with_element}
-use Rattle.network.proofs.Lists.{each_place}
 
 module _ {X : Type 0} where
   abbrev pub Apart : List X → Type 0
@@ -28,7 +27,7 @@ module _ {X : Type 0} where
 
   pub apart_from_places : (xs : List X) → ((j k : ℕ) (x y : X) → j < k → slice_get xs j ≡ Some x → slice_get xs k ≡ Some y → x ≢ y) → Apart xs
   apart_from_places [] h = tt
-  apart_from_places (x ∷ xs) h = (each_place (λ y. x ≢ y) xs (λ k y. h 0 (suc k) x y (omega arith) refl), apart_from_places xs (λ j k a b l. h (suc j) (suc k) a b (omega (arith, l))))
+  apart_from_places (x ∷ xs) h = (AllByRecursion-from_places (λ y. x ≢ y) xs (λ k y. h 0 (suc k) x y (omega arith) refl), apart_from_places xs (λ j k a b l. h (suc j) (suc k) a b (omega (arith, l))))
 
   pub Contains-take : (xs : List X) (j k : ℕ) (x : X) → j < k → slice_get xs j ≡ Some x → Contains (take k xs) x
   Contains-take [] j k x l e = absurd cc
@@ -58,7 +57,7 @@ module _ {X : Type 0} where
       → ((j k : ℕ) (x y : X) → j < k → slice_get xs j ≡ Some x → slice_get xs k ≡ Some y → g x ≢ g y) → ApartBy g xs
   apart_by_places g [] h = tt
   apart_by_places g (x ∷ xs) h = (
-    each_place (λ y. g x ≢ g y) xs (λ k y. h 0 (suc k) x y (omega arith) refl),
+    AllByRecursion-from_places (λ y. g x ≢ g y) xs (λ k y. h 0 (suc k) x y (omega arith) refl),
     apart_by_places g xs (λ j k a b l. h (suc j) (suc k) a b (omega (arith, l))),
   )
 

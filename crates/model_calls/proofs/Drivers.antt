@@ -5,7 +5,7 @@ use Rattle.std.specs.List.{AllByRecursion, filter_map, flat_map}
 use Rattle.std.proofs.lemmas.Cmp.{nat_list_eq_equiv}
 use Rattle.std.proofs.lemmas.List.{map-append}
 use Rattle.std.proofs.lemmas.List.Elements.{Contains-append_cases, Contains-append_left, Contains-append_right}
-use Rattle.dom_base.proofs.Lists.{AllByRecursion-append, AllByRecursion-both, AllByRecursion-every, AllByRecursion-filter, AllByRecursion-map, AllByRecursion-weaker, Contains-slice_get, slice_get-append}
+use Rattle.dom_base.proofs.Lists.{AllByRecursion-append, AllByRecursion-both, AllByRecursion-every, AllByRecursion-filter, AllByRecursion-from_places, AllByRecursion-map, AllByRecursion-weaker, Contains-slice_get, slice_get-append}
 use Rattle.blif_ast.specs.BlifFileData.{BlifFileData}
 use Rattle.blif_ast.specs.BlifModelData.{BlifModelData}
 use Rattle.blif_ast.specs.Cards.{same}
@@ -22,7 +22,7 @@ use Rattle.model_calls.specs.SignalFaults.{IsDrivenTwice, IsUndriven, signals}
 use Rattle.model_calls.specs.Signals.{Signal, signal_of}
 use Rattle.model_calls.proofs.Apart.{Across, Apart, ApartBy, Apart-append, apart_by_places, apart_from_places, apart_in_order, each_in_order}
 use Rattle.model_calls.proofs.Firsts.{none_holds}
-use Rattle.network.proofs.Lists.{contains_map, count_twice, get_map, get_take, each_place}
+use Rattle.network.proofs.Lists.{contains_map, count_twice, get_map, get_take}
 
 -- the signal that a part drives
 abbrev pub driven : PlacedPart → Signal
@@ -167,8 +167,8 @@ module _ (f : BlifFileData) (accepted : (r : Refusal) → HasRefusal f r → ⊥
 
   -- and none that is a main input
   pub mains_apart : AllByRecursion (λ p. AllByRecursion (λ name. driven p ≢ signal_of [] name) (main_model f).inputs) (expanded f)
-  mains_apart = each_place (λ p. AllByRecursion (λ name. driven p ≢ signal_of [] name) (main_model f).inputs) (expanded f) (λ k p e.
-      each_place (λ name. driven p ≢ signal_of [] name) (main_model f).inputs (λ j name x same. no_second k p e
+  mains_apart = AllByRecursion-from_places (λ p. AllByRecursion (λ name. driven p ≢ signal_of [] name) (main_model f).inputs) (expanded f) (λ k p e.
+      AllByRecursion-from_places (λ name. driven p ≢ signal_of [] name) (main_model f).inputs (λ j name x same. no_second k p e
       (among (main_inputs f) (take k (expanded f)) p
       (inl (subst (Contains (map SignalOf (main_inputs f))) (sym same)
       (Contains-slice_get (map SignalOf (main_inputs f)) j (signal_of [] name)
@@ -176,7 +176,7 @@ module _ (f : BlifFileData) (accepted : (r : Refusal) → HasRefusal f r → ⊥
 
   -- each reader can't be without a driver
   pub readers_driven : AllByRecursion (λ e. (Contains (signals (drivers f)) e.signal → ⊥) → ⊥) (readers f)
-  readers_driven = each_place (λ e. (Contains (signals (drivers f)) e.signal → ⊥) → ⊥) (readers f) (λ k e there none.
+  readers_driven = AllByRecursion-from_places (λ e. (Contains (signals (drivers f)) e.signal → ⊥) → ⊥) (readers f) (λ k e there none.
       none_holds (IsUndriven f) (readers f)
       (λ r first. accepted (At Undriven r.line r.name) (record { element = r; first = first; line_is = refl; name_is = refl })) k e there none)
 

@@ -2,7 +2,7 @@
 use Rattle.std.proofs.Common.{ℕ, zero, suc, List, [], ◌∷◌, ◌++◌, map}
 use Rattle.std.specs.Prelude.{Contains}
 use Rattle.std.specs.List.{AllByRecursion, flat_map}
-use Rattle.dom_base.proofs.Lists.{AllByRecursion-append, AllByRecursion-map, AllByRecursion-weaker, Contains-slice_get}
+use Rattle.dom_base.proofs.Lists.{AllByRecursion-append, AllByRecursion-from_places, AllByRecursion-map, AllByRecursion-weaker, Contains-slice_get}
 use Rattle.blif_ast.specs.BlifModelData.{BlifModelData}
 use Rattle.blif_ast.specs.declared.latch.Latch.{Latch}
 use Rattle.blif_ast.specs.InstanceData.{InstanceData}
@@ -10,7 +10,6 @@ use Rattle.blif_ast.specs.TableData.{TableData}
 use Rattle.model_calls.specs.Expanded.{BodyCard, InstanceCard, LatchCard, LatchPart, PlacedPart, TableCard, TablePart, ordered_cards, expanded_from, card_line, parts_of_card}
 use Rattle.model_calls.specs.Occurrences.{models_called}
 use Rattle.model_calls.proofs.Apart.{each_in_order}
-use Rattle.network.proofs.Lists.{each_place}
 
 abbrev pub IsCardOf : BlifModelData → BodyCard → Type 0
 IsCardOf m (TableCard t) = Contains m.tables t
@@ -18,7 +17,7 @@ IsCardOf m (LatchCard l) = Contains m.latches l
 IsCardOf m (InstanceCard i) = Contains m.instances i
 
 pub each_itself : {X : Type 0} (xs : List X) → AllByRecursion (Contains xs) xs
-each_itself xs = each_place (Contains xs) xs (λ k x e. Contains-slice_get xs k x e)
+each_itself xs = AllByRecursion-from_places (Contains xs) xs (λ k x e. Contains-slice_get xs k x e)
 
 pub each_flat : {X Y : Type 0} (P : Y → Type 0) (g : X → List Y) (xs : List X) → AllByRecursion (λ x. AllByRecursion P (g x)) xs → AllByRecursion P (flat_map g xs)
 each_flat P g [] h = tt

@@ -1,10 +1,30 @@
-//! Hashes for the names of a file, with keys out of all that are hashed.
+//! Hashes for the names of a file: fast where they are not crowded, else with keys out of all that are hashed.
 use blif_ast::{Binding, BlifModel};
-use dom_base::{Name, NameDigest, NameHash, OutOfMemory};
+use dom_base::{Crowd, Name, NameDigest, NameHash, OutOfMemory};
 use std::alloc::Global;
 
 /// Fewer names than this are found fast even where they meet in one slot.
 const FEW: usize = 1024;
+
+/// No names yet, of so many that are counted.
+fn crowd_of(alloc: Global, names: usize) -> Result<Crowd, OutOfMemory> {
+    let mut crowd = Crowd::new(alloc, NameHash::known());
+    crowd.make_room(names)?;
+    Ok(crowd)
+}
+
+fn count_names(crowd: &mut Crowd, names: &[Name]) {
+    for name in names {
+        crowd.count(name);
+    }
+}
+
+fn digest_names<'a>(digest: &mut NameDigest<'a>, names: &'a [Name]) -> Result<(), OutOfMemory> {
+    for name in names {
+        digest.add(name.as_bytes())?;
+    }
+    Ok(())
+}
 
 /// A hash for the names of these lists. The one error is want of memory.
 pub fn hash_of_lists(
@@ -15,21 +35,20 @@ pub fn hash_of_lists(
     if first.len() < FEW && second.len() < FEW {
         return Ok(NameHash::known());
     }
+    let mut crowd = crowd_of(alloc, first.len().saturating_add(second.len()))?;
+    count_names(&mut crowd, first);
+    count_names(&mut crowd, second);
+    if !crowd.is_crowded() {
+        return Ok(crowd.hash());
+    }
     let mut digest = NameDigest::new(alloc);
-    for name in first {
-        digest.add(name.as_bytes())?;
-    }
-    for name in second {
-        digest.add(name.as_bytes())?;
-    }
+    digest_names(&mut digest, first)?;
+    digest_names(&mut digest, second)?;
     Ok(digest.hash())
 }
 
-/// A hash for names that stand elsewhere. The one error is want of memory.
-pub fn hash_of_names(alloc: Global, names: &[&Name]) -> Result<NameHash, OutOfMemory> {
-    if names.len() < FEW {
-        return Ok(NameHash::known());
-    }
+/// A hash with a key for names that stand elsewhere. The one error is want of memory.
+pub fn keyed_hash_of_names(alloc: Global, names: &[&Name]) -> Result<NameHash, OutOfMemory> {
     let mut digest = NameDigest::new(alloc);
     for name in names {
         digest.add(name.as_bytes())?;
@@ -42,6 +61,13 @@ pub fn hash_of_models(alloc: Global, models: &[BlifModel]) -> Result<NameHash, O
     if models.len() < FEW {
         return Ok(NameHash::known());
     }
+    let mut crowd = crowd_of(alloc, models.len())?;
+    for model in models {
+        crowd.count(&model.name);
+    }
+    if !crowd.is_crowded() {
+        return Ok(crowd.hash());
+    }
     let mut digest = NameDigest::new(alloc);
     for model in models {
         digest.add(model.name.as_bytes())?;
@@ -53,6 +79,13 @@ pub fn hash_of_models(alloc: Global, models: &[BlifModel]) -> Result<NameHash, O
 pub fn hash_of_formals(alloc: Global, bindings: &[Binding]) -> Result<NameHash, OutOfMemory> {
     if bindings.len() < FEW {
         return Ok(NameHash::known());
+    }
+    let mut crowd = crowd_of(alloc, bindings.len())?;
+    for binding in bindings {
+        crowd.count(&binding.formal);
+    }
+    if !crowd.is_crowded() {
+        return Ok(crowd.hash());
     }
     let mut digest = NameDigest::new(alloc);
     for binding in bindings {

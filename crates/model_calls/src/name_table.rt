@@ -6,10 +6,10 @@ ghost use Rattle.blif_ast.specs.Cards.{same};
 ghost use Rattle.indexmap.specs.IndexSet.{insert_key};
 ghost use Rattle.model_calls.specs.Occurrences.{actuals_of, names_of, names_of_latch, names_of_table, signal_of_control};
 
-use crate::name_hashes::hash_of_names;
+use crate::name_hashes::keyed_hash_of_names;
 use crate::recent_numbers::RecentNumbers;
 use blif_ast::{BlifModel, Instance, Latch, Table};
-use dom_base::{Name, NameHash, OutOfMemory, mark_of};
+use dom_base::{Crowd, Name, NameHash, OutOfMemory, mark_of};
 use indexmap::IndexSet;
 use std::alloc::Global;
 use std::marker::Model;
@@ -58,9 +58,26 @@ impl<'a> NameTable<'a> {
     fn gathered(alloc: Global, model: &'a BlifModel) -> Result<NameTable<'a>, OutOfMemory>
         ensures { IfOk result (λ table. table ≡ reverse (unique_keys same (names_of model.now))) }
     {
+        let mut crowd = Crowd::new(alloc, NameHash::known());
+        let table = NameTable::gathered_with(alloc, &mut crowd, model);
+        if !crowd.is_crowded() {
+            return table;
+        }
+        let mut keyed = keyed_crowd(alloc, model)?;
+        NameTable::gathered_with(alloc, &mut keyed, model)
+    }
+
+    /// The same, where names are hashed so. The one error is out of memory, or names that are crowded.
+    fn gathered_with(
+        alloc: Global,
+        crowd: &mut Crowd,
+        model: &'a BlifModel,
+    ) -> Result<NameTable<'a>, OutOfMemory>
+        ensures { IfOk result (λ table. table ≡ reverse (unique_keys same (names_of model.now))) }
+    {
         let all = all_names(alloc, model)?;
         let ports = model.inputs.len() / 2 + model.outputs.len() / 2;
-        let hash = hash_of_names(alloc, all.as_slice())?;
+        let hash = crowd.hash();
         let mut table = NameTable {
             names: IndexSet::with_capacity_and_hasher(alloc, all.len() / 2 + ports, hash)?,
             found: Vec::new(alloc),
@@ -68,6 +85,7 @@ impl<'a> NameTable<'a> {
         };
         let mut recent = RecentNumbers::new(alloc, table.starts.len())?;
         for index in 0..all.len() {
+            crowd.look_at(table.names.as_slice())?;
             let number = table.insert_again(&mut recent, from_last(&all, index))?;
             table.keep(number)?;
         }
@@ -211,6 +229,13 @@ fn from_last<'a>(all: &[&'a Name], index: usize) -> &'a Name
     ensures { slice_get (map (λ r. r.now) all.now) (length all.now - 1 - index) ≡ Some result.now }
 {
     all[all.len() - 1 - index]
+}
+
+/// How crowded the names of a model are, where they are hashed with a key.
+fn keyed_crowd(alloc: Global, model: &BlifModel) -> Result<Crowd, OutOfMemory> {
+    let all = all_names(alloc, model)?;
+    let hash = keyed_hash_of_names(alloc, all.as_slice())?;
+    Ok(Crowd::new(alloc, hash))
 }
 
 /// All names on the cards of a model, ports first, as often as they stand there.

@@ -4,7 +4,7 @@ use Rattle.std.specs.Prelude.{◌≢◌, Contains, IsSome, option_and_then, opti
 use Rattle.std.specs.List.{AllByRecursion, filter_map, flat_map}
 use Rattle.std.proofs.lemmas.Bool.{cases_eq}
 use Rattle.std.proofs.lemmas.List.{map-append, take_all}
-use Rattle.dom_base.proofs.Lists.{AllByRecursion-append, AllByRecursion-contains, Contains-slice_get, filter_map-none}
+use Rattle.dom_base.proofs.Lists.{AllByRecursion-append, AllByRecursion-contains, AllByRecursion-from_places, Contains-slice_get, filter_map-none}
 use Rattle.blif_ast.specs.BlifFileData.{BlifFileData}
 use Rattle.blif_ast.specs.declared.latch.Control.{Control}
 use Rattle.net_flatten.specs.declared.clocking.ControlAt.{ControlAt}
@@ -25,7 +25,7 @@ use Rattle.net_flatten.proofs.ClockFaults.{clockings_of_parts, control_alike, co
 use Rattle.model_calls.proofs.EachPart.{each_flat}
 use Rattle.model_calls.proofs.Fitting.{contains_cons}
 use Rattle.network.proofs.IndexedLists.{split_at, take_get}
-use Rattle.network.proofs.Lists.{get_map, get_of_map, each_place}
+use Rattle.network.proofs.Lists.{get_map, get_of_map}
 use Rattle.part_numbers.proofs.NumberedEnds.{Number, Number-append, drives_number, number_there, outputs_number, part_at, placed_at, reads_number}
 use Rattle.net_flatten.proofs.Splits.{first_by_itself, flat_split, kept_from, kept_split}
 
@@ -51,7 +51,7 @@ name_by_end (LatchPart l) e found = by l.latch.control found
 -- all ends of a part are on its line
 lines_of_part : (x : PlacedPart) → AllByRecursion (λ (e : End). e.line ≡ (driven_end x).line) (part_ends x)
 lines_of_part (TablePart t) = AllByRecursion-append (λ (e : End). e.line ≡ t.table.line) (map (end_at t.path t.table.line) t.table.inputs) (end_at t.path t.table.line t.table.output ∷ [])
-    (each_place (λ (e : End). e.line ≡ t.table.line) (map (end_at t.path t.table.line) t.table.inputs)
+    (AllByRecursion-from_places (λ (e : End). e.line ≡ t.table.line) (map (end_at t.path t.table.line) t.table.inputs)
     (λ k e at. let h = get_of_map (end_at t.path t.table.line) t.table.inputs k e at in ap (λ (d : End). d.line) (sym h.2))) (refl, tt)
 lines_of_part (LatchPart l) = (refl, (refl, tt))
 
@@ -64,7 +64,7 @@ module _ (f : BlifFileData) (all : List Signal) (n : NumberedFileData) (is : IsN
   module _ (s : ℕ) (control : Signal) (at_control : slice_get all s ≡ Some control) where
     -- no end is at the signal where no number is the signal's
     none_at : (numbers : List ℕ) (ends : List End) → Number all numbers (signals ends) → (Contains numbers s → ⊥) → AllByRecursion (λ (e : End). e.signal ≡ control → ⊥) ends
-    none_at numbers ends number none = each_place (λ (e : End). e.signal ≡ control → ⊥) ends (λ k e at same.
+    none_at numbers ends number none = AllByRecursion-from_places (λ (e : End). e.signal ≡ control → ⊥) ends (λ k e at same.
         none (number_there all is.apart numbers (signals ends) s control number at_control
         (Contains-slice_get (signals ends) k control (get_map (λ (d : End). d.signal) ends k e at ∙ ap Some same))))
 
@@ -94,7 +94,7 @@ module _ (f : BlifFileData) (all : List Signal) (n : NumberedFileData) (is : IsN
     parts_apart_from : (k : ℕ) → ((j : ℕ) (p : NumberedPartData) → j < k → slice_get n.parts j ≡ Some p → IsAtNumber s (take j n.parts) p → ⊥)
         → AllByRecursion (λ (e : End). e.signal ≡ control → ⊥) (flat_map part_ends (take k (expanded f)))
     parts_apart_from k none = each_flat (λ (e : End). e.signal ≡ control → ⊥) part_ends (take k (expanded f))
-        (each_place (λ x. AllByRecursion (λ (e : End). e.signal ≡ control → ⊥) (part_ends x)) (take k (expanded f)) (λ j x at.
+        (AllByRecursion-from_places (λ x. AllByRecursion (λ (e : End). e.signal ≡ control → ⊥) (part_ends x)) (take k (expanded f)) (λ j x at.
         let t = take_get (expanded f) k j x at in
         let h = placed_at f all n is j x t.1 in
         none_at (h.0.reads ++ h.0.drives ∷ []) (part_ends x) (ends_number h.0 x h.2) (none j h.0 t.0 h.1)))
@@ -160,7 +160,7 @@ module _ (f : BlifFileData) (all : List Signal) (n : NumberedFileData) (is : IsN
       let x = part_at f all n is at.latch first.part first.there in
       let e = control_of_number f all n is first.part.control (control_end x.0) at.number (control_alike f all n is first.part x.0 x.2) first.control_is in
       let split = kept_split control_end (expanded f) at.latch x.0 e.0 x.1 e.1 in
-      let none : filter_map control_end (take at.latch (expanded f)) ≡ [] = filter_map-none control_end (take at.latch (expanded f)) (each_place (λ y. control_end y ≡ None) (take at.latch (expanded f)) (λ k y there. without k y there (control_end y) refl)) in
+      let none : filter_map control_end (take at.latch (expanded f)) ≡ [] = filter_map-none control_end (take at.latch (expanded f)) (AllByRecursion-from_places (λ y. control_end y ≡ None) (take at.latch (expanded f)) (λ k y there. without k y there (control_end y) refl)) in
       record {
         control = e.0;
         there = ap (λ l. slice_get l 0) (controls_of_parts f ∙ split.1 ∙ ap (λ l. l ++ e.0 ∷ split.0) none);

@@ -4,7 +4,7 @@ use Rattle.std.specs.Prelude.{Contains, slice_get}
 use Rattle.std.specs.List.{filter_map}
 use Rattle.std.proofs.lemmas.Bool.{cases_lt}
 use Rattle.std.proofs.lemmas.List.Elements.{Contains-append_right}
-use Rattle.dom_base.proofs.Lists.{Contains-slice_get}
+use Rattle.dom_base.proofs.Lists.{AllByRecursion-from_places, Contains-slice_get}
 use Rattle.blif_ast.specs.BlifFileData.{BlifFileData}
 use Rattle.graph_order.specs.Orders.{IsSuccessor, LeadsOn, more, step, successors}
 use Rattle.model_calls.specs.declared.fault.FlatKind.TheVariants.{Cycle, DrivenTwice}
@@ -23,7 +23,7 @@ use Rattle.model_calls.specs.Signals.{Signal}
 use Rattle.net_flatten.proofs.ClockFaults.{kept_contains}
 use Rattle.net_flatten.proofs.DriverFaults.{none_again}
 use Rattle.network.proofs.IndexedLists.{index_of, take_get}
-use Rattle.network.proofs.Lists.{get_map, get_take, each_place}
+use Rattle.network.proofs.Lists.{get_map, get_take}
 use Rattle.part_numbers.proofs.NumberedEnds.{Number, drives_number, number_at, part_at, placed_at, reads_number, signal_at}
 use Rattle.net_flatten.proofs.Splits.{first_by_itself, kept_from, kept_split}
 use Rattle.net_flatten.proofs.TablesAlike.{part_of_table, reads_of_table, table_alike, table_of_part}
@@ -125,7 +125,7 @@ module _ (f : BlifFileData) (all : List Signal) (n : NumberedFileData) (is : IsN
         element = t.0;
         first = first_by_itself (IsOnCycle f []) (tables f) (filter_map part_table (take k (expanded f))) split.0 t.0 split.1
             (loop_to_cycle t.0 both loop)
-            (each_place (λ u. IsOnCycle f [] u → ⊥) (filter_map part_table (take k (expanded f))) (λ j u there cycle.
+            (AllByRecursion-from_places (λ u. IsOnCycle f [] u → ⊥) (filter_map part_table (take k (expanded f))) (λ j u there cycle.
             let w = kept_from part_table (take k (expanded f)) u j there in
             let e = take_get (expanded f) k w.0 w.1 w.2 in
             let b = both_at w.0 u (e.1 ∙ ap Some (part_of_table w.1 u w.3)) in

@@ -4,7 +4,7 @@ use Rattle.std.specs.Prelude.{Contains, IsSomeAnd, slice_get, slice_index_or}
 use Rattle.std.specs.List.{AllByRecursion, flat_map}
 use Rattle.std.proofs.lemmas.List.{take_all}
 use Rattle.std.proofs.lemmas.Option.{slice_get-get_or, slice_get_within}
-use Rattle.dom_base.proofs.Lists.{AllByRecursion-append, AllByRecursion-contains, Contains-slice_get}
+use Rattle.dom_base.proofs.Lists.{AllByRecursion-append, AllByRecursion-contains, AllByRecursion-from_places, Contains-slice_get}
 use Rattle.blif_ast.specs.BlifFileData.{BlifFileData}
 use Rattle.net_flatten.specs.declared.driven.ReadAt.{ReadAt}
 use Rattle.model_calls.specs.declared.fault.FlatKind.TheVariants.{DrivenTwice, Undriven}
@@ -24,7 +24,7 @@ use Rattle.model_calls.specs.Signals.{Signal}
 use Rattle.model_calls.proofs.EachPart.{each_flat}
 use Rattle.model_calls.proofs.Firsts.{none_holds}
 use Rattle.network.proofs.IndexedLists.{split_at, take_get}
-use Rattle.network.proofs.Lists.{get_map, get_of_map, each_place}
+use Rattle.network.proofs.Lists.{get_map, get_of_map}
 use Rattle.part_numbers.proofs.NumberedEnds.{Number, driven_number, drives_number, number_at, number_there, outputs_number, part_at, placed_at, reads_number, signal_at, signal_there}
 use Rattle.net_flatten.proofs.NumberedSearches.{HoldsOfNoneBefore}
 use Rattle.net_flatten.proofs.Splits.{first_by_itself, flat_split}
@@ -95,7 +95,7 @@ module _ (f : BlifFileData) (all : List Signal) (n : NumberedFileData) (is : IsN
     -- some ends and their numbers
     module _ (numbers : List ℕ) (ends : List End) (number : Number all numbers (signals ends)) where
       pub none_outside : (j : ℕ) → HoldsOfNoneBefore (IsOutsideSet set) numbers j → AllByRecursion (λ e. IsUndriven f [] e → ⊥) (take j ends)
-      none_outside j none = each_place (λ e. IsUndriven f [] e → ⊥) (take j ends) (λ k e at undriven.
+      none_outside j none = AllByRecursion-from_places (λ e. IsUndriven f [] e → ⊥) (take j ends) (λ k e at undriven.
           let t = take_get ends j k e at in
           let h = signal_at all numbers (signals ends) k e.signal number (get_map (λ (d : End). d.signal) ends k e t.1) in
           inside_driven h.0 e h.2 (none k h.0 t.0 h.1) undriven)
@@ -114,7 +114,7 @@ module _ (f : BlifFileData) (all : List Signal) (n : NumberedFileData) (is : IsN
     reads_inside : (k : ℕ) → ((j : ℕ) (p : NumberedPartData) → j < k → slice_get n.parts j ≡ Some p → NoneHolds (IsOutsideSet set) p.reads)
         → AllByRecursion (λ e. IsUndriven f [] e → ⊥) (flat_map read_ends (take k (expanded f)))
     reads_inside k none = each_flat (λ e. IsUndriven f [] e → ⊥) read_ends (take k (expanded f))
-        (each_place (λ x. AllByRecursion (λ e. IsUndriven f [] e → ⊥) (read_ends x)) (take k (expanded f)) (λ j x at.
+        (AllByRecursion-from_places (λ x. AllByRecursion (λ e. IsUndriven f [] e → ⊥) (read_ends x)) (take k (expanded f)) (λ j x at.
         let t = take_get (expanded f) k j x at in
         let h = placed_at f all n is j x t.1 in
         all_inside h.0.reads (read_ends x) (reads_number f all n is h.0 x h.2) (none j h.0 t.0 h.1)))

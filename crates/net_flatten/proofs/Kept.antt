@@ -8,7 +8,7 @@ use Rattle.std.proofs.lemmas.List.Elements.{All-from_recursion, Contains-append_
 use Rattle.std.proofs.lemmas.List.FromFn.{length-enumerate_from}
 use Rattle.std.proofs.lemmas.List.Sums.{sum_by-cons}
 use Rattle.std.proofs.lemmas.Option.{slice_get_within}
-use Rattle.dom_base.proofs.Lists.{AllByRecursion-append, AllByRecursion-contains, AllByRecursion-every, AllByRecursion-filter, AllByRecursion-map, AllByRecursion-weaker, Contains-slice_get, AllByRecursion-unmap}
+use Rattle.dom_base.proofs.Lists.{AllByRecursion-append, AllByRecursion-contains, AllByRecursion-every, AllByRecursion-filter, AllByRecursion-from_places, AllByRecursion-map, AllByRecursion-unmap, AllByRecursion-weaker, Contains-slice_get}
 use Rattle.blif_ast.specs.BlifFileData.{BlifFileData}
 use Rattle.blif_ast.specs.Cards.{same}
 use Rattle.blif_ast.specs.TableData.{TableData}
@@ -26,7 +26,7 @@ use Rattle.model_calls.specs.Occurrences.{Occurrence, actuals_of, main_model, na
 use Rattle.model_calls.specs.Signals.{Signal, signal_of}
 use Rattle.model_calls.proofs.Apart.{Apart, apart_from_places, each_in_order}
 use Rattle.model_calls.proofs.Drivers.{driven, each_latch, each_table, numbered_apart, output_once}
-use Rattle.network.proofs.Lists.{each_le_greatest, each_place}
+use Rattle.network.proofs.Lists.{each_le_greatest}
 use Rattle.model_calls.proofs.Sums.{part_weight, parts_weigh, place_weight, sum_same}
 use Rattle.model_calls.proofs.Fitting.{fits}
 use Rattle.model_calls.proofs.Pairs.{count_pairs, input_in_pairs, parts_in_pairs}
@@ -169,7 +169,7 @@ module _ (f : BlifFileData) (n : NetworkData) (good : IsGoodFile f) (is : IsNetw
   all_apart = numbered_apart f is.accepted (λ t. is.level (output_of t))
 
   in_pairs : Kept (Contains (pairs f))
-  in_pairs = each_signal (Contains (pairs f)) (each_place (λ name. Contains (pairs f) (signal_of [] name)) (main_model f).inputs
+  in_pairs = each_signal (Contains (pairs f)) (AllByRecursion-from_places (λ name. Contains (pairs f) (signal_of [] name)) (main_model f).inputs
       (λ k name e. input_in_pairs f good name (Contains-slice_get (main_model f).inputs k name e))) (parts_in_pairs f)
 
   few : length all ≤ most_signals
@@ -181,7 +181,7 @@ module _ (f : BlifFileData) (n : NetworkData) (good : IsGoodFile f) (is : IsNetw
 
   main_all : Kept (HasMainName (main_model f))
   main_all = each_signal (HasMainName (main_model f))
-      (each_place (λ name. HasMainName (main_model f) (signal_of [] name)) (main_model f).inputs
+      (AllByRecursion-from_places (λ name. HasMainName (main_model f) (signal_of [] name)) (main_model f).inputs
       (λ k name e on. Contains-append_left ((main_model f).inputs ++ (main_model f).outputs ++ flat_map names_of_table (main_model f).tables ++ flat_map names_of_latch (main_model f).latches) (flat_map actuals_of (main_model f).instances) name
       (Contains-append_left ((main_model f).inputs ++ (main_model f).outputs ++ flat_map names_of_table (main_model f).tables) (flat_map names_of_latch (main_model f).latches) name
       (Contains-append_left ((main_model f).inputs ++ (main_model f).outputs) (flat_map names_of_table (main_model f).tables) name

@@ -4,7 +4,7 @@ use Rattle.std.proofs.lemmas.List.Elements.{recursion_from_All}
 use Rattle.std.specs.Prelude.{Contains}
 use Rattle.std.specs.List.{AllByRecursion, filter_map, flat_map, fold}
 use Rattle.std.proofs.lemmas.Bool.{cases_eq}
-use Rattle.dom_base.proofs.Lists.{AllByRecursion-both, AllByRecursion-contains, AllByRecursion-left, AllByRecursion-map, AllByRecursion-weaker, AllByRecursion-unmap}
+use Rattle.dom_base.proofs.Lists.{AllByRecursion-both, AllByRecursion-contains, AllByRecursion-from_places, AllByRecursion-left, AllByRecursion-map, AllByRecursion-unmap, AllByRecursion-weaker}
 use Rattle.blif_ast.specs.BlifFileData.{BlifFileData}
 use Rattle.model_calls.specs.Ends.{End, drivers, end_at, inputs_of, main_inputs, main_outputs, output_of, read_ends, state_of}
 use Rattle.model_calls.specs.Expanded.{PlacedPart, LatchPart, PlacedTable, TablePart, expanded, part_latch, latches, part_table, tables}
@@ -16,7 +16,7 @@ use Rattle.model_calls.specs.SignalFaults.{signals}
 use Rattle.model_calls.specs.Signals.{Signal, signal_of}
 use Rattle.model_calls.proofs.Apart.{in_order_same}
 use Rattle.model_calls.proofs.Drivers.{driven, driver_cases, each_table, part_is_driven, readers_driven}
-use Rattle.network.proofs.Lists.{each_le_greatest, each_of_flat, map_same, each_place}
+use Rattle.network.proofs.Lists.{each_le_greatest, each_of_flat, map_same}
 
 -- the level of what a part drives
 abbrev LevelOf : (Signal → ℕ) → PlacedPart → Type 0
@@ -90,4 +90,4 @@ module _ (f : BlifFileData) (accepted : (r : Refusal) → HasRefusal f r → ⊥
     pub same_order : by_level l f ≡ by_level m f
     same_order = in_order_same (λ t. l (output_of t)) (λ t. m (output_of t)) (tables f)
         (each_table (λ s. l s ≡ m s) (expanded f)
-        (each_place (λ p. l (driven p) ≡ m (driven p)) (expanded f) (λ k p e. agree (l (driven p) + 1) (driven p) (omega arith) (part_is_driven f accepted k p e))))
+        (AllByRecursion-from_places (λ p. l (driven p) ≡ m (driven p)) (expanded f) (λ k p e. agree (l (driven p) + 1) (driven p) (omega arith) (part_is_driven f accepted k p e))))

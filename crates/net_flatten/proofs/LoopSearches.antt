@@ -3,7 +3,7 @@ use Rattle.std.proofs.Common.{ℕ, ◌<◌, List, [], length, sym, subst, arith}
 use Rattle.std.specs.Prelude.{All, Contains}
 use Rattle.std.proofs.lemmas.List.Elements.{All-from_recursion}
 use Rattle.std.proofs.lemmas.Option.{get_or_from_slice_get}
-use Rattle.dom_base.proofs.Lists.{Contains-slice_get, All-at}
+use Rattle.dom_base.proofs.Lists.{All-at, AllByRecursion-from_places, Contains-slice_get}
 use Rattle.graph_order.specs.Orders.{IsGraph, IsOrder, IsSuccessor, LeadsOn, more, step}
 use Rattle.graph_order.proofs.Circles.{no_circle}
 use Rattle.net_flatten.specs.Dependences.{AreDependences}
@@ -12,7 +12,6 @@ use Rattle.net_flatten.specs.Loops.{IsOnLoop}
 use Rattle.part_numbers.specs.NumberedFaults.{IsPartWithin}
 use Rattle.part_numbers.specs.NumberedFiles.{NumberedPartData}
 use Rattle.network.proofs.IndexedLists.{index_of}
-use Rattle.network.proofs.Lists.{each_place}
 
 module _ (signals : ℕ) (parts : List NumberedPartData) (within : All (IsPartWithin signals) parts) (nodes : List (List ℕ)) (d : AreDependences signals parts nodes) where
   -- an order of all nodes leaves none on a loop
@@ -35,8 +34,8 @@ module _ (signals : ℕ) (parts : List NumberedPartData) (within : All (IsPartWi
 
   -- all nodes that some node leads to are there
   pub graph_of_dependences : IsGraph nodes
-  graph_of_dependences = All-from_recursion (λ next. All (λ node. node < length nodes) next) nodes (each_place (λ next. All (λ node. node < length nodes) next) nodes (λ a next at.
-      All-from_recursion (λ node. node < length nodes) next (each_place (λ node. node < length nodes) next (λ j b there.
+  graph_of_dependences = All-from_recursion (λ next. All (λ node. node < length nodes) next) nodes (AllByRecursion-from_places (λ next. All (λ node. node < length nodes) next) nodes (λ a next at.
+      All-from_recursion (λ node. node < length nodes) next (AllByRecursion-from_places (λ node. node < length nodes) next (λ j b there.
       let w = d.only a b (subst (λ l. Contains l b) (sym (get_or_from_slice_get nodes a next [] at)) (Contains-slice_get next j b there)) in
       let i = index_of parts w.0 w.1.there in
       let r = index_of w.0.reads b w.2 in

@@ -2,7 +2,7 @@
 use Rattle.std.proofs.Common.{◌≡◌, ℕ, ◌<◌, ◌≤◌, List, [], length, map, Option, Some, ap, ◌∙◌, subst, arith}
 use Rattle.std.specs.Prelude.{All, Contains, slice_get}
 use Rattle.std.proofs.lemmas.List.Elements.{All-from_recursion}
-use Rattle.dom_base.proofs.Lists.{Contains-slice_get}
+use Rattle.dom_base.proofs.Lists.{AllByRecursion-from_places, Contains-slice_get}
 use Rattle.blif_ast.specs.BlifFileData.{BlifFileData}
 use Rattle.model_calls.specs.declared.fault.FlatKind.TheVariants.{DrivenTwice}
 use Rattle.net_flatten.specs.Dependences.{AreTableLevels}
@@ -26,7 +26,6 @@ use Rattle.net_flatten.proofs.NetworkNames.{least_of_unique, names_by_signals}
 use Rattle.net_flatten.proofs.NetworkOrder.{IsControlNumber, network_numbers, network_signals, numbers_stand, ordered, pins_alike}
 use Rattle.net_flatten.proofs.NetworkParts.{latches_stand, outputs_stand, tables_stand}
 use Rattle.part_numbers.proofs.NumberedEnds.{numbers_within, signal_at}
-use Rattle.network.proofs.Lists.{each_place}
 
 module _ {f : BlifFileData} {all : List Signal} {n : NumberedFileData} (is : IsNumberedFile f all n) (control : Option ℕ) (known : IsControlNumber is control) (levels : List ℕ)
     (accepted : (r : Refusal) → HasRefusal f r → ⊥) where
@@ -44,7 +43,7 @@ module _ {f : BlifFileData} {all : List Signal} {n : NumberedFileData} (is : IsN
   pub few_numbers : length numbers ≤ n.signals
   few_numbers =
       let stand = numbers_stand is control known levels in
-      let few = fits by_number all (numbered_apart f accepted (λ t. level_of is levels (output_of t))) (each_place (Contains all) by_number (λ k s at.
+      let few = fits by_number all (numbered_apart f accepted (λ t. level_of is levels (output_of t))) (AllByRecursion-from_places (Contains all) by_number (λ k s at.
       let h = signal_at all numbers by_number k s stand at in
       Contains-slice_get all h.0 s h.2)) in
       omega (arith, few, same_length (slice_get all) Some numbers by_number stand, is.count)

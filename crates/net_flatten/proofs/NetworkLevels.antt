@@ -4,7 +4,7 @@ use Rattle.std.specs.Prelude.{Contains, option_map, slice_get, if◌then◌else�
 use Rattle.std.specs.List.{fold}
 use Rattle.std.proofs.lemmas.Bool.{true≢false}
 use Rattle.std.proofs.lemmas.List.Elements.{All-from_recursion, Contains-append_left}
-use Rattle.dom_base.proofs.Lists.{Contains-slice_get, slice_get-contained}
+use Rattle.dom_base.proofs.Lists.{AllByRecursion-from_places, Contains-slice_get, slice_get-contained}
 use Rattle.blif_ast.specs.BlifFileData.{BlifFileData}
 use Rattle.model_calls.specs.declared.fault.FlatKind.TheVariants.{DrivenTwice}
 use Rattle.net_flatten.specs.Dependences.{AreTableLevels, IsDrivingTable, is_table, level_at}
@@ -20,7 +20,7 @@ use Rattle.model_calls.specs.Signals.{Signal}
 use Rattle.net_flatten.specs.TableNumbers.{tables_among}
 use Rattle.net_flatten.proofs.CycleFaults.{driven_once}
 use Rattle.net_flatten.proofs.DriverFaults.{none_again}
-use Rattle.network.proofs.Lists.{get_map, each_place}
+use Rattle.network.proofs.Lists.{get_map}
 use Rattle.net_flatten.proofs.NumberOfSignal.{number_is, number_of}
 use Rattle.part_numbers.proofs.NumberedEnds.{Number, drives_number, inputs_number, placed_at, reads_number, signal_at}
 use Rattle.net_flatten.proofs.OrderedAlike.{filter_kept, in_order_alike, kept_alike, map_alike}
@@ -128,11 +128,11 @@ module _ {f : BlifFileData} {all : List Signal} {n : NumberedFileData} (is : IsN
 
       pub levelling : IsLevelling f level_of
       levelling = record {
-        inputs = All-from_recursion (λ (e : End). level_of e.signal ≡ 0) (main_inputs f) (each_place (λ (e : End). level_of e.signal ≡ 0) (main_inputs f) (λ k e at.
+        inputs = All-from_recursion (λ (e : End). level_of e.signal ≡ 0) (main_inputs f) (AllByRecursion-from_places (λ (e : End). level_of e.signal ≡ 0) (main_inputs f) (λ k e at.
             let h = signal_at all n.inputs (signals (main_inputs f)) k e.signal (inputs_number f all n is) (get_map (λ (d : End). d.signal) (main_inputs f) k e at) in
             sym (level_is h.0 e.signal h.2) ∙ level_input h.0 (Contains-slice_get n.inputs k h.0 h.1)));
         latches_are = All-from_recursion (λ (l : PlacedLatch). level_of (state_of l) ≡ 0) (latches f)
-            (each_place (λ (l : PlacedLatch). level_of (state_of l) ≡ 0) (latches f) (λ k l at. level_latch l (latch_both k l at)));
+            (AllByRecursion-from_places (λ (l : PlacedLatch). level_of (state_of l) ≡ 0) (latches f) (λ k l at. level_latch l (latch_both k l at)));
         tables_are = All-from_recursion (λ (t : PlacedTable). level_of (output_of t) ≡ 1 + fold max 0 (map level_of (inputs_of t))) (tables f)
-            (each_place (λ (t : PlacedTable). level_of (output_of t) ≡ 1 + fold max 0 (map level_of (inputs_of t))) (tables f) (λ k t at. level_table t (table_both k t at)));
+            (AllByRecursion-from_places (λ (t : PlacedTable). level_of (output_of t) ≡ 1 + fold max 0 (map level_of (inputs_of t))) (tables f) (λ k t at. level_table t (table_both k t at)));
       }

@@ -13,7 +13,7 @@ use Rattle.std.proofs.lemmas.Option.{slice_get-map, slice_get_past, slice_get_wi
 use Rattle.std.proofs.Math.Nat.{le_of_lt}
 use Rattle.std.proofs.lemmas.List.Elements.{All-contains, All-head, All-push, All-weaker, Contains-append_left, Contains-append_right, Contains-get_or, Contains-push_cases, recursion_from_All}
 use Rattle.dom_base.proofs.Decided.{lt_or_ge}
-use Rattle.dom_base.proofs.Lists.{All-at, All-from_test, Contains-first, Contains-later, head_same, length-some, map-push, tail_same, enumerate_from-push}
+use Rattle.dom_base.proofs.Lists.{All-at, All-from_test, Contains-first, Contains-later, enumerate_from-push, head_same, length-some, map-push, none_set, tail_same}
 use Rattle.blif_ast.specs.Cards.{same}
 use Rattle.net_flatten.specs.NetworkNames.{IsNoLongerTaking, IsTakenWidth, MarksTaken, network_name, network_names}
 use Rattle.model_calls.specs.Numbering.{IsDecimalDigit, IsFreePrefix, IsLeastPrefixAmong, IsPrefixedNumber, is_main, letters_w, name_by_number, names_by_number}
@@ -163,18 +163,13 @@ pub record AreMarked (names : List (List ℕ)) (count : ℕ) (marks : List Bool)
   pub long : All (IsNoLongerTaking (length marks)) names
   pub marked : MarksTaken (take count names) marks
 
-unmarked : (n width : ℕ) → slice_get (replicate n false) width ≡ Some true → ⊥
-unmarked zero width e = cc
-unmarked (suc n) zero e = cc
-unmarked (suc n) (suc width) e = unmarked n width e
-
 untaken : (width : ℕ) → IsTakenWidth [] width → ⊥
 untaken width (name, there, h) = absurd (omega (arith, there.1))
 
 pub none_marked : (names : List (List ℕ)) (marks : List Bool) (n : ℕ) → marks ≡ replicate n false → All (IsNoLongerTaking n) names → AreMarked names 0 marks
 none_marked names marks n is long = record {
   long = subst (λ m. All (IsNoLongerTaking m) names) (sym (ap length is ∙ length-replicate n false)) long;
-  marked = λ width. ((λ e. absurd (unmarked n width (ap (λ l. slice_get l width) (sym is) ∙ e))), λ t. absurd (untaken width t));
+  marked = λ width. ((λ e. absurd (none_set n width (ap (λ l. slice_get l width) (sym is) ∙ e))), λ t. absurd (untaken width t));
 }
 
 pub has_mark : (names : List (List ℕ)) (count : ℕ) (name : List ℕ) (marks : List Bool) (width : ℕ)

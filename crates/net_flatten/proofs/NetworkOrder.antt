@@ -9,7 +9,7 @@ use Rattle.std.proofs.lemmas.Bool.{eqb-true, true≢false}
 use Rattle.std.proofs.lemmas.Bool.Decides.{Decides-and, Decides-eqb, Decides-like, same_from_decides}
 use Rattle.std.proofs.lemmas.List.Elements.{Contains-append_left, Contains-append_right, Contains-append_cases}
 use Rattle.std.proofs.lemmas.Map.Views.{Contains-from_any, list_any-from_Contains}
-use Rattle.dom_base.proofs.Lists.{AllByRecursion-contains, Contains-slice_get, slice_get-contained}
+use Rattle.dom_base.proofs.Lists.{AllByRecursion-contains, AllByRecursion-from_places, Contains-slice_get, slice_get-contained}
 use Rattle.blif_ast.specs.BlifFileData.{BlifFileData}
 use Rattle.blif_ast.specs.Cards.{same}
 use Rattle.blif_ast.specs.InstanceData.{InstanceData}
@@ -34,7 +34,7 @@ use Rattle.net_flatten.proofs.ControlFaults.{first_control, no_first_control}
 use Rattle.model_calls.proofs.Drivers.{driven, driver_cases, readers_driven}
 use Rattle.model_calls.proofs.EachPart.{each_flat}
 use Rattle.model_calls.proofs.Firsts.{none_holds}
-use Rattle.network.proofs.Lists.{contains_map, each_place}
+use Rattle.network.proofs.Lists.{contains_map}
 use Rattle.model_calls.proofs.MainNames.{contains_flat}
 use Rattle.net_flatten.proofs.NetworkLevels.{latch_drives, latches_alike, level_of, ordered_alike, table_drives}
 use Rattle.part_numbers.proofs.NumberedEnds.{Number, Number-append, number_at, number_there, outputs_number, part_at, reads_number}
@@ -160,8 +160,8 @@ module _ {f : BlifFileData} {all : List Signal} {n : NumberedFileData} (is : IsN
         | inl read ↦ Contains-append_left (flat_map part_ends (expanded f)) (main_outputs f) e
             (AllByRecursion-contains (Contains (flat_map part_ends (expanded f))) (flat_map read_ends (expanded f)) e
             (each_flat (Contains (flat_map part_ends (expanded f))) read_ends (expanded f)
-            (each_place (λ x. AllByRecursion (Contains (flat_map part_ends (expanded f))) (read_ends x)) (expanded f) (λ k x at.
-            each_place (Contains (flat_map part_ends (expanded f))) (read_ends x) (λ j d there.
+            (AllByRecursion-from_places (λ x. AllByRecursion (Contains (flat_map part_ends (expanded f))) (read_ends x)) (expanded f) (λ k x at.
+            AllByRecursion-from_places (Contains (flat_map part_ends (expanded f))) (read_ends x) (λ j d there.
             contains_flat part_ends (expanded f) x d (Contains-slice_get (expanded f) k x at)
             (Contains-append_left (read_ends x) (driven_end x ∷ []) d (Contains-slice_get (read_ends x) j d there)))))) read)
         | inr output ↦ Contains-append_right (flat_map part_ends (expanded f)) (main_outputs f) e output

@@ -4,7 +4,7 @@ use Rattle.std.specs.Prelude.{Contains, slice_get}
 use Rattle.std.specs.List.{AllByRecursion, count_by, flat_map, fold}
 use Rattle.std.proofs.Math.Nat.{le-max_left, le-max_right}
 use Rattle.std.proofs.lemmas.List.Sums.{sum_by-cons}
-use Rattle.dom_base.proofs.Lists.{AllByRecursion-contains, AllByRecursion-left, AllByRecursion-map, AllByRecursion-right, Contains-slice_get}
+use Rattle.dom_base.proofs.Lists.{AllByRecursion-contains, AllByRecursion-from_places, AllByRecursion-left, AllByRecursion-map, AllByRecursion-right, Contains-slice_get}
 
 pub get_map : {X Y : Type 0} (g : X → Y) (xs : List X) (k : ℕ) (x : X) → slice_get xs k ≡ Some x → slice_get (map g xs) k ≡ Some (g x)
 get_map g [] k x e = absurd cc
@@ -27,11 +27,6 @@ pub each_of_flat : {X Y : Type 0} (P : Y → Type 0) (g : X → List Y) (xs : Li
 each_of_flat P g [] h = tt
 each_of_flat P g (x ∷ xs) h = (AllByRecursion-left P (g x) (flat_map g xs) h, each_of_flat P g xs (AllByRecursion-right P (g x) (flat_map g xs) h))
 
--- what holds of each element at its place
-pub each_place : {X : Type 0} (P : X → Type 0) (xs : List X) → ((k : ℕ) (x : X) → slice_get xs k ≡ Some x → P x) → AllByRecursion P xs
-each_place P [] h = tt
-each_place P (x ∷ xs) h = (h 0 x refl, each_place P xs (λ k. h (suc k)))
-
 -- an element of a list of values is the value of an element
 abbrev pub IsImage : {X Y : Type 0} → (X → Y) → List X → Y → Type 0
 IsImage {X} {Y} g xs y = (x : X) × Contains xs x × (y ≡ g x)
@@ -39,7 +34,7 @@ IsImage {X} {Y} g xs y = (x : X) × Contains xs x × (y ≡ g x)
 pub contains_map : {X Y : Type 0} (g : X → Y) (xs : List X) (y : Y) → Contains (map g xs) y → IsImage g xs y
 contains_map {X} {Y} g xs y c =
     AllByRecursion-contains (IsImage g xs) (map g xs) y
-    (AllByRecursion-map (IsImage g xs) g xs (each_place (λ x. IsImage g xs (g x)) xs (λ k x e. (x, Contains-slice_get xs k x e, refl)))) c
+    (AllByRecursion-map (IsImage g xs) g xs (AllByRecursion-from_places (λ x. IsImage g xs (g x)) xs (λ k x e. (x, Contains-slice_get xs k x e, refl)))) c
 
 -- an element that stands at two places counts twice
 pub count_once : {X : Type 0} (p : X → Bool) (xs : List X) (k : ℕ) (x : X) → slice_get xs k ≡ Some x → p x ≡ true → 0 < count_by p xs

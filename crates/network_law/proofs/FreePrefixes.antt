@@ -5,13 +5,13 @@ use Rattle.std.specs.List.{AllByRecursion, fold}
 use Rattle.std.proofs.lemmas.List.{length-append, length-replicate}
 use Rattle.std.proofs.lemmas.List.Elements.{All-from_recursion, recursion_from_All}
 use Rattle.dom_base.specs.Decided.{Decided}
-use Rattle.dom_base.proofs.Decided.{dec_and, dec_map, dec_nat, dec_not}
+use Rattle.dom_base.proofs.Decided.{dec_and, dec_less, dec_map, dec_nat, dec_not}
 use Rattle.dom_base.proofs.Lists.{AllByRecursion-unmap, AllByRecursion-weaker, head_same, tail_same}
 use Rattle.blif_ast.specs.BlifModelData.{BlifModelData}
 use Rattle.model_calls.specs.Numbering.{IsDecimalDigit, IsFreePrefix, IsLeastPrefix, IsPrefixedNumber, letters_w}
 use Rattle.model_calls.specs.Occurrences.{names_of}
 use Rattle.network.proofs.Lists.{each_le_greatest}
-use Rattle.network_law.proofs.ListDecisions.{dec_less, dec_list, least}
+use Rattle.network_law.proofs.ListDecisions.{dec_list, least}
 
 dec_each : {X : Type 0} (P : X → Type 0) → ((x : X) → Decided (P x)) → (xs : List X) → Decided (AllByRecursion P xs)
 dec_each P dec [] = inl tt

@@ -3,7 +3,7 @@ use Rattle.std.proofs.Common.{◌≡◌, ℕ, ◌⊎◌, inl, inr, List, [], ◌
 use Rattle.std.specs.Prelude.{◌≢◌, Contains, slice_get, min, ◌-◌, ◌^◌}
 use Rattle.std.specs.List.{count_by}
 use Rattle.dom_base.specs.Decided.{Decided}
-use Rattle.dom_base.proofs.Decided.{dec_any, dec_map, dec_nat, dec_not, dec_or}
+use Rattle.dom_base.proofs.Decided.{dec_any, dec_less, dec_map, dec_nat, dec_not, dec_or}
 use Rattle.dom_base.proofs.Lists.{Contains-first}
 use Rattle.blif_ast.specs.BlifFileData.{BlifFileData}
 use Rattle.blif_ast.specs.BlifModelData.{BlifModelData}
@@ -20,7 +20,7 @@ use Rattle.model_calls.specs.SignalFaults.{IsAtControl, IsDrivenTwice, IsOnCycle
 use Rattle.model_calls.specs.Signals.{Signal}
 use Rattle.model_calls.proofs.Fitting.{contains_cons}
 use Rattle.model_calls.proofs.Reaching.{reaches_by}
-use Rattle.network_law.proofs.ListDecisions.{dec_contains, dec_less, dec_list, first_or_none, reported_or_none}
+use Rattle.network_law.proofs.ListDecisions.{dec_contains, dec_list, first_or_none, reported_or_none}
 use Rattle.network_law.proofs.Reaching.{IsStep, dec_reaches}
 use Rattle.network_law.proofs.SameSignals.{dec_edge, dec_signal}
 

@@ -17,9 +17,6 @@ dec_list dec (x ∷ xs) [] = inr (λ e. cc)
 dec_list dec (x ∷ xs) (y ∷ ys) =
     dec_map (λ both. let a = both.0 in let b = both.1 in cc) (λ e. (head_same e, tail_same e)) (dec_and (dec x y) (dec_list dec xs ys))
 
-pub dec_less : (a b : ℕ) → Decided (a < b)
-dec_less a b = elim (lt_or_ge a b) [ inl less ↦ inl less | inr more ↦ inr (λ less. omega (arith, less, more)) ]
-
 pub dec_contains : {X : Type 0} → ((x y : X) → Decided (x ≡ y)) → (xs : List X) (x : X) → Decided (Contains xs x)
 dec_contains dec xs x = dec_map (λ z. subst (Contains xs) z.2 z.1) (λ c. (x, c, refl)) (dec_any (λ y. y ≡ x) (λ y. dec y x) xs)
 

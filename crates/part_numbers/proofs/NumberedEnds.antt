@@ -5,7 +5,7 @@ use Rattle.std.specs.Prelude.{All, Contains, IfSome, option_map, slice_get}
 use Rattle.std.proofs.lemmas.Option.{slice_get_within}
 use Rattle.std.proofs.lemmas.List.Elements.{All-from_recursion}
 use Rattle.std.specs.List.{AllByRecursion}
-use Rattle.dom_base.proofs.Lists.{Contains-slice_get}
+use Rattle.dom_base.proofs.Lists.{AllByRecursion-from_places, Contains-slice_get}
 use Rattle.blif_ast.specs.BlifFileData.{BlifFileData}
 use Rattle.model_calls.specs.Ends.{End, driven_end, main_inputs, main_outputs, read_ends}
 use Rattle.model_calls.specs.Expanded.{PlacedPart, expanded}
@@ -15,7 +15,6 @@ use Rattle.model_calls.specs.SignalFaults.{signals}
 use Rattle.model_calls.specs.Signals.{Signal}
 use Rattle.network.proofs.IndexedLists.{index_of, same_at, same_take}
 use Rattle.part_numbers.proofs.Ranges.{map_map}
-use Rattle.network.proofs.Lists.{each_place}
 
 -- a list of signals, and the numbers of some of them
 module _ (all : List Signal) where
@@ -48,7 +47,7 @@ module _ (all : List Signal) where
         Contains-slice_get numbers i.0 x (h.1 ∙ ap Some (apart h.0 x s h.2 is))
 
   pub numbers_within : (numbers : List ℕ) (ss : List Signal) → Number numbers ss → AllByRecursion (λ x. x < length all) numbers
-  numbers_within numbers ss e = each_place (λ x. x < length all) numbers (λ k x at. let h = number_at numbers ss k x e at in slice_get_within all x h.0 h.2)
+  numbers_within numbers ss e = AllByRecursion-from_places (λ x. x < length all) numbers (λ k x at. let h = number_at numbers ss k x e at in slice_get_within all x h.0 h.2)
 
   pub Number-append : (xs ys : List ℕ) (ss ts : List Signal) → Number xs ss → Number ys ts → Number (xs ++ ys) (ss ++ ts)
   Number-append xs ys ss ts e d = map-append (slice_get all) xs ys ∙ ap (λ l. l ++ map (slice_get all) ys) e ∙ ap (λ l. map Some ss ++ l) d ∙ sym (map-append Some ss ts)
@@ -115,4 +114,4 @@ module _ (f : BlifFileData) (all : List Signal) (n : NumberedFileData) (is : IsN
   }
 
   pub parts_within : All (IsPartWithin n.signals) n.parts
-  parts_within = All-from_recursion (IsPartWithin n.signals) n.parts (each_place (IsPartWithin n.signals) n.parts part_within)
+  parts_within = All-from_recursion (IsPartWithin n.signals) n.parts (AllByRecursion-from_places (IsPartWithin n.signals) n.parts part_within)

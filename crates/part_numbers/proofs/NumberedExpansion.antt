@@ -6,7 +6,7 @@ use Rattle.std.specs.Option.{option_map}
 use Rattle.std.proofs.lemmas.List.Elements.{All-from_recursion}
 use Rattle.std.proofs.lemmas.Option.{get_or_from_slice_get, slice_get_within}
 use Rattle.std.proofs.lemmas.List.{length-map, take_all}
-use Rattle.dom_base.proofs.Lists.{AllByRecursion-every, AllByRecursion-map, AllByRecursion-weaker, Contains-slice_get, head_same, tail_same}
+use Rattle.dom_base.proofs.Lists.{AllByRecursion-every, AllByRecursion-from_places, AllByRecursion-map, AllByRecursion-weaker, Contains-slice_get, head_same, tail_same}
 use Rattle.blif_ast.specs.BlifFileData.{BlifFileData}
 use Rattle.blif_ast.specs.Good.{IsGoodFile}
 use Rattle.blif_ast.specs.InstanceData.{InstanceData}
@@ -42,7 +42,6 @@ use Rattle.part_numbers.proofs.PairsApart.{all_pairs_apart}
 use Rattle.part_numbers.proofs.Permuted.{Permuted, permuted_apart, permuted_flat, permuted_length}
 use Rattle.part_numbers.proofs.SignalNumbers.{in_file, models_count, names_are, number_is}
 use Rattle.part_numbers.proofs.CardNames.{control_of_latch, input_named, input_of_latch, inputs_of_table, latch_named, output_named, output_of_latch, output_of_table, table_named}
-use Rattle.network.proofs.Lists.{each_place}
 
 drop_front : {X : Type 0} (xs ys : List X) (n : ℕ) → length xs ≡ n → drop n (xs ++ ys) ≡ ys
 drop_front [] ys zero e = refl
@@ -216,7 +215,7 @@ module _ (f : BlifFileData) (depth : ℕ) (good : IsGoodFile f) (deep : length f
             (AllByRecursion-weaker (λ (o : Occurrence). is_main o.path ≡ false) (λ o. AllByRecursion (λ (s : Signal). is_main s.path ≡ false) (pairs_of o))
             (λ o below. AllByRecursion-map (λ (s : Signal). is_main s.path ≡ false) (λ name. record { path = o.path; name = name }) (model_names o.model)
             (AllByRecursion-every (λ name. is_main o.path ≡ false) (λ name. below) (model_names o.model)))
-            later (each_place (λ (o : Occurrence). is_main o.path ≡ false) later later_below)))
+            later (AllByRecursion-from_places (λ (o : Occurrence). is_main o.path ≡ false) later later_below)))
 
         -- ports
 

@@ -6,6 +6,7 @@ use Rattle.std.specs.Option.{option_map, option_map_or}
 use Rattle.std.specs.Cmp.Lexicographic.{same_text}
 use Rattle.std.proofs.lemmas.List.{length-map}
 use Rattle.std.proofs.lemmas.List.FromFn.{length-enumerate_from}
+use Rattle.dom_base.proofs.Lists.{AllByRecursion-from_places}
 use Rattle.blif_ast.specs.Cards.{same}
 use Rattle.blif_ast.specs.declared.instance.Binding.{Binding}
 use Rattle.blif_ast.specs.BlifFileData.{BlifFileData}
@@ -14,7 +15,7 @@ use Rattle.part_numbers.specs.NumberedFiles.{model_at}
 use Rattle.part_numbers.specs.SignalNumbers.{AreDistinctNames, HasSignalNumber, IsBelowNumbered, IsInstanceAt, SignalNumbersData, actual_in, scope_roots, with_binding}
 use Rattle.part_numbers.specs.declared.walk.Scope.{Scope}
 use Rattle.model_calls.proofs.UniqueNames.{position_cons}
-use Rattle.network.proofs.Lists.{drop_next, each_place}
+use Rattle.network.proofs.Lists.{drop_next}
 
 pub own_push : (g : List ℕ → ℕ) (start : ℕ) (names : List (List ℕ)) (index : ℕ) → index < length names
     → scope_roots g [] start (take (index + 1) names) ≡ scope_roots g [] start (take index names) ++ (start + index) ∷ []
@@ -41,7 +42,7 @@ set_later xs x v None = refl
 set_later xs x v (Some k) = refl
 
 others_differ : (x : List ℕ) (xs : List (List ℕ)) → AreDistinctNames (x ∷ xs) → AllByRecursion (λ name. same x name ≡ false) xs
-others_differ x xs once = each_place (λ name. same x name ≡ false) xs (λ k name there. by k name there (same x name) refl)
+others_differ x xs once = AllByRecursion-from_places (λ name. same x name ≡ false) xs (λ k name there. by k name there (same x name) refl)
   where
     by : (k : ℕ) (name : List ℕ) → slice_get xs k ≡ Some name → (t : Bool) → same x name ≡ t → same x name ≡ false
     by k name there false e = e

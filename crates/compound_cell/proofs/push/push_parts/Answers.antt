@@ -1,13 +1,12 @@
 use Rattle.std.proofs.Common.{ap, arith, subst, sym, ◌∙◌}
 use Rattle.std.proofs.lemmas.Result.{on_ok_weaker}
 use Rattle.deck.specs.NamedDevices.{with_devices}
-use Rattle.deck.proofs.CircuitGrowth.{Grew-then}
+use Rattle.deck.proofs.CircuitGrowth.{Grew-then, with_devices-append}
 use Rattle.sp_network.specs.TypedTree.{tree_of}
 use Rattle.domino_cell.specs.NamedTrees.{named_tree}
 use Rattle.domino_cell.specs.PushedNames.{HasRoomForGate}
 use Rattle.domino_cell.specs.StyledCells.{styled_stage}
 use Rattle.domino_cell.specs.declared.style.Style.TheVariants.{Precharge as WithPrecharge}
-use Rattle.domino_cell.proofs.CellCircuits.{with_devices-append}
 use Rattle.domino_cell.proofs.PushedCells.{held_nets_are}
 use Rattle.compound_cell.specs.PushedCells.{output_name}
 use Rattle.compound_cell.proofs.PairCells.{gate_room, left_stage, right_stage}

@@ -5,7 +5,7 @@ use Rattle.blif_ast.specs.Cards.{same}
 use Rattle.indexmap.specs.IndexSet.{insert_key}
 use Rattle.model_calls.specs.Occurrences.{names_of}
 use Rattle.model_calls.proofs.UniqueNames.{insert_back}
-use Rattle.model_calls.proofs.name_table.NameTable.gathered.Goals as goal
+use Rattle.model_calls.proofs.name_table.NameTable.gathered_with.Goals as goal
 
 from_back : {X : Type 0} (g : X → List ℕ) (ys : List X) (xs : List (List ℕ)) (index : ℕ) (name : List ℕ) → map g ys ≡ xs
     → slice_get (map g ys) (length ys - 1 - index) ≡ Some name → slice_get xs (length xs - 1 - index) ≡ Some name
