@@ -3,6 +3,7 @@ use Rattle.std.proofs.Common.{◌≡◌, ℕ, List, [], ◌∷◌, ◌++◌, len
 use Rattle.std.specs.List.{AllByRecursion, flat_map}
 use Rattle.std.proofs.lemmas.List.{map-append}
 use Rattle.dom_base.specs.declared.kind.Kind.{Kind}
+use Rattle.dom_base.proofs.Lists.{slice_index_or-push}
 use Rattle.deck.specs.declared.device.Device.{Device}
 use Rattle.deck.specs.declared.phase.Phase.{Phase}
 use Rattle.deck.specs.CircuitData.{CircuitData}
@@ -15,7 +16,6 @@ use Rattle.deck.proofs.DeviceNumbers.{devices_in_range, numbers_used-ge}
 use Rattle.spice_text.proofs.ReadBack.{same_circuit}
 use Rattle.subckt_expand.specs.Definitions.{DefinitionData, IsDefinition, IsPartOf, named_part, no_definition, port_names, with_device}
 use Rattle.subckt_expand.specs.Units.{definition_at, expansion_at, names_of, subckts_before}
-use Rattle.subckt_expand.proofs.Places.{index_or-push}
 use Rattle.spice_read.specs.declared.subckt.Subckt.{Subckt}
 use Rattle.spice_read.specs.declared.subckts.Last.{Last}
 use Rattle.spice_read.specs.declared.subckts.Last.TheVariants.{Open}
@@ -50,7 +50,7 @@ pub flat_finished : (units : List DefinitionData) (c : CircuitData) (phases : Li
     → IsFinished (record { closed = units ++ flat_definition c ∷ []; current = None }) phases (record c { phases = phases })
 flat_finished units c phases is =
     let all : List DefinitionData = units ++ flat_definition c ∷ [] in
-    let last : definition_at all (length units) ≡ flat_definition c = index_or-push units (flat_definition c) no_definition in
+    let last : definition_at all (length units) ≡ flat_definition c = slice_index_or-push units (flat_definition c) no_definition in
     let devices : (expansion_at all (length units)).devices ≡ map (named_device c.nets) c.devices =
     ap (λ (d : DefinitionData). flat_map (part_devices (expansions (subckts_before all (length units)))) (map (named_part (names_of all) d) d.parts)) last
     ∙ own_devices _ (names_of all) c c.devices in

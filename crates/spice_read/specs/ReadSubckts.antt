@@ -10,7 +10,8 @@ use Rattle.deck.specs.declared.fault.DeckKind.{DeckKind}
 use Rattle.deck.specs.declared.fault.DeckKind.TheVariants.{NoSubckt, SecondSubckt, NotClosed, DuplicatePort, TooMany, UnknownSubckt, WrongCount}
 use Rattle.deck.specs.declared.phase.Phase.{Phase}
 use Rattle.deck.specs.CircuitData.{CircuitData}
-use Rattle.deck.specs.DeckText.{bare_circuit}
+use Rattle.deck.specs.DeckText.{IsDeckOf, bare_circuit}
+use Rattle.deck.specs.DeckFaults.{IsDeckFaultAt}
 use Rattle.deck.specs.DeckCards.{NumberedCard, port_names, names_twice, passed_nets, unit_word, word_at}
 use Rattle.deck.specs.Limits.{most_depth, most_devices, most_ports}
 use Rattle.deck.specs.NamedDevices.{with_devices}
@@ -23,6 +24,7 @@ use Rattle.spice_read.specs.declared.cards.Form.TheVariants.{Device, Call as Cal
 use Rattle.spice_read.specs.declared.faults.DeckFault.{DeckFault}
 use Rattle.spice_read.specs.declared.faults.DeckFault.TheVariants.{At}
 use Rattle.spice_read.specs.Forms.{card_form}
+use Rattle.spice_read.specs.Readers.{Reader}
 
 -- the subcircuits that were closed, in the order of the text, and the one that is open
 pub record SubcktsData : Type 0 where
@@ -68,6 +70,10 @@ abbrev pub ports_fault : NumberedCard → Option DeckKind
 ports_fault card =
     if names_twice card then Some DuplicatePort
     else (if nat_lt most_ports (length (port_names card)) then Some TooMany else None)
+
+-- why no `.subckt` can be read behind closed subcircuits
+abbrev pub next_fault : List DefinitionData → NumberedCard → Option DeckKind
+next_fault closed card = if is_closed_name closed (word_at card 1) then Some SecondSubckt else ports_fault card
 
 -- why no `.subckt` can be read
 abbrev pub opening_fault : SubcktsData → NumberedCard → Option DeckKind
@@ -188,6 +194,11 @@ pub record IsFinished (s : SubcktsData) (phases : List Phase) (circuit : Circuit
   pub circuit_is : circuit ≡ with_devices
       (bare_circuit (definition_at s.closed last).name phases (own_ports (definition_at s.closed last)))
       (expansion_at s.closed last).devices
+
+-- all cards of a text were read: what the last subcircuit stands for is the circuit of the text, and a fault of its end is one of it
+pub record IsWholeRead (text : List ℕ) (s : SubcktsData) (reader : Reader) : Type 0 where
+  pub circuit : (circuit : CircuitData) → IsFinished s reader.phases circuit → IsDeckOf text circuit
+  pub fault : (line : ℕ) (kind : DeckKind) → line ≡ reader.left.number → end_fault s ≡ Some kind → IsDeckFaultAt text line kind
 
 -- a card with more than so many words, which are names of nets
 pub record HasNames (count : ℕ) (card : NumberedCard) : Type 0 where

@@ -2,6 +2,7 @@
 #![tactic(auto)]
 
 mod cards;
+mod crowds;
 mod faults;
 mod laws;
 mod lines;

@@ -3,6 +3,7 @@ ghost use Rattle.std.specs.Prelude.{◌≡◌, ◌<◌, ◌≤◌, ◌+◌, ◌^
 ghost use Rattle.std.specs.Str.{str_to_ascii_lowercase};
 ghost use Rattle.dom_base.specs.Names.{IsNetName};
 ghost use Rattle.deck.specs.Limits.{most_devices};
+ghost use Rattle.deck.specs.Nets.{net_number, with_net};
 ghost use Rattle.deck.specs.Numbers.{with_all};
 ghost use Rattle.spice_read.specs.FlatSubckts.{definition_of, flat_definition, own_part};
 ghost use Rattle.spice_read.specs.ReadSubckts.{HasNames, numbers_in, with_call_of, with_device_of};
@@ -10,7 +11,7 @@ ghost use Rattle.spice_read.specs.ReadSubckts.{HasNames, numbers_in, with_call_o
 use crate::cards::Card;
 use crate::words::net_name;
 use deck::{Circuit, Device};
-use dom_base::{Kind, OutOfMemory};
+use dom_base::{Crowd, Kind, NetName, OutOfMemory};
 use std::alloc::Global;
 use subckt_expand::{Call, Definition, LocalDevice, Part};
 
@@ -59,12 +60,26 @@ pub fn flat_definition(alloc: Global, circuit: Circuit) -> Result<Definition, Ou
     })
 }
 
+/// The number of a net in a subcircuit, where one that is new takes the next number. The one error is out of memory:
+/// a number that takes more than 32 bits needs more than there is.
+fn number_of(subckt: &mut Definition, name: NetName) -> Result<u32, OutOfMemory>
+    ensures number { IfOk result (λ i. i ≡ net_number subckt.old.nets name) }
+    ensures nets { OnOk result (subckt.new ≡ record subckt.old { nets = with_net subckt.old.nets name }) }
+{
+    let number = subckt.number(name)?;
+    match u32::try_from(number) {
+        Ok(number) => Ok(number),
+        Err(_) => Err(OutOfMemory),
+    }
+}
+
 /// The numbers of these nets in a subcircuit, where those that are new take the next numbers.
 fn numbers_of(
     alloc: Global,
+    crowd: &mut Crowd,
     subckt: &mut Definition,
     words: &[&[u8]],
-) -> Result<Vec<usize>, OutOfMemory>
+) -> Result<Vec<u32>, OutOfMemory>
     requires { All (λ w. IsNetName (str_to_ascii_lowercase w.now)) words.now }
     ensures numbers { IfOk result (λ v. v.items ≡ numbers_in subckt.old.nets (map (λ w. str_to_ascii_lowercase w.now) words.now)) }
     ensures nets { OnOk result (subckt.new ≡ record subckt.old { nets = with_all subckt.old.nets (map (λ w. str_to_ascii_lowercase w.now) words.now) }) }
@@ -72,7 +87,8 @@ fn numbers_of(
     let mut numbers = Vec::new(alloc);
     numbers.reserve_exact(words.len())?;
     for word in words {
-        let number = subckt.number(net_name(alloc, word)?)?;
+        crowd.look_at(subckt.nets.as_slice())?;
+        let number = number_of(subckt, net_name(alloc, word)?)?;
         numbers.push(number)?;
     }
     Ok(numbers)
@@ -82,6 +98,7 @@ fn numbers_of(
 /// to a subcircuit.
 fn push_call(
     alloc: Global,
+    crowd: &mut Crowd,
     subckt: &mut Definition,
     unit: usize,
     devices: u32,
@@ -94,7 +111,7 @@ fn push_call(
     ensures { OnOk result (subckt.new ≡ with_call_of subckt.old unit devices depth card.now) }
 {
     let name = net_name(alloc, card.word(0))?;
-    let nets = numbers_of(alloc, subckt, card.passed())?;
+    let nets = numbers_of(alloc, crowd, subckt, card.passed())?;
     subckt.push_call(Call { name, unit, nets }, devices, depth)
 }
 
@@ -106,6 +123,14 @@ impl Subckt {
         match self {
             Subckt::Flat(circuit) => circuit.device_count(),
             Subckt::Calling(definition) => definition.devices,
+        }
+    }
+
+    /// Looks at the names of its nets. The one error is out of memory, or names that are crowded.
+    pub fn look(&self, crowd: &mut Crowd) -> Result<(), OutOfMemory> {
+        match self {
+            Subckt::Flat(circuit) => crowd.look_at(circuit.nets.as_slice()),
+            Subckt::Calling(definition) => crowd.look_at(definition.nets.as_slice()),
         }
     }
 
@@ -140,10 +165,11 @@ impl Subckt {
     }
 
     /// The subcircuit with the call of a card, of the subcircuit of this number, with so many devices
-    /// and of this depth. The one error is out of memory.
+    /// and of this depth. The one error is out of memory, or names that are crowded.
     pub fn with_call(
         self,
         alloc: Global,
+        crowd: &mut Crowd,
         unit: usize,
         devices: u32,
         depth: u32,
@@ -155,7 +181,7 @@ impl Subckt {
         ensures { IfOk result (λ s. definition_of s ≡ with_call_of (definition_of self) unit devices depth card.now) }
     {
         let mut definition = self.definition(alloc)?;
-        push_call(alloc, &mut definition, unit, devices, depth, card)?;
+        push_call(alloc, crowd, &mut definition, unit, devices, depth, card)?;
         Ok(Subckt::Calling(definition))
     }
 }

@@ -1,5 +1,5 @@
 //! The subcircuits of a deck, made card by card.
-ghost use Rattle.std.specs.Prelude.{◌≡◌, ◌<◌, ◌≤◌, ◌+◌, ◌^◌, ◌++◌, ◌∷◌, ℕ, [], All, IfOk, OnOk, IsErrOf, MatchOption, Some, None, length, map, not};
+ghost use Rattle.std.specs.Prelude.{◌≡◌, ◌<◌, ◌≤◌, ◌+◌, ◌^◌, ◌++◌, ◌∷◌, ℕ, [], All, IfOk, OnOk, IsErrOf, MatchOption, Some, None, false, length, map, not};
 ghost use Rattle.std.specs.Str.{str_to_ascii_lowercase};
 ghost use Rattle.dom_base.specs.Names.{IsNetName};
 ghost use Rattle.deck.specs.DeckCards.{port_names, unit_word, word_at};
@@ -9,14 +9,16 @@ ghost use Rattle.deck.specs.Numbers.{with_all};
 ghost use Rattle.spice_read.specs.FlatSubckts.{LastFits, closed_with, definition_of};
 ghost use Rattle.spice_read.specs.ReadSubckts.{AnswersFault, CanClose, HasNames, IsCalledUnit, IsClosable, IsFinished, IsWordedCard, SubcktsData};
 ghost use Rattle.spice_read.specs.ReadSubckts.{after_call, after_device, after_ends, after_opening, call_fault, called, calling_fault, end_fault, ending_fault};
-ghost use Rattle.spice_read.specs.ReadSubckts.{fault_in, has_room_for, is_closed_name, opening_fault, ports_fault, room_fault, subckts_after};
+ghost use Rattle.spice_read.specs.ReadSubckts.{fault_in, has_room_for, is_closed_name, next_fault, opening_fault, ports_fault, room_fault};
+ghost use Rattle.spice_read.specs.ReadSubckts.{subckts_after};
 
 use crate::DeckFault;
 use crate::cards::{Card, Cards, Form};
+use crate::crowds::Crowds;
 use crate::subckt::{Subckt, flat_definition};
 use crate::words::net_name;
 use deck::{Circuit, DeckKind, MOST_DEPTH, MOST_DEVICES, MOST_PORTS, NetSet, Phase, copied};
-use dom_base::{Kind, NameHash, NetName, OutOfMemory};
+use dom_base::{Crowd, Kind, NameHash, NetName, OutOfMemory};
 use std::alloc::Global;
 use std::marker::Model;
 use std::mem;
@@ -49,12 +51,14 @@ impl Model for Subckts {
 }
 
 /// The words as nets, each once, in order of first appearance.
-fn nets_of(alloc: Global, hash: NameHash, words: &[&[u8]]) -> Result<NetSet, OutOfMemory>
+fn nets_of(alloc: Global, crowd: &mut Crowd, words: &[&[u8]]) -> Result<NetSet, OutOfMemory>
     requires { All (λ w. IsNetName (str_to_ascii_lowercase w.now)) words.now }
     ensures { IfOk result (λ nets. nets.keys ≡ with_all [] (map (λ w. str_to_ascii_lowercase w.now) words.now)) }
 {
-    let mut nets = NetSet::with_hasher(alloc, hash);
+    crowd.begin_anew();
+    let mut nets = NetSet::with_hasher(alloc, crowd.hash());
     for word in words {
+        crowd.look_at(nets.as_slice())?;
         nets.insert(net_name(alloc, word)?)?;
     }
     Ok(nets)
@@ -63,7 +67,7 @@ fn nets_of(alloc: Global, hash: NameHash, words: &[&[u8]]) -> Result<NetSet, Out
 /// The subcircuit that a `.subckt` opens, with its ports.
 fn opened(
     alloc: Global,
-    hash: NameHash,
+    crowd: &mut Crowd,
     name: NetName,
     card: &Card<'_>,
 ) -> Result<Circuit, DeckFault>
@@ -71,7 +75,7 @@ fn opened(
     ensures opened { IfOk result (λ c. (ports_fault card.now ≡ None) × (c ≡ bare_circuit name [] (port_names card.now))) }
     ensures fault { AnswersFault result card.now.number (ports_fault card.now) }
 {
-    let nets = nets_of(alloc, hash, card.ports())?;
+    let nets = nets_of(alloc, crowd, card.ports())?;
     if nets.len() < card.ports().len() {
         return Err(card.fault(DeckKind::DuplicatePort));
     }
@@ -130,24 +134,61 @@ fn is_new(units: &Units, name: &NetName) -> bool
     units.find(name).is_none()
 }
 
-/// Closes a subcircuit. The one error is out of memory.
-fn close_unit(alloc: Global, units: &mut Units, definition: Definition) -> Result<(), OutOfMemory>
+/// The subcircuit that a `.subckt` opens behind these, with its ports.
+fn next_opened(
+    alloc: Global,
+    crowd: &mut Crowd,
+    units: &Units,
+    card: &Card<'_>,
+) -> Result<Circuit, DeckFault>
+    requires { HasNames 1 card.now }
+    ensures new { OnOk result (is_closed_name units.now (word_at card.now 1) ≡ false) }
+    ensures opened { IfOk result (λ c. (ports_fault card.now ≡ None) × (c ≡ bare_circuit (word_at card.now 1) [] (port_names card.now))) }
+    ensures fault { AnswersFault result card.now.number (next_fault units.now card.now) }
+{
+    let name = net_name(alloc, card.word(1))?;
+    if !is_new(units, &name) {
+        return Err(card.fault(DeckKind::SecondSubckt));
+    }
+    opened(alloc, crowd, name, card)
+}
+
+/// Closes a subcircuit. The one error is out of memory, or names of subcircuits that are crowded.
+fn close_unit(
+    alloc: Global,
+    crowd: &mut Crowd,
+    units: &mut Units,
+    definition: Definition,
+) -> Result<(), OutOfMemory>
     requires { CanClose units.old definition }
     ensures { OnOk result (units.new ≡ units.old ++ definition ∷ []) }
 {
+    crowd.look_at(units.names.as_slice())?;
     let name = copied(&definition.name)?;
     units.close(alloc, name, definition)
 }
 
+/// Puts a last subcircuit in the place of another.
+fn put(place: &mut Last, last: Last)
+    ensures { place.new ≡ last }
+{
+    *place = last;
+}
+
 /// Closes the last subcircuit, where it is held as a circuit. The one error is out of memory.
-fn settle(alloc: Global, units: &mut Units, last: Last) -> Result<(), OutOfMemory>
+fn settle(
+    alloc: Global,
+    crowd: &mut Crowd,
+    units: &mut Units,
+    last: Last,
+) -> Result<(), OutOfMemory>
     requires { LastFits units.old last }
     ensures { OnOk result (units.new ≡ closed_with units.old last) }
 {
     match last {
         Last::Closed(circuit) => {
             let definition = flat_definition(alloc, circuit)?;
-            close_unit(alloc, units, definition)
+            close_unit(alloc, crowd, units, definition)
         }
         Last::Before | Last::Open(_) => Ok(()),
     }
@@ -165,7 +206,7 @@ fn with_phases(circuit: Circuit, phases: Vec<Phase>) -> Circuit
 /// line without a subcircuit.
 fn expand_last(
     alloc: Global,
-    hash: NameHash,
+    crowd: &mut Crowd,
     units: Units,
     phases: Vec<Phase>,
     line: u64,
@@ -177,7 +218,7 @@ fn expand_last(
         let kind = DeckKind::NoSubckt;
         return Err(DeckFault::At { line, kind });
     };
-    Ok(units.expand(alloc, hash, phases, last)?)
+    Ok(units.expand(alloc, crowd, phases, last)?)
 }
 
 impl Subckts {
@@ -193,7 +234,12 @@ impl Subckts {
     }
 
     /// Reads a card, or says why it can't be read.
-    pub fn push(&mut self, alloc: Global, hash: NameHash, card: &Card<'_>) -> Result<(), DeckFault>
+    pub fn push(
+        &mut self,
+        alloc: Global,
+        crowds: &mut Crowds,
+        card: &Card<'_>,
+    ) -> Result<(), DeckFault>
         requires words { IsWordedCard card.now }
         requires closable { IsClosable self.old }
         ensures clean { OnOk result (fault_in self.old card.now ≡ None) }
@@ -201,16 +247,22 @@ impl Subckts {
         ensures fault { AnswersFault result card.now.number (fault_in self.old card.now) }
     {
         match card.form() {
-            Ok(Form::Device(kind)) => self.push_device(alloc, kind, card),
-            Ok(Form::Call) => self.push_call(alloc, card),
-            Ok(Form::Subckt) => self.open(alloc, hash, card),
-            Ok(Form::Ends) => self.close(alloc, card),
+            Ok(Form::Device(kind)) => self.push_device(alloc, &mut crowds.nets, kind, card),
+            Ok(Form::Call) => self.push_call(alloc, &mut crowds.nets, card),
+            Ok(Form::Subckt) => self.open(alloc, crowds, card),
+            Ok(Form::Ends) => self.close(alloc, &mut crowds.units, card),
             Ok(Form::Skipped) => Ok(()),
             Err(kind) => Err(card.fault(kind)),
         }
     }
 
-    fn push_device(&mut self, alloc: Global, kind: Kind, card: &Card<'_>) -> Result<(), DeckFault>
+    fn push_device(
+        &mut self,
+        alloc: Global,
+        crowd: &mut Crowd,
+        kind: Kind,
+        card: &Card<'_>,
+    ) -> Result<(), DeckFault>
         requires { HasNames 5 card.now }
         ensures clean { OnOk result (room_fault self.old ≡ None) }
         ensures after { OnOk result (self.new ≡ after_device self.old kind card.now) }
@@ -222,11 +274,17 @@ impl Subckts {
         if subckt.devices() >= MOST_DEVICES {
             return Err(card.fault(DeckKind::TooMany));
         }
+        subckt.look(crowd)?;
         subckt.push_device(alloc, kind, card)?;
         Ok(())
     }
 
-    fn push_call(&mut self, alloc: Global, card: &Card<'_>) -> Result<(), DeckFault>
+    fn push_call(
+        &mut self,
+        alloc: Global,
+        crowd: &mut Crowd,
+        card: &Card<'_>,
+    ) -> Result<(), DeckFault>
         requires { HasNames 1 card.now }
         ensures clean { OnOk result (calling_fault self.old card.now ≡ None) }
         ensures after { OnOk result (self.new ≡ after_call self.old card.now) }
@@ -236,32 +294,28 @@ impl Subckts {
             return Err(card.fault(DeckKind::NoSubckt));
         };
         let (unit, devices, depth) = called(alloc, &self.units, subckt.devices(), card)?;
-        let subckt = subckt.with_call(alloc, unit, devices, depth, card)?;
-        self.last = Last::Open(subckt);
+        let subckt = subckt.with_call(alloc, crowd, unit, devices, depth, card)?;
+        put(&mut self.last, Last::Open(subckt));
         Ok(())
     }
 
-    fn open(&mut self, alloc: Global, hash: NameHash, card: &Card<'_>) -> Result<(), DeckFault>
+    fn open(&mut self, alloc: Global, crowds: &mut Crowds, card: &Card<'_>) -> Result<(), DeckFault>
         requires { HasNames 1 card.now }
         ensures clean { OnOk result (opening_fault self.old card.now ≡ None) }
         ensures after { OnOk result (self.new ≡ after_opening self.old card.now) }
         ensures fault { AnswersFault result card.now.number (opening_fault self.old card.now) }
     {
+        if let Last::Open(_) = &self.last {
+            return Err(card.fault(DeckKind::SecondSubckt));
+        }
         let last = mem::replace(&mut self.last, Last::Before);
-        if let Last::Open(_) = &last {
-            return Err(card.fault(DeckKind::SecondSubckt));
-        }
-        settle(alloc, &mut self.units, last)?;
-        let name = net_name(alloc, card.word(1))?;
-        if !is_new(&self.units, &name) {
-            return Err(card.fault(DeckKind::SecondSubckt));
-        }
-        let circuit = opened(alloc, hash, name, card)?;
-        self.last = Last::Open(Subckt::Flat(circuit));
+        settle(alloc, &mut crowds.units, &mut self.units, last)?;
+        let circuit = next_opened(alloc, &mut crowds.nets, &self.units, card)?;
+        put(&mut self.last, Last::Open(Subckt::Flat(circuit)));
         Ok(())
     }
 
-    fn close(&mut self, alloc: Global, card: &Card<'_>) -> Result<(), DeckFault>
+    fn close(&mut self, alloc: Global, crowd: &mut Crowd, card: &Card<'_>) -> Result<(), DeckFault>
         requires { IsClosable self.old }
         ensures clean { OnOk result (ending_fault self.old ≡ None) }
         ensures after { OnOk result (self.new ≡ after_ends self.old) }
@@ -269,11 +323,11 @@ impl Subckts {
     {
         match mem::replace(&mut self.last, Last::Before) {
             Last::Open(Subckt::Flat(circuit)) => {
-                self.last = Last::Closed(circuit);
+                put(&mut self.last, Last::Closed(circuit));
                 Ok(())
             }
             Last::Open(Subckt::Calling(definition)) => {
-                close_unit(alloc, &mut self.units, definition)?;
+                close_unit(alloc, crowd, &mut self.units, definition)?;
                 Ok(())
             }
             Last::Before | Last::Closed(_) => Err(card.fault(DeckKind::NoSubckt)),
@@ -284,7 +338,7 @@ impl Subckts {
     pub fn finish(
         self,
         alloc: Global,
-        hash: NameHash,
+        crowd: &mut Crowd,
         cards: Cards<'_>,
     ) -> Result<Circuit, DeckFault>
         ensures circuit { IfOk result (λ c. IsFinished self cards.entry.phases c) }
@@ -299,7 +353,7 @@ impl Subckts {
                 Err(DeckFault::At { line, kind })
             }
             Last::Closed(circuit) => Ok(with_phases(circuit, phases)),
-            Last::Before => expand_last(alloc, hash, units, phases, line),
+            Last::Before => expand_last(alloc, crowd, units, phases, line),
         }
     }
 }

@@ -67,7 +67,7 @@ pub fn net_name(nets: &[NetName], net: u32) -> &[u8]
 }
 
 /// The end of a card: the bulk and the model of a kind of device, each after a blank, and LF.
-fn card_end(kind: Kind) -> &'static [u8]
+pub fn card_end(kind: Kind) -> &'static [u8]
     ensures { result.now ≡ 32 ∷ bulk_of kind ++ 32 ∷ model_word kind ++ 10 ∷ [] }
 {
     match kind {

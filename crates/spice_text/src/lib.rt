@@ -15,6 +15,7 @@ mod ports;
 mod shape;
 
 pub use by_cells::write_cells;
+pub use cards::card_end;
 use cards::{put_cards, put_phases};
 use deck::{Circuit, roles};
 use dom_base::{OutOfMemory, append, append_word};

@@ -3,7 +3,7 @@ use Rattle.std.proofs.Common.{◌≡◌, ◌<◌, ℕ, suc, List, [], ◌∷◌,
 use Rattle.std.specs.List.{IsDistinct}
 use Rattle.std.specs.Cmp.Lexicographic.{pointwise}
 use Rattle.std.proofs.lemmas.List.{map-append, reverse-append}
-use Rattle.dom_base.proofs.Lists.{AllByRecursion-weaker, head_same}
+use Rattle.dom_base.proofs.Lists.{AllByRecursion-weaker, head_same, slice_index_or-push}
 use Rattle.deck.specs.Subckts.{Subckt, Expansion, Size, expansion, expansions, sizes}
 use Rattle.subckt_expand.specs.Definitions.{CallData, DefinitionData, no_definition, subckt_of}
 use Rattle.subckt_expand.specs.Live.{live, lives, size_of}
@@ -13,7 +13,6 @@ use Rattle.deck.proofs.Counts.{size_counts}
 use Rattle.subckt_expand.proofs.FoundCalls.{before-suc}
 use Rattle.subckt_expand.proofs.Live.{expansions-lives}
 use Rattle.subckt_expand.proofs.MoreClosed.{AreNamed, before-more, call-more, length-names, names-more, subckt-more}
-use Rattle.subckt_expand.proofs.Places.{index_or-push}
 
 module _ (all : List DefinitionData) (ss : List Subckt) (d : DefinitionData) (s : Subckt) (closed : AreClosed all) (stand : StandFor all ss) (stands : StandsFor all ss d s) (is_open : IsOpen all d) where
   abbrev more : List DefinitionData
@@ -29,7 +28,7 @@ module _ (all : List DefinitionData) (ss : List Subckt) (d : DefinitionData) (s 
   live_last = ap (λ n. subckt_of n d) (names-more all closed d) ∙ subckt-more (names_of all) (d.name ∷ []) d named is_open.whole ∙ stands.live_is
 
   last_is : definition_at more (length all) ≡ d
-  last_is = index_or-push all d no_definition
+  last_is = slice_index_or-push all d no_definition
 
   pub expansion-closed : expansion_at more (length all) ≡ expansion (expansions ss) s
   expansion-closed =

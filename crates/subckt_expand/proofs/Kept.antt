@@ -8,7 +8,7 @@ use Rattle.deck.specs.declared.device.Device.{Device}
 use Rattle.deck.specs.Nets.{net_name, with_net}
 use Rattle.deck.proofs.KnownNumbers.{known_net, known_number}
 use Rattle.deck.proofs.NetNumbers.{IsDistinct-with_net, with_net-grows}
-use Rattle.dom_base.proofs.Lists.{slice_get-append}
+use Rattle.dom_base.proofs.Lists.{slice_get-append, slice_index_or-push}
 use Rattle.dom_base.proofs.Decided.{lt_or_ge}
 use Rattle.subckt_expand.specs.Definitions.{CallData, DefinitionData, IsCallOf, has_dotted, no_definition, port_names}
 use Rattle.subckt_expand.specs.Units.{AreUnits, HasSlots, IsCallBelow, IsDotted, UnitData, definition_at, definitions, no_unit, unit_at}
@@ -16,7 +16,7 @@ use Rattle.subckt_expand.specs.declared.part.LevelName.{LevelName}
 use Rattle.subckt_expand.specs.Frames.{ExpandingData, IsEmpty, IsEntered, IsExpanding, IsNumberOf, IsWayOut, call_at, definition_of, end_name, name_at, no_way, slot_name, unit_of}
 use Rattle.subckt_expand.proofs.LevelNames.{call_at-more, name_at-more, unit_of-more}
 use Rattle.subckt_expand.proofs.MoreClosed.{all_index}
-use Rattle.subckt_expand.proofs.Places.{index_or-append, index_or-map, index_or-push}
+use Rattle.subckt_expand.proofs.Places.{index_or-append, index_or-map}
 use Rattle.subckt_expand.proofs.Ways.{way_fewer, way_more}
 
 -- the subcircuit at a level is one of those that were closed
@@ -186,7 +186,7 @@ enter_is e call way fresh is enters leads none = record {
     same level le = index_or-append e.numbers (fresh ∷ []) level [] (omega (arith, le, is.rows))
 
     last_row : slice_index_or numbers (length e.calls + 1) [] ≡ fresh
-    last_row = ap (λ n. slice_index_or numbers n []) (sym is.rows) ∙ index_or-push e.numbers fresh []
+    last_row = ap (λ n. slice_index_or numbers n []) (sym is.rows) ∙ slice_index_or-push e.numbers fresh []
 
     more : List CallData
     more = e.calls ++ call ∷ []
@@ -216,7 +216,7 @@ enter_is e call way fresh is enters leads none = record {
         (way_more (definitions e.units) e.main e.calls (call ∷ []) level (slice_index_or e.ways level no_way) before (is.ways_are level before))
     way_by level lt (inr behind) =
         let last : level ≡ length e.calls = omega (arith, lt, behind, long) in
-        let at : slice_index_or (e.ways ++ way ∷ []) (length e.calls) no_way ≡ way = ap (λ n. slice_index_or (e.ways ++ way ∷ []) n no_way) (sym is.led) ∙ index_or-push e.ways way no_way in
+        let at : slice_index_or (e.ways ++ way ∷ []) (length e.calls) no_way ≡ way = ap (λ n. slice_index_or (e.ways ++ way ∷ []) n no_way) (sym is.led) ∙ slice_index_or-push e.ways way no_way in
         subst (λ n. IsWayOut (definitions e.units) e.main more n (slice_index_or (e.ways ++ way ∷ []) n no_way)) (sym last)
         (subst (IsWayOut (definitions e.units) e.main more (length e.calls)) (sym at) leads)
 

@@ -5,9 +5,10 @@ use Rattle.subckt_expand.specs.Units.{definition_at}
 use Rattle.subckt_expand.specs.Frames.{call_at, definition_of, name_at, outer_name, unit_of}
 use Rattle.std.proofs.Common.{map}
 use Rattle.std.proofs.lemmas.List.{length-map}
+use Rattle.dom_base.proofs.Lists.{slice_index_or-push}
 use Rattle.deck.specs.Nets.{net_name, net_number}
 use Rattle.subckt_expand.proofs.PassedNames.{passed_inner, passed_port}
-use Rattle.subckt_expand.proofs.Places.{index_or-append, index_or-map, index_or-push}
+use Rattle.subckt_expand.proofs.Places.{index_or-append, index_or-map}
 
 pub call_at-more : (calls more : List CallData) (level : ℕ) → level < length calls → call_at (calls ++ more) level ≡ call_at calls level
 call_at-more calls more level lt = index_or-append calls more level no_call lt
@@ -30,7 +31,7 @@ name_at-more all main calls more (suc level) own le =
 
 -- the last of some calls
 pub call_at-push : (calls : List CallData) (call : CallData) → call_at (calls ++ call ∷ []) (length calls) ≡ call
-call_at-push calls call = index_or-push calls call no_call
+call_at-push calls call = slice_index_or-push calls call no_call
 
 -- one level outwards
 pub unit_of-before : (main : ℕ) (calls : List CallData) (level : ℕ) → 0 < level → unit_of main calls level ≡ (call_at calls (level - 1)).unit

@@ -5,14 +5,14 @@ use Rattle.std.specs.Cmp.Lexicographic.{pointwise}
 use Rattle.std.proofs.lemmas.List.{length-map, map-append}
 use Rattle.std.proofs.lemmas.Map.Keys.{IsDistinct-push}
 use Rattle.dom_base.proofs.Decided.{lt_or_ge}
-use Rattle.dom_base.proofs.Lists.{AllByRecursion-weaker}
+use Rattle.dom_base.proofs.Lists.{AllByRecursion-weaker, slice_index_or-push}
 use Rattle.dom_base.proofs.Names.{names_equal}
 use Rattle.deck.specs.Subckts.{Subckt, Expansion, expansion, expansions, Called}
 use Rattle.subckt_expand.specs.declared.part.Part.{Part}
 use Rattle.subckt_expand.specs.declared.part.Part.TheVariants.{Own, Called as Calling}
 use Rattle.subckt_expand.specs.Definitions.{CallData, DefinitionData, IsDefinition, IsPartOf, named_part, no_call, no_definition, subckt_of}
 use Rattle.subckt_expand.specs.Units.{AreClosed, IsCallBelow, IsClosed, definition_at, expansion_at, names_of, subckts_before}
-use Rattle.subckt_expand.proofs.Places.{index_or-append, index_or-push}
+use Rattle.subckt_expand.proofs.Places.{index_or-append}
 
 -- an item of a list has what all have
 pub all_index : {X : Type 0} (P : X → Type 0) (xs : List X) (i : ℕ) (d : X) → AllByRecursion P xs → i < length xs → P (slice_index_or xs i d)
@@ -137,4 +137,4 @@ module _ (all : List DefinitionData) (closed : AreClosed all) (d : DefinitionDat
       by number lt (inr behind) =
           let last : number ≡ length all = omega (arith, lt, behind, length-append all (d ∷ [])) in
           subst (λ n. IsClosed (all ++ d ∷ []) n (definition_at (all ++ d ∷ []) n)) (sym last)
-          (subst (IsClosed (all ++ d ∷ []) (length all)) (sym (index_or-push all d no_definition)) is)
+          (subst (IsClosed (all ++ d ∷ []) (length all)) (sym (slice_index_or-push all d no_definition)) is)

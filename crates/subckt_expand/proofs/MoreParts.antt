@@ -4,6 +4,7 @@ use Rattle.std.specs.List.{AllByRecursion}
 use Rattle.std.proofs.lemmas.List.{map-append}
 use Rattle.std.proofs.lemmas.Option.{get_or_from_slice_get}
 use Rattle.dom_base.specs.declared.kind.Kind.{Kind}
+use Rattle.dom_base.proofs.Lists.{slice_index_or-push}
 use Rattle.deck.specs.Nets.{net_name, net_number, with_net, with_nets}
 use Rattle.deck.specs.Subckts.{Single, Called}
 use Rattle.deck.proofs.NetNumbers.{Longer, Longer-trans, net_number-kept, with_net-grows}
@@ -11,7 +12,7 @@ use Rattle.subckt_expand.specs.declared.part.Part.{Part}
 use Rattle.subckt_expand.specs.declared.part.Part.TheVariants.{Own, Called as Calling}
 use Rattle.subckt_expand.specs.Definitions.{CallData, DefinitionData, IsCallOf, IsDefinition, IsPartOf, local_device, named_call, named_local, named_part, no_call, subckt_of, with_device}
 use Rattle.subckt_expand.proofs.MoreClosed.{all_index}
-use Rattle.subckt_expand.proofs.Places.{index_or-append, index_or-push}
+use Rattle.subckt_expand.proofs.Places.{index_or-append}
 
 -- names of nets that stand there, in longer nets
 names-longer : (nets more : List (List ℕ)) (xs : List ℕ) → AllByRecursion (λ net. net < length nets) xs → map (net_name (nets ++ more)) xs ≡ map (net_name nets) xs
@@ -97,6 +98,6 @@ pub subckt-with_call : (names : List (List ℕ)) (d e : DefinitionData) (call : 
     → map (named_part names e) (d.parts ++ Calling (length d.calls) ∷ []) ≡ map (named_part names d) d.parts ++ named_call names d.nets call ∷ []
 subckt-with_call names d e call is nets_are calls_are =
     let first = parts-longer names d e [] (call ∷ []) d.parts (nets_are ∙ sym (append-nil d.nets)) calls_are is.calls_are is.parts_are in
-    let last : slice_index_or e.calls (length d.calls) no_call ≡ call = ap (λ l. slice_index_or l (length d.calls) no_call) calls_are ∙ index_or-push d.calls call no_call in
+    let last : slice_index_or e.calls (length d.calls) no_call ≡ call = ap (λ l. slice_index_or l (length d.calls) no_call) calls_are ∙ slice_index_or-push d.calls call no_call in
     map-append (named_part names e) d.parts (Calling (length d.calls) ∷ [])
     ∙ ap₂ (λ l x. l ++ x ∷ []) first (ap₂ (λ nets x. named_call names nets x) nets_are last)

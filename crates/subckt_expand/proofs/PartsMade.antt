@@ -3,6 +3,7 @@ use Rattle.std.proofs.Common.{◌≡◌, ◌<◌, ◌≤◌, ℕ, zero, suc, ◌
 use Rattle.std.specs.List.{flat_map}
 use Rattle.std.proofs.lemmas.List.{map-append, take_more, length-map}
 use Rattle.std.proofs.lemmas.List.Concat.{flat_map-append}
+use Rattle.deck.proofs.CircuitGrowth.{with_devices-append}
 use Rattle.deck.specs.CircuitData.{CircuitData}
 use Rattle.deck.specs.NamedDevices.{NamedDevice, map_device, with_devices}
 use Rattle.deck.specs.Nets.{with_net}
@@ -10,7 +11,6 @@ use Rattle.deck.specs.Pushes.{pushed}
 use Rattle.deck.specs.Subckts.{Expansion, SubcktPart, part_devices}
 use Rattle.deck.proofs.NetNumbers.{number_fits}
 use Rattle.subckt_expand.specs.declared.part.Part.{Part}
-use Rattle.subckt_expand.proofs.Places.{with_devices-both}
 
 -- the devices of some parts, by the names that their nets have in the end
 abbrev pub devices_of : (List ℕ → List ℕ) → List Expansion → (Part → SubcktPart) → List Part → List (NamedDevice (List ℕ))
@@ -36,7 +36,7 @@ devices_of-more g es f ps i d lt =
 -- and the devices that are made then
 pub made-more : (c : CircuitData) (g : List ℕ → List ℕ) (es : List Expansion) (f : Part → SubcktPart) (ps : List Part) (i : ℕ) (d : Part) → i < length ps
     → with_devices c (devices_of g es f (take (i + 1) ps)) ≡ with_devices (with_devices c (devices_of g es f (take i ps))) (devices_of_part g es f (slice_index_or ps i d))
-made-more c g es f ps i d lt = ap (with_devices c) (devices_of-more g es f ps i d lt) ∙ with_devices-both c (devices_of g es f (take i ps)) (devices_of_part g es f (slice_index_or ps i d))
+made-more c g es f ps i d lt = ap (with_devices c) (devices_of-more g es f ps i d lt) ∙ with_devices-append c (devices_of g es f (take i ps)) (devices_of_part g es f (slice_index_or ps i d))
 
 -- each device adds at most three nets
 net-few : (nets : List (List ℕ)) (name : List ℕ) → length (with_net nets name) ≤ length nets + 1

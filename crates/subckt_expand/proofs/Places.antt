@@ -10,19 +10,10 @@ index_or-append [] ys i d lt = absurd (omega arith)
 index_or-append (x ∷ xs) ys zero d lt = refl
 index_or-append (x ∷ xs) ys (suc i) d lt = index_or-append xs ys i d (omega arith)
 
-pub index_or-push : {X : Type 0} (xs : List X) (y d : X) → slice_index_or (xs ++ y ∷ []) (length xs) d ≡ y
-index_or-push [] y d = refl
-index_or-push (x ∷ xs) y d = index_or-push xs y d
-
 pub index_or-map : {X Y : Type 0} (f : X → Y) (xs : List X) (i : ℕ) (d : X) (e : Y) → i < length xs → slice_index_or (map f xs) i e ≡ f (slice_index_or xs i d)
 index_or-map f [] i d e lt = absurd (omega arith)
 index_or-map f (x ∷ xs) zero d e lt = refl
 index_or-map f (x ∷ xs) (suc i) d e lt = index_or-map f xs i d e (omega arith)
-
--- devices that are added in two steps
-pub with_devices-both : (c : CircuitData) (xs ys : List (NamedDevice (List ℕ))) → with_devices c (xs ++ ys) ≡ with_devices (with_devices c xs) ys
-with_devices-both c [] ys = refl
-with_devices-both c (x ∷ xs) ys = with_devices-both (pushed c x.kind x.drain x.gate x.source) xs ys
 
 -- what was set in a list, by images
 pub map_set : {X Y : Type 0} (f : X → Y) (xs : List X) (i : ℕ) (x : X) → map f (set xs i x) ≡ set (map f xs) i (f x)

@@ -12,16 +12,18 @@ use crate::expand::{Expanding, empty_row};
 use crate::net::number;
 use crate::units::Units;
 use deck::{Circuit, Device, NetSet, Phase};
-use dom_base::{NameHash, NetName, OutOfMemory};
+use dom_base::{Crowd, NetName, OutOfMemory};
 use std::alloc::Global;
 
-/// These names in order, each once.
-fn set_of(alloc: Global, hash: NameHash, names: &[NetName]) -> Result<NetSet, OutOfMemory>
+/// These names in order, each once. The one error is out of memory, or names that are crowded.
+fn set_of(alloc: Global, crowd: &mut Crowd, names: &[NetName]) -> Result<NetSet, OutOfMemory>
     requires { IsDistinct (pointwise nat_eq) names.now }
     ensures { IfOk result (λ nets. nets.keys ≡ names.now) }
 {
-    let mut nets = NetSet::with_hasher(alloc, hash);
+    crowd.begin_anew();
+    let mut nets = NetSet::with_hasher(alloc, crowd.hash());
     for name in names {
+        crowd.look_at(nets.as_slice())?;
         number(&mut nets, name.clone()?)?;
     }
     Ok(nets)
@@ -29,10 +31,11 @@ fn set_of(alloc: Global, hash: NameHash, names: &[NetName]) -> Result<NetSet, Ou
 
 impl Units {
     /// The nets and the devices that the subcircuit of this number stands for, where `ports` are its
-    /// ports. The one error is out of memory.
+    /// ports. The one error is out of memory, or nets that are crowded.
     fn expanded(
         &self,
         alloc: Global,
+        crowd: &mut Crowd,
         ports: NetSet,
         unit: usize,
     ) -> Result<(NetSet, Vec<Device>), OutOfMemory>
@@ -55,17 +58,17 @@ impl Units {
             nets: ports,
             devices: Vec::new(alloc),
         };
-        expanding.push_parts(unit)?;
+        expanding.push_parts(crowd, unit)?;
         let Expanding { nets, devices, .. } = expanding;
         Ok((nets, devices))
     }
 
     /// The circuit that the subcircuit of this number stands for, with these phases. The one error is
-    /// out of memory.
+    /// out of memory, or nets that are crowded.
     pub fn expand(
         &self,
         alloc: Global,
-        hash: NameHash,
+        crowd: &mut Crowd,
         phases: Vec<Phase>,
         unit: usize,
     ) -> Result<Circuit, OutOfMemory>
@@ -78,8 +81,8 @@ impl Units {
         let definition = &last.definition;
         let names = definition.port_names();
         let ports = names.len();
-        let set = set_of(alloc, hash, names)?;
-        let (nets, devices) = self.expanded(alloc, set, unit)?;
+        let set = set_of(alloc, crowd, names)?;
+        let (nets, devices) = self.expanded(alloc, crowd, set, unit)?;
         Ok(Circuit {
             name: definition.name.clone()?,
             phases,

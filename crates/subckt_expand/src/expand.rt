@@ -9,7 +9,7 @@ use crate::net::inner_name;
 use crate::part::{Call, LevelName, LocalDevice, Part};
 use crate::units::Unit;
 use deck::{Device, NetSet};
-use dom_base::{NetName, OutOfMemory};
+use dom_base::{Crowd, NetName, OutOfMemory};
 use std::alloc::Global;
 use std::marker::Model;
 
@@ -99,8 +99,8 @@ impl<'b> Expanding<'b> {
         Ok(())
     }
 
-    /// Adds a device of the subcircuit of the last call. The one error is out of memory.
-    fn push_device(&mut self, device: &LocalDevice) -> Result<(), OutOfMemory>
+    /// Adds a device of the subcircuit of the last call. The one error is out of memory, or nets that are crowded.
+    fn push_device(&mut self, crowd: &mut Crowd, device: &LocalDevice) -> Result<(), OutOfMemory>
         requires local { IsLocal (length (definition_of (definitions self.old.units) self.old.main self.old.calls (length self.old.calls)).nets) device.now }
         requires room { length self.old.nets + 3 < 2 ^ 32 }
         ensures made { OnOk result (made self.new ≡ with_devices (made self.old)
@@ -108,6 +108,7 @@ impl<'b> Expanding<'b> {
             (named_local (definition_of (definitions self.old.units) self.old.main self.old.calls (length self.old.calls)).nets device.now) ∷ [])) }
         ensures place { OnOk result (IsSamePlace self.old self.new) }
     {
+        crowd.look_at(self.nets.as_slice())?;
         let level = self.depth();
         let drain = self.number(level, device.drain)?;
         let gate = self.number(level, device.gate)?;
@@ -179,9 +180,10 @@ impl<'b> Expanding<'b> {
         self.numbers.pop();
     }
 
-    /// Adds the devices that the subcircuit of the last call stands for. The one error is out of memory.
+    /// Adds the devices that the subcircuit of the last call stands for. The one error is out of memory, or nets that
+    /// are crowded.
     #[cycle(parts)]
-    pub fn push_parts(&mut self, unit: usize) -> Result<(), OutOfMemory>
+    pub fn push_parts(&mut self, crowd: &mut Crowd, unit: usize) -> Result<(), OutOfMemory>
         requires here { unit ≡ unit_of self.old.main self.old.calls (length self.old.calls) }
         requires room { length self.old.nets + 3 * length (expansion_at (definitions self.old.units) unit).devices < 2 ^ 32 }
         ensures made { OnOk result (made self.new ≡ with_devices (made self.old)
@@ -194,16 +196,17 @@ impl<'b> Expanding<'b> {
         let definition = &here.definition;
         for part in definition.parts.as_slice() {
             match part {
-                Part::Own(device) => self.push_device(device)?,
-                Part::Called(index) => self.push_call(&definition.calls[*index])?,
+                Part::Own(device) => self.push_device(crowd, device)?,
+                Part::Called(index) => self.push_call(crowd, &definition.calls[*index])?,
             }
         }
         Ok(())
     }
 
-    /// Adds the devices that a call in the subcircuit of the last call stands for. The one error is out of memory.
+    /// Adds the devices that a call in the subcircuit of the last call stands for. The one error is out of memory, or
+    /// nets that are crowded.
     #[cycle(parts)]
-    fn push_call(&mut self, call: &'b Call) -> Result<(), OutOfMemory>
+    fn push_call(&mut self, crowd: &mut Crowd, call: &'b Call) -> Result<(), OutOfMemory>
         requires entered { IsEntered (definitions self.old.units) self.old.main (self.old.calls ++ call.now ∷ []) (length self.old.calls) }
         requires room { length self.old.nets + 3 * length (expansion_at (definitions self.old.units) call.now.unit).devices < 2 ^ 32 }
         ensures made { OnOk result (made self.new ≡ with_devices (made self.old)
@@ -212,7 +215,7 @@ impl<'b> Expanding<'b> {
         ensures place { OnOk result (IsSamePlace self.old self.new) }
     {
         self.enter(call)?;
-        self.push_parts(call.unit)?;
+        self.push_parts(crowd, call.unit)?;
         self.leave();
         Ok(())
     }

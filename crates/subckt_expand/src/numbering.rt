@@ -134,7 +134,7 @@ impl<'b> Expanding<'b> {
         match port {
             Some(port) => {
                 let call = self.calls[level - 1];
-                Ok(Outer::Net(call.nets[port]))
+                Ok(Outer::Net(call.nets[port] as usize))
             }
             None => {
                 let way = &self.ways[level - 1];

@@ -38,7 +38,7 @@ pub enum Outer {
 pub struct Call {
     pub name: NetName,
     pub unit: usize,
-    pub nets: Vec<usize>,
+    pub nets: Vec<u32>,
 }
 
 impl Model for Call {

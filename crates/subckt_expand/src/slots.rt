@@ -70,7 +70,7 @@ impl Slots {
         let unit = &units[call.unit];
         for (port, net) in call.nets.iter().enumerate() {
             if unit.slots.has_slot(port) {
-                self.name(*net)?;
+                self.name(*net as usize)?;
             }
         }
         Ok(())

@@ -1,0 +1,25 @@
+//! How crowded the names of a deck are.
+use dom_base::{Crowd, NameHash};
+use std::alloc::Global;
+
+/// The names of the subcircuits that were closed, and the nets of the one that is read or expanded.
+#[derive(Drop)]
+pub struct Crowds {
+    pub units: Crowd,
+    pub nets: Crowd,
+}
+
+impl Crowds {
+    /// For names that are hashed so.
+    pub fn new(alloc: Global, hash: NameHash) -> Crowds {
+        Crowds {
+            units: Crowd::new(alloc, hash),
+            nets: Crowd::new(alloc, hash),
+        }
+    }
+
+    /// Whether so many names met that they are to be hashed with a key.
+    pub fn are_crowded(&self) -> bool {
+        self.units.is_crowded() || self.nets.is_crowded()
+    }
+}
