@@ -9,6 +9,7 @@ use Rattle.deck.specs.Switches.{IsOn, IsNotOff, value_of}
 use Rattle.deck.proofs.Reach.{strong_each, strong_from_each}
 use Rattle.dom_base.proofs.Lists.{AllByRecursion-both, AllByRecursion-weaker}
 use Rattle.switch_model.specs.declared.drive.Drive.{Drive}
+use Rattle.switch_model.specs.declared.drive.Drive.TheVariants.{Mixed, Nothing, Only}
 use Rattle.switch_model.specs.SourceDrives.{IsDrive, pull_of}
 use Rattle.switch_model.specs.Targets.{Pulls, Disputes, Else, Holds, IsTarget}
 use Rattle.dom_base.proofs.Decided.{dec_keeper}
@@ -18,12 +19,23 @@ use Rattle.switch_model.specs.Drives.{IsEndOf, first_value, target_by, TargetsBy
 use Rattle.switch_model.specs.Walks.{PassesSort}
 use Rattle.switch_model.proofs.Walking.{drive_same}
 
-weak_or_strong : (p : List Device) → IsWeak p ⊎ IsStrong p
+-- a path has a keeper or has none
+pub weak_or_strong : (p : List Device) → IsWeak p ⊎ IsStrong p
 weak_or_strong [] = inr (λ w. w)
 weak_or_strong (d ∷ p) = elim (dec_keeper d.kind) [
   | inl k ↦ inl (inl k)
   | inr n ↦ elim (weak_or_strong p) [ inl w ↦ inl (inr w) | inr s ↦ inr (λ w. elim w [ inl k ↦ n k | inr v ↦ s v ]) ]
 ]
+
+-- what pulls to nothing is no drive by possible paths
+none_pulled : (d p : Drive) → pull_of d p ≡ None → p ≡ Nothing
+none_pulled d Nothing e = refl
+none_pulled Nothing (Only v) e = absurd (cc)
+none_pulled (Only u) (Only v) e = absurd (cc)
+none_pulled Mixed (Only v) e = absurd (cc)
+none_pulled Nothing Mixed e = absurd (cc)
+none_pulled (Only u) Mixed e = absurd (cc)
+none_pulled Mixed Mixed e = absurd (cc)
 
 module _ (devices : List Device) (is_source : ℕ → Bool) (values : List Tri) (net : ℕ) where
   abbrev End : Bool → Bool → ℕ → Type 0
@@ -90,7 +102,7 @@ module _ (devices : List Device) (is_source : ℕ → Bool) (values : List Tri) 
   by_weak = Else (Pulls DW PW is_source values) (Else (Disputes PW is_source) by_charge)
 
   module _ (sd sp d p : Drive) (alike : Bool) (hsd : IsDrive (End true false) values sd) (hsp : IsDrive (End false false) values sp) (hd : IsDrive (End true true) values d) (hp : IsDrive (End false true) values p)
-      (ha : (alike ≡ true) ↔ ((n : ℕ) → Possible devices is_source values net n → is_source n ≡ false → value_of values n ≡ value_of values net)) where
+      (ha : p ≡ Nothing → (alike ≡ true) ↔ ((n : ℕ) → Possible devices is_source values net n → is_source n ≡ false → value_of values n ≡ value_of values net)) where
     sd_is : IsDrive (Source DS) values sd
     sd_is = drive_same _ _ values sd ds_to ds_from hsd
 
@@ -114,12 +126,12 @@ module _ (devices : List Device) (is_source : ℕ → Bool) (values : List Tri) 
         charge en true e = inl ((λ n h. at n h (is_source n) refl), refl)
           where
             at : (n : ℕ) → Possible devices is_source values net n → (b : Bool) → is_source n ≡ b → value_of values n ≡ value_of values net
-            at n h false f = ha.0 e n h f
+            at n h false f = (ha (none_pulled d p en)).0 e n h f
             at n h true f = elim (weak_or_strong h.0) [
               | inl w ↦ absurd (none_pulls DW PW is_source values (definite-possible_weak devices is_source values net) d p p_is en n (h.0, h.1, h.2, h.3, w) f)
               | inr st ↦ absurd (none n (h.0, h.1, h.2, h.3, st) f)
             ]
-        charge en false e = inr ((λ w h. never (sym (ha.1 (λ n q f. h.0 n q)) ∙ e)), refl)
+        charge en false e = inr ((λ w h. never (sym ((ha (none_pulled d p en)).1 (λ n q f. h.0 n q)) ∙ e)), refl)
 
         weak : (w : Option Tri) → pull_of d p ≡ w → by_weak (first_value w (if alike then (value_of values net) else Unknown))
         weak (Some v) e = rules-some DW PW is_source values (definite-possible_weak devices is_source values net) d p d_is p_is v e by_charge
@@ -129,4 +141,4 @@ module _ (devices : List Device) (is_source : ℕ → Bool) (values : List Tri) 
     by_four = by_pulls (pull_of sd sp) (pull_of d p) refl refl
 
 pub by_drives : TargetsByDrives
-by_drives devices is_source values net sd sp d p alike hsd hsp hd hp ha = by_four devices is_source values net sd sp d p alike hsd hsp hd hp ha
+by_drives devices is_source values net sd sp d p alike hsd hsp hd hp ha = by_four devices is_source values net sd sp d p alike hsd hsp hd hp (λ e. ha)

@@ -1,23 +1,20 @@
--- Nets with one top are those that paths join, and the sources that devices lead to below a top are those at ends of paths.
-use Rattle.std.proofs.Common.{false, ◌≡◌, ℕ, Bool, true, List, [], ◌∷◌, refl, sym, subst, ap, ◌∙◌, inl, inr}
+-- Nets with one top are those that paths join.
+use Rattle.std.proofs.Common.{false, ◌≡◌, ℕ, Bool, List, [], ◌∷◌, refl, sym, subst, ap, ◌∙◌, inl, inr}
 use Rattle.std.specs.Prelude.{◌⊎◌, ◌↔◌, Contains}
 use Rattle.dom_base.specs.declared.tri.Tri.{Tri}
 use Rattle.dom_base.proofs.Lists.{AllByRecursion-both, AllByRecursion-weaker, Contains-first, Contains-later, Contains-slice_get}
 use Rattle.deck.specs.declared.device.Device.{Device}
 use Rattle.deck.specs.Paths.{Ends}
 use Rattle.deck.specs.Reach.{Reach, last, step}
-use Rattle.deck.proofs.Reach.{Reach-trans, Reach-weaker, Reach-from_path, path_from_Reach}
+use Rattle.deck.proofs.Reach.{Reach-weaker, Reach-from_path, path_from_Reach}
 use Rattle.switch_model.specs.Laws.{EndsAt}
-use Rattle.switch_model.specs.SourceDrives.{IsDrive}
-use Rattle.switch_model.specs.declared.drive.Drive.{Drive}
 use Rattle.switch_model.proofs.Joined.{Joined, Joined-trans, Joined-edge, Reaches, joined_reaches, reaches_leads}
 use Rattle.switch_model.proofs.Searches.{ends_at}
 use Rattle.switch_model.specs.Components.{IsClosedPart}
-use Rattle.switch_model.specs.Drives.{IsClass, IsEndOf}
+use Rattle.switch_model.specs.Drives.{IsClass}
 use Rattle.switch_model.specs.Joins.{AreJoined, top_of}
-use Rattle.switch_model.specs.Walks.{AreAt, IsLed, Linked, PassesSort}
+use Rattle.switch_model.specs.Walks.{AreAt, Linked, PassesSort}
 use Rattle.switch_model.specs.declared.sort.Sort.{Sort}
-use Rattle.switch_model.proofs.Walking.{drive_same}
 
 module _ (devices : List Device) (is_source : ℕ → Bool) (nets places : List ℕ) (closed : IsClosedPart devices is_source nets places)
     (Q : Device → Type 0) (old new : List ℕ) (alone : (n : ℕ) → Contains nets n → top_of old n ≡ n)
@@ -71,29 +68,6 @@ module _ (devices : List Device) (is_source : ℕ → Bool) (nets places : List 
   pub joined_by : (x y : ℕ) → Joined Q is_source ds x y → AreJoined new x y
   joined_by x y j = (joined x y).1 (from_joined ds x y j)
 
-  module _ (es : List Device) (also : AreAt devices places es) (net : ℕ) (member : Contains nets net) where
-    led_end : (s : ℕ) → IsLed new Q is_source es (top_of new net) s → Reach On is_source net s × (is_source s ≡ true)
-    led_end s (d, c, q, (m, e, f, t), src) =
-        let p = (also d).0 c in
-        let on : On d = (Contains-slice_get devices p.0 d p.2, q) in
-        let m_in = closed.within d p.0 m p.1 p.2 (ends_at d m s e) f in (
-          elim (joined_path net m member m_in (sym t)) [
-            | inl z ↦ last on (subst (λ n. Ends d n s) (sym z) e)
-            | inr r ↦ Reach-trans r f (last on e)
-          ],
-          src,
-        )
-
-    end_led : (s : ℕ) → Reach On is_source net s → is_source s ≡ true → IsLed new Q is_source es (top_of new net) s
-    end_led s r src =
-        let t = reaches_leads Q is_source ds (λ n. n ≡ s) (closed.free net member) (inside member r) refl in
-        let d = t.0 in
-        let c : Contains es d = (also d).1 ((at d).0 t.1) in
-        elim t.2.1 [
-          | inl z ↦ (d, c, t.2.0, (d.drain, inl (refl, z.1.1), z.0, sym (joined_by net d.drain z.1.0)), src)
-          | inr z ↦ (d, c, t.2.0, (d.source, inr (refl, z.1.1), z.0, sym (joined_by net d.source z.1.0)), src)
-        ]
-
   -- a path to a net that is no source leads to one of the nets, with the same top
   pub path_joined : (x y : ℕ) → Contains nets x → Reach On is_source x y → is_source y ≡ false → Contains nets y × AreJoined new x y
   path_joined x y hx r f =
@@ -110,22 +84,6 @@ module _ (devices : List Device) (is_source : ℕ → Bool) (nets places : List 
           joined_by x y (Joined-trans Q is_source ds x d.source y z.1.0 (Joined-edge Q is_source ds d d.source y t.1 (t.2.0, subst (λ n. is_source n ≡ false) (sym z.1.1) f, z.0) (inr (refl, z.1.1)))),
         )
       ]
-
--- the drive of a net's top is that of the sources at the ends of its paths
-pub class_drive : (devices : List Device) (is_source : ℕ → Bool) (nets places : List ℕ) → IsClosedPart devices is_source nets places → (sort : Sort) (values : List Tri) (old new : List ℕ)
-    → ((n : ℕ) → Contains nets n → top_of old n ≡ n) → (ds : List Device) → AreAt devices places ds
-    → ((x y : ℕ) → AreJoined new x y ↔ Linked (AreJoined old) (PassesSort sort values) is_source ds x y)
-    → (es : List Device) → AreAt devices places es → (net : ℕ) → Contains nets net → (drive : Drive)
-    → IsDrive (IsLed new (PassesSort sort values) is_source es (top_of new net)) values drive
-    → IsDrive (IsEndOf devices is_source values sort net) values drive
-class_drive devices is_source nets places closed sort values old new alone ds at joined es also net member drive h =
-    drive_same _ _ values drive
-    (λ s l. let z = led_end devices is_source nets places closed (PassesSort sort values) old new alone ds at joined es also net member s l in
-    let w = path_from_Reach _ is_source z.0 in
-    ((w.0, w.1, AllByRecursion-weaker _ _ (λ d x. x.0) w.0 w.2, AllByRecursion-weaker _ _ (λ d x. x.1) w.0 w.2), z.1))
-    (λ s l. end_led devices is_source nets places closed (PassesSort sort values) old new alone ds at joined es also net member s
-    (Reach-from_path _ is_source l.0.1 (AllByRecursion-both _ _ l.0.0 l.0.2 l.0.3)) l.1)
-    h
 
 -- nets with one top are joined by a path, and the nets that paths lead to have the top
 pub class_joined : (devices : List Device) (is_source : ℕ → Bool) (nets places : List ℕ) → IsClosedPart devices is_source nets places → (sort : Sort) (values : List Tri) (old new : List ℕ)

@@ -6,6 +6,7 @@ use Rattle.dom_base.specs.Decided.{Decided}
 use Rattle.dom_base.proofs.Decided.{dec_any, dec_map, dec_nat, lt_or_ge}
 use Rattle.dom_base.specs.declared.tri.Tri.{Tri}
 use Rattle.dom_base.specs.declared.tri.Tri.TheVariants.{Unknown}
+use Rattle.dom_base.proofs.Bools.{never}
 use Rattle.deck.specs.Nets.{IsInRange}
 use Rattle.deck.specs.Switches.{value_of}
 use Rattle.switch_model.specs.ComponentLists.{AreComponentLists, list_at, number_in}
@@ -15,7 +16,6 @@ use Rattle.switch_model.specs.Pending.{AreKeptTargets, ArePending, IsPendingNet,
 use Rattle.switch_model.specs.Targets.{IsPending, IsTarget}
 use Rattle.switch_model.specs.declared.components.Components.{Components}
 use Rattle.switch_model.proofs.Locality.{pending-kept, target-kept}
-use Rattle.switch_model.proofs.Searches.{clash}
 use Rattle.switch_model.proofs.Touching.{own-number, touches-number}
 
 dec_contains : (xs : List ℕ) (n : ℕ) → Decided (Contains xs n)
@@ -49,8 +49,8 @@ module _ (links : LinksData) (c : Components) (h : AreComponentLists links.devic
 
     source : (n : ℕ) → (is_first links.sources n ≡ true) ⊎ (links.nets ≤ n) → Contains after n ↔ IsPendingNet links values n
     source n (inl t) =
-        let o = outside n (λ g l m. clash (is_first links.sources n) t g) in
-        (λ x. absurd (clash (is_first links.sources n) t ((right.exact n).0 (o.0 x)).1.1.0), λ p. absurd (clash (is_first links.sources n) t p.1.1.0))
+        let o = outside n (λ g l m. never {b = is_first links.sources n} t g) in
+        (λ x. absurd (never {b = is_first links.sources n} t ((right.exact n).0 (o.0 x)).1.1.0), λ p. absurd (never {b = is_first links.sources n} t p.1.1.0))
     source n (inr ge) =
         let o = outside n (λ g l m. omega (arith, ge, l)) in
         (λ x. absurd (omega (arith, ((right.exact n).0 (o.0 x)).0, ge, whole, same_length)), λ p. absurd (omega (arith, p.0, ge, whole)))
@@ -96,8 +96,8 @@ module _ (links : LinksData) (c : Components) (h : AreComponentLists links.devic
     where
       by : n < links.nets → (b : Bool) → is_first links.sources n ≡ b → Contains after n ↔ IsPendingNet links values n
       by lt true t = (
-        λ x. absurd (none n ((others n (λ k m inner. clash (is_first links.sources n) t ((h.nets_are k n).0 inner).1)).0 x)),
-        λ p. absurd (clash (is_first links.sources n) t p.1.1.0),
+        λ x. absurd (none n ((others n (λ k m inner. never {b = is_first links.sources n} t ((h.nets_are k n).0 inner).1)).0 x)),
+        λ p. absurd (never {b = is_first links.sources n} t p.1.1.0),
       )
       by lt false f =
           inside links c h range values whole numbers before after here others n lt f (every (number_in c n) (omega (arith, h.numbering.low n, lt)))

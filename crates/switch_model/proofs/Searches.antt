@@ -1,5 +1,5 @@
 -- Values that are read, tests of sources, and the ends of devices.
-use Rattle.std.proofs.Common.{◌≡◌, ℕ, zero, suc, ◌^◌, ◌<◌, ◌≤◌, Bool, true, false, List, [], ◌∷◌, inl, inr, length, get_or, refl, sym, subst, ◌∙◌, arith}
+use Rattle.std.proofs.Common.{◌≡◌, ℕ, zero, suc, ◌^◌, ◌<◌, ◌≤◌, true, false, List, [], ◌∷◌, inl, inr, length, get_or, refl, subst, arith}
 use Rattle.std.proofs.lemmas.Bool.Decides.{nat_tests}
 use Rattle.dom_base.specs.declared.tri.Tri.{Tri}
 use Rattle.deck.specs.Nets.{IsCircuit, IsInRange}
@@ -9,12 +9,6 @@ use Rattle.deck.specs.declared.device.Device.{Device}
 use Rattle.deck.proofs.DeviceNumbers.{numbers_used-le}
 use Rattle.switch_model.specs.Laws.{EndsAt}
 use Rattle.switch_model.specs.LinksData.{is_first}
-
-pub clash : (b : Bool) → b ≡ true → b ≡ false → ⊥
-clash b h k = absurd_of (sym h ∙ k)
-  where
-    absurd_of : true ≡ false → ⊥
-    absurd_of e = cc
 
 -- a value that is read
 pub read_same : (values : List Tri) (n : ℕ) (d : Tri) → n < length values → get_or values n d ≡ value_of values n

@@ -8,7 +8,7 @@ use Rattle.switch_model.specs.Joins.{IsJoinForest, top_of}
 use Rattle.switch_model.specs.LinksData.{is_first}
 use Rattle.switch_model.specs.Sweeps.{AreRooms}
 use Rattle.switch_model.specs.declared.components.Components.{Components}
-use Rattle.switch_model.specs.declared.sweep.Rooms.{Rooms}
+use Rattle.switch_model.specs.declared.rooms.Rooms.{Rooms}
 
 -- the list at a place; past the end it is empty
 abbrev pub list_at : List (List ℕ) → ℕ → List ℕ

@@ -93,7 +93,7 @@ fn join_ends(parents: &mut Vec<u32>, devices: &[Device], sources: u32)
 }
 
 /// Whether neither end of a device is a source.
-fn joins_nets(device: Device, sources: u32) -> bool
+pub fn joins_nets(device: Device, sources: u32) -> bool
     ensures { IsTrue result ↔ ((is_first sources device.drain ≡ false) × (is_first sources device.source ≡ false)) }
 {
     device.drain >= sources && device.source >= sources

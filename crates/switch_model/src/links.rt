@@ -8,7 +8,8 @@ ghost use Rattle.switch_model.specs.Targets.{IsAtRest, IsTarget};
 
 use crate::components::{Components, alone};
 use crate::refresh::refresh_all;
-use crate::sweep::{Rooms, find_targets};
+use crate::rooms::Rooms;
+use crate::sweep::find_targets;
 use crate::values::has_value;
 use crate::{Steps, Wires};
 use deck::{Circuit, Roles};
@@ -112,7 +113,7 @@ impl Links {
             → steps.new ≤ steps.old + 9 * length places }
     {
         let number = self.components.number(net);
-        let survey = find_targets(
+        let plain = find_targets(
             &self.wires,
             self.components.nets.at(number),
             self.components.places.at(number),
@@ -121,7 +122,7 @@ impl Links {
             &mut self.rooms,
             steps,
         );
-        self.rooms.target(survey, values, net)
+        self.rooms.target(plain, values, net)
     }
 
     /// Whether no net is to take another value, at one value per net. Takes no memory, and leaves

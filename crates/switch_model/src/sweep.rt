@@ -1,27 +1,257 @@
 //! What four sorts of paths and the charge say of the nets of a component.
-ghost use Rattle.std.specs.Prelude.{◌≡◌, ◌<◌, ◌+◌, ◌*◌, ◌≤◌, ℕ, true, All, Contains, IfOk, if◌then◌else◌, length};
+ghost use Rattle.std.specs.Prelude.{◌≡◌, ◌≢◌, ◌<◌, ◌+◌, ◌*◌, ◌≤◌, ℕ, true, false, All, Bool, Contains, length};
 ghost use Rattle.switch_model.specs.LinksData.{is_first};
 ghost use Rattle.switch_model.specs.SourceDrives.{IsDrive};
 ghost use Rattle.deck.specs.Nets.{IsInRange};
 ghost use Rattle.switch_model.specs.declared.drive.Drive.TheVariants.{Nothing};
 ghost use Rattle.switch_model.specs.Components.{IsClosedPart};
-ghost use Rattle.switch_model.specs.Drives.{IsEndOf, IsClass, target_by};
+ghost use Rattle.switch_model.specs.Drives.{IsEndOf, IsClass};
+ghost use Rattle.switch_model.specs.FourDrives.{drive_of, sort_of};
 ghost use Rattle.switch_model.specs.Joins.{IsJoinForest, top_of};
 ghost use Rattle.switch_model.specs.Targets.{IsTarget};
-ghost use Rattle.switch_model.specs.Sweeps.{AreRooms, IsRoom, drive_in, has_one_value, target_in};
+ghost use Rattle.switch_model.specs.Sweeps.{AreRooms, IsRoom, class_drives, drives_in, target_in};
 ghost use Rattle.switch_model.specs.Walks.{drive_at};
 
-use crate::class::{classes, undrive};
-use crate::components::alone;
-use crate::drive::{Drive, pulled};
+use crate::class::{join_classes, lead_classes, undrive};
+use crate::drive::Drive;
 use crate::joins::top;
 use crate::lead::add;
-use crate::sort::Sort;
-use crate::survey::{Survey, take_survey};
+use crate::rooms::{Room, Rooms};
+use crate::sort::{POSSIBLE, Sort};
 use crate::{Steps, Wires};
-use dom_base::{OutOfMemory, Tri};
-use std::alloc::Global;
+use dom_base::Tri;
 use std::sync::ledger::Ledger;
+
+/// Finds the targets of all nets of a component, in nine steps a device at most, and tells whether
+/// all sorts of paths have the classes of possible paths.
+pub fn find_targets<L: Ledger>(
+    wires: &Wires,
+    nets: &[u32],
+    places: &[u32],
+    sources: u32,
+    values: &[Tri],
+    rooms: &mut Rooms,
+    steps: &mut Steps<L>,
+) -> bool
+    requires rooms { AreRooms (length values.now) rooms.old }
+    requires nets { All (λ net. net < length values.now) nets.now }
+    requires places { All (λ place. place < length wires.now) places.now }
+    requires in_range { All (IsInRange (length values.now)) wires.now }
+    requires closed { IsClosedPart wires.now (is_first sources) nets.now places.now }
+    ensures rooms { AreRooms (length values.now) rooms.new }
+    ensures swept { (net : ℕ) → Contains nets.now net
+        → IsTarget wires.now (is_first sources) values.now net (target_in result rooms.new values.now net) }
+    ensures cost { steps.new ≤ steps.old + 9 * length places.now }
+{
+    let plain = find_drives(wires, nets, places, sources, values, rooms, steps);
+    charge_open(&rooms.possible, &mut rooms.charge, nets, values);
+    plain
+}
+
+/// Finds the charge of the classes of a component, where some net has no source at the end of a
+/// possible path: no other target asks for it.
+fn charge_open(room: &Room, charge: &mut Vec<Drive>, nets: &[u32], values: &[Tri])
+    requires room { IsRoom (length values.now) room.now }
+    requires long { length charge.old.items ≡ length values.now }
+    requires nets { All (λ net. net < length values.now) nets.now }
+    ensures long { length charge.new.items ≡ length charge.old.items }
+    ensures charged { (net : ℕ) → Contains nets.now net → drive_of (class_drives room.now net) false true ≡ Nothing
+        → IsDrive (λ m. Contains nets.now m × (top_of room.now.parents.items m ≡ top_of room.now.parents.items net)) values.now
+        (drive_at charge.new.items (top_of room.now.parents.items net)) }
+{
+    if !is_open(room, nets) {
+        return;
+    }
+    let parents = room.parents.as_slice();
+    undrive(charge, parents, nets);
+    add_values(charge, parents, nets, values);
+}
+
+/// Whether some net has no source at the end of a possible path.
+fn is_open(room: &Room, nets: &[u32]) -> bool
+    requires room { (n : ℕ) × IsRoom n room.now × All (λ net. net < n) nets.now }
+    ensures { result ≡ false → (net : ℕ) → Contains nets.now net → drive_of (class_drives room.now net) false true ≢ Nothing }
+{
+    for net in nets {
+        if is_nothing(room.drives(*net).possible) {
+            return true;
+        }
+    }
+    false
+}
+
+/// Whether there is no source.
+fn is_nothing(drive: Drive) -> bool
+    ensures { result ≡ false → drive ≢ Nothing }
+{
+    drive == Drive::Nothing
+}
+
+/// Finds the drives of all nets of a component: by two walks, where all sorts of paths have the classes
+/// of possible paths, else by two walks for each sort.
+fn find_drives<L: Ledger>(
+    wires: &Wires,
+    nets: &[u32],
+    places: &[u32],
+    sources: u32,
+    values: &[Tri],
+    rooms: &mut Rooms,
+    steps: &mut Steps<L>,
+) -> bool
+    requires rooms { AreRooms (length values.now) rooms.old }
+    requires nets { All (λ net. net < length values.now) nets.now }
+    requires places { All (λ place. place < length wires.now) places.now }
+    requires in_range { All (IsInRange (length values.now)) wires.now }
+    requires closed { IsClosedPart wires.now (is_first sources) nets.now places.now }
+    ensures rooms { AreRooms (length values.now) rooms.new }
+    ensures driven { (definite keepers : Bool) (net : ℕ) → Contains nets.now net
+        → IsDrive (IsEndOf wires.now (is_first sources) values.now (sort_of definite keepers) net) values.now
+        (drive_of (drives_in result rooms.new net) definite keepers) }
+    ensures class { IsClass wires.now (is_first sources) values.now (sort_of false true) nets.now rooms.new.possible.parents.items }
+    ensures cost { steps.new ≤ steps.old + 8 * length places.now }
+{
+    let plain = find_possible(
+        wires,
+        nets,
+        places,
+        sources,
+        values,
+        &mut rooms.possible,
+        steps,
+    );
+    if plain {
+        return true;
+    }
+    find(
+        wires,
+        nets,
+        places,
+        sources,
+        true,
+        false,
+        values,
+        &mut rooms.strong_definite,
+        steps,
+    );
+    find(
+        wires,
+        nets,
+        places,
+        sources,
+        false,
+        false,
+        values,
+        &mut rooms.strong_possible,
+        steps,
+    );
+    find(
+        wires,
+        nets,
+        places,
+        sources,
+        true,
+        true,
+        values,
+        &mut rooms.definite,
+        steps,
+    );
+    false
+}
+
+/// Finds the classes by possible paths and their drives, and tells whether all sorts of paths have
+/// these classes.
+fn find_possible<L: Ledger>(
+    wires: &Wires,
+    nets: &[u32],
+    places: &[u32],
+    sources: u32,
+    values: &[Tri],
+    room: &mut Room,
+    steps: &mut Steps<L>,
+) -> bool
+    requires room { IsRoom (length values.now) room.old }
+    requires nets { All (λ net. net < length values.now) nets.now }
+    requires places { All (λ place. place < length wires.now) places.now }
+    requires in_range { All (IsInRange (length values.now)) wires.now }
+    requires closed { IsClosedPart wires.now (is_first sources) nets.now places.now }
+    ensures room { IsRoom (length values.now) room.new }
+    ensures class { IsClass wires.now (is_first sources) values.now (sort_of false true) nets.now room.new.parents.items }
+    ensures possible { (net : ℕ) → Contains nets.now net
+        → IsDrive (IsEndOf wires.now (is_first sources) values.now (sort_of false true) net) values.now
+        (drive_of (class_drives room.new net) false true) }
+    ensures plain { result ≡ true → (definite keepers : Bool) (net : ℕ) → Contains nets.now net
+        → IsDrive (IsEndOf wires.now (is_first sources) values.now (sort_of definite keepers) net) values.now
+        (drive_of (class_drives room.new net) definite keepers) }
+    ensures cost { steps.new ≤ steps.old + 2 * length places.now }
+{
+    let plain = join_classes(
+        wires,
+        nets,
+        places,
+        sources,
+        POSSIBLE,
+        values,
+        &mut room.parents,
+        steps,
+    );
+    lead_classes(
+        wires,
+        nets,
+        places,
+        sources,
+        values,
+        room.parents.as_slice(),
+        &mut room.drives,
+        steps,
+    );
+    plain
+}
+
+/// Finds the classes by a sort of paths and their drives by these paths.
+fn find<L: Ledger>(
+    wires: &Wires,
+    nets: &[u32],
+    places: &[u32],
+    sources: u32,
+    definite: bool,
+    keepers: bool,
+    values: &[Tri],
+    room: &mut Room,
+    steps: &mut Steps<L>,
+)
+    requires room { IsRoom (length values.now) room.old }
+    requires nets { All (λ net. net < length values.now) nets.now }
+    requires places { All (λ place. place < length wires.now) places.now }
+    requires in_range { All (IsInRange (length values.now)) wires.now }
+    requires closed { IsClosedPart wires.now (is_first sources) nets.now places.now }
+    ensures room { IsRoom (length values.now) room.new }
+    ensures driven { (net : ℕ) → Contains nets.now net
+        → IsDrive (IsEndOf wires.now (is_first sources) values.now (sort_of definite keepers) net) values.now
+        (drive_of (class_drives room.new net) definite keepers) }
+    ensures cost { steps.new ≡ steps.old + 2 * length places.now }
+{
+    let sort = Sort { definite, keepers };
+    join_classes(
+        wires,
+        nets,
+        places,
+        sources,
+        sort,
+        values,
+        &mut room.parents,
+        steps,
+    );
+    lead_classes(
+        wires,
+        nets,
+        places,
+        sources,
+        values,
+        room.parents.as_slice(),
+        &mut room.drives,
+        steps,
+    );
+}
 
 /// Adds to the drive of each top the values of the nets below it.
 fn add_values(charge: &mut Vec<Drive>, parents: &[u32], nets: &[u32], values: &[Tri])
@@ -38,281 +268,3 @@ fn add_values(charge: &mut Vec<Drive>, parents: &[u32], nets: &[u32], values: &[
         add(charge, above, values[*net as usize]);
     }
 }
-
-/// The target by four drives: what strong paths pull to, else what all paths pull to, else the own
-/// value where all joined nets have it.
-pub fn target_from(
-    strong_definite: Drive,
-    strong_possible: Drive,
-    definite: Drive,
-    possible: Drive,
-    alike: bool,
-    own: Tri,
-) -> Tri
-    ensures { result ≡ target_by strong_definite strong_possible definite possible alike own }
-{
-    if let Some(value) = pulled(strong_definite, strong_possible) {
-        return value;
-    }
-    if let Some(value) = pulled(definite, possible) {
-        return value;
-    }
-    if alike { own } else { Tri::Unknown }
-}
-
-/// Room for the classes of nets by one sort of paths.
-#[derive(Drop)]
-pub struct Room {
-    parents: Vec<u32>,
-    drives: Vec<Drive>,
-}
-
-/// Room for the classes by four sorts of paths and for the charge.
-#[derive(Drop)]
-pub struct Rooms {
-    strong_definite: Room,
-    strong_possible: Room,
-    definite: Room,
-    possible: Room,
-    charge: Vec<Drive>,
-}
-
-/// Finds the targets of all nets of a component, in nine steps a device at most.
-pub fn find_targets<L: Ledger>(
-    wires: &Wires,
-    nets: &[u32],
-    places: &[u32],
-    sources: u32,
-    values: &[Tri],
-    rooms: &mut Rooms,
-    steps: &mut Steps<L>,
-) -> Survey
-    requires rooms { AreRooms (length values.now) rooms.old }
-    requires nets { All (λ net. net < length values.now) nets.now }
-    requires places { All (λ place. place < length wires.now) places.now }
-    requires in_range { All (IsInRange (length values.now)) wires.now }
-    requires closed { IsClosedPart wires.now (is_first sources) nets.now places.now }
-    ensures rooms { AreRooms (length values.now) rooms.new }
-    ensures swept { (net : ℕ) → Contains nets.now net
-        → IsTarget wires.now (is_first sources) values.now net (target_in result rooms.new values.now net) }
-    ensures cost { steps.new ≤ steps.old + 9 * length places.now }
-{
-    let survey = take_survey(wires, places, values, steps);
-    find(
-        wires,
-        nets,
-        places,
-        sources,
-        POSSIBLE,
-        values,
-        &mut rooms.possible,
-        steps,
-    );
-    find_where(
-        survey.unknown,
-        wires,
-        nets,
-        places,
-        sources,
-        DEFINITE,
-        values,
-        &mut rooms.definite,
-        steps,
-    );
-    find_where(
-        survey.keepers,
-        wires,
-        nets,
-        places,
-        sources,
-        STRONG_POSSIBLE,
-        values,
-        &mut rooms.strong_possible,
-        steps,
-    );
-    find_where(
-        survey.both(),
-        wires,
-        nets,
-        places,
-        sources,
-        STRONG_DEFINITE,
-        values,
-        &mut rooms.strong_definite,
-        steps,
-    );
-    let parents = rooms.possible.parents.as_slice();
-    undrive(&mut rooms.charge, parents, nets);
-    add_values(&mut rooms.charge, parents, nets, values);
-    survey
-}
-
-/// Finds the classes by one sort of paths, where they are needed.
-fn find_where<L: Ledger>(
-    needed: bool,
-    wires: &Wires,
-    nets: &[u32],
-    places: &[u32],
-    sources: u32,
-    sort: Sort,
-    values: &[Tri],
-    room: &mut Room,
-    steps: &mut Steps<L>,
-)
-    requires room { IsRoom (length values.now) room.old }
-    requires nets { All (λ net. net < length values.now) nets.now }
-    requires places { All (λ place. place < length wires.now) places.now }
-    requires in_range { All (IsInRange (length values.now)) wires.now }
-    requires closed { IsClosedPart wires.now (is_first sources) nets.now places.now }
-    ensures room { IsRoom (length values.now) room.new }
-    ensures driven { needed ≡ true → (net : ℕ) → Contains nets.now net
-        → IsDrive (IsEndOf wires.now (is_first sources) values.now sort net) values.now (drive_in room.new net) }
-    ensures cost { steps.new ≤ steps.old + 2 * length places.now }
-{
-    if needed {
-        find(wires, nets, places, sources, sort, values, room, steps);
-    }
-}
-
-fn find<L: Ledger>(
-    wires: &Wires,
-    nets: &[u32],
-    places: &[u32],
-    sources: u32,
-    sort: Sort,
-    values: &[Tri],
-    room: &mut Room,
-    steps: &mut Steps<L>,
-)
-    requires room { IsRoom (length values.now) room.old }
-    requires nets { All (λ net. net < length values.now) nets.now }
-    requires places { All (λ place. place < length wires.now) places.now }
-    requires in_range { All (IsInRange (length values.now)) wires.now }
-    requires closed { IsClosedPart wires.now (is_first sources) nets.now places.now }
-    ensures room { IsRoom (length values.now) room.new }
-    ensures driven { (net : ℕ) → Contains nets.now net
-        → IsDrive (IsEndOf wires.now (is_first sources) values.now sort net) values.now (drive_in room.new net) }
-    ensures class { IsClass wires.now (is_first sources) values.now sort nets.now room.new.parents.items }
-    ensures cost { steps.new ≡ steps.old + 2 * length places.now }
-{
-    classes(
-        wires,
-        nets,
-        places,
-        sources,
-        sort,
-        values,
-        &mut room.parents,
-        &mut room.drives,
-        steps,
-    );
-}
-
-impl Room {
-    /// Room for so many nets. The one error is out of memory.
-    fn new(alloc: Global, nets: u32) -> Result<Room, OutOfMemory>
-        ensures { IfOk result (λ room. IsRoom nets room) }
-    {
-        let parents = alone(alloc, nets)?;
-        let drives = no_drives(alloc, nets)?;
-        Ok(Room { parents, drives })
-    }
-
-    /// The drive of the class of a net.
-    fn drive(&self, net: u32) -> Drive
-        requires room { (n : ℕ) × IsRoom n self.now × (net < n) }
-        ensures { result ≡ drive_in self.now net }
-    {
-        self.drives[top(self.parents.as_slice(), net) as usize]
-    }
-}
-
-impl Rooms {
-    /// Room for so many nets. The one error is out of memory.
-    pub fn new(alloc: Global, nets: u32) -> Result<Rooms, OutOfMemory>
-        ensures { IfOk result (λ rooms. AreRooms nets rooms) }
-    {
-        Ok(Rooms {
-            strong_definite: Room::new(alloc, nets)?,
-            strong_possible: Room::new(alloc, nets)?,
-            definite: Room::new(alloc, nets)?,
-            possible: Room::new(alloc, nets)?,
-            charge: no_drives(alloc, nets)?,
-        })
-    }
-
-    /// The target that the last sweep found for a net.
-    pub fn target(&self, survey: Survey, values: &[Tri], net: u32) -> Tri
-        requires rooms { AreRooms (length values.now) self.now }
-        requires within { net < length values.now }
-        ensures { result ≡ target_in survey self.now values.now net }
-    {
-        let above = top(self.possible.parents.as_slice(), net);
-        let possible = self.possible.drives[above as usize];
-        let definite = drive_where(survey.unknown, &self.definite, net, possible);
-        let strong_possible = drive_where(survey.keepers, &self.strong_possible, net, possible);
-        let strong = if survey.unknown {
-            definite
-        } else {
-            strong_possible
-        };
-        target_from(
-            drive_where(survey.both(), &self.strong_definite, net, strong),
-            strong_possible,
-            definite,
-            possible,
-            has_one_value(self.charge[above as usize]),
-            values[net as usize],
-        )
-    }
-}
-
-/// The drive of the class of a net, where it is needed, else another.
-fn drive_where(needed: bool, room: &Room, net: u32, other: Drive) -> Drive
-    requires room { (n : ℕ) × IsRoom n room.now × (net < n) }
-    ensures { result ≡ (if needed then drive_in room.now net else other) }
-{
-    if needed { room.drive(net) } else { other }
-}
-
-/// No drive at each of so many tops.
-fn no_drives(alloc: Global, nets: u32) -> Result<Vec<Drive>, OutOfMemory>
-    ensures { IfOk result (λ drives. length drives.items ≡ nets) }
-{
-    let mut drives = Vec::with_capacity(alloc, nets as usize)?;
-    for _ in 0..nets {
-        drives.push(Drive::Nothing)?;
-    }
-    Ok(drives)
-}
-
-/// Whether no two values differ.
-fn has_one_value(drive: Drive) -> bool
-    ensures { result ≡ has_one_value drive }
-{
-    match drive {
-        Drive::Nothing => true,
-        Drive::Only(_) => true,
-        Drive::Mixed => false,
-    }
-}
-
-const STRONG_DEFINITE: Sort = Sort {
-    definite: true,
-    keepers: false,
-};
-
-const STRONG_POSSIBLE: Sort = Sort {
-    definite: false,
-    keepers: false,
-};
-
-const DEFINITE: Sort = Sort {
-    definite: true,
-    keepers: true,
-};
-
-const POSSIBLE: Sort = Sort {
-    definite: false,
-    keepers: true,
-};

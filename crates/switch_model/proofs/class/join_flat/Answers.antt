@@ -3,7 +3,7 @@ use Rattle.switch_model.proofs.class.join_flat.Goals as goal
 
 pub returns-clause-joined : goal.returns-clause-joined
 returns-clause-joined g c =
-    let j = c.join_all.ensures.joined in
+    let j = c.join_all-plain.ensures.joined in
     let tops = c.flatten.ensures.tops in (
       j.0,
       j.1,

@@ -9,8 +9,8 @@ use Rattle.switch_model.proofs.Searches.{first-false}
 use Rattle.switch_model.proofs.Touching.{own-length}
 use Rattle.switch_model.proofs.links.Links.target_counted.Goals as goal
 
-pub find_targets-survey-requires-clause-nets : goal.find_targets-survey-requires-clause-nets
-find_targets-survey-requires-clause-nets g c =
+pub find_targets-plain-requires-clause-nets : goal.find_targets-plain-requires-clause-nets
+find_targets-plain-requires-clause-nets g c =
     let w = c.self.inside in
     let i = c.self.invariant in
     let whole : length c.args.values.now ≡ length w.components.nets = c.requires.whole ∙ sym (ap (λ (l : LinksData). l.nets) c.self.view_is) in
@@ -18,8 +18,8 @@ find_targets-survey-requires-clause-nets g c =
     (subst (λ (l : List ℕ). All (λ (n : ℕ). n < length w.components.nets) l) (sym c.at.ensures)
     (group_nets w.wires (is_first w.sources) (length w.components.nets) w.components i.components_are i.in_range c.number-number.result))
 
-pub find_targets-survey-requires-clause-places : goal.find_targets-survey-requires-clause-places
-find_targets-survey-requires-clause-places g c =
+pub find_targets-plain-requires-clause-places : goal.find_targets-plain-requires-clause-places
+find_targets-plain-requires-clause-places g c =
     let w = c.self.inside in
     let i = c.self.invariant in
     let few : c.number-number.result < length w.components.nets =
@@ -27,8 +27,8 @@ find_targets-survey-requires-clause-places g c =
     subst (λ (l : List ℕ). All (λ (n : ℕ). n < length w.wires) l) (sym c.at-2.ensures)
     (group_places w.wires (is_first w.sources) (length w.components.nets) w.components i.components_are i.in_range c.number-number.result few)
 
-pub find_targets-survey-requires-clause-closed : goal.find_targets-survey-requires-clause-closed
-find_targets-survey-requires-clause-closed g c =
+pub find_targets-plain-requires-clause-closed : goal.find_targets-plain-requires-clause-closed
+find_targets-plain-requires-clause-closed g c =
     let w = c.self.inside in
     let i = c.self.invariant in
     let few : c.number-number.result < length w.components.nets =
@@ -48,7 +48,7 @@ returns-clause-target g c =
     let member : Contains c.at.result.now net =
     subst (λ (l : List ℕ). Contains l net) (sym c.at.ensures) ((i.components_are.nets_are c.number-number.result net).1 (lt, free, sym c.number-number.ensures)) in
     subst (λ (l : LinksData). IsTarget l.devices (is_first l.sources) values net c.target.result) c.self.view_is
-    (subst (IsTarget w.wires (is_first w.sources) values net) (sym c.target.ensures) (c.find_targets-survey.ensures.swept net member))
+    (subst (IsTarget w.wires (is_first w.sources) values net) (sym c.target.ensures) (c.find_targets-plain.ensures.swept net member))
 
 pub returns-clause-cost : goal.returns-clause-cost
 returns-clause-cost g c = λ places t.
@@ -61,4 +61,4 @@ returns-clause-cost g c = λ places t.
     let own = own-length w.wires (is_first w.sources) (length w.components.nets) w.components i.components_are i.in_range net lt free places touched in
     let size : length c.at-2.result.now ≡ length (list_at w.components.places (number_in w.components net)) =
     ap (λ (l : List ℕ). length l) c.at-2.ensures ∙ ap (λ (k : ℕ). length (list_at w.components.places k)) c.number-number.ensures in
-    omega (arith, c.find_targets-survey.ensures.cost, own, size)
+    omega (arith, c.find_targets-plain.ensures.cost, own, size)
