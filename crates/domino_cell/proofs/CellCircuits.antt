@@ -1,5 +1,5 @@
 -- Circuits to which the devices of a cell are appended part by part.
-use Rattle.std.proofs.Common.{◌≡◌, ℕ, List, [], ◌∷◌, ◌++◌, refl, sym, subst, ap, ◌∙◌, ◌+◌, ◌≤◌, arith, length, length-append, map}
+use Rattle.std.proofs.Common.{◌≡◌, ℕ, List, [], ◌∷◌, ◌++◌, sym, subst, ap, ◌∙◌, ◌+◌, ◌≤◌, arith, length, length-append, map}
 use Rattle.std.proofs.lemmas.List.{length-map}
 use Rattle.dom_base.specs.declared.kind.Kind.{Kind}
 use Rattle.dom_base.specs.declared.kind.Kind.TheVariants.{N as nch, P as pch}
@@ -8,17 +8,13 @@ use Rattle.deck.specs.CircuitGrowth.{Grew}
 use Rattle.deck.specs.NamedDevices.{NamedDevice, with_devices}
 use Rattle.deck.specs.NumberedDevices.{numbered_device}
 use Rattle.deck.specs.Pushes.{pushed}
-use Rattle.deck.proofs.CircuitGrowth.{Grew-trans, pushed-grew, with_devices-devices}
+use Rattle.deck.proofs.CircuitGrowth.{Grew-trans, pushed-grew, with_devices-append, with_devices-devices}
 use Rattle.sp_network.specs.Tree.{Tree, inner_count}
 use Rattle.domino_cell.specs.Cell.{CellNets, inverter}
 use Rattle.domino_cell.specs.Spelling.{spell}
 use Rattle.domino_cell.specs.declared.style.Style.{Style}
 use Rattle.domino_cell.specs.StyledCells.{behind_precharge, styled_cell, styled_stage}
 use Rattle.domino_cell.proofs.StyledCells.{styled_cell-parts}
-
-pub with_devices-append : (c : CircuitData) (xs ys : List (NamedDevice (List ℕ))) → with_devices c (xs ++ ys) ≡ with_devices (with_devices c xs) ys
-with_devices-append c [] ys = refl
-with_devices-append c (x ∷ xs) ys = with_devices-append (pushed c x.kind x.drain x.gate x.source) xs ys
 
 -- a circuit that grew and then got one more device
 pub Grew-pushed : (old between new : CircuitData) (kind : Kind) (d g s : List ℕ) → Grew old between → new ≡ pushed between kind d g s → Grew old new

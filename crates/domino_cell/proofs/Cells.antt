@@ -21,6 +21,7 @@ use Rattle.domino_cell.specs.Stage.{Spot, Top, Inside, IsSpot, Branch}
 use Rattle.domino_cell.specs.Tapped.{IsTapped, Tap, tap_branch, ways}
 use Rattle.sp_network.specs.Tree.{Tree, inner_count, joins, tree_conduction}
 use Rattle.domino_cell.specs.Spelling.{spell}
+use Rattle.dom_base.proofs.Bools.{never}
 use Rattle.dom_base.proofs.Lists.{AllByRecursion-append, AllByRecursion-both, AllByRecursion-contains, AllByRecursion-left, AllByRecursion-map, AllByRecursion-right, AllByRecursion-weaker}
 use Rattle.deck.specs.Reach.{Reach}
 use Rattle.deck.proofs.Reach.{Reach-kept}
@@ -199,11 +200,8 @@ module _ (style : Style) (devices : List Device) (is_source : ℕ → Bool) (net
         steps_supply d s x y q e lit =
             elim e [
               | inl z ↦ inr (rw (← z.1) s, tt)
-              | inr z ↦ absurd (clash (is_source x) (rw (← z.0) s) (is.free x lit.0))
+              | inr z ↦ absurd (never {b = is_source x} (rw (← z.0) s) (is.free x lit.0))
             ]
-          where
-            clash : (b : Bool) → b ≡ true → b ≡ false → ⊥
-            clash b p q = cc
 
         stage_net : (x : ℕ) → IsIn nets.inner nets.dynamic nets.foot 0 (inner_count tree) x → IsStageNet nets tree x
         stage_net x (inl e) = inl e
@@ -229,13 +227,10 @@ module _ (style : Style) (devices : List Device) (is_source : ℕ → Bool) (net
             (λ d a b q e lit. AllByRecursion-contains Steps (map device_of (styled_stage style nets tree)) d each
             (is.alone d a (of d q) lit.0 (elim e [ inl z ↦ inl z.0 | inr z ↦ inr z.0 ])) a b q e lit)
             (inl refl, p.kept nets.dynamic dynamic_outside ∙ first-dynamic) r) [
-              | inl lit ↦ clash (colour nets.foot) lit.1 (p.kept nets.foot foot_outside ∙ first-foot)
-              | inr z ↦ clash (is_source nets.foot) z.0 (is.free nets.foot (inr (inl refl)))
+              | inl lit ↦ never {b = colour nets.foot} lit.1 (p.kept nets.foot foot_outside ∙ first-foot)
+              | inr z ↦ never {b = is_source nets.foot} z.0 (is.free nets.foot (inr (inl refl)))
             ]
           where
-            clash : (b : Bool) → b ≡ true → b ≡ false → ⊥
-            clash b p q = cc
-
             p : Paints g nch nets.inner tree nets.dynamic nets.foot 0 first colour
             p =
                 Paints-painting g nch nets.inner tree nets.dynamic nets.foot 0 first

@@ -6,10 +6,10 @@ use Rattle.deck.specs.CircuitGrowth.{Grew}
 use Rattle.deck.specs.Limits.{most_devices}
 use Rattle.deck.specs.NamedDevices.{NamedDevice, with_devices}
 use Rattle.deck.specs.Pushes.{pushed}
-use Rattle.deck.proofs.CircuitGrowth.{with_devices-grew}
+use Rattle.deck.proofs.CircuitGrowth.{with_devices-append, with_devices-grew}
 use Rattle.domino_cell.specs.Cell.{CellNets}
 use Rattle.domino_cell.specs.StyledCells.{inner_precharges}
-use Rattle.domino_cell.proofs.CellCircuits.{count_with, with_devices-append}
+use Rattle.domino_cell.proofs.CellCircuits.{count_with}
 use Rattle.domino_cell.proofs.StyledCells.{inner_precharges-next, length-inner}
 
 module _ (old now : CircuitData) (nets : CellNets (List ℕ)) (n : ℕ) (made : now ≡ with_devices old (inner_precharges nets 0 n)) where

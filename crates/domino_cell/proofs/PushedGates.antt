@@ -19,7 +19,7 @@ use Rattle.deck.specs.Paths.{DefiniteStrong, Possible}
 use Rattle.deck.specs.Sources.{is_source}
 use Rattle.deck.specs.Switches.{value_of}
 use Rattle.deck.specs.declared.device.Device.{Device}
-use Rattle.deck.proofs.CircuitGrowth.{with_devices-numbered}
+use Rattle.deck.proofs.CircuitGrowth.{with_devices-append, with_devices-numbered}
 use Rattle.deck.proofs.NetNumbers.{same_number}
 use Rattle.sp_network.specs.Known.{is_not_zero, is_one}
 use Rattle.sp_network.specs.Tree.{Tree, dual, inner_count, leaves, map_tree, tree_conduction}
@@ -34,7 +34,6 @@ use Rattle.domino_cell.specs.Stage.{Branch, IsSpot, IsStage, Spot, Inside, Top, 
 use Rattle.domino_cell.specs.Steps.{IsStep, IsStrongStep}
 use Rattle.domino_cell.specs.Tapped.{IsTapped, ways}
 use Rattle.domino_cell.proofs.AppendedNets.{HasNumber-old, HasNumber-port, behind_no_source, devices_behind, kept_or_new, new_behind, old_in_range, old_number, old_source, port_is_source}
-use Rattle.domino_cell.proofs.CellCircuits.{with_devices-append}
 use Rattle.domino_cell.proofs.CellNetNames.{first_apart, supplies_apart}
 use Rattle.domino_cell.proofs.NamedCells.{spell-inner, spell-top}
 use Rattle.domino_cell.proofs.Paths.{Reach-from_any, definite_from_Reach}

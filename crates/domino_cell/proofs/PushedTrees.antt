@@ -4,6 +4,7 @@ use Rattle.std.proofs.Math.Seq.{get_or-append_seam}
 use Rattle.std.proofs.lemmas.List.{get_or_append_left}
 use Rattle.dom_base.proofs.Decided.{lt_or_ge}
 use Rattle.dom_base.specs.declared.kind.Kind.{Kind}
+use Rattle.deck.proofs.CircuitGrowth.{with_devices-append}
 use Rattle.deck.specs.CircuitData.{CircuitData}
 use Rattle.deck.specs.NamedDevices.{with_devices}
 use Rattle.sp_network.specs.Tree.{Tree, Leaf, Series, Parallel, EachLeaf, dual, inner_count, leaves, map_tree}
@@ -11,7 +12,6 @@ use Rattle.sp_network.proofs.TreeImages.{inner_count-map_tree}
 use Rattle.domino_cell.specs.Spelling.{spell}
 use Rattle.deck.specs.Nets.{net_name}
 use Rattle.domino_cell.specs.NamedTrees.{AreInnerNames, inner_net}
-use Rattle.domino_cell.proofs.CellCircuits.{with_devices-append}
 use Rattle.domino_cell.proofs.Spellings.{spell-same}
 
 -- a tree takes fewer inner nets than it has leaves

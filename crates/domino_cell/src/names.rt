@@ -3,6 +3,7 @@ ghost use Rattle.std.specs.Prelude.{◌≡◌, ◌++◌, All, IfOk, OnOk, codes}
 ghost use Rattle.std.specs.Fmt.{decimal};
 ghost use Rattle.dom_base.specs.Names.{IsNetByte, IsNetName};
 ghost use Rattle.domino_cell.specs.HeldNames.{AreNamesOfCell, AreNamesOfGate, AreNetsOfCell, StandInCircuit};
+ghost use Rattle.domino_cell.specs.PushedNames.{inner_front};
 
 use deck::{Circuit, NetAt, fixed_name, joined_name, numbered_name};
 use dom_base::{NameBytes, NetName, OutOfMemory, append_number_to_name, append_to_name};
@@ -25,15 +26,17 @@ impl CellNames {
     pub fn new(alloc: Global, clock: u8, k: u32) -> Result<CellNames, OutOfMemory>
         ensures { IfOk result (AreNamesOfCell clock k) }
     {
-        let tree = numbered_name(alloc, b"t", k)?;
+        let (vdd, vss) = supply_names(alloc)?;
+        let clock = numbered_name(alloc, b"ck", u32::from(clock))?;
+        let own = OwnNames::new(alloc, k)?;
         Ok(CellNames {
-            vdd: fixed_name(alloc, b"vdd")?,
-            vss: fixed_name(alloc, b"vss")?,
-            clock: numbered_name(alloc, b"ck", u32::from(clock))?,
-            dynamic: numbered_name(alloc, b"d", k)?,
-            output: numbered_name(alloc, b"z", k)?,
-            foot: numbered_name(alloc, b"f", k)?,
-            front: joined_name(alloc, tree.as_bytes(), b"_")?,
+            vdd,
+            vss,
+            clock,
+            dynamic: own.dynamic,
+            output: own.output,
+            foot: own.foot,
+            front: own.front,
         })
     }
 
@@ -45,7 +48,22 @@ impl CellNames {
         ensures { OnOk result (AreNamesOfCell clock k self.new) }
     {
         let number = number_bytes(alloc, k)?;
-        let digits = number.as_slice();
+        self.rename(alloc, clock, number.as_slice())?;
+        Ok(())
+    }
+
+    /// Renames the nets to those of the cell of these digits on the clock of this number, with the same supplies. After a
+    /// refusal some may have their new names.
+    fn rename(&mut self, alloc: Global, clock: u8, digits: &[u8]) -> Result<(), OutOfMemory>
+        requires { All IsNetByte digits.now }
+        ensures vdd { self.new.vdd ≡ self.old.vdd }
+        ensures vss { self.new.vss ≡ self.old.vss }
+        ensures clock { OnOk result (self.new.clock ≡ codes "ck" ++ decimal clock) }
+        ensures dynamic { OnOk result (self.new.dynamic ≡ codes "d" ++ digits.now) }
+        ensures output { OnOk result (self.new.output ≡ codes "z" ++ digits.now) }
+        ensures foot { OnOk result (self.new.foot ≡ codes "f" ++ digits.now) }
+        ensures front { OnOk result (self.new.front ≡ codes "t" ++ digits.now ++ codes "_") }
+    {
         self.clock = numbered_name(alloc, b"ck", u32::from(clock))?;
         self.dynamic = joined_name(alloc, b"d", digits)?;
         self.output = joined_name(alloc, b"z", digits)?;
@@ -69,6 +87,54 @@ impl CellNames {
             foot: NetAt::named(&self.foot),
         }
     }
+}
+
+/// The nets of a cell that no other cell has, and how its inner nets begin.
+#[derive(Drop)]
+struct OwnNames {
+    dynamic: NetName,
+    output: NetName,
+    foot: NetName,
+    front: NetName,
+}
+
+impl OwnNames {
+    /// Those of cell `k`.
+    fn new(alloc: Global, k: u32) -> Result<OwnNames, OutOfMemory>
+        ensures dynamic { IfOk result (λ names. names.dynamic ≡ codes "d" ++ decimal k) }
+        ensures output { IfOk result (λ names. names.output ≡ codes "z" ++ decimal k) }
+        ensures foot { IfOk result (λ names. names.foot ≡ codes "f" ++ decimal k) }
+        ensures front { IfOk result (λ names. names.front ≡ inner_front k) }
+    {
+        let dynamic = numbered_name(alloc, b"d", k)?;
+        let output = numbered_name(alloc, b"z", k)?;
+        let foot = numbered_name(alloc, b"f", k)?;
+        let front = tree_front(alloc, k)?;
+        Ok(OwnNames {
+            dynamic,
+            output,
+            foot,
+            front,
+        })
+    }
+}
+
+/// The names of both supplies.
+fn supply_names(alloc: Global) -> Result<(NetName, NetName), OutOfMemory>
+    ensures vdd { IfOk result (λ names. names.0 ≡ codes "vdd") }
+    ensures vss { IfOk result (λ names. names.1 ≡ codes "vss") }
+{
+    let vdd = fixed_name(alloc, b"vdd")?;
+    let vss = fixed_name(alloc, b"vss")?;
+    Ok((vdd, vss))
+}
+
+/// How the inner nets of cell `k` begin.
+fn tree_front(alloc: Global, k: u32) -> Result<NetName, OutOfMemory>
+    ensures { IfOk result (λ front. front ≡ inner_front k) }
+{
+    let tree = numbered_name(alloc, b"t", k)?;
+    joined_name(alloc, tree.as_bytes(), b"_")
 }
 
 /// The nets of a domino cell but the inner ones, with the numbers that they may have.

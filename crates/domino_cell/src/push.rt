@@ -4,13 +4,15 @@ ghost use Rattle.deck.specs.CircuitGrowth.{Grew};
 ghost use Rattle.deck.specs.Limits.{most_devices};
 ghost use Rattle.deck.specs.NamedDevices.{with_devices};
 ghost use Rattle.deck.specs.Nets.{IsCircuit};
+ghost use Rattle.deck.specs.NetsAt.{StandsAt};
 ghost use Rattle.sp_network.specs.Tree.{EachLeaf, dual, leaves};
 ghost use Rattle.sp_network.specs.TypedTree.{tree_of};
 ghost use Rattle.domino_cell.specs.HeldNames.{AreNamesOfCell, AreNamesOfGate, held_nets};
-ghost use Rattle.domino_cell.specs.NamedTrees.{named_tree};
+ghost use Rattle.domino_cell.specs.NamedTrees.{inner_net, named_tree};
 ghost use Rattle.domino_cell.specs.NetsAt.{AreNumbersAt};
 ghost use Rattle.domino_cell.specs.PushedNames.{HasRoomForCell, HasRoomForGate, numbered_cell, static_gate};
 ghost use Rattle.domino_cell.specs.PushedPaths.{HoldsCell, IsDrivenByTree, JoinsWhereOne, MayJoinWhereNotZero};
+ghost use Rattle.domino_cell.specs.Spelling.{spell};
 ghost use Rattle.domino_cell.specs.StyledCells.{around_tree, styled_cell};
 
 use crate::Style;
@@ -20,7 +22,7 @@ use crate::names::{CellNames, GateNames};
 use crate::numbers::keep_number;
 use crate::tree::{TreeNames, inner_names};
 use deck::{Circuit, NetAt};
-use dom_base::{NetName, OutOfMemory, ToVdd, ToVss};
+use dom_base::{NetName, OutOfMemory, Polarity, ToVdd, ToVss};
 use sp_network::{GatePlan, Sp};
 use std::alloc::Global;
 
@@ -152,10 +154,33 @@ pub fn push_static(
     ensures driven { OnOk result (IsDrivenByTree circuit.new out.now (named_tree names.now (tree_of tree.now))) }
     ensures refused { OnErr result (circuit.new ≡ circuit.old) }
 {
-    let nets = GateNames::new(alloc, out)?;
     let dual = tree.dual(alloc)?;
+    let nets = GateNames::new(alloc, out)?;
+    push_whole_gate(alloc, circuit, tree, &dual, names, &nets, out)
+}
+
+/// Appends the devices of a static gate, given the dual of its tree. The one error is out of memory, and it leaves the
+/// circuit as it was.
+fn push_whole_gate(
+    alloc: Global,
+    circuit: &mut Circuit,
+    tree: &Sp<ToVss>,
+    upper: &Sp<ToVdd>,
+    names: &[NetName],
+    nets: &GateNames,
+    out: &NetName,
+) -> Result<(), OutOfMemory>
+    requires upper { tree_of upper.now ≡ dual (tree_of tree.now) }
+    requires named { AreNamesOfGate out.now nets.now }
+    requires gates { EachLeaf (λ gate. gate < length names.now) (tree_of tree.now) }
+    requires room { length circuit.old.devices + 2 * leaves (tree_of tree.now) ≤ most_devices }
+    ensures devices { OnOk result (circuit.new
+        ≡ with_devices circuit.old (static_gate out.now (named_tree names.now (tree_of tree.now)))) }
+    ensures refused { OnErr result (circuit.new ≡ circuit.old) }
+    ensures whole { IsCircuit circuit.old.ports circuit.old.nets circuit.old.devices }
+{
     let before = circuit.device_count();
-    match push_gate(alloc, circuit, tree, &dual, names, &nets, out) {
+    match push_gate(alloc, circuit, tree, upper, names, nets, out) {
         Ok(()) => Ok(()),
         Err(failed) => {
             circuit.cut(before);
@@ -166,7 +191,6 @@ pub fn push_static(
 
 /// Appends the devices of a static gate, given the dual of its tree. After a refusal some of them
 /// may stand at the end.
-#[tactic(auto, using(crate::proofs::NetsAt::no_numbers))]
 fn push_gate(
     alloc: Global,
     circuit: &mut Circuit,
@@ -184,26 +208,42 @@ fn push_gate(
         ≡ with_devices circuit.old (static_gate out.now (named_tree names.now (tree_of tree.now)))) }
     ensures grew { Grew circuit.old circuit.new }
 {
-    let upper_inner = inner_names(alloc, nets.upper.as_bytes(), upper)?;
-    let lower_inner = inner_names(alloc, nets.lower.as_bytes(), tree)?;
-    let to_vdd = TreeNames {
-        gates: names,
-        inner: &upper_inner,
-        first: None,
-    };
-    let to_vss = TreeNames {
-        gates: names,
-        inner: &lower_inner,
-        first: None,
-    };
     let out = NetAt::named(out);
     let vdd = NetAt::named(&nets.vdd);
+    push_part(alloc, circuit, upper, names, &nets.upper, out, vdd)?;
     let vss = NetAt::named(&nets.vss);
-    let mut upper_numbers = Vec::new(alloc);
-    let upper_numbers = upper_numbers.as_mut_slice();
-    to_vdd.push(circuit, upper, out, vdd, 0, upper_numbers)?;
-    let mut lower_numbers = Vec::new(alloc);
-    let lower_numbers = lower_numbers.as_mut_slice();
-    to_vss.push(circuit, tree, out, vss, 0, lower_numbers)?;
+    push_part(alloc, circuit, tree, names, &nets.lower, out, vss)
+}
+
+/// Appends the devices of one tree of a static gate between these nets, where the names of its inner nets begin so. After a
+/// refusal some of them may stand at the end.
+#[tactic(auto, using(crate::proofs::NetsAt::no_numbers))]
+fn push_part<S: Polarity>(
+    alloc: Global,
+    circuit: &mut Circuit,
+    tree: &Sp<S>,
+    names: &[NetName],
+    front: &NetName,
+    top: NetAt<'_>,
+    bottom: NetAt<'_>,
+) -> Result<(), OutOfMemory>
+    requires gates { EachLeaf (λ gate. gate < length names.now) (tree_of tree.now) }
+    requires room { length circuit.old.devices + leaves (tree_of tree.now) ≤ most_devices }
+    requires top { StandsAt circuit.old.nets top.number top.name.now }
+    requires bottom { StandsAt circuit.old.nets bottom.number bottom.name.now }
+    ensures devices { OnOk result (circuit.new ≡ with_devices circuit.old
+        (spell S.KIND (inner_net front.now) (named_tree names.now (tree_of tree.now)) top.entry.name.now bottom.entry.name.now 0)) }
+    ensures count { OnOk result (length circuit.new.devices ≡ length circuit.old.devices + leaves (tree_of tree.now)) }
+    ensures grew { Grew circuit.old circuit.new }
+{
+    let inner = inner_names(alloc, front.as_bytes(), tree)?;
+    let of_tree = TreeNames {
+        gates: names,
+        inner: &inner,
+        first: None,
+    };
+    let mut numbers = Vec::new(alloc);
+    let numbers = numbers.as_mut_slice();
+    of_tree.push(circuit, tree, top, bottom, 0, numbers)?;
     Ok(())
 }

@@ -5,6 +5,7 @@ ghost use Rattle.deck.specs.CircuitGrowth.{Grew};
 ghost use Rattle.deck.specs.Limits.{most_devices};
 ghost use Rattle.deck.specs.NamedDevices.{with_devices};
 ghost use Rattle.deck.specs.NetsAt.{StandsAt};
+ghost use Rattle.deck.specs.Pushes.{pushed};
 ghost use Rattle.sp_network.specs.Tree.{EachLeaf, inner_count, leaves};
 ghost use Rattle.sp_network.specs.TypedTree.{tree_of};
 ghost use Rattle.domino_cell.specs.NetsAt.{AreNumbersAt};
@@ -14,7 +15,7 @@ ghost use Rattle.domino_cell.specs.Spelling.{spell};
 
 use crate::numbers::{number_of, set_number};
 use deck::{Circuit, NetAt, numbered_name, push_held};
-use dom_base::{NetName, OutOfMemory, Polarity};
+use dom_base::{Kind, NetName, OutOfMemory, Polarity};
 use sp_network::Sp;
 use std::alloc::Global;
 
@@ -62,20 +63,11 @@ impl<'a> TreeNames<'a> {
         match tree {
             Sp::Leaf { gate, .. } => {
                 let gate = *gate as usize;
-                let net = NetAt {
-                    name: &self.gates[gate],
-                    number: number_of(numbers, gate),
-                };
-                let device = push_held(circuit, S::KIND, top, net, bottom)?;
-                set_number(numbers, gate, device.gate);
-                Ok((inner, device.source))
+                let source = self.push_leaf(circuit, S::KIND, gate, top, bottom, numbers)?;
+                Ok((inner, source))
             }
             Sp::Series(left, right) => {
-                let middle = NetAt {
-                    name: &self.inner[inner as usize],
-                    number: self.first.and_then(|first| first.checked_add(inner)),
-                };
-                let middle = middle.checked(circuit);
+                let middle = self.inner_at(circuit, inner);
                 let (next, number) = self.push(circuit, left, top, middle, inner + 1, numbers)?;
                 let middle = middle.at(number);
                 let bottom = bottom.checked(circuit);
@@ -88,6 +80,51 @@ impl<'a> TreeNames<'a> {
                 self.push(circuit, right, top, bottom, next, numbers)
             }
         }
+    }
+
+    /// Appends a device of this kind from `top` to `bottom`, which the net of this gate gates. Gives the number of `bottom` in the
+    /// circuit, and `numbers` takes that of the net of the gate. The one error is out of memory.
+    fn push_leaf(
+        &self,
+        circuit: &mut Circuit,
+        kind: Kind,
+        gate: usize,
+        top: NetAt<'_>,
+        bottom: NetAt<'_>,
+        numbers: &mut [Option<u32>],
+    ) -> Result<u32, OutOfMemory>
+        requires gate { gate < length self.now.gates.now }
+        requires room { length circuit.old.devices < most_devices }
+        requires top { StandsAt circuit.old.nets top.number top.name.now }
+        requires bottom { StandsAt circuit.old.nets bottom.number bottom.name.now }
+        requires numbers { AreNumbersAt circuit.old.nets self.now.gates.now numbers.old }
+        ensures devices { OnOk result (circuit.new
+            ≡ pushed circuit.old kind top.entry.name.now (net_name self.now.gates.now gate) bottom.entry.name.now) }
+        ensures count { OnOk result (length circuit.new.devices ≡ length circuit.old.devices + 1) }
+        ensures grew { Grew circuit.old circuit.new }
+        ensures stands { IfOk result (λ source. slice_get circuit.new.nets source ≡ Some bottom.entry.name.now) }
+        ensures numbers { OnOk result (AreNumbersAt circuit.new.nets self.now.gates.now numbers.new) }
+    {
+        let net = NetAt {
+            name: &self.gates[gate],
+            number: number_of(numbers, gate),
+        };
+        let device = push_held(circuit, kind, top, net, bottom)?;
+        set_number(numbers, gate, device.gate);
+        Ok(device.source)
+    }
+
+    /// The inner net of this number, at its number in the circuit where it stands there already.
+    fn inner_at(&self, circuit: &Circuit, inner: u32) -> NetAt<'_>
+        requires { inner < length self.now.inner.now }
+        ensures name { result.name.now ≡ net_name self.now.inner.now inner }
+        ensures stands { StandsAt circuit.now.nets result.number result.name.now }
+    {
+        let net = NetAt {
+            name: &self.inner[inner as usize],
+            number: self.first.and_then(|first| first.checked_add(inner)),
+        };
+        net.checked(circuit)
     }
 }
 
