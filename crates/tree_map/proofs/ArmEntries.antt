@@ -1,15 +1,25 @@
--- The entries of an arm from the sums of its pair.
+-- Entries of arms: lists that have the same come to the same.
 use Rattle.std.proofs.lemmas.Option.{same_Some}
-use Rattle.std.proofs.Common.{◌≡◌, inl, inr, refl, sym, ap, subst, ◌∙◌, ℕ, ◌+◌, ◌≤◌, List, [], ◌∷◌, ◌++◌, map, Option, Some, None, option_map, arith}
+use Rattle.std.proofs.Common.{◌≡◌, ◌↔◌, refl, sym, ap, subst, ◌∙◌, ℕ, ◌≤◌, List, map, Option, Some, None, arith}
 use Rattle.std.specs.List.{range_with_len}
+use Rattle.dual_rail.specs.declared.forest.Arm.{Arm}
+use Rattle.dual_rail.specs.ForestData.{ForestData}
 use Rattle.gate_decompose.specs.Items.{Among}
-use Rattle.gate_decompose.proofs.Among.{among_either, among_flat, among_flattened, among_left, among_map, among_mapped, among_ranged, among_right}
+use Rattle.gate_decompose.proofs.Among.{among_flat, among_flattened, among_map, among_mapped, among_ranged}
 use Rattle.cover_plan.specs.Covers.{Costs}
-use Rattle.cover_plan.specs.CoverTables.{Entry, arm_entries, best, combined, cut_entry, lowest, root_of, shapes, table}
-use Rattle.cover_plan.specs.Parts.{CoverPart, Join, Operator, TreeShape, leaf_shape}
-use Rattle.tree_map.specs.ArmEntries.{HaveSame}
+use Rattle.cover_plan.specs.CoverTables.{Entry, arm_entries, best, combined, lowest, shapes}
+use Rattle.cover_plan.specs.Parts.{CoverPart, Operator, TreeShape}
 use Rattle.tree_map.specs.CoverRows.{IsShapeIn, joined_entry}
+use Rattle.tree_map.specs.LeastPlans.{IsPartOf}
 use Rattle.cover_plan.proofs.Tables.{best_below, best_reached, lowest_below, lowest_reached, none_is}
+
+-- what one list has, the other has
+abbrev pub HaveSame : List Entry → List Entry → Type 0
+HaveSame es fs = (e : Entry) → Among e es ↔ Among e fs
+
+-- the entries are those of the part below an arm
+abbrev pub AreEntriesOf : Costs → ForestData → ℕ → ℕ → Arm → List Entry → Type 0
+AreEntriesOf c forest w h arm es = (part : CoverPart) → IsPartOf forest arm part → HaveSame es (arm_entries c w h part)
 
 pub have_same : (es fs : List Entry) → HaveSame es fs → HaveSame fs es
 have_same es fs same = λ e. ((same e).1, (same e).0)
@@ -66,29 +76,6 @@ combined_over c op ls rs ms ns left right e at =
 
 pub combined_same : (c : Costs) (op : Operator) (ls rs ms ns : List Entry) → HaveSame ls ms → HaveSame rs ns → HaveSame (combined c op ls rs) (combined c op ms ns)
 combined_same c op ls rs ms ns left right = λ e. (combined_over c op ls rs ms ns left right e, combined_over c op ms ns ls rs (have_same ls ms left) (have_same rs ns right) e)
-
--- with the entry of the cut
-pub append_same : (es fs gs : List Entry) → HaveSame es fs → HaveSame (es ++ gs) (fs ++ gs)
-append_same es fs gs same = λ e. (over es fs same e, over fs es (have_same es fs same) e)
-  where
-    over : (xs ys : List Entry) → HaveSame xs ys → (e : Entry) → Among e (xs ++ gs) → Among e (ys ++ gs)
-    over xs ys is e at = elim (among_either e xs gs at) [
-      | inl left ↦ among_left e ys gs ((is e).0 left)
-      | inr right ↦ among_right e ys gs right
-    ]
-
-pub arm_same : (c : Costs) (w h : ℕ) (op : Operator) (l r : CoverPart) (es : List Entry) → HaveSame es (table c w h op l r)
-    → HaveSame (es ++ cut_entry (root_of c w h op l r)) (arm_entries c w h (Join op l r))
-arm_same c w h op l r es same = append_same es (table c w h op l r) (cut_entry (root_of c w h op l r)) same
-
--- the entry of the cut, by what it adds
-pub cut_some : (root : Option ℕ) (sum : ℕ) → Some sum ≡ option_map (λ n. 1 + n) root → cut_entry root ≡ record { shape = leaf_shape; sum = sum } ∷ []
-cut_some None sum e = absurd (none_is sum (sym e))
-cut_some (Some below) sum e = ap (λ n. record { shape = leaf_shape; sum = n } ∷ []) (sym (same_Some sum (1 + below) e))
-
-pub cut_none : (root : Option ℕ) → None ≡ option_map (λ n. 1 + n) root → cut_entry root ≡ []
-cut_none None e = refl
-cut_none (Some below) e = absurd (none_is (1 + below) e)
 
 -- a shape of a table is within the bounds
 pub shape_in : (w h : ℕ) (shape : TreeShape) → Among shape (shapes w h) → IsShapeIn w h shape

@@ -1,7 +1,6 @@
 -- The first two offers that give a pair its shape at its least sum are its first choices.
-use Rattle.std.proofs.Common.{◌≡◌, inl, inr, refl, sym, ap, ap₂, subst, ◌∙◌, ℕ, ◌+◌, ◌-◌, ◌≤◌, ◌<◌, Bool, true, false, List, length, map, Option, Some, None, slice_get, get_or, arith}
+use Rattle.std.proofs.Common.{◌≡◌, inl, inr, refl, sym, ap, ap₂, subst, ◌∙◌, ℕ, ◌+◌, ◌-◌, ◌≤◌, ◌<◌, Bool, true, false, List, length, Option, Some, None, slice_get, get_or, arith}
 use Rattle.std.specs.Prelude.{IfSome}
-use Rattle.std.specs.List.{range_with_len}
 use Rattle.std.proofs.lemmas.Bool.{cases_lt}
 use Rattle.std.proofs.lemmas.List.FromFn.{length-map-range_with_len}
 use Rattle.std.proofs.lemmas.Option.{same_Some, slice_get_read, slice_get_within}
@@ -16,9 +15,9 @@ use Rattle.tree_map.specs.declared.offers.Offer.{Offer}
 use Rattle.tree_map.specs.declared.ties.Wanted.{Wanted}
 use Rattle.cover_plan.specs.Covers.{AreFirst, Costs, GivesLeast, IsChoice, IsLeast, joined_sum}
 use Rattle.cover_plan.specs.Parts.{Choice, Comes, CoverPart, CutOff, Earlier, End, Fits, Join, Keep, Nothing, Operator, TreeShape, joined_shape}
-use Rattle.tree_map.specs.CoverSums.{AreCutsOf, AreSumsOf, SumsData, sum_at}
+use Rattle.tree_map.specs.CoverSums.{AreCutsOf, AreLeastBefore, AreSumsOf, SumsData, sum_at}
 use Rattle.tree_map.specs.LeastPlans.{IsPartOf, operator_of}
-use Rattle.tree_map.specs.Offers.{AreOffers, HasSums, IsFirstShape, IsOffered, choice_of}
+use Rattle.tree_map.specs.Offers.{AreFreeOf, AreOffers, AreOffersFor, HasSums, IsFirstShape, IsOffered, choice_of}
 use Rattle.tree_map.specs.Ties.{AreFirstOffers, AreSmall, Give, IsDecision, IsFirstLeast, IsRootKind, SomeGive}
 use Rattle.tree_map.specs.Plans.{is_free}
 use Rattle.cover_plan.specs.Covers.{sum_of}
@@ -151,21 +150,21 @@ shape_sum f (Some before) s stays root kept = let k = kept before refl in (k.0, 
 pub pair_read : (forest : ForestData) (pairs : List Pair) → pairs ≡ forest.pairs → (place : ℕ) (pair : Pair) → place < length forest.pairs → pair ≡ get_or pairs place pair → slice_get forest.pairs place ≡ Some pair
 pair_read forest pairs same place pair lt is = slice_get_read forest.pairs (length forest.pairs) place pair refl lt (subst (λ xs. pair ≡ get_or xs place pair) same is)
 
--- offers for an arm, whatever forest these are the sums of
-abbrev pub MakeOffers : SumsData → List Bool → Arm → List Offer → Type 0
-MakeOffers t frees arm xs =
-    (forest : ForestData) (part : CoverPart) → AreSumsOf forest t → AreCutsOf forest t → frees ≡ map (is_free forest) (range_with_len 0 (length forest.pairs)) → IsPartOf forest arm part → AreOffers t.costs t.w t.h part xs
-
 module _ (forest : ForestData) (t : SumsData) (frees : List Bool) (wide : (2 ≤ t.w) × (t.w ≤ 8)) (tall : (2 ≤ t.h) × (t.h ≤ 6)) (order : AreInOrder forest.pairs) (sums : AreSumsOf forest t) (cuts : AreCutsOf forest t)
-    (are : frees ≡ map (is_free forest) (range_with_len 0 (length forest.pairs))) (place : ℕ) (pair : Pair) (at : slice_get forest.pairs place ≡ Some pair) where
+    (are : AreFreeOf forest frees) (place : ℕ) (pair : Pair) (at : slice_get forest.pairs place ≡ Some pair) where
   parts : HasParts forest pair
   parts = parts_of forest order place pair at
 
-  left_offers : (arm : Arm) (xs : List Offer) → arm ≡ left_arm pair → MakeOffers t frees arm xs → AreOffers t.costs t.w t.h parts.l xs
-  left_offers arm xs e make = make forest parts.l sums cuts are (subst (λ a. IsPartOf forest a parts.l) (sym e) parts.left_part)
+  least_before : AreLeastBefore forest place t
+  least_before other x l r lt there dl dr = (sums other x l r there dl dr, cuts other x l r there dl dr)
 
-  right_offers : (arm : Arm) (xs : List Offer) → arm ≡ right_arm pair → MakeOffers t frees arm xs → AreOffers t.costs t.w t.h parts.r xs
-  right_offers arm xs e make = make forest parts.r sums cuts are (subst (λ a. IsPartOf forest a parts.r) (sym e) parts.right_part)
+  left_offers : (arm : Arm) (xs : List Offer) → arm ≡ left_arm pair → AreOffersFor t frees arm xs → AreOffers t.costs t.w t.h parts.l xs
+  left_offers arm xs e make =
+      make forest place parts.l are (subst (ReadsBefore place) (sym e) (order place pair at).0) least_before (subst (λ a. IsPartOf forest a parts.l) (sym e) parts.left_part)
+
+  right_offers : (arm : Arm) (xs : List Offer) → arm ≡ right_arm pair → AreOffersFor t frees arm xs → AreOffers t.costs t.w t.h parts.r xs
+  right_offers arm xs e make =
+      make forest place parts.r are (subst (ReadsBefore place) (sym e) (order place pair at).1) least_before (subst (λ a. IsPartOf forest a parts.r) (sym e) parts.right_part)
 
   is_least : (shape : TreeShape) (sum : ℕ) → sum_at t place shape ≡ Some sum → IsLeast t.costs t.w t.h (Join (operator_of pair) parts.l parts.r) shape sum
   is_least shape sum = (sums place pair parts.l parts.r at parts.left_part parts.right_part shape sum).0
@@ -178,17 +177,17 @@ module _ (forest : ForestData) (t : SumsData) (frees : List Bool) (wide : (2 ≤
   right_within arm e = subst (ReadsBefore (length frees)) (sym e)
       (reads_later place (length frees) (right_arm pair) (order place pair at).1 (omega (arith, slice_get_within forest.pairs place pair at, ap length are, length-map-range_with_len (is_free forest) 0 (length forest.pairs))))
 
-  pub small_left : (arm : Arm) (xs : List Offer) → arm ≡ left_arm pair → MakeOffers t frees arm xs → AreSmall xs
+  pub small_left : (arm : Arm) (xs : List Offer) → arm ≡ left_arm pair → AreOffersFor t frees arm xs → AreSmall xs
   small_left arm xs e make = offers_small t.costs t.w t.h (omega (arith, wide.0), wide.1) (omega (arith, tall.0), tall.1) parts.l xs (left_offers arm xs e make)
 
-  pub small_right : (arm : Arm) (xs : List Offer) → arm ≡ right_arm pair → MakeOffers t frees arm xs → AreSmall xs
+  pub small_right : (arm : Arm) (xs : List Offer) → arm ≡ right_arm pair → AreOffersFor t frees arm xs → AreSmall xs
   small_right arm xs e make = offers_small t.costs t.w t.h (omega (arith, wide.0), wide.1) (omega (arith, tall.0), tall.1) parts.r xs (right_offers arm xs e make)
 
   -- the least sum of a shape has the cost of the node
   pub node_below : (shape : TreeShape) (sum node : ℕ) → IsNode t.costs (operator_of pair) node → sum_at t place shape ≡ Some sum → node ≤ sum
   node_below shape sum node is e = node_within t.costs t.w t.h (operator_of pair) parts.l parts.r shape sum node is (is_least shape sum e)
 
-  module _ (a b : Arm) (xs ys : List Offer) (a_is : a ≡ left_arm pair) (b_is : b ≡ right_arm pair) (lefts : MakeOffers t frees a xs) (rights : MakeOffers t frees b ys)
+  module _ (a b : Arm) (xs ys : List Offer) (a_is : a ≡ left_arm pair) (b_is : b ≡ right_arm pair) (lefts : AreOffersFor t frees a xs) (rights : AreOffersFor t frees b ys)
       (shape : TreeShape) (sum number node : ℕ) (sum_is : sum_at t place shape ≡ Some sum) (of_node : IsNode t.costs (operator_of pair) node) (number_is : number ≡ sum - node) where
     whole : number + node ≡ sum
     whole = let le = node_below shape sum node of_node sum_is in omega (arith, number_is, le)

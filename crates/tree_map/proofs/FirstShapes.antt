@@ -7,10 +7,13 @@ use Rattle.cover_plan.specs.Parts.{Lower, TreeShape}
 use Rattle.tree_map.specs.CoverRows.{IsShapeIn, row_index}
 use Rattle.tree_map.specs.CoverSums.{SumsData, sum_at}
 use Rattle.tree_map.specs.Offers.{HasSums, IsFirstShape}
-use Rattle.tree_map.proofs.OfferedChoices.{before_lower}
 use Rattle.tree_map.proofs.HadShapes.{sum_in}
-use Rattle.tree_map.proofs.ReadRows.{index_order, row_gives, row_had, row_of, within_row}
+use Rattle.tree_map.proofs.ReadRows.{IsBefore, index_order, row_gives, row_had, row_of, within_row}
 use Rattle.tree_map.proofs.Rows.{index_shape}
+
+before_lower : (a b : TreeShape) → IsBefore a b → Lower a b
+before_lower a b (inl lt) = inl lt
+before_lower a b (inr (same, lt)) = inr (same, omega arith)
 
 -- the first of the least numbers before a place, and where it stands; 0 is none
 pub record IsFirstBelow (t : SumsData) (place index first least : ℕ) : Type 0 where

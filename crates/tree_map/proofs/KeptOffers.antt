@@ -7,9 +7,9 @@ use Rattle.tree_map.specs.declared.offers.Offer.{Offer}
 use Rattle.cover_plan.specs.Parts.{Earlier, Keep, TreeShape}
 use Rattle.tree_map.specs.CoverRows.{IsShapeIn, row_index}
 use Rattle.tree_map.specs.CoverSums.{SumsData, sum_at}
-use Rattle.tree_map.specs.Offers.{AreInTurn, AreKeptBefore, IsBefore, IsOffered, choice_of}
+use Rattle.tree_map.specs.Offers.{AreInTurn, AreKept, IsOffered, choice_of}
 use Rattle.tree_map.proofs.HadShapes.{sum_in}
-use Rattle.tree_map.proofs.ReadRows.{index_order, none_at, row_gives, row_of, within_row}
+use Rattle.tree_map.proofs.ReadRows.{IsBefore, index_order, none_at, row_gives, row_of, within_row}
 use Rattle.tree_map.proofs.Rows.{index_shape}
 
 -- an offer for a shape comes in turn behind those before it
@@ -35,12 +35,11 @@ module _ (t : SumsData) (place : ℕ) where
       in_turn = are.in_turn;
     }
 
-    pub kept_all : length (row_of t place) ≤ index → AreKeptBefore (sum_at t place) (record { height = t.h + 1; width = 1 }) xs
+    pub kept_all : length (row_of t place) ≤ index → AreKept (sum_at t place) xs
     kept_all all = record {
       keeps = are.keeps;
       sums = are.sums;
-      before = λ k o at. inl (omega (arith, (sum_in t place o.shape o.sum (are.sums k o at)).high));
-      complete = λ s n e lt. are.complete s n e (omega (arith, within_row t place s n e));
+      complete = λ s n e. are.complete s n e (omega (arith, within_row t place s n e));
       in_turn = are.in_turn;
     }
 

@@ -1,5 +1,4 @@
 pub mod ArmEntries
-pub mod ArmGiven
 pub mod ArmTrees
 pub mod CompoundCells
 pub mod DecidedCover
@@ -13,6 +12,7 @@ pub mod HadShapes
 pub mod KeptOffers
 pub mod LeastPlan
 pub mod OfferedChoices
+pub mod OfferedEntries
 pub mod OwnSums
 pub mod PlanCosts
 pub mod PlanCovers

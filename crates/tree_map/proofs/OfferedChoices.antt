@@ -1,6 +1,5 @@
 -- The offers for an arm are its choices.
-use Rattle.std.proofs.Common.{◌≡◌, ◌⊎◌, ◌↔◌, inl, inr, refl, sym, ap, subst, ◌∙◌, ℕ, zero, suc, ◌+◌, ◌≤◌, ◌<◌, Bool, false, List, [], ◌∷◌, ◌++◌, length, map, None, Some, slice_get, arith}
-use Rattle.std.specs.List.{range_with_len}
+use Rattle.std.proofs.Common.{◌≡◌, ◌⊎◌, inl, inr, refl, sym, ap, subst, ◌∙◌, ℕ, zero, suc, ◌+◌, ◌≤◌, ◌<◌, Bool, false, List, [], ◌∷◌, ◌++◌, length, None, Some, slice_get, arith}
 use Rattle.std.specs.Prelude.{slice_index_or}
 use Rattle.std.proofs.lemmas.List.FromFn.{get_or-map-range_with_len, length-map-range_with_len}
 use Rattle.std.proofs.lemmas.Option.{same_Some, slice_get_within}
@@ -11,21 +10,16 @@ use Rattle.dual_rail.specs.ForestData.{ForestData}
 use Rattle.dual_rail.specs.Forests.{left_arm, right_arm}
 use Rattle.tree_map.specs.declared.offers.Offer.{Offer}
 use Rattle.cover_plan.specs.Covers.{Costs, IsChoice, IsLeast, IsLeastOfAll, IsLeastRoot, IsRootShape, IsSum}
-use Rattle.cover_plan.specs.Parts.{Choice, CoverPart, CutOff, Earlier, End, Join, Keep, Lower, Nothing, Operator, TreeShape, leaf_shape}
-use Rattle.tree_map.specs.CoverSums.{SumsData, cut_at, sum_at}
+use Rattle.cover_plan.specs.Parts.{Choice, CoverPart, CutOff, Earlier, End, Join, Keep, Nothing, Operator, TreeShape, leaf_shape}
+use Rattle.tree_map.specs.CoverSums.{HasLeastCut, HasLeastSums, SumsData, cut_at, sum_at}
 use Rattle.tree_map.specs.LeastPlans.{IsPartOf, free, literal, operator_of, shared}
 use Rattle.dual_rail.specs.ForestOrder.{ReadsBefore}
-use Rattle.tree_map.specs.Offers.{AreInTurn, AreKeptBefore, AreOffers, HasNoFreePair, IsBefore, IsFirstShape, IsFreePair, IsOffered, choice_of}
+use Rattle.tree_map.specs.Offers.{AreFreeOf, AreInTurn, AreKept, AreOffers, HasNoFreePair, IsFirstShape, IsFreePair, IsOffered, choice_of}
 use Rattle.tree_map.specs.Plans.{is_free}
 use Rattle.compound_plan.proofs.FreePairs.{is_free-of, is_free-true}
-use Rattle.tree_map.proofs.HadShapes.{sum_in}
 use Rattle.cover_plan.proofs.Recurrence.{sum_bounded, table_least}
 use Rattle.cover_plan.proofs.Tables.{none_is}
 use Rattle.tree_map.proofs.SumReads.{above_zero-never}
-
-pub before_lower : (a b : TreeShape) → IsBefore a b → Lower a b
-before_lower a b (inl lt) = inl lt
-before_lower a b (inr (same, lt)) = inr (same, omega arith)
 
 -- what is offered stays offered
 offered_more : (xs ys : List Offer) (x : Choice) (s : TreeShape) (n : ℕ) → IsOffered xs x s n → IsOffered (xs ++ ys) x s n
@@ -38,7 +32,7 @@ offered_more xs ys x s n is = record {
   sum_is = is.sum_is;
 }
 
-module _ (t : SumsData) (place : ℕ) (op : Operator) (l r : CoverPart) (wide : 1 ≤ t.w) (tall : 1 ≤ t.h) (sums : (s : TreeShape) (n : ℕ) → (sum_at t place s ≡ Some n) ↔ IsLeast t.costs t.w t.h (Join op l r) s n) where
+module _ (t : SumsData) (place : ℕ) (op : Operator) (l r : CoverPart) (wide : 1 ≤ t.w) (tall : 1 ≤ t.h) (sums : HasLeastSums t place (Join op l r)) where
   -- a plan of a shape has a least sum of this shape
   least_below : (s : TreeShape) (n : ℕ) → IsSum t.costs t.w t.h (Join op l r) s n → (m : ℕ) × IsLeast t.costs t.w t.h (Join op l r) s m × (m ≤ n)
   least_below s n is =
@@ -60,64 +54,58 @@ module _ (t : SumsData) (place : ℕ) (op : Operator) (l r : CoverPart) (wide : 
     first = λ other x. is.first other ((sums other is.sum).1 x);
   }
 
-module _ (t : SumsData) (place : ℕ) (xs : List Offer) (are : AreKeptBefore (sum_at t place) (record { height = t.h + 1; width = 1 }) xs) where
-  -- each shape that a pair can have is offered
-  pub all_kept : (s : TreeShape) (n : ℕ) → sum_at t place s ≡ Some n → IsOffered xs (Keep s) s n
-  all_kept s n e = let g = sum_in t place s n e in are.complete s n e (inl (omega (arith, g.high)))
+module _ (t : SumsData) (place : ℕ) (xs : List Offer) (are : AreKept (sum_at t place) xs) (op : Operator) (l r : CoverPart) (sums : HasLeastSums t place (Join op l r)) (cuts : HasLeastCut t place (Join op l r)) where
+  pub no_cut : cut_at t place ≡ None → AreOffers t.costs t.w t.h (Join op l r) xs
+  no_cut none = record {
+    sound = λ k o at. rw (are.keeps k o at) (refl, (sums o.shape o.sum).0 (are.sums k o at));
+    complete = complete;
+    in_turn = are.in_turn;
+  }
+    where
+      complete : (x : Choice) (s : TreeShape) (n : ℕ) → IsChoice t.costs t.w t.h (Join op l r) x s n → IsOffered xs x s n
+      complete Nothing s n is = absurd is
+      complete (Keep k) s n is = subst (λ z. IsOffered xs (Keep k) z n) (sym is.0) (are.complete k n ((sums k n).1 is.1))
+      complete CutOff s n (leaf, (below, least, sum)) = absurd (none_is (1 + below) (sym none ∙ (cuts below).1 least))
 
-  module _ (op : Operator) (l r : CoverPart) (sums : (s : TreeShape) (n : ℕ) → (sum_at t place s ≡ Some n) ↔ IsLeast t.costs t.w t.h (Join op l r) s n)
-      (cuts : (n : ℕ) → (cut_at t place ≡ Some (1 + n)) ↔ IsLeastRoot t.costs t.w t.h (Join op l r) n) where
-    pub no_cut : cut_at t place ≡ None → AreOffers t.costs t.w t.h (Join op l r) xs
-    no_cut none = record {
-      sound = λ k o at. rw (are.keeps k o at) (refl, (sums o.shape o.sum).0 (are.sums k o at));
-      complete = complete;
-      in_turn = are.in_turn;
-    }
-      where
-        complete : (x : Choice) (s : TreeShape) (n : ℕ) → IsChoice t.costs t.w t.h (Join op l r) x s n → IsOffered xs x s n
-        complete Nothing s n is = absurd is
-        complete (Keep k) s n is = subst (λ z. IsOffered xs (Keep k) z n) (sym is.0) (all_kept k n ((sums k n).1 is.1))
-        complete CutOff s n (leaf, (below, least, sum)) = absurd (none_is (1 + below) (sym none ∙ (cuts below).1 least))
+  pub with_cut : (m : ℕ) → cut_at t place ≡ Some m → (cut : Offer) → choice_of cut.choice ≡ CutOff → cut.shape ≡ leaf_shape → cut.sum ≡ m
+      → AreOffers t.costs t.w t.h (Join op l r) (xs ++ cut ∷ [])
+  with_cut m found cut choice_is shape_is sum_is = record { sound = sound; complete = complete; in_turn = turn }
+    where
+      -- what is added has a leaf
+      least : (below : ℕ) × IsLeastRoot t.costs t.w t.h (Join op l r) below × (m ≡ 1 + below)
+      least = by m found
+        where
+          by : (n : ℕ) → cut_at t place ≡ Some n → (below : ℕ) × IsLeastRoot t.costs t.w t.h (Join op l r) below × (n ≡ 1 + below)
+          by zero e = absurd (above_zero-never (slice_get t.cuts place) e)
+          by (suc n) e = (n, (cuts n).0 (e ∙ ap Some (omega arith)), omega arith)
 
-    pub with_cut : (m : ℕ) → cut_at t place ≡ Some m → (cut : Offer) → choice_of cut.choice ≡ CutOff → cut.shape ≡ leaf_shape → cut.sum ≡ m
-        → AreOffers t.costs t.w t.h (Join op l r) (xs ++ cut ∷ [])
-    with_cut m found cut choice_is shape_is sum_is = record { sound = sound; complete = complete; in_turn = turn }
-      where
-        -- what is added has a leaf
-        least : (below : ℕ) × IsLeastRoot t.costs t.w t.h (Join op l r) below × (m ≡ 1 + below)
-        least = by m found
-          where
-            by : (n : ℕ) → cut_at t place ≡ Some n → (below : ℕ) × IsLeastRoot t.costs t.w t.h (Join op l r) below × (n ≡ 1 + below)
-            by zero e = absurd (above_zero-never (slice_get t.cuts place) e)
-            by (suc n) e = (n, (cuts n).0 (e ∙ ap Some (omega arith)), omega arith)
+      sound : (k : ℕ) (x : Offer) → slice_get (xs ++ cut ∷ []) k ≡ Some x → IsChoice t.costs t.w t.h (Join op l r) (choice_of x.choice) x.shape x.sum
+      sound k x at =
+          elim (slice_get-push_cases xs cut k x at) [
+            | inl old ↦ rw (are.keeps k x old) (refl, (sums x.shape x.sum).0 (are.sums k x old))
+            | inr new ↦ subst (λ (y : Offer). IsChoice t.costs t.w t.h (Join op l r) (choice_of y.choice) y.shape y.sum) new.1 (rw choice_is (shape_is, (least.0, least.1, sum_is ∙ least.2)))
+          ]
 
-        sound : (k : ℕ) (x : Offer) → slice_get (xs ++ cut ∷ []) k ≡ Some x → IsChoice t.costs t.w t.h (Join op l r) (choice_of x.choice) x.shape x.sum
-        sound k x at =
-            elim (slice_get-push_cases xs cut k x at) [
-              | inl old ↦ rw (are.keeps k x old) (refl, (sums x.shape x.sum).0 (are.sums k x old))
-              | inr new ↦ subst (λ (y : Offer). IsChoice t.costs t.w t.h (Join op l r) (choice_of y.choice) y.shape y.sum) new.1 (rw choice_is (shape_is, (least.0, least.1, sum_is ∙ least.2)))
-            ]
+      complete : (x : Choice) (s : TreeShape) (n : ℕ) → IsChoice t.costs t.w t.h (Join op l r) x s n → IsOffered (xs ++ cut ∷ []) x s n
+      complete Nothing s n is = absurd is
+      complete (Keep k) s n is = offered_more xs (cut ∷ []) (Keep k) s n (subst (λ z. IsOffered xs (Keep k) z n) (sym is.0) (are.complete k n ((sums k n).1 is.1)))
+      complete CutOff s n (leaf, (below, is, sum)) = record {
+        place = length xs;
+        offer = cut;
+        at = slice_get-push xs cut;
+        choice_is = choice_is;
+        shape_is = shape_is ∙ sym leaf;
+        sum_is = sum_is ∙ same_Some m (1 + below) (sym found ∙ (cuts below).1 is) ∙ sym sum;
+      }
 
-        complete : (x : Choice) (s : TreeShape) (n : ℕ) → IsChoice t.costs t.w t.h (Join op l r) x s n → IsOffered (xs ++ cut ∷ []) x s n
-        complete Nothing s n is = absurd is
-        complete (Keep k) s n is = offered_more xs (cut ∷ []) (Keep k) s n (subst (λ z. IsOffered xs (Keep k) z n) (sym is.0) (all_kept k n ((sums k n).1 is.1)))
-        complete CutOff s n (leaf, (below, is, sum)) = record {
-          place = length xs;
-          offer = cut;
-          at = slice_get-push xs cut;
-          choice_is = choice_is;
-          shape_is = shape_is ∙ sym leaf;
-          sum_is = sum_is ∙ same_Some m (1 + below) (sym found ∙ (cuts below).1 is) ∙ sym sum;
-        }
-
-        turn : AreInTurn (xs ++ cut ∷ [])
-        turn i k a b lt at too = by (slice_get-push_cases xs cut i a at) (slice_get-push_cases xs cut k b too)
-          where
-            by : (slice_get xs i ≡ Some a) ⊎ ((i ≡ length xs) × (cut ≡ a)) → (slice_get xs k ≡ Some b) ⊎ ((k ≡ length xs) × (cut ≡ b)) → Earlier (choice_of a.choice) (choice_of b.choice)
-            by (inl x) (inl y) = are.in_turn i k a b lt x y
-            by (inl x) (inr y) = rw (are.keeps i a x, sym (ap (λ (z : Offer). choice_of z.choice) y.1) ∙ choice_is) tt
-            by (inr x) (inl y) = let within = slice_get_within xs k b y in absurd (omega (arith, x.0))
-            by (inr x) (inr y) = absurd (omega (arith, x.0, y.0))
+      turn : AreInTurn (xs ++ cut ∷ [])
+      turn i k a b lt at too = by (slice_get-push_cases xs cut i a at) (slice_get-push_cases xs cut k b too)
+        where
+          by : (slice_get xs i ≡ Some a) ⊎ ((i ≡ length xs) × (cut ≡ a)) → (slice_get xs k ≡ Some b) ⊎ ((k ≡ length xs) × (cut ≡ b)) → Earlier (choice_of a.choice) (choice_of b.choice)
+          by (inl x) (inl y) = are.in_turn i k a b lt x y
+          by (inl x) (inr y) = rw (are.keeps i a x, sym (ap (λ (z : Offer). choice_of z.choice) y.1) ∙ choice_is) tt
+          by (inr x) (inl y) = let within = slice_get_within xs k b y in absurd (omega (arith, x.0))
+          by (inr x) (inr y) = absurd (omega (arith, x.0, y.0))
 
 -- the one offer for an arm without a free edge
 pub one_offer : (c : Costs) (w h : ℕ) (o : Offer) → choice_of o.choice ≡ Nothing → o.shape ≡ leaf_shape → o.sum ≡ 1 → AreOffers c w h End (o ∷ [])
@@ -148,7 +136,7 @@ one_offer c w h o choice_is shape_is sum_is = record {
     turn zero (suc k) a b lt at too = absurd (cc)
     turn (suc i) k a b lt at too = absurd (cc)
 
-module _ (forest : ForestData) (frees : List Bool) (are : frees ≡ map (is_free forest) (range_with_len 0 (length forest.pairs))) where
+module _ (forest : ForestData) (frees : List Bool) (are : AreFreeOf forest frees) where
   free_at : (place : ℕ) → place < length forest.pairs → slice_index_or frees place false ≡ is_free forest place
   free_at place lt = ap (λ xs. slice_index_or xs place false) are ∙ get_or-map-range_with_len (is_free forest) 0 (length forest.pairs) place place false lt (omega arith)
 

@@ -7,12 +7,11 @@ use Rattle.cover_plan.specs.Parts.{Operator}
 use Rattle.cover_plan.proofs.Sums.{joined-is}
 use Rattle.cover_plan.proofs.Tables.{best_reached, lowest_below, lowest_reached, table_best}
 use Rattle.gate_decompose.proofs.Among.{among_flattened, among_mapped}
-use Rattle.tree_map.specs.ArmEntries.{AreSumsIn}
 use Rattle.tree_map.specs.CoverRows.{AreFewCosts, AreSmall, IsRow, cut_number, joined_entry, sum_or_zero}
 use Rattle.tree_map.specs.CoverSums.{SumsData, sum_at, with_row}
 use Rattle.tree_map.specs.Offers.{HasSums, IsLeastSum}
 use Rattle.tree_map.proofs.PlanCovers.{series_most}
-use Rattle.tree_map.proofs.TabledRows.{new_row}
+use Rattle.tree_map.proofs.TabledRows.{AreSumsIn, new_row}
 
 -- the least sum of a pair whose sums are these entries
 own_lowest : (t : SumsData) (place : ℕ) (es : List Entry) → AreSumsIn t place es → (o : Option ℕ) → MatchOption o (HasSums (sum_at t place) → ⊥) (IsLeastSum (sum_at t place)) → o ≡ lowest es

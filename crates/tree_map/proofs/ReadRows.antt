@@ -1,18 +1,13 @@
 -- The numbers of a pair as they stand in its row.
-use Rattle.std.proofs.Common.{◌≡◌, ◌↔◌, inl, inr, refl, sym, ap, subst, ◌∙◌, ℕ, zero, suc, ◌+◌, ◌*◌, ◌-◌, ◌≤◌, ◌<◌, List, [], ◌∷◌, ◌++◌, length, drop, take, Option, Some, None, slice_get, arith}
+use Rattle.std.proofs.Common.{◌≡◌, ◌⊎◌, inl, inr, refl, sym, ap, ◌∙◌, ℕ, zero, suc, ◌+◌, ◌*◌, ◌-◌, ◌<◌, List, [], ◌∷◌, length, drop, take, Option, Some, None, slice_get, arith}
 use Rattle.std.proofs.Math.Nat.{mul-le-mul_right}
 use Rattle.std.proofs.lemmas.Bool.{cases_lt}
 use Rattle.std.proofs.lemmas.Option.{same_Some, slice_get_within}
-use Rattle.gate_decompose.specs.Items.{Among}
-use Rattle.gate_decompose.proofs.Among.{among_either, among_left, among_right}
-use Rattle.tree_map.specs.ArmEntries.{AreReadUpTo}
 use Rattle.cover_plan.specs.Parts.{TreeShape}
 use Rattle.tree_map.specs.CoverRows.{IsShapeIn, row_index}
 use Rattle.tree_map.specs.CoverSums.{SumsData, above_zero, sum_at}
-use Rattle.cover_plan.specs.CoverTables.{Entry}
-use Rattle.tree_map.specs.Offers.{IsBefore}
 use Rattle.tree_map.proofs.HadShapes.{sum_in}
-use Rattle.tree_map.proofs.Rows.{index_in, index_shape}
+use Rattle.tree_map.proofs.Rows.{index_in}
 use Rattle.tree_map.proofs.SumReads.{above_zero-some, shape_had}
 
 -- the numbers of a pair
@@ -30,6 +25,10 @@ part_get : {X : Type 0} (m n k : ℕ) (xs : List X) → k < n → slice_get (tak
 part_get zero n k xs lt = let same : 0 + k ≡ k = omega arith in rw same (front_get n k xs lt)
 part_get (suc m) n k [] lt = front_get n k [] lt
 part_get (suc m) n k (x ∷ xs) lt = let same : suc m + k ≡ suc (m + k) = omega arith in rw same (part_get m n k xs lt)
+
+-- a shape is lower, or of the same height and narrower
+abbrev pub IsBefore : TreeShape → TreeShape → Type 0
+IsBefore a b = (a.height < b.height) ⊎ ((a.height ≡ b.height) × (a.width < b.width))
 
 -- shapes in the order of their places
 pub index_order : (w h : ℕ) (a b : TreeShape) → IsShapeIn w h a → IsShapeIn w h b → row_index w a < row_index w b → IsBefore a b
@@ -62,36 +61,6 @@ module _ (t : SumsData) (place : ℕ) where
   pub row_gives : (s : TreeShape) (n : ℕ) → IsShapeIn t.w t.h s → slice_get (row_of t place) (row_index t.w s) ≡ Some n → 0 < n → sum_at t place s ≡ Some n
   row_gives s n is at some = sum_read s is ∙ sym (above_zero-some (slice_get (row_of t place) (row_index t.w s)) n at some)
 
-  -- the entries of the shapes before a place
-  abbrev pub AreReadBelow : ℕ → List Entry → Type 0
-  AreReadBelow index es = (e : Entry) → Among e es ↔ ((sum_at t place e.shape ≡ Some e.sum) × (row_index t.w e.shape < index))
-
-  pub below_some : (index : ℕ) (es : List Entry) (x : Entry) → AreReadBelow index es → IsShapeIn t.w t.h x.shape → row_index t.w x.shape ≡ index
-      → slice_get (row_of t place) index ≡ Some x.sum → 0 < x.sum → AreReadBelow (index + 1) (es ++ x ∷ [])
-  below_some index es x is in_ here at some e = (there, back)
-    where
-      found : sum_at t place x.shape ≡ Some x.sum
-      found = row_gives x.shape x.sum in_ (ap (slice_get (row_of t place)) here ∙ at) some
-
-      last : Among e (x ∷ []) → (sum_at t place e.shape ≡ Some e.sum) × (row_index t.w e.shape < index + 1)
-      last (inl same) = subst (λ y. (sum_at t place y.shape ≡ Some y.sum) × (row_index t.w y.shape < index + 1)) same (found, omega (arith, here))
-      last (inr none) = absurd none
-
-      there : Among e (es ++ x ∷ []) → (sum_at t place e.shape ≡ Some e.sum) × (row_index t.w e.shape < index + 1)
-      there at = elim (among_either e es (x ∷ []) at) [
-        | inl old ↦ (let p = (is e).0 old in (p.0, omega (arith, p.1)))
-        | inr new ↦ last new
-      ]
-
-      back : (sum_at t place e.shape ≡ Some e.sum) × (row_index t.w e.shape < index + 1) → Among e (es ++ x ∷ [])
-      back p = elim (cases_lt (row_index t.w e.shape) index) [
-        | inl less ↦ among_left e es (x ∷ []) ((is e).1 (p.0, less))
-        | inr le ↦
-            (let same : x.shape ≡ e.shape = index_shape t.w t.h x.shape e.shape in_ (sum_in t place e.shape e.sum p.0) (omega (arith, here, p.1)) in
-            let sums : x.sum ≡ e.sum = same_Some x.sum e.sum (sym found ∙ ap (sum_at t place) same ∙ p.0) in
-            among_right e es (x ∷ []) (inl (λ k. record { shape = same k; sum = sums k })))
-      ]
-
   -- a place whose number is 0 has no shape
   pub none_at : (index : ℕ) (s : TreeShape) (n : ℕ) → slice_get (row_of t place) index ≡ Some 0 → sum_at t place s ≡ Some n → row_index t.w s < index + 1 → row_index t.w s < index
   none_at index s n at e lt = elim (cases_lt (row_index t.w s) index) [
@@ -103,18 +72,6 @@ module _ (t : SumsData) (place : ℕ) where
         absurd (omega (arith, h.1)))
   ]
 
-  pub below_past : (index : ℕ) (es : List Entry) → AreReadBelow index es → slice_get (row_of t place) index ≡ Some 0 → AreReadBelow (index + 1) es
-  below_past index es is at e = (
-    λ in_. let p = (is e).0 in_ in (p.0, omega (arith, p.1)),
-    λ p. (is e).1 (p.0, none_at index e.shape e.sum at p.0 p.1),
-  )
-
   -- each shape stands before the end of the row
   pub within_row : (s : TreeShape) (n : ℕ) → sum_at t place s ≡ Some n → row_index t.w s < length (row_of t place)
   within_row s n e = slice_get_within (row_of t place) (row_index t.w s) n (row_had s n e).0
-
-  pub below_all : (index : ℕ) (es : List Entry) → AreReadBelow index es → length (row_of t place) ≤ index → AreReadUpTo t place t.h 0 es
-  below_all index es is all e = (
-    λ at. let p = (is e).0 at in (p.0, inl (sum_in t place e.shape e.sum p.0).high),
-    λ p. (is e).1 (p.0, omega (arith, within_row e.shape e.sum p.0)),
-  )

@@ -2,7 +2,7 @@
 use Rattle.std.proofs.lemmas.Option.{same_Some, slice_get-get_or, slice_get_within}
 use Rattle.std.proofs.lemmas.Bool.{cases_lt}
 use Rattle.std.proofs.Math.Nat.{mul-le-mul_right}
-use Rattle.std.proofs.Common.{◌≡◌, inl, inr, refl, sym, ap, subst, ◌∙◌, ℕ, zero, suc, ◌+◌, ◌*◌, ◌≤◌, ◌<◌, Bool, true, false, cond, ◌&&◌, List, [], ◌∷◌, ◌++◌, filter_map, length, get_or, option_map, Option, Some, None, slice_get, arith}
+use Rattle.std.proofs.Common.{◌≡◌, ◌↔◌, inl, inr, refl, sym, ap, subst, ◌∙◌, ℕ, zero, suc, ◌+◌, ◌*◌, ◌≤◌, ◌<◌, Bool, true, false, cond, ◌&&◌, List, [], ◌∷◌, ◌++◌, filter_map, length, map, get_or, option_map, Option, Some, None, slice_get, arith}
 use Rattle.std.specs.List.{range_with_len}
 use Rattle.std.proofs.lemmas.List.{length-map}
 use Rattle.std.proofs.lemmas.List.FromFn.{length-range_with_len}
@@ -17,19 +17,43 @@ use Rattle.dual_rail.specs.Forests.{left_arm, right_arm}
 use Rattle.gate_decompose.specs.Items.{Among}
 use Rattle.cover_plan.specs.Covers.{Costs, is_parallel}
 use Rattle.cover_plan.specs.CoverTables.{Entry, arm_entries, best, combined, joined_cost, lower_both, lowest, root_of, shapes, table, table_within}
-use Rattle.cover_plan.specs.Parts.{CoverPart, Operator, TreeShape}
-use Rattle.tree_map.specs.ArmEntries.{AreEntriesOf, AreFreeOf, AreSumsIn, AreTabled, HaveSame, IsTabled}
-use Rattle.tree_map.specs.CoverRows.{AreFewCosts, AreSmall, IsRow, IsShapeIn, cut_number, row_index, sum_or_zero}
-use Rattle.tree_map.specs.CoverSums.{AreCutsOf, AreSumsOf, SumsData, above_zero, cut_at, has_shape, sum_at, sum_index, with_cut, with_row}
+use Rattle.cover_plan.specs.Parts.{CoverPart, Join, Operator, TreeShape}
+use Rattle.tree_map.specs.CoverRows.{AreFewCosts, AreSmall, IsRow, IsShapeIn, cut_number, entry_of, row_index, sum_or_zero}
+use Rattle.tree_map.specs.CoverSums.{AreCutsOf, AreLeastBefore, AreSumsOf, HasLeast, SumsData, above_zero, cut_at, has_shape, sum_at, sum_index, with_cut, with_row}
 use Rattle.tree_map.specs.LeastPlans.{IsPartOf, operator_of}
-use Rattle.tree_map.proofs.ArmEntries.{best_same, combined_same, lowest_same, shape_in}
+use Rattle.tree_map.proofs.ArmEntries.{AreEntriesOf, HaveSame, best_same, combined_same, lowest_same, shape_in}
 use Rattle.tree_map.proofs.HadShapes.{shape_had_in, sum_in}
 use Rattle.cover_plan.proofs.Recurrence.{arm_reached, root_least, shape_some, table_least}
 use Rattle.compound_plan.proofs.PlanParts.{arm_part}
+use Rattle.tree_map.specs.declared.offers.Offer.{Offer}
+use Rattle.tree_map.specs.Offers.{AreFreeOf, AreOffersFor}
+use Rattle.tree_map.proofs.OfferedEntries.{offered_same}
 use Rattle.tree_map.proofs.Rows.{index_in}
 use Rattle.tree_map.proofs.SumBounds.{few_in_arm, some_sum}
 use Rattle.tree_map.proofs.SumReads.{shape_had}
 use Rattle.cover_plan.proofs.Tables.{among_shapes, among_table, best_reached, none_is, table_best}
+
+-- the sums of a pair are these entries
+abbrev pub AreSumsIn : SumsData → ℕ → List Entry → Type 0
+AreSumsIn t place es = (e : Entry) → (sum_at t place e.shape ≡ Some e.sum) ↔ Among e es
+
+-- where they are those of its table, and what it adds where it is cut is a leaf and the cost of its root, all are least
+tabled_least : (t : SumsData) (place : ℕ) → 1 ≤ t.w → 1 ≤ t.h → (op : Operator) (l r : CoverPart) → AreSumsIn t place (table t.costs t.w t.h op l r)
+    → cut_at t place ≡ option_map (λ n. 1 + n) (root_of t.costs t.w t.h op l r) → HasLeast t place (Join op l r)
+tabled_least t place wide tall op l r sums cut = (
+  (λ shape sum.
+      let e : Entry = record { shape = shape; sum = sum } in
+      let in_ = sums e in
+      let least = table_least t.costs t.w t.h wide tall op l r e in
+      (λ s. least.0 (in_.0 s), λ is. in_.1 (least.1 is))),
+  (λ cost.
+      let least = root_least t.costs t.w t.h wide tall op l r cost in
+      (λ s. least.0 (one_less (root_of t.costs t.w t.h op l r) cost (sym cut ∙ s)), λ is. cut ∙ ap (option_map (λ n. 1 + n)) (least.1 is))),
+)
+  where
+    one_less : (o : Option ℕ) (n : ℕ) → option_map (λ n. 1 + n) o ≡ Some (1 + n) → o ≡ Some n
+    one_less None n e = absurd (none_is (1 + n) e)
+    one_less (Some m) n e = let same = same_Some (1 + m) (1 + n) e in ap Some (omega (arith, same))
 
 index_before : (other m k i : ℕ) → other < m → i < k → other * k + i < m * k
 index_before other m k i lt low = let more = mul-le-mul_right {m = other + 1} {n = m} k (omega arith) in omega arith
@@ -70,9 +94,6 @@ module _ (t : SumsData) (row : List ℕ) (m : ℕ) (count : length t.sums ≡ m 
           let b = table_best t.w t.h fs e at in
           sum_new es is e.shape (shape_in t.w t.h e.shape b.0) ∙ same e.shape ∙ b.1
 
-  pub sums_stay : (other : ℕ) → other < m → (es : List Entry) → AreSumsIn t other es → AreSumsIn (with_row t row) other es
-  sums_stay other lt es are e = (λ s. (are e).0 (sym (sum_before other lt e.shape) ∙ s), λ in_. sum_before other lt e.shape ∙ (are e).1 in_)
-
 -- entries that have the same come to the same root
 cut_same : (c : Costs) (w h : ℕ) (op : Operator) (ls rs ms ns : List Entry) → HaveSame ls ms → HaveSame rs ns → cut_number c w h op ls rs ≡ cut_number c w h op ms ns
 cut_same c w h op ls rs ms ns left right =
@@ -94,32 +115,33 @@ module _ (t : SumsData) (row : List ℕ) (cut m : ℕ) (count : length t.sums �
   cut_new : cut_at (with_cut (with_row t row) cut) m ≡ above_zero (Some cut)
   cut_new = ap above_zero (ap (slice_get (t.cuts ++ cut ∷ [])) (sym cuts) ∙ slice_get-push t.cuts cut)
 
-  pub tabled_more : (forest : ForestData) (pair : Pair) (ls rs : List Entry) → AreTabled forest m t → slice_get forest.pairs m ≡ Some pair
+  pub least_more : (forest : ForestData) (pair : Pair) (ls rs : List Entry) → 1 ≤ t.w → 1 ≤ t.h → AreLeastBefore forest m t → slice_get forest.pairs m ≡ Some pair
       → AreEntriesOf t.costs forest t.w t.h (left_arm pair) ls → AreEntriesOf t.costs forest t.w t.h (right_arm pair) rs
       → IsRow t.w t.h (combined t.costs (operator_of pair) ls rs) row → cut ≡ cut_number t.costs t.w t.h (operator_of pair) ls rs
-      → AreTabled forest (m + 1) (with_cut (with_row t row) cut)
-  tabled_more forest pair ls rs tabled here left right is cut_is other x l r lt at dl dr = elim (cases_lt other m) [
+      → AreLeastBefore forest (m + 1) (with_cut (with_row t row) cut)
+  least_more forest pair ls rs wide tall least here left right is cut_is other x l r lt at dl dr = elim (cases_lt other m) [
     | inl before ↦
-        (let old = tabled other x l r before at dl dr in
-        (sums_stay t row m count other before (table t.costs t.w t.h (operator_of x) l r) old.0, cut_before other before ∙ old.1))
+        (let old = least other x l r before at dl dr in (
+          λ shape sum. let same = sum_before t row m count other before shape in (λ s. (old.0 shape sum).0 (sym same ∙ s), λ k. same ∙ (old.0 shape sum).1 k),
+          λ cost. let same = cut_before other before in (λ s. (old.1 cost).0 (sym same ∙ s), λ k. same ∙ (old.1 cost).1 k),
+        ))
     | inr past ↦
-        (let last : other ≡ m = omega arith in
+        (let last : other ≡ m = omega (arith, lt, past) in
         let pair_is : x ≡ pair = same_Some x pair (sym at ∙ ap (slice_get forest.pairs) last ∙ here) in
         let same_left = left l (subst (λ p. IsPartOf forest (left_arm p) l) pair_is dl) in
         let same_right = right r (subst (λ p. IsPartOf forest (right_arm p) r) pair_is dr) in
-        subst (λ p. IsTabled (with_cut (with_row t row) cut) p (operator_of x) l r) (sym last)
-        (subst (λ op. IsTabled (with_cut (with_row t row) cut) m op l r) (sym (ap operator_of pair_is)) (own l r same_left same_right)))
+        subst (λ p. HasLeast (with_cut (with_row t row) cut) p (Join (operator_of x) l r)) (sym last)
+        (subst (λ op. HasLeast (with_cut (with_row t row) cut) m (Join op l r)) (sym (ap operator_of pair_is)) (own l r same_left same_right)))
   ]
     where
-      own : (l r : CoverPart) → HaveSame ls (arm_entries t.costs t.w t.h l) → HaveSame rs (arm_entries t.costs t.w t.h r) → IsTabled (with_cut (with_row t row) cut) m (operator_of pair) l r
-      own l r same_left same_right = (
-        new_row t row m count (combined t.costs (operator_of pair) ls rs) (combined t.costs (operator_of pair) (arm_entries t.costs t.w t.h l) (arm_entries t.costs t.w t.h r)) is
-            (best_same (combined t.costs (operator_of pair) ls rs) (combined t.costs (operator_of pair) (arm_entries t.costs t.w t.h l) (arm_entries t.costs t.w t.h r))
-            (combined_same t.costs (operator_of pair) ls rs (arm_entries t.costs t.w t.h l) (arm_entries t.costs t.w t.h r) same_left same_right)),
-        cut_new
-            ∙ ap (λ n. above_zero (Some n)) (cut_is ∙ cut_same t.costs t.w t.h (operator_of pair) ls rs (arm_entries t.costs t.w t.h l) (arm_entries t.costs t.w t.h r) same_left same_right)
-            ∙ read_cut (root_of t.costs t.w t.h (operator_of pair) l r),
-      )
+      own : (l r : CoverPart) → HaveSame ls (arm_entries t.costs t.w t.h l) → HaveSame rs (arm_entries t.costs t.w t.h r) → HasLeast (with_cut (with_row t row) cut) m (Join (operator_of pair) l r)
+      own l r same_left same_right =
+          let ms = arm_entries t.costs t.w t.h l in
+          let ns = arm_entries t.costs t.w t.h r in
+          tabled_least (with_cut (with_row t row) cut) m wide tall (operator_of pair) l r
+          (new_row t row m count (combined t.costs (operator_of pair) ls rs) (combined t.costs (operator_of pair) ms ns) is
+          (best_same (combined t.costs (operator_of pair) ls rs) (combined t.costs (operator_of pair) ms ns) (combined_same t.costs (operator_of pair) ls rs ms ns same_left same_right)))
+          (cut_new ∙ ap (λ n. above_zero (Some n)) (cut_is ∙ cut_same t.costs t.w t.h (operator_of pair) ls rs ms ns same_left same_right) ∙ read_cut (root_of t.costs t.w t.h (operator_of pair) l r))
 
 module _ (forest : ForestData) (order : AreInOrder forest.pairs) where
   part_there : (m : ℕ) (arm : Arm) → ReadsBefore m arm → m ≤ length forest.pairs → (part : CoverPart) × IsPartOf forest arm part
@@ -145,26 +167,15 @@ module _ (forest : ForestData) (order : AreInOrder forest.pairs) where
         few = omega (arith, most, r.4, few);
       }
 
-  -- the sums of all pairs are the least, and so is what they add where they are cut
-  pub all_tabled : (t : SumsData) → 1 ≤ t.w → 1 ≤ t.h → AreTabled forest (length forest.pairs) t → AreSumsOf forest t × AreCutsOf forest t
-  all_tabled t wide tall tabled = (
-    (λ place pair l r at dl dr shape sum.
-        let e : Entry = record { shape = shape; sum = sum } in
-        let in_ = (tabled place pair l r (slice_get_within forest.pairs place pair at) at dl dr).0 e in
-        let least = table_least t.costs t.w t.h wide tall (operator_of pair) l r e in
-        (λ s. least.0 (in_.0 s), λ is. in_.1 (least.1 is))),
-    (λ place pair l r at dl dr cost.
-        let in_ = (tabled place pair l r (slice_get_within forest.pairs place pair at) at dl dr).1 in
-        let least = root_least t.costs t.w t.h wide tall (operator_of pair) l r cost in
-        (λ s. least.0 (one_less (root_of t.costs t.w t.h (operator_of pair) l r) cost (sym in_ ∙ s)), λ is. in_ ∙ ap (option_map (λ n. 1 + n)) (least.1 is))),
-  )
-    where
-      one_less : (o : Option ℕ) (n : ℕ) → option_map (λ n. 1 + n) o ≡ Some (1 + n) → o ≡ Some n
-      one_less None n e = absurd (none_is (1 + n) e)
-      one_less (Some m) n e = let same = same_Some (1 + m) (1 + n) e in ap Some (omega (arith, same))
+-- the sums of all pairs are the least, and so is what they add where they are cut
+pub all_least : (forest : ForestData) (t : SumsData) → AreLeastBefore forest (length forest.pairs) t → AreSumsOf forest t × AreCutsOf forest t
+all_least forest t least = (
+  (λ place pair l r at dl dr. (least place pair l r (slice_get_within forest.pairs place pair at) at dl dr).0),
+  (λ place pair l r at dl dr. (least place pair l r (slice_get_within forest.pairs place pair at) at dl dr).1),
+)
 
-pub none_tabled : (forest : ForestData) (t : SumsData) → AreTabled forest 0 t
-none_tabled forest t other pair l r lt = absurd (omega arith)
+pub none_least : (forest : ForestData) (t : SumsData) → AreLeastBefore forest 0 t
+none_least forest t other pair l r lt = absurd (omega arith)
 
 -- the row of a pair at the costs and the bounds of the sums
 pub row_at : (c : Costs) (t : SumsData) (w h : ℕ) (op : Operator) (ls rs ms ns : List Entry) (row : List ℕ) → t.costs ≡ c → t.w ≡ w → t.h ≡ h → ls ≡ ms → rs ≡ ns
@@ -184,12 +195,12 @@ pub record IsTurn (forest : ForestData) (w h m : ℕ) (t : SumsData) (arms : Arm
   pub here : slice_get forest.pairs m ≡ Some pair
   pub left : arms.0 ≡ left_arm pair
   pub right : arms.1 ≡ right_arm pair
-  pub tabled : AreTabled forest m t
+  pub least : AreLeastBefore forest m t
 
 pub turn_of : (forest : ForestData) (items : List Pair) (d : Pair) (w h m : ℕ) (t : SumsData) (arms : Arm × Arm) → IsForest forest → items ≡ forest.pairs → m < length items
-    → (2 ≤ w) × (w ≤ 8) → (2 ≤ h) × (h ≤ 6) → t.w ≡ w → t.h ≡ h → AreTabled forest m t → arms.0 ≡ left_arm (get_or items m d) → arms.1 ≡ right_arm (get_or items m d)
+    → (2 ≤ w) × (w ≤ 8) → (2 ≤ h) × (h ≤ 6) → t.w ≡ w → t.h ≡ h → AreLeastBefore forest m t → arms.0 ≡ left_arm (get_or items m d) → arms.1 ≡ right_arm (get_or items m d)
     → IsTurn forest w h m t arms (get_or items m d)
-turn_of forest items d w h m t arms is same lt width height t_w t_h tabled left right = record {
+turn_of forest items d w h m t arms is same lt width height t_w t_h least left right = record {
   is = is;
   wide = width.0;
   broad = width.1;
@@ -200,7 +211,7 @@ turn_of forest items d w h m t arms is same lt width height t_w t_h tabled left 
   here = subst (λ xs. slice_get xs m ≡ Some (get_or items m d)) same (slice_get-get_or items m d lt);
   left = left;
   right = right;
-  tabled = tabled;
+  least = least;
 }
 
 module _ (forest : ForestData) (w h m : ℕ) (t : SumsData) (arms : Arm × Arm) (pair : Pair) (turn : IsTurn forest w h m t arms pair) where
@@ -233,24 +244,27 @@ module _ (forest : ForestData) (w h m : ℕ) (t : SumsData) (arms : Arm × Arm) 
   tall_t : 1 ≤ t.h
   tall_t = omega (arith, turn.tall, turn.height)
 
-  -- the entries of its arms, as they are read for any forest
-  abbrev pub Read : List Bool → Arm → List Entry → Type 0
-  Read free arm es = (f : ForestData) (place : ℕ) → AreFreeOf f free → ReadsBefore place arm → AreTabled f place t → AreEntriesOf t.costs f t.w t.h arm es
+  module _ (free : List Bool) (are : AreFreeOf forest free) (lefts rights : List Offer) (for_left : AreOffersFor t free (arms.0) lefts) (for_right : AreOffersFor t free (arms.1) rights) where
+    -- what is offered for its arms are their entries
+    left_entries : AreEntriesOf t.costs forest t.w t.h (arms.0) (map entry_of lefts)
+    left_entries part is = offered_same t.costs t.w t.h wide_t tall_t part lefts (for_left forest m part are reads.0 turn.least is)
 
-  module _ (free : List Bool) (are : AreFreeOf forest free) (ls rs : List Entry) (read_left : Read free (arms.0) ls) (read_right : Read free (arms.1) rs) where
-    pub turn_small : AreFewCosts t.costs → AreSmall ls × AreSmall rs
+    right_entries : AreEntriesOf t.costs forest t.w t.h (arms.1) (map entry_of rights)
+    right_entries part is = offered_same t.costs t.w t.h wide_t tall_t part rights (for_right forest m part are reads.1 turn.least is)
+
+    pub turn_small : AreFewCosts t.costs → AreSmall (map entry_of lefts) × AreSmall (map entry_of rights)
     turn_small costs =
         let inside = within in
-        let le : m ≤ length forest.pairs = omega arith in
+        let le : m ≤ length forest.pairs = omega (arith, inside) in
         let broad : t.w ≤ 8 = omega (arith, turn.broad, turn.width) in
         let high : t.h ≤ 6 = omega (arith, turn.high, turn.height) in (
-          entries_small forest order t.costs costs m t.w t.h (arms.0) ls wide_t tall_t broad high few le reads.0 (read_left forest m are reads.0 turn.tabled),
-          entries_small forest order t.costs costs m t.w t.h (arms.1) rs wide_t tall_t broad high few le reads.1 (read_right forest m are reads.1 turn.tabled),
+          entries_small forest order t.costs costs m t.w t.h (arms.0) (map entry_of lefts) wide_t tall_t broad high few le reads.0 left_entries,
+          entries_small forest order t.costs costs m t.w t.h (arms.1) (map entry_of rights) wide_t tall_t broad high few le reads.1 right_entries,
         )
 
-    pub turn_tabled : (row : List ℕ) → length t.sums ≡ m * (t.w * t.h) → length t.cuts ≡ m → IsRow t.w t.h (combined t.costs (operator_of pair) ls rs) row
-        → AreTabled forest (m + 1) (with_cut (with_row t row) (cut_number t.costs t.w t.h (operator_of pair) ls rs))
-    turn_tabled row count cuts is =
-        tabled_more t row (cut_number t.costs t.w t.h (operator_of pair) ls rs) m count cuts forest pair ls rs turn.tabled turn.here
-        (subst (λ a. AreEntriesOf t.costs forest t.w t.h a ls) turn.left (read_left forest m are reads.0 turn.tabled))
-        (subst (λ a. AreEntriesOf t.costs forest t.w t.h a rs) turn.right (read_right forest m are reads.1 turn.tabled)) is refl
+    pub turn_least : (row : List ℕ) → length t.sums ≡ m * (t.w * t.h) → length t.cuts ≡ m → IsRow t.w t.h (combined t.costs (operator_of pair) (map entry_of lefts) (map entry_of rights)) row
+        → AreLeastBefore forest (m + 1) (with_cut (with_row t row) (cut_number t.costs t.w t.h (operator_of pair) (map entry_of lefts) (map entry_of rights)))
+    turn_least row count cuts is =
+        least_more t row (cut_number t.costs t.w t.h (operator_of pair) (map entry_of lefts) (map entry_of rights)) m count cuts forest pair (map entry_of lefts) (map entry_of rights) wide_t tall_t
+        turn.least turn.here (subst (λ a. AreEntriesOf t.costs forest t.w t.h a (map entry_of lefts)) turn.left left_entries)
+        (subst (λ a. AreEntriesOf t.costs forest t.w t.h a (map entry_of rights)) turn.right right_entries) is refl

@@ -1,14 +1,14 @@
 -- Rows of sums: for each shape within the bounds the least sum that some entries have in this shape.
 use Rattle.std.specs.Prelude.{ℕ, ◌+◌, ◌*◌, ◌-◌, ◌^◌, ◌≤◌, ◌≡◌, List, length, Option, None, Some, option_map, slice_get}
 use Rattle.gate_decompose.specs.Items.{Among}
-use Rattle.tree_map.specs.declared.shape_sum.ShapeSum.{ShapeSum}
+use Rattle.tree_map.specs.declared.offers.Offer.{Offer}
 use Rattle.cover_plan.specs.Covers.{Costs, joined_sum}
 use Rattle.cover_plan.specs.CoverTables.{Entry, best, combined, root_cost, table_within}
 use Rattle.cover_plan.specs.Parts.{Operator, TreeShape, joined_shape}
 
--- an entry as code has it
-abbrev pub entry_of : ShapeSum → Entry
-entry_of e = record { shape = record { height = e.height; width = e.width }; sum = e.sum }
+-- the shape and the sum that an offer gives
+abbrev pub entry_of : Offer → Entry
+entry_of o = record { shape = o.shape; sum = o.sum }
 
 -- what two entries come to under an operator
 abbrev pub joined_entry : Costs → Operator → Entry → Entry → Entry

@@ -1,5 +1,5 @@
 -- The least sums of the parts below the pairs of a forest, and what each pair adds where it is cut, as lists of numbers.
-use Rattle.std.specs.Prelude.{ℕ, zero, suc, ◌+◌, ◌*◌, ◌-◌, nat_le, ◌&&◌, ◌≡◌, ◌↔◌, ◌++◌, [], ◌∷◌, Bool, cond, List, Option, None, Some, slice_get}
+use Rattle.std.specs.Prelude.{ℕ, zero, suc, ◌+◌, ◌*◌, ◌-◌, ◌<◌, nat_le, ◌&&◌, ◌≡◌, ◌↔◌, ◌++◌, [], ◌∷◌, Bool, cond, List, Option, None, Some, slice_get}
 use Rattle.cover_plan.specs.Covers.{Costs, IsLeast, IsLeastRoot}
 use Rattle.cover_plan.specs.Parts.{CoverPart, Join, TreeShape}
 use Rattle.dual_rail.specs.declared.forest.Pair.{Pair}
@@ -45,16 +45,31 @@ sum_at t place shape = cond (has_shape t shape) (above_zero (slice_get t.sums (s
 abbrev pub cut_at : SumsData → ℕ → Option ℕ
 cut_at t place = above_zero (slice_get t.cuts place)
 
--- the sums of a forest: those of each pair are the least sums of the part below it, shape by shape
+-- the sums of a pair are the least sums of the part below it, shape by shape
+abbrev pub HasLeastSums : SumsData → ℕ → CoverPart → Type 0
+HasLeastSums t place part = (shape : TreeShape) (sum : ℕ) → (sum_at t place shape ≡ Some sum) ↔ IsLeast t.costs t.w t.h part shape sum
+
+-- and where it is cut it adds a leaf and the least cost that it has as a root
+abbrev pub HasLeastCut : SumsData → ℕ → CoverPart → Type 0
+HasLeastCut t place part = (cost : ℕ) → (cut_at t place ≡ Some (1 + cost)) ↔ IsLeastRoot t.costs t.w t.h part cost
+
+abbrev pub HasLeast : SumsData → ℕ → CoverPart → Type 0
+HasLeast t place part = HasLeastSums t place part × HasLeastCut t place part
+
+-- so it is of each pair before a place
+abbrev pub AreLeastBefore : ForestData → ℕ → SumsData → Type 0
+AreLeastBefore forest place t =
+    (other : ℕ) (pair : Pair) (l r : CoverPart) → other < place → slice_get forest.pairs other ≡ Some pair
+    → IsPartOf forest (left_arm pair) l → IsPartOf forest (right_arm pair) r → HasLeast t other (Join (operator_of pair) l r)
+
+-- the sums of a forest: those of each pair are least
 abbrev pub AreSumsOf : ForestData → SumsData → Type 0
 AreSumsOf forest t =
     (place : ℕ) (pair : Pair) (l r : CoverPart) → slice_get forest.pairs place ≡ Some pair
-    → IsPartOf forest (left_arm pair) l → IsPartOf forest (right_arm pair) r
-    → (shape : TreeShape) (sum : ℕ) → (sum_at t place shape ≡ Some sum) ↔ IsLeast t.costs t.w t.h (Join (operator_of pair) l r) shape sum
+    → IsPartOf forest (left_arm pair) l → IsPartOf forest (right_arm pair) r → HasLeastSums t place (Join (operator_of pair) l r)
 
--- and each pair that is cut adds a leaf and the least cost that it has as a root
+-- and so is what each pair adds where it is cut
 abbrev pub AreCutsOf : ForestData → SumsData → Type 0
 AreCutsOf forest t =
     (place : ℕ) (pair : Pair) (l r : CoverPart) → slice_get forest.pairs place ≡ Some pair
-    → IsPartOf forest (left_arm pair) l → IsPartOf forest (right_arm pair) r
-    → (cost : ℕ) → (cut_at t place ≡ Some (1 + cost)) ↔ IsLeastRoot t.costs t.w t.h (Join (operator_of pair) l r) cost
+    → IsPartOf forest (left_arm pair) l → IsPartOf forest (right_arm pair) r → HasLeastCut t place (Join (operator_of pair) l r)

@@ -1,4 +1,3 @@
-pub mod ArmEntries
 pub mod Bounds
 pub mod CompoundCover
 pub mod CoverRows

@@ -1,13 +1,8 @@
 //! Offers for an arm: its choices in order, with the shape and the sum that each gives.
-ghost use Rattle.std.specs.Prelude.{◌+◌, ◌^◌, ◌≤◌, ◌<◌, ◌≡◌, MatchOption, OnOk, Some, false, length, map, true};
-ghost use Rattle.std.specs.List.{range_with_len};
-ghost use Rattle.dual_rail.specs.ForestData.{ForestData};
-ghost use Rattle.cover_plan.specs.Parts.{CoverPart};
-ghost use Rattle.tree_map.specs.CoverSums.{AreCutsOf, AreSumsOf, sum_at};
-ghost use Rattle.tree_map.specs.LeastPlans.{IsPartOf};
+ghost use Rattle.std.specs.Prelude.{◌≤◌, ◌<◌, ◌≡◌, MatchOption, OnOk, Some, false, length, true};
 ghost use Rattle.dual_rail.specs.ForestOrder.{ReadsBefore};
-ghost use Rattle.tree_map.specs.Offers.{AreKeptBefore, AreOffers, HasNoFreePair, HasSums, IsFirstShape, IsFreePair};
-ghost use Rattle.tree_map.specs.Plans.{is_free};
+ghost use Rattle.tree_map.specs.CoverSums.{sum_at};
+ghost use Rattle.tree_map.specs.Offers.{AreKept, AreOffersFor, HasSums, IsFirstShape};
 
 use crate::free::free_pair;
 use crate::shape::{LEAF, Shape};
@@ -30,7 +25,7 @@ pub(crate) enum Choice {
 pub(crate) struct Offer {
     pub choice: Choice,
     pub shape: Shape,
-    pub sum: u64,
+    pub sum: u32,
 }
 
 /// The one offer for an arm without a free edge: the arm is a leaf.
@@ -40,18 +35,10 @@ const NOTHING: Offer = Offer {
     sum: 1,
 };
 
-/// A sum as a number that has room for further sums.
-fn roomy(sum: u32) -> u64
-    ensures same { result ≡ sum }
-    ensures small { result < 2 ^ 32 }
-{
-    u64::from(sum)
-}
-
 /// Puts the offers to keep a pair in place of these, by rising height, and those of one height by
 /// rising width.
 fn kept_offers(sums: &Sums, place: usize, offers: &mut Vec<Offer>) -> Result<(), OutOfMemory>
-    ensures { OnOk result (AreKeptBefore (sum_at sums.now place) (record { height = sums.now.h + 1; width = 1 }) offers.new.items) }
+    ensures { OnOk result (AreKept (sum_at sums.now place) offers.new.items) }
 {
     offers.clear();
     let bounds = sums.bounds();
@@ -63,7 +50,7 @@ fn kept_offers(sums: &Sums, place: usize, offers: &mut Vec<Offer>) -> Result<(),
             offers.push(Offer {
                 choice: Choice::Keep(shape),
                 shape,
-                sum: roomy(sum),
+                sum,
             })?;
         }
     }
@@ -111,12 +98,8 @@ pub(crate) fn offers_of(
     arm: Arm,
     offers: &mut Vec<Offer>,
 ) -> Result<(), OutOfMemory>
-    requires width { 1 ≤ sums.now.w }
-    requires height { 1 ≤ sums.now.h }
     requires there { ReadsBefore (length free.now) arm }
-    ensures { OnOk result ((forest : ForestData) (part : CoverPart) → AreSumsOf forest sums.now → AreCutsOf forest sums.now
-        → free.now ≡ map (is_free forest) (range_with_len 0 (length forest.pairs)) → IsPartOf forest arm part
-        → AreOffers sums.now.costs sums.now.w sums.now.h part offers.new.items) }
+    ensures { OnOk result (AreOffersFor sums.now free.now arm offers.new.items) }
 {
     let Some(place) = free_pair(free, arm) else {
         offers.clear();
@@ -128,7 +111,7 @@ pub(crate) fn offers_of(
         let cut = Offer {
             choice: Choice::CutOff,
             shape: LEAF,
-            sum: roomy(sum),
+            sum,
         };
         offers.push(cut)?;
     }

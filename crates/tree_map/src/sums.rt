@@ -1,20 +1,10 @@
 //! The least sums of the parts below the pairs of a forest, joined up pair by pair (Zhao, Sapatnekar 1998).
-ghost use Rattle.std.specs.Prelude.{ℕ, ◌≡◌, ◌≤◌, ◌<◌, ◌*◌, ◌^◌, [], IfOk, OnOk, drop, length, map, take};
-ghost use Rattle.cover_plan.specs.CoverTables.{arm_entries};
-ghost use Rattle.cover_plan.specs.Parts.{CoverPart, Join, Operator};
-ghost use Rattle.dual_rail.specs.ForestData.{ForestData};
-ghost use Rattle.dual_rail.specs.ForestOrder.{ReadsBefore};
-ghost use Rattle.tree_map.specs.ArmEntries.{AreEntriesOf, AreFreeOf, AreReadUpTo, AreTabled, HaveSame, IsTabled};
-ghost use Rattle.tree_map.specs.CoverRows.{entry_of};
+ghost use Rattle.std.specs.Prelude.{◌≡◌, ◌≤◌, ◌<◌, ◌*◌, ◌^◌, [], IfOk, OnOk, drop, length, take};
 ghost use Rattle.tree_map.specs.CoverSums.{cut_at, sum_at, with_cut, with_row};
 
 use crate::Bounds;
 use crate::cost::Costs;
-use crate::free::free_pair;
-use crate::shape::Shape;
-use crate::shape_sum::ShapeSum;
 use dom_base::OutOfMemory;
-use dual_rail::Arm;
 use std::alloc::Global;
 use std::marker::Model;
 
@@ -104,71 +94,12 @@ impl Sums {
         &rest[..count.min(rest.len())]
     }
 
-    /// Puts the shapes that a pair can have, with their sums, in place of these entries.
-    fn read_entries(&self, place: usize, entries: &mut Vec<ShapeSum>) -> Result<(), OutOfMemory>
-        ensures { OnOk result (AreReadUpTo self.now place self.now.h 0 (map entry_of entries.new.items)) }
-    {
-        entries.clear();
-        let bounds = self.bounds();
-        let row = self.row(place);
-        for index in 0..row.len() {
-            let sum = row[index];
-            if sum != 0 {
-                let Shape { height, width } = Shape::at(bounds, index);
-                entries.push(ShapeSum { height, width, sum })?;
-            }
-        }
-        Ok(())
-    }
-
     /// What a pair adds to the tree above it where it is cut, where it can be.
     pub(crate) fn cut(&self, place: usize) -> Option<u32>
         ensures { result ≡ cut_at self.now place }
     {
         let cut = *self.cuts.get(place)?;
         if cut == 0 { None } else { Some(cut) }
-    }
-
-    /// Puts what a free edge to this pair can have in place of these entries: the pair in each of its
-    /// shapes, or a leaf that stands for the pair, where it is cut at its least cost.
-    fn pair_entries(&self, place: usize, entries: &mut Vec<ShapeSum>) -> Result<(), OutOfMemory>
-        ensures { OnOk result ((op : Operator) (l r : CoverPart) → IsTabled self.now place op l r
-            → HaveSame (map entry_of entries.new.items) (arm_entries self.now.costs self.now.w self.now.h (Join op l r))) }
-    {
-        self.read_entries(place, entries)?;
-        if let Some(sum) = self.cut(place) {
-            entries.push(ShapeSum {
-                height: 1,
-                width: 1,
-                sum,
-            })?;
-        }
-        Ok(())
-    }
-
-    /// Puts what an arm can have in place of these entries: a leaf, or the entries of its pair where
-    /// the edge to it is free.
-    pub(crate) fn arm_entries(
-        &self,
-        free: &[bool],
-        arm: Arm,
-        entries: &mut Vec<ShapeSum>,
-    ) -> Result<(), OutOfMemory>
-        requires there { ReadsBefore (length free.now) arm }
-        ensures { OnOk result ((forest : ForestData) (place : ℕ) → AreFreeOf forest free.now → ReadsBefore place arm
-            → AreTabled forest place self.now
-            → AreEntriesOf self.now.costs forest self.now.w self.now.h arm (map entry_of entries.new.items)) }
-    {
-        let Some(place) = free_pair(free, arm) else {
-            entries.clear();
-            entries.push(ShapeSum {
-                height: 1,
-                width: 1,
-                sum: 1,
-            })?;
-            return Ok(());
-        };
-        self.pair_entries(place, entries)
     }
 
     /// How many pairs have their sums.

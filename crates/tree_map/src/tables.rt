@@ -10,42 +10,42 @@ ghost use Rattle.tree_map.specs.Plans.{is_free};
 
 use crate::Bounds;
 use crate::cost::Costs;
-use crate::offers::root_of;
-use crate::shape_sum::{ShapeSum, cheapest, join_arms, lesser};
+use crate::joins::{cheapest, join_arms, lesser};
+use crate::offers::{Offer, offers_of, root_of};
 use crate::sums::Sums;
 use dom_base::OutOfMemory;
 use dual_rail::{Forest, Pair};
 use std::alloc::Global;
 
-/// What a pair costs as a compound root, from the entries of its arms, where it may be one.
-fn split_sum(costs: Costs, pair: Pair, left: &[ShapeSum], right: &[ShapeSum]) -> Option<u32>
+/// What a pair costs as a compound root, from the offers for its arms, where it may be one.
+fn split_sum(costs: Costs, pair: Pair, lefts: &[Offer], rights: &[Offer]) -> Option<u32>
     requires costs { AreFewCosts costs }
-    requires left { AreSmall (map entry_of left.now) }
-    requires right { AreSmall (map entry_of right.now) }
-    ensures cost { result ≡ split_cost costs (operator_of pair) (map entry_of left.now) (map entry_of right.now) }
+    requires lefts { AreSmall (map entry_of lefts.now) }
+    requires rights { AreSmall (map entry_of rights.now) }
+    ensures cost { result ≡ split_cost costs (operator_of pair) (map entry_of lefts.now) (map entry_of rights.now) }
     ensures few { IfSome result (λ sum. sum ≤ 2 ^ 31 + 10) }
 {
     if !costs.may_split(pair) {
         return None;
     }
-    Some(cheapest(left)? + cheapest(right)? + costs.compound)
+    Some(cheapest(lefts)? + cheapest(rights)? + costs.compound)
 }
 
-/// What a pair adds to the tree above it where it is cut, from its own least sum and from the entries of its arms:
+/// What a pair adds to the tree above it where it is cut, from its own least sum and from the offers for its arms:
 /// a leaf, and its least cost as a root. It is 0 where it can be none.
-fn cut_of(costs: Costs, pair: Pair, own: Option<u32>, left: &[ShapeSum], right: &[ShapeSum]) -> u32
+fn cut_of(costs: Costs, pair: Pair, own: Option<u32>, lefts: &[Offer], rights: &[Offer]) -> u32
     requires costs { AreFewCosts costs }
     requires own { IfSome own (λ sum. sum ≤ 2 ^ 31 + 10) }
-    requires left { AreSmall (map entry_of left.now) }
-    requires right { AreSmall (map entry_of right.now) }
+    requires lefts { AreSmall (map entry_of lefts.now) }
+    requires rights { AreSmall (map entry_of rights.now) }
     ensures { result ≡ sum_or_zero (option_map (λ n. 1 + n) (lower_both (option_map (λ n. n + costs.simple) own)
-        (split_cost costs (operator_of pair) (map entry_of left.now) (map entry_of right.now)))) }
+        (split_cost costs (operator_of pair) (map entry_of lefts.now) (map entry_of rights.now)))) }
 {
     let simple = match own {
         Some(sum) => sum + (1 + costs.simple),
         None => 0,
     };
-    match split_sum(costs, pair, left, right) {
+    match split_sum(costs, pair, lefts, rights) {
         Some(sum) => lesser(simple, 1 + sum),
         None => simple,
     }
@@ -61,29 +61,29 @@ fn least_sum(table: &Sums, place: usize) -> Option<u32>
     }
 }
 
-/// Appends the sums of one more pair, and what it adds where it is cut, from the entries of its arms.
+/// Appends the sums of one more pair, and what it adds where it is cut, from the offers for its arms.
 fn push_pair(
     table: &mut Sums,
     pair: Pair,
     row: &[u32],
-    left: &[ShapeSum],
-    right: &[ShapeSum],
+    lefts: &[Offer],
+    rights: &[Offer],
 ) -> Result<(), OutOfMemory>
     requires costs { AreFewCosts table.old.costs }
     requires width { (1 ≤ table.old.w) × (table.old.w ≤ 8) }
     requires height { (1 ≤ table.old.h) × (table.old.h ≤ 6) }
     requires count { length table.old.sums ≡ length table.old.cuts * (table.old.w * table.old.h) }
-    requires left { AreSmall (map entry_of left.now) }
-    requires right { AreSmall (map entry_of right.now) }
+    requires lefts { AreSmall (map entry_of lefts.now) }
+    requires rights { AreSmall (map entry_of rights.now) }
     requires row { IsRow table.old.w table.old.h
-        (combined table.old.costs (operator_of pair) (map entry_of left.now) (map entry_of right.now)) row.now }
+        (combined table.old.costs (operator_of pair) (map entry_of lefts.now) (map entry_of rights.now)) row.now }
     ensures { OnOk result (table.new ≡ with_cut (with_row table.old row.now)
-        (cut_number table.old.costs table.old.w table.old.h (operator_of pair) (map entry_of left.now) (map entry_of right.now))) }
+        (cut_number table.old.costs table.old.w table.old.h (operator_of pair) (map entry_of lefts.now) (map entry_of rights.now))) }
 {
     let place = table.count();
     table.push_row(row)?;
     let own = least_sum(table, place);
-    let cut = cut_of(table.costs(), pair, own, left, right);
+    let cut = cut_of(table.costs(), pair, own, lefts, rights);
     table.push_cut(cut)
 }
 
@@ -111,14 +111,14 @@ pub(crate) fn sums_of(
     let mut table = Sums::none(alloc, bounds, costs, forest.pairs.len())?;
     let mut numbers = vec![in alloc; 0; shapes]?;
     let row = numbers.as_mut_slice();
-    let mut left_entries = Vec::new(alloc);
-    let mut right_entries = Vec::new(alloc);
+    let mut lefts = Vec::new(alloc);
+    let mut rights = Vec::new(alloc);
     for pair in &forest.pairs {
         let (left, right) = pair.arms();
-        table.arm_entries(free, left, &mut left_entries)?;
-        table.arm_entries(free, right, &mut right_entries)?;
-        join_arms(row, bounds, costs, *pair, &left_entries, &right_entries);
-        push_pair(&mut table, *pair, row, &left_entries, &right_entries)?;
+        offers_of(&table, free, left, &mut lefts)?;
+        offers_of(&table, free, right, &mut rights)?;
+        join_arms(row, bounds, costs, *pair, &lefts, &rights);
+        push_pair(&mut table, *pair, row, &lefts, &rights)?;
     }
     Ok(table)
 }

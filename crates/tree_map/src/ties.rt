@@ -22,7 +22,7 @@ use std::alloc::Global;
 struct Wanted {
     pair: Pair,
     shape: Shape,
-    sum: u64,
+    sum: u32,
 }
 
 impl Wanted {
@@ -168,7 +168,7 @@ fn decision_of(
     let wanted = Wanted {
         pair,
         shape,
-        sum: u64::from(sum - sums.costs().node(pair)),
+        sum: sum - sums.costs().node(pair),
     };
     let (left, right) = wanted.first_choices(split, lefts.as_slice(), rights.as_slice());
     Ok(Decision {

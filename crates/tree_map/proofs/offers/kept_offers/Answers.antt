@@ -20,7 +20,7 @@ loop-index-preserved c =
           let here : row_index t.w w.at-shape.result ≡ k = rw c.bounds-bounds.ensures.width at w.at-shape.ensures.index in
           let some : 0 < sum = omega (arith, w.if-sum-ne0.true) in
           subst (AreKeptBelow t c.args.place (k + 1)) (sym (ap (λ (v : _). v.items) w.offers-is ∙ w.in_ok-push.ensures.items))
-          (kept_push t c.args.place k c.loop-index.offers.items c.loop-index.invariant _ refl in_ here (at ∙ ap Some (sym w.roomy.ensures.same)) (omega (arith, some, w.roomy.ensures.same))))
+          (kept_push t c.args.place k c.loop-index.offers.items c.loop-index.invariant _ refl in_ here at some))
       | else-sum-ne0 w ↦
           (let none : sum ≡ 0 = omega (arith, w.if-sum-ne0.false) in
           subst (AreKeptBelow t c.args.place (k + 1)) (sym (ap (λ (v : _). v.items) w.offers-is))

@@ -2,86 +2,85 @@ use Rattle.std.proofs.Common.{◌≡◌, sym, ap, ap₂, subst, ◌∙◌, ◌+�
 use Rattle.std.proofs.lemmas.List.{length-append}
 use Rattle.dual_rail.specs.ForestData.{ForestData}
 use Rattle.dual_rail.specs.ForestOrder.{IsForest}
-use Rattle.tree_map.specs.ArmEntries.{AreTabled}
 use Rattle.tree_map.specs.CoverRows.{AreFewCosts, AreSmall, entry_of}
-use Rattle.tree_map.specs.CoverSums.{SumsData}
-use Rattle.tree_map.proofs.TabledRows.{all_tabled, row_at, turn_of, turn_small, turn_tabled, turn_there}
+use Rattle.tree_map.specs.CoverSums.{AreLeastBefore, SumsData}
+use Rattle.tree_map.proofs.TabledRows.{all_least, row_at, turn_least, turn_of, turn_small, turn_there}
 use Rattle.tree_map.proofs.tables.sums_of.Goals as goal
 
 more : (m n : ℕ) → m * n + n ≡ (m + 1) * n
 more m n = omega arith
 
-pub arm_entries-requires : goal.arm_entries-requires
-arm_entries-requires c =
+pub offers_of-requires : goal.offers_of-requires
+offers_of-requires c =
     let forest = c.args.forest.now in
     let is : IsForest forest = subst IsForest c.forest.view_is c.forest.invariant in
     let same : c.deref-pair-items.result.now ≡ forest.pairs = c.deref-pair-items.ensures.value ∙ ap (λ (f : ForestData). f.pairs) c.forest.view_is in
     let turn = turn_of forest c.deref-pair-items.result.now _ c.args.bounds.w c.args.bounds.h c.loop-pair.pair-index c.loop-pair.table c.arms-left.result is same c.loop-pair-test.true
-    c.requires.width c.requires.height c.loop-pair.invariant.width c.loop-pair.invariant.height c.loop-pair.invariant.tabled c.arms-left.ensures.left c.arms-left.ensures.right in
+    c.requires.width c.requires.height c.loop-pair.invariant.width c.loop-pair.invariant.height c.loop-pair.invariant.least c.arms-left.ensures.left c.arms-left.ensures.right in
     record { there = (turn_there forest c.args.bounds.w c.args.bounds.h c.loop-pair.pair-index c.loop-pair.table c.arms-left.result _ turn c.args.free.now c.requires.free).0 }
 
-pub arm_entries-requires-in-loop-pair : goal.arm_entries-requires-in-loop-pair
-arm_entries-requires-in-loop-pair c =
+pub offers_of-requires-in-loop-pair : goal.offers_of-requires-in-loop-pair
+offers_of-requires-in-loop-pair c =
     let forest = c.args.forest.now in
     let is : IsForest forest = subst IsForest c.forest.view_is c.forest.invariant in
     let same : c.deref-pair-items.result.now ≡ forest.pairs = c.deref-pair-items.ensures.value ∙ ap (λ (f : ForestData). f.pairs) c.forest.view_is in
     let turn = turn_of forest c.deref-pair-items.result.now _ c.args.bounds.w c.args.bounds.h c.loop-pair.pair-index c.loop-pair.table c.arms-left.result is same c.loop-pair-test.true
-    c.requires.width c.requires.height c.loop-pair.invariant.width c.loop-pair.invariant.height c.loop-pair.invariant.tabled c.arms-left.ensures.left c.arms-left.ensures.right in
+    c.requires.width c.requires.height c.loop-pair.invariant.width c.loop-pair.invariant.height c.loop-pair.invariant.least c.arms-left.ensures.left c.arms-left.ensures.right in
     record { there = (turn_there forest c.args.bounds.w c.args.bounds.h c.loop-pair.pair-index c.loop-pair.table c.arms-left.result _ turn c.args.free.now c.requires.free).1 }
 
-pub join_arms-requires-clause-left : goal.join_arms-requires-clause-left
-join_arms-requires-clause-left c =
+pub join_arms-requires-clause-lefts : goal.join_arms-requires-clause-lefts
+join_arms-requires-clause-lefts c =
     let forest = c.args.forest.now in
     let is : IsForest forest = subst IsForest c.forest.view_is c.forest.invariant in
     let same : c.deref-pair-items.result.now ≡ forest.pairs = c.deref-pair-items.ensures.value ∙ ap (λ (f : ForestData). f.pairs) c.forest.view_is in
     let turn = turn_of forest c.deref-pair-items.result.now _ c.args.bounds.w c.args.bounds.h c.loop-pair.pair-index c.loop-pair.table c.arms-left.result is same c.loop-pair-test.true
-    c.requires.width c.requires.height c.loop-pair.invariant.width c.loop-pair.invariant.height c.loop-pair.invariant.tabled c.arms-left.ensures.left c.arms-left.ensures.right in
+    c.requires.width c.requires.height c.loop-pair.invariant.width c.loop-pair.invariant.height c.loop-pair.invariant.least c.arms-left.ensures.left c.arms-left.ensures.right in
     let few : AreFewCosts c.loop-pair.table.costs = subst AreFewCosts (sym c.loop-pair.invariant.costs) c.requires.costs in
-    let ls = map entry_of c.arm_entries.new.entries.items in
-    let rs = map entry_of c.arm_entries-in-loop-pair.new.entries.items in
-    let small = turn_small forest c.args.bounds.w c.args.bounds.h c.loop-pair.pair-index c.loop-pair.table c.arms-left.result _ turn c.args.free.now c.requires.free ls rs c.in_ok-arm_entries.ensures c.in_ok-arm_entries-2.ensures few in
+    let ls = c.offers_of.new.offers.items in
+    let rs = c.offers_of-in-loop-pair.new.offers.items in
+    let small = turn_small forest c.args.bounds.w c.args.bounds.h c.loop-pair.pair-index c.loop-pair.table c.arms-left.result _ turn c.args.free.now c.requires.free ls rs c.in_ok-offers_of.ensures c.in_ok-offers_of-2.ensures few in
     subst (λ xs. AreSmall (map entry_of xs)) (sym c.deref.ensures.value) small.0
 
-pub join_arms-requires-clause-right : goal.join_arms-requires-clause-right
-join_arms-requires-clause-right c =
+pub join_arms-requires-clause-rights : goal.join_arms-requires-clause-rights
+join_arms-requires-clause-rights c =
     let forest = c.args.forest.now in
     let is : IsForest forest = subst IsForest c.forest.view_is c.forest.invariant in
     let same : c.deref-pair-items.result.now ≡ forest.pairs = c.deref-pair-items.ensures.value ∙ ap (λ (f : ForestData). f.pairs) c.forest.view_is in
     let turn = turn_of forest c.deref-pair-items.result.now _ c.args.bounds.w c.args.bounds.h c.loop-pair.pair-index c.loop-pair.table c.arms-left.result is same c.loop-pair-test.true
-    c.requires.width c.requires.height c.loop-pair.invariant.width c.loop-pair.invariant.height c.loop-pair.invariant.tabled c.arms-left.ensures.left c.arms-left.ensures.right in
+    c.requires.width c.requires.height c.loop-pair.invariant.width c.loop-pair.invariant.height c.loop-pair.invariant.least c.arms-left.ensures.left c.arms-left.ensures.right in
     let few : AreFewCosts c.loop-pair.table.costs = subst AreFewCosts (sym c.loop-pair.invariant.costs) c.requires.costs in
-    let ls = map entry_of c.arm_entries.new.entries.items in
-    let rs = map entry_of c.arm_entries-in-loop-pair.new.entries.items in
-    let small = turn_small forest c.args.bounds.w c.args.bounds.h c.loop-pair.pair-index c.loop-pair.table c.arms-left.result _ turn c.args.free.now c.requires.free ls rs c.in_ok-arm_entries.ensures c.in_ok-arm_entries-2.ensures few in
+    let ls = c.offers_of.new.offers.items in
+    let rs = c.offers_of-in-loop-pair.new.offers.items in
+    let small = turn_small forest c.args.bounds.w c.args.bounds.h c.loop-pair.pair-index c.loop-pair.table c.arms-left.result _ turn c.args.free.now c.requires.free ls rs c.in_ok-offers_of.ensures c.in_ok-offers_of-2.ensures few in
     subst (λ xs. AreSmall (map entry_of xs)) (sym c.deref-in-loop-pair.ensures.value) small.1
 
 pub push_pair-requires-clause-costs : goal.push_pair-requires-clause-costs
 push_pair-requires-clause-costs c = subst AreFewCosts (sym c.loop-pair.invariant.costs) c.requires.costs
 
-pub push_pair-requires-clause-left : goal.push_pair-requires-clause-left
-push_pair-requires-clause-left c =
+pub push_pair-requires-clause-lefts : goal.push_pair-requires-clause-lefts
+push_pair-requires-clause-lefts c =
     let forest = c.args.forest.now in
     let is : IsForest forest = subst IsForest c.forest.view_is c.forest.invariant in
     let same : c.deref-pair-items.result.now ≡ forest.pairs = c.deref-pair-items.ensures.value ∙ ap (λ (f : ForestData). f.pairs) c.forest.view_is in
     let turn = turn_of forest c.deref-pair-items.result.now _ c.args.bounds.w c.args.bounds.h c.loop-pair.pair-index c.loop-pair.table c.arms-left.result is same c.loop-pair-test.true
-    c.requires.width c.requires.height c.loop-pair.invariant.width c.loop-pair.invariant.height c.loop-pair.invariant.tabled c.arms-left.ensures.left c.arms-left.ensures.right in
+    c.requires.width c.requires.height c.loop-pair.invariant.width c.loop-pair.invariant.height c.loop-pair.invariant.least c.arms-left.ensures.left c.arms-left.ensures.right in
     let few : AreFewCosts c.loop-pair.table.costs = subst AreFewCosts (sym c.loop-pair.invariant.costs) c.requires.costs in
-    let ls = map entry_of c.arm_entries.new.entries.items in
-    let rs = map entry_of c.arm_entries-in-loop-pair.new.entries.items in
-    let small = turn_small forest c.args.bounds.w c.args.bounds.h c.loop-pair.pair-index c.loop-pair.table c.arms-left.result _ turn c.args.free.now c.requires.free ls rs c.in_ok-arm_entries.ensures c.in_ok-arm_entries-2.ensures few in
+    let ls = c.offers_of.new.offers.items in
+    let rs = c.offers_of-in-loop-pair.new.offers.items in
+    let small = turn_small forest c.args.bounds.w c.args.bounds.h c.loop-pair.pair-index c.loop-pair.table c.arms-left.result _ turn c.args.free.now c.requires.free ls rs c.in_ok-offers_of.ensures c.in_ok-offers_of-2.ensures few in
     subst (λ xs. AreSmall (map entry_of xs)) (sym c.deref-in-loop-pair-2.ensures.value) small.0
 
-pub push_pair-requires-clause-right : goal.push_pair-requires-clause-right
-push_pair-requires-clause-right c =
+pub push_pair-requires-clause-rights : goal.push_pair-requires-clause-rights
+push_pair-requires-clause-rights c =
     let forest = c.args.forest.now in
     let is : IsForest forest = subst IsForest c.forest.view_is c.forest.invariant in
     let same : c.deref-pair-items.result.now ≡ forest.pairs = c.deref-pair-items.ensures.value ∙ ap (λ (f : ForestData). f.pairs) c.forest.view_is in
     let turn = turn_of forest c.deref-pair-items.result.now _ c.args.bounds.w c.args.bounds.h c.loop-pair.pair-index c.loop-pair.table c.arms-left.result is same c.loop-pair-test.true
-    c.requires.width c.requires.height c.loop-pair.invariant.width c.loop-pair.invariant.height c.loop-pair.invariant.tabled c.arms-left.ensures.left c.arms-left.ensures.right in
+    c.requires.width c.requires.height c.loop-pair.invariant.width c.loop-pair.invariant.height c.loop-pair.invariant.least c.arms-left.ensures.left c.arms-left.ensures.right in
     let few : AreFewCosts c.loop-pair.table.costs = subst AreFewCosts (sym c.loop-pair.invariant.costs) c.requires.costs in
-    let ls = map entry_of c.arm_entries.new.entries.items in
-    let rs = map entry_of c.arm_entries-in-loop-pair.new.entries.items in
-    let small = turn_small forest c.args.bounds.w c.args.bounds.h c.loop-pair.pair-index c.loop-pair.table c.arms-left.result _ turn c.args.free.now c.requires.free ls rs c.in_ok-arm_entries.ensures c.in_ok-arm_entries-2.ensures few in
+    let ls = c.offers_of.new.offers.items in
+    let rs = c.offers_of-in-loop-pair.new.offers.items in
+    let small = turn_small forest c.args.bounds.w c.args.bounds.h c.loop-pair.pair-index c.loop-pair.table c.arms-left.result _ turn c.args.free.now c.requires.free ls rs c.in_ok-offers_of.ensures c.in_ok-offers_of-2.ensures few in
     subst (λ xs. AreSmall (map entry_of xs)) (sym c.deref-in-loop-pair-3.ensures.value) small.1
 
 pub push_pair-requires-clause-row : goal.push_pair-requires-clause-row
@@ -96,11 +95,11 @@ loop-pair-preserved c =
     let is : IsForest forest = subst IsForest c.forest.view_is c.forest.invariant in
     let same : c.deref-pair-items.result.now ≡ forest.pairs = c.deref-pair-items.ensures.value ∙ ap (λ (f : ForestData). f.pairs) c.forest.view_is in
     let turn = turn_of forest c.deref-pair-items.result.now _ c.args.bounds.w c.args.bounds.h c.loop-pair.pair-index c.loop-pair.table c.arms-left.result is same c.loop-pair-test.true
-    c.requires.width c.requires.height c.loop-pair.invariant.width c.loop-pair.invariant.height c.loop-pair.invariant.tabled c.arms-left.ensures.left c.arms-left.ensures.right in
+    c.requires.width c.requires.height c.loop-pair.invariant.width c.loop-pair.invariant.height c.loop-pair.invariant.least c.arms-left.ensures.left c.arms-left.ensures.right in
     let few : AreFewCosts c.loop-pair.table.costs = subst AreFewCosts (sym c.loop-pair.invariant.costs) c.requires.costs in
-    let ls = map entry_of c.arm_entries.new.entries.items in
-    let rs = map entry_of c.arm_entries-in-loop-pair.new.entries.items in
-    let small = turn_small forest c.args.bounds.w c.args.bounds.h c.loop-pair.pair-index c.loop-pair.table c.arms-left.result _ turn c.args.free.now c.requires.free ls rs c.in_ok-arm_entries.ensures c.in_ok-arm_entries-2.ensures few in
+    let ls = c.offers_of.new.offers.items in
+    let rs = c.offers_of-in-loop-pair.new.offers.items in
+    let small = turn_small forest c.args.bounds.w c.args.bounds.h c.loop-pair.pair-index c.loop-pair.table c.arms-left.result _ turn c.args.free.now c.requires.free ls rs c.in_ok-offers_of.ensures c.in_ok-offers_of-2.ensures few in
     let row = c.join_arms.new.row in
     let pushed = rw (c.deref-in-loop-pair-2.ensures.value, c.deref-in-loop-pair-3.ensures.value) at c.in_ok-push_pair.ensures in
     let is_row = row_at c.args.costs c.loop-pair.table c.args.bounds.w c.args.bounds.h _ _ _ _ _ row c.loop-pair.invariant.costs c.loop-pair.invariant.width c.loop-pair.invariant.height
@@ -113,8 +112,8 @@ loop-pair-preserved c =
           ∙ more c.loop-pair.pair-index (c.args.bounds.w * c.args.bounds.h);
       cuts = ap (λ (t : SumsData). length t.cuts) pushed ∙ length-append c.loop-pair.table.cuts _ ∙ ap (λ n. n + 1) c.loop-pair.invariant.cuts;
       row = c.join_arms.ensures.count;
-      tabled = subst (AreTabled forest (c.loop-pair.pair-index + 1)) (sym pushed)
-          (turn_tabled forest c.args.bounds.w c.args.bounds.h c.loop-pair.pair-index c.loop-pair.table c.arms-left.result _ turn c.args.free.now c.requires.free ls rs c.in_ok-arm_entries.ensures c.in_ok-arm_entries-2.ensures row
+      least = subst (AreLeastBefore forest (c.loop-pair.pair-index + 1)) (sym pushed)
+          (turn_least forest c.args.bounds.w c.args.bounds.h c.loop-pair.pair-index c.loop-pair.table c.arms-left.result _ turn c.args.free.now c.requires.free ls rs c.in_ok-offers_of.ensures c.in_ok-offers_of-2.ensures row
           (rw (c.loop-pair.invariant.width, c.loop-pair.invariant.height) c.loop-pair.invariant.count) c.loop-pair.invariant.cuts is_row);
     }
 
@@ -123,13 +122,11 @@ returns-clause-sums c =
     let forest = c.args.forest.now in
     let same : c.deref-pair-items.result.now ≡ forest.pairs = c.deref-pair-items.ensures.value ∙ ap (λ (f : ForestData). f.pairs) c.forest.view_is in
     let all : c.loop-pair.pair-index ≡ length forest.pairs = omega (arith, ap length same) in
-    let is : IsForest forest = subst IsForest c.forest.view_is c.forest.invariant in
-    (all_tabled forest is.in_place.in_order c.loop-pair.table (omega arith) (omega arith) (subst (λ n. AreTabled forest n c.loop-pair.table) all c.loop-pair.invariant.tabled)).0
+    (all_least forest c.loop-pair.table (subst (λ n. AreLeastBefore forest n c.loop-pair.table) all c.loop-pair.invariant.least)).0
 
 pub returns-clause-cuts : goal.returns-clause-cuts
 returns-clause-cuts c =
     let forest = c.args.forest.now in
     let same : c.deref-pair-items.result.now ≡ forest.pairs = c.deref-pair-items.ensures.value ∙ ap (λ (f : ForestData). f.pairs) c.forest.view_is in
     let all : c.loop-pair.pair-index ≡ length forest.pairs = omega (arith, ap length same) in
-    let is : IsForest forest = subst IsForest c.forest.view_is c.forest.invariant in
-    (all_tabled forest is.in_place.in_order c.loop-pair.table (omega arith) (omega arith) (subst (λ n. AreTabled forest n c.loop-pair.table) all c.loop-pair.invariant.tabled)).1
+    (all_least forest c.loop-pair.table (subst (λ n. AreLeastBefore forest n c.loop-pair.table) all c.loop-pair.invariant.least)).1

@@ -1,5 +1,5 @@
 use Rattle.std.proofs.Common.{◌≡◌, ◌*◌, length}
-use Rattle.tree_map.specs.ArmEntries.{AreTabled}
+use Rattle.tree_map.specs.CoverSums.{AreLeastBefore}
 use Rattle.tree_map.proofs.tables.sums_of.Given as goal
 
 abbrev pub invariant-loop-pair : goal.invariant-loop-pair
@@ -10,5 +10,5 @@ invariant-loop-pair l = record {
   count : length l.table.sums ≡ l.pair-index * (l.fn.bounds.w * l.fn.bounds.h);
   cuts : length l.table.cuts ≡ l.pair-index;
   row : length l.row ≡ l.fn.bounds.w * l.fn.bounds.h;
-  tabled : AreTabled l.fn.forest l.pair-index l.table;
+  least : AreLeastBefore l.fn.forest l.pair-index l.table;
 }
