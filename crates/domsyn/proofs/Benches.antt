@@ -4,7 +4,9 @@ use Rattle.std.specs.Prelude.{if◌then◌else◌}
 use Rattle.command_words.specs.Commands.{IsGoodSize}
 use Rattle.command_words.specs.SynthOptionWords.{AreGoodOptions}
 use Rattle.command_words.specs.declared.command.Method.TheVariants.{Plain}
+use Rattle.deck.specs.CircuitData.{CircuitData}
 use Rattle.deck.specs.DeckText.{IsDeckOf}
+use Rattle.deck.specs.Whole.{IsWhole}
 use Rattle.deck.proofs.DeckUnique.{IsDeckOf-unique}
 use Rattle.deck_law.specs.Headline.{IsRightDeck}
 use Rattle.deck_law.proofs.RightDecks.{planned_good}
@@ -13,8 +15,9 @@ use Rattle.net_gen.specs.Stimulus.{stimulus_cycles, stimulus_text}
 use Rattle.net_gen.proofs.AcceptedTexts.{generated_is_accepted}
 use Rattle.net_gen.proofs.StimulusTexts.{stimulus_reads}
 use Rattle.network_law.proofs.NetworkExists.{network_exists}
-use Rattle.plan_law.proofs.DecksThere.{decks_there}
+use Rattle.plan_law.proofs.DecksThere.{decks_there, written_there}
 use Rattle.plan_law.proofs.OneDeck.{decks_one}
+use Rattle.spice_text.specs.Text.{IsWritten}
 use Rattle.spice_text.proofs.ReadBack.{read_back}
 use Rattle.deck_form.specs.ChosenDecks.{IsChosenDeck, planned}
 use Rattle.deck_form.specs.AskedOptions.{deck_options}
@@ -23,7 +26,8 @@ use Rattle.synth_flow.specs.Summaries.{IsSummaryOf, figures}
 use Rattle.synth_flow.specs.SummaryData.{SummaryData}
 use Rattle.synth_flow.specs.SummaryLines.{summary_lines}
 use Rattle.deck_form.specs.declared.options.SynthOptions.{SynthOptions}
-use Rattle.trace_tool.specs.CosimRefusals.{HasNetworkOf, IsCosimRefused, IsUnflattened}
+use Rattle.trace_tool.specs.CircuitVerdicts.{HasNoCircuitVerdict, IsCircuitVerdict}
+use Rattle.trace_tool.specs.CosimRefusals.{HasNetworkOf, IsUnflattened}
 use Rattle.trace_tool.specs.VerdictLines.{verdict_line}
 use Rattle.trace_tool.specs.Verdicts.{IsVerdictOf}
 use Rattle.trace_tool.specs.declared.fault.TraceFault.{TraceFault}
@@ -31,11 +35,12 @@ use Rattle.trace_tool.specs.declared.fault.TraceFault.TheVariants.{Blif, Flat, D
 use Rattle.trace_tool.specs.declared.options.Order.TheVariants.{First}
 use Rattle.trace_tool.specs.declared.verdict.Verdict.{Verdict}
 use Rattle.trace_tool.specs.declared.verdict.Verdict.TheVariants.{Same}
+use Rattle.trace_tool.proofs.CircuitVerdicts.{refused_of_texts, verdict_of_texts}
 use Rattle.trace_tool.proofs.NetworkTexts.{network_same, no_network_apart, text_network_kept}
 use Rattle.verdict_law.specs.Laws.{right_together}
 use Rattle.verdict_law.proofs.RightVerdicts.{right_deck_is_accepted}
-use Rattle.domsyn.specs.Benches.{IsBenchOf, IsOwnVerdict, IsSameBench, OfWholeDeck, bench_text, events_text, generated_text}
-use Rattle.domsyn.specs.Decks.{AreFigureLines, IsWholeText}
+use Rattle.domsyn.specs.Benches.{IsBenchOf, IsOwnVerdict, IsSameBench, bench_text, events_text, generated_text}
+use Rattle.domsyn.specs.Decks.{IsWholeText}
 use Rattle.domsyn.specs.Endings.{ending_number, ending_of}
 use Rattle.domsyn.specs.declared.answer.Ending.{Ending}
 use Rattle.domsyn.specs.Outcomes.{IsBench, is_same_verdict}
@@ -110,57 +115,68 @@ module _ (seed size : ℕ) (options : SynthOptions) where
   same_bench status text is =
       record { model = is.model; summary = is.summary; verdict = Same 4 is.events; is = is.is; text_is = is.text_is; status_is = is.done }
 
-  module _ (fits : AreGoodOptions options) (network : NetworkData) (has : HasNetworkOf (generated_text seed size) network) where
-    right : (deck : List ℕ) → IsWholeText network options (Plain VersionOne) deck → IsRightDeck (generated_text seed size) (deck_options options) deck
-    right deck is =
-        text_is_right (generated_text seed size) deck has.file network options has.accepted has.network_is fits (Plain VersionOne) tt is
+  module _ (fits : AreGoodOptions options) (network : NetworkData) (has : HasNetworkOf (generated_text seed size) network) (circuit : CircuitData)
+      (chosen : IsChosenDeck network (deck_options options) circuit) (whole : IsWhole circuit) where
+    abbrev stim : List ℕ
+    stim = stimulus_text seed network.inputs
 
-    reads_back : (deck : List ℕ) → (is : IsWholeText network options (Plain VersionOne) deck) → IsDeckOf deck is.circuit
-    reads_back deck is =
-        read_back is.circuit deck
-        (record {
-          is = is.whole.numbered;
-          names = is.whole.names;
-          good = planned_good network (deck_options options) is.circuit (planned is.is_chosen) fits.few_phases;
-        }) is.written
+    -- with the text of the circuit, which nobody writes
+    module _ (deck : List ℕ) (written : IsWritten circuit deck) where
+      right : IsRightDeck (generated_text seed size) (deck_options options) deck
+      right =
+          text_is_right (generated_text seed size) deck has.file network options has.accepted has.network_is fits (Plain VersionOne) tt
+          (record { circuit = circuit; is_chosen = chosen; whole = whole; written = written })
 
-    -- the deck is refused for nothing beside the network
-    pub bench_unrefused : (why : TraceFault) → (why ≡ Memory) ⊎ OfWholeDeck network options (λ deck. IsCosimRefused (generated_text seed size) deck (stimulus_text seed network.inputs) why)
-        → why ≡ Memory
-    bench_unrefused why (inl none) = none
-    bench_unrefused why (inr own) =
-        right_deck_is_accepted (generated_text seed size) own.deck (stimulus_text seed network.inputs) options.phases network
-        (stimulus_cycles seed network.inputs) why (right_together (right own.deck own.is_text)) has (stimulus_reads seed network.inputs) own.holds
+      reads_back : IsDeckOf deck circuit
+      reads_back =
+          read_back circuit deck
+          (record {
+            is = whole.numbered;
+            names = whole.names;
+            good = planned_good network (deck_options options) circuit (planned chosen) fits.few_phases;
+          }) written
+
+      unrefused : (why : TraceFault) → HasNoCircuitVerdict network circuit stim why → why ≡ Memory
+      unrefused why none =
+          right_deck_is_accepted (generated_text seed size) deck stim options.phases network (stimulus_cycles seed network.inputs) why (right_together right) has
+          (stimulus_reads seed network.inputs) (refused_of_texts network circuit stim (generated_text seed size) deck has reads_back why none)
+
+      found : (verdict : Verdict) → IsCircuitVerdict network circuit stim First 0 verdict → (events : ℕ) × (verdict ≡ Same 4 events) × IsOwnVerdict seed network circuit verdict
+      found verdict own =
+          let v : IsVerdictOf (generated_text seed size) deck stim First 0 verdict =
+          verdict_of_texts network circuit stim (generated_text seed size) deck has reads_back First 0 verdict own in
+          let is = text_network_kept (generated_text seed size) network has in
+          let same = own_verdict_same seed network is (generated_text seed size) deck verdict v has (deck_options options) right in
+          (same.0, same.1, own_verdict_of seed network is (generated_text seed size) deck verdict v has circuit (IsDeckOf-unique deck v.circuit circuit v.is_deck reads_back))
+
+    -- the circuit is refused for nothing beside the network
+    pub bench_unrefused : (why : TraceFault) → HasNoCircuitVerdict network circuit stim why → why ≡ Memory
+    bench_unrefused why none = let text = written_there circuit in unrefused text.0 text.1 why none
 
     -- the figures, the events and the verdict that all is the same
-    pub bench_made : (verdict : Verdict) (front text : List ℕ) (ending : Ending)
-        → OfWholeDeck network options (λ deck. IsVerdictOf (generated_text seed size) deck (stimulus_text seed network.inputs) First 0 verdict)
-        → AreFigureLines network options front → text ≡ front ++ events_text verdict ++ verdict_line verdict → ending ≡ ending_of (is_same_verdict verdict)
-        → IsSameBench seed size options (ending_number ending) text
-    bench_made verdict front text ending own lines text_is ending_is =
-        let v = own.holds in
-        let is = text_network_kept (generated_text seed size) network has in
-        let same =
-        own_verdict_same seed network is (generated_text seed size) own.deck verdict v has (deck_options options) (right own.deck own.is_text) in
-        let circuits = IsDeckOf-unique own.deck v.circuit own.is_text.circuit v.is_deck (reads_back own.deck own.is_text) in
-        let found = own_verdict_of seed network is (generated_text seed size) own.deck verdict v has own.is_text.circuit circuits in
+    pub bench_made : (verdict : Verdict) (summary : SummaryData) (front text : List ℕ) (ending : Ending) → IsCircuitVerdict network circuit stim First 0 verdict
+        → IsSummaryOf network options summary → front ≡ summary_lines network.name summary → text ≡ front ++ events_text verdict ++ verdict_line verdict
+        → ending ≡ ending_of (is_same_verdict verdict) → IsSameBench seed size options (ending_number ending) text
+    bench_made verdict summary front text ending own is_summary front_is text_is ending_is =
+        let written = written_there circuit in
+        let same = found written.0 written.1 verdict own in
         record {
           model = network.name;
-          summary = lines.summary;
+          summary = summary;
           events = same.0;
           is =
               record {
                 network = network;
                 has = has;
                 model_is = refl;
-                is_summary = lines.is_summary;
-                circuit = own.is_text.circuit;
-                is_chosen = own.is_text.is_chosen;
-                is_verdict = subst (IsOwnVerdict seed network own.is_text.circuit) same.1 found;
+                is_summary = is_summary;
+                circuit = circuit;
+                is_chosen = chosen;
+                is_verdict = subst (IsOwnVerdict seed network circuit) same.1 same.2;
               };
           text_is =
               text_is
-              ∙ ap (λ (l : List ℕ). l ++ events_text verdict ++ verdict_line verdict) lines.text_is
-              ∙ ap (λ (v : Verdict). summary_lines network.name lines.summary ++ events_text v ++ verdict_line v) same.1;
+              ∙ ap (λ (l : List ℕ). l ++ events_text verdict ++ verdict_line verdict) front_is
+              ∙ ap (λ (v : Verdict). summary_lines network.name summary ++ events_text v ++ verdict_line v) same.1;
           done = ap ending_number (ending_is ∙ ap (λ (v : Verdict). ending_of (is_same_verdict v)) same.1);
         }

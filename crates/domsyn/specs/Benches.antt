@@ -3,7 +3,6 @@ use Rattle.std.specs.Prelude.{ℕ, ◌≡◌, List, [], ◌++◌, codes}
 use Rattle.std.specs.Fmt.{decimal}
 use Rattle.blif_ast.specs.Printed.{printed}
 use Rattle.command_words.specs.Commands.{Asks, Bench}
-use Rattle.command_words.specs.declared.command.Method.TheVariants.{Plain}
 use Rattle.deck.specs.CircuitData.{CircuitData}
 use Rattle.deck.specs.Roles.{AreRoles, ports_of}
 use Rattle.deck.specs.declared.role.Roles.{Roles}
@@ -14,12 +13,10 @@ use Rattle.net_gen.specs.Stimulus.{stimulus_cycles}
 use Rattle.net_run.specs.Runs.{Cycle, IsNetworkRun}
 use Rattle.deck_form.specs.ChosenDecks.{IsChosenDeck}
 use Rattle.deck_form.specs.AskedOptions.{deck_options}
-use Rattle.deck_form.specs.declared.version.DeckVersion.TheVariants.{One as VersionOne}
 use Rattle.synth_flow.specs.Summaries.{IsSummaryOf}
 use Rattle.synth_flow.specs.SummaryData.{SummaryData}
 use Rattle.synth_flow.specs.SummaryLines.{summary_lines}
 use Rattle.deck_form.specs.declared.options.SynthOptions.{SynthOptions}
-use Rattle.domsyn.specs.Decks.{IsWholeText}
 use Rattle.trace_tool.specs.CosimRefusals.{HasNetworkOf}
 use Rattle.trace_tool.specs.Traces.{picked_place}
 use Rattle.trace_tool.specs.VerdictLines.{same_line, verdict_line}
@@ -79,9 +76,3 @@ abbrev pub GivesSameBench : List (List ℕ) → (List ℕ → Type 0) → Type 0
 GivesSameBench words Puts =
     (seed size : ℕ) (options : SynthOptions) → Asks words (Bench seed size options)
     → (text : List ℕ) × IsSameBench seed size options 0 text × Puts text
-
--- a whole deck of a network by the plain method, of whose text in version 1 something holds
-pub record OfWholeDeck (network : NetworkData) (options : SynthOptions) (Holds : List ℕ → Type 0) : Type 0 where
-  pub deck : List ℕ
-  pub is_text : IsWholeText network options (Plain VersionOne) deck
-  pub holds : Holds deck

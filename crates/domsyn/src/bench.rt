@@ -1,31 +1,27 @@
 //! The command `bench SEED SIZE` with its options: the figures of the deck of a network that is generated, and how the deck does
 //! beside the network.
-ghost use Rattle.std.specs.Prelude.{◌≡◌, ◌⊎◌, ◌++◌, IfOk, IsErrOf, OnOk};
+ghost use Rattle.std.specs.Prelude.{◌≡◌, ◌++◌, IfOk, IsErrOf, OnOk};
 ghost use Rattle.command_words.specs.Commands.{IsGoodSize};
 ghost use Rattle.command_words.specs.SynthOptionWords.{AreGoodOptions};
-ghost use Rattle.domsyn.specs.Benches.{IsSameBench, OfWholeDeck, events_text};
-ghost use Rattle.command_words.specs.declared.command.Method.TheVariants.{Plain};
-ghost use Rattle.deck_form.specs.declared.version.DeckVersion.TheVariants.{One as VersionOne};
-ghost use Rattle.domsyn.specs.Decks.{IsWholeText};
+ghost use Rattle.domsyn.specs.Benches.{IsSameBench, events_text};
 ghost use Rattle.domsyn.specs.Endings.{ending_number};
-ghost use Rattle.trace_tool.specs.CosimRefusals.{IsCosimRefused};
 ghost use Rattle.net_gen.specs.Stimulus.{stimulus_text};
+ghost use Rattle.trace_tool.specs.CircuitVerdicts.{HasNoCircuitVerdict, IsCircuitVerdict};
 ghost use Rattle.trace_tool.specs.VerdictLines.{verdict_line};
-ghost use Rattle.trace_tool.specs.Verdicts.{IsVerdictOf};
 ghost use Rattle.trace_tool.specs.declared.options.Order.TheVariants.{First};
 ghost use Rattle.trace_tool.specs.declared.fault.TraceFault.{TraceFault as Fault};
 ghost use Rattle.trace_tool.specs.declared.fault.TraceFault.TheVariants.{Memory};
 
 use crate::answer::{Answer, Ending};
 use crate::cosim::is_same;
-use crate::report::figure_lines;
+use crate::report::figures_text;
+use deck::Circuit;
 use dom_base::{OutOfMemory, append, append_number};
 use net_flatten::Network;
 use net_gen::{bench_stimulus, generate};
-use spice_text::write;
 use std::alloc::Global;
-use synth_flow::{SynthOptions, synth as deck_circuit};
-use trace_tool::{Order, TraceFault, Verdict, cosim, network_of_text};
+use synth_flow::{FiguredCircuit, SynthOptions, synth_with_figures};
+use trace_tool::{Order, TraceFault, Verdict, network_of_text, verdict_of_circuit};
 
 /// The figures of the deck of a network that is generated, with options, the events and the verdict of the deck beside the
 /// network. The verdict is that all is the same, and the one fault is want of memory.
@@ -42,44 +38,30 @@ pub fn bench(
 {
     let blif = generate(alloc, seed, size)?;
     let network = network_of_text(alloc, &blif)?;
-    let mut text = figure_lines(alloc, &network, options)?;
-    let verdict = own_verdict(alloc, seed, options, &network, &blif)?;
+    drop(blif);
+    let FiguredCircuit { circuit, figures } = synth_with_figures(alloc, &network, options)?;
+    circuit.whole();
+    let mut text = figures_text(alloc, &network.name, &figures)?;
+    drop(figures);
+    let verdict = own_verdict(alloc, seed, &network, circuit)?;
     append_verdict(alloc, &mut text, &verdict)?;
     let ending = Ending::of(is_same(&verdict));
     Ok(Answer { text, ending })
 }
 
-/// The verdict of the deck of a network, with options, beside the network's text over the four cycles of a seed.
+/// The verdict of a circuit beside a network over the four cycles of a seed.
 fn own_verdict(
     alloc: Global,
     seed: u64,
-    options: SynthOptions,
     network: &Network,
-    blif: &[u8],
+    circuit: Circuit,
 ) -> Result<Verdict, TraceFault>
-    requires good_options { AreGoodOptions options }
-    ensures verdict { IfOk result (λ verdict. OfWholeDeck network.now options
-        (λ deck. IsVerdictOf blif.now deck (stimulus_text seed network.now.inputs) First 0 verdict)) }
-    ensures refused { (why : Fault) → IsErrOf result why → (why ≡ Memory) ⊎ OfWholeDeck network.now options
-        (λ deck. IsCosimRefused blif.now deck (stimulus_text seed network.now.inputs) why) }
+    ensures verdict { IfOk result (λ verdict. IsCircuitVerdict network.now circuit (stimulus_text seed network.now.inputs) First 0 verdict) }
+    ensures refused { (why : Fault) → IsErrOf result why
+        → HasNoCircuitVerdict network.now circuit (stimulus_text seed network.now.inputs) why }
 {
-    let deck = deck_text(alloc, network, options)?;
     let stim = bench_stimulus(alloc, seed, network.inputs)?;
-    cosim(alloc, blif, &deck, &stim, Order::First, 0)
-}
-
-/// The text of the deck of a network, with options.
-fn deck_text(
-    alloc: Global,
-    network: &Network,
-    options: SynthOptions,
-) -> Result<Vec<u8>, OutOfMemory>
-    requires good_options { AreGoodOptions options }
-    ensures { IfOk result (λ text. IsWholeText network.now options (Plain VersionOne) text.items) }
-{
-    let circuit = deck_circuit(alloc, network, options)?;
-    circuit.whole();
-    write(alloc, &circuit)
+    verdict_of_circuit(alloc, network, circuit, &stim, Order::First, 0)
 }
 
 /// Appends the line of the events of a verdict, where all is the same, and the line of the verdict.

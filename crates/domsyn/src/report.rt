@@ -4,14 +4,15 @@ ghost use Rattle.dom_io.specs.Held.{file_limit};
 ghost use Rattle.command_words.specs.SynthOptionWords.{AreGoodOptions};
 ghost use Rattle.domsyn.specs.Decks.{AreFigureLines, AreFiguresFor};
 ghost use Rattle.domsyn.specs.declared.answer.Ending.TheVariants.{Done};
+ghost use Rattle.synth_flow.specs.SummaryLines.{summary_lines};
 ghost use Rattle.trace_tool.specs.CosimRefusals.{IsUnflattened};
 ghost use Rattle.trace_tool.specs.declared.fault.TraceFault.{TraceFault as Fault};
 
 use crate::answer::{Answer, Ending};
-use dom_base::OutOfMemory;
+use dom_base::{Name, OutOfMemory};
 use net_flatten::Network;
 use std::alloc::Global;
-use synth_flow::{SynthOptions, append_summary, summary};
+use synth_flow::{Summary, SynthOptions, append_summary, summary};
 use trace_tool::{TraceFault, network_of_text};
 
 /// The figures of the deck of the network of these bytes, which are those of a file, with options. The deck isn't made.
@@ -28,7 +29,7 @@ pub fn report(alloc: Global, bytes: &[u8], options: SynthOptions) -> Result<Answ
 }
 
 /// The text of the figures of the deck of a network, with options.
-pub fn figure_lines(
+fn figure_lines(
     alloc: Global,
     network: &Network,
     options: SynthOptions,
@@ -37,7 +38,15 @@ pub fn figure_lines(
     ensures { IfOk result (λ text. AreFigureLines network.now options text.items) }
 {
     let figures = summary(alloc, network, options)?;
+    let text = figures_text(alloc, &network.name, &figures)?;
+    Ok(text)
+}
+
+/// The text of the figures of the deck of a model of this name.
+pub fn figures_text(alloc: Global, model: &Name, figures: &Summary) -> Result<Vec<u8>, OutOfMemory>
+    ensures { IfOk result (λ text. text.items ≡ summary_lines model.now figures.now) }
+{
     let mut text = Vec::new(alloc);
-    append_summary(&mut text, &network.name, &figures)?;
+    append_summary(&mut text, model, figures)?;
     Ok(text)
 }

@@ -15,20 +15,18 @@ use Rattle.deck_form.specs.DeckNets.{named_cell}
 use Rattle.deck_form.specs.DominoDecks.{cells_of}
 use Rattle.deck_form.proofs.CellOrder.{root_of_cell}
 use Rattle.deck_form.proofs.DeckForms.{all_zip_length}
-use Rattle.domino_cell.specs.HeldNames.{AreNamesOfCell, held_nets}
 use Rattle.domino_cell.specs.Cell.{CellNets, inverter}
+use Rattle.domino_cell.specs.PushedNames.{numbered_cell}
 use Rattle.domino_cell.specs.Spelling.{spell}
 use Rattle.domino_cell.specs.StyledCells.{behind_precharge, inner_precharges, pull_down_cards, styled_cell}
-use Rattle.domino_cell.specs.declared.names.CellNames.{CellNames}
 use Rattle.domino_cell.specs.declared.style.Style.{Style}
-use Rattle.domino_cell.proofs.PushedCells.{held_nets_are}
 use Rattle.domino_cell.proofs.StyledCells.{inner_precharges-next}
 use Rattle.dom_base.specs.declared.kind.Kind.TheVariants.{N as nch, P as pch}
 use Rattle.dual_rail.specs.ForestData.{ForestData}
 use Rattle.dual_rail.proofs.Zips.{all_zip_get}
 use Rattle.sp_network.specs.Tree.{Tree, Leaf, inner_count, leaves}
 use Rattle.tree_map.specs.Plans.{IsTreeOf, is_kept, roots}
-use Rattle.plan_text.specs.CardTexts.{CardTextData, with_cards}
+use Rattle.plan_text.specs.CardTexts.{CardTextData, with_named_cards}
 use Rattle.plan_text.specs.PutCells.{AreRootTrees, HasRoomForTree, HasSmallTrees, netted}
 use Rattle.plan_text.proofs.CardTexts.{then_cards}
 use Rattle.plan_text.proofs.Loops.{next_numbered}
@@ -72,45 +70,43 @@ module _ (forest : ForestData) (kept : List Bool) (places : List ℕ) (places_ar
       (t.0, t.2, omega (arith, All-at (λ (tree : Tree ℕ). leaves tree ≤ 48) small.0 k t.0 small.2 t.1))
 
   -- one more cell
-  pub next_cell : (style : Style) (phases clock : ℕ) (pins : List (List ℕ)) (levels : List ℕ) (names : CellNames) (start cur new : CardTextData)
-      → length levels ≡ length places → clock ≡ clock_of phases (greatest levels) (get_or levels k 0) → AreNamesOfCell clock k names
+  pub next_cell : (style : Style) (phases clock : ℕ) (pins : List (List ℕ)) (levels : List ℕ) (start cur new : CardTextData)
+      → length levels ≡ length places → clock ≡ clock_of phases (greatest levels) (get_or levels k 0)
       → (trees : List (Tree ℕ)) → AreRootTrees forest kept trees
-      → cur ≡ with_cards start (flat_map (named_cell style pins forest.leaves) (enumerate_from 0 (take k (cells_of phases levels trees))))
-      → ((tree : Tree ℕ) → IsTreeOf forest kept (get_or places k 0) tree → new ≡ with_cards cur (styled_cell style (held_nets names) (netted pins forest.leaves tree)))
-      → new ≡ with_cards start (flat_map (named_cell style pins forest.leaves) (enumerate_from 0 (take (k + 1) (cells_of phases levels trees))))
-  next_cell style phases clock pins levels names start cur new one_each clock_is named trees are e put =
+      → cur ≡ with_named_cards start (flat_map (named_cell style pins forest.leaves) (enumerate_from 0 (take k (cells_of phases levels trees))))
+      → ((tree : Tree ℕ) → IsTreeOf forest kept (get_or places k 0) tree → new ≡ with_named_cards cur (styled_cell style (numbered_cell clock k) (netted pins forest.leaves tree)))
+      → new ≡ with_named_cards start (flat_map (named_cell style pins forest.leaves) (enumerate_from 0 (take (k + 1) (cells_of phases levels trees))))
+  next_cell style phases clock pins levels start cur new one_each clock_is trees are e put =
       let total = trees_total forest kept places places_are trees are in
       let t = all_zip_get (IsTreeOf forest kept) (roots kept) trees k (get_or places k 0) are root_at in
       let first : get_or trees k (Leaf 0) ≡ t.0 = get_or_from_slice_get trees k t.0 (Leaf 0) t.1 in
       let none : CellPlan = record { tree = Leaf 0; clock = 0 } in
       let cell = cell_of_plan phases levels trees k none (omega (arith, total, lt)) (omega (arith, one_each, lt)) in
-      let nets = held_nets_are _ _ names named in
-      let same : styled_cell style (held_nets names) (netted pins forest.leaves t.0) ≡ named_cell style pins forest.leaves (k, get_or (cells_of phases levels trees) k none) =
-      (λ i. styled_cell style (nets i) (netted pins forest.leaves t.0))
-      ∙ (λ i. named_cell style pins forest.leaves (k, record { tree = sym first i; clock = clock_is i }))
+      let same : styled_cell style (numbered_cell clock k) (netted pins forest.leaves t.0) ≡ named_cell style pins forest.leaves (k, get_or (cells_of phases levels trees) k none) =
+      (λ i. named_cell style pins forest.leaves (k, record { tree = sym first i; clock = clock_is i }))
       ∙ ap (λ (c : CellPlan). named_cell style pins forest.leaves (k, c)) (sym cell) in
       next_numbered (named_cell style pins forest.leaves) (cells_of phases levels trees) k none
       (omega (arith, cell_total phases levels trees (omega (arith, one_each, total)), one_each, lt)) start cur new e
-      (put t.0 t.2 ∙ ap (with_cards cur) same)
+      (put t.0 t.2 ∙ ap (with_named_cards cur) same)
 
 -- the precharge of one more inner net
 pub next_precharge : (nets : CellNets (List ℕ)) (n : ℕ) (start cur new : CardTextData) (net clock vdd : List ℕ) → net ≡ nets.inner n → clock ≡ nets.clock → vdd ≡ nets.vdd
-    → cur ≡ with_cards start (inner_precharges nets 0 n) → new ≡ with_cards cur (record { kind = pch; drain = net; gate = clock; source = vdd } ∷ [])
-    → new ≡ with_cards start (inner_precharges nets 0 (n + 1))
+    → cur ≡ with_named_cards start (inner_precharges nets 0 n) → new ≡ with_named_cards cur (record { kind = pch; drain = net; gate = clock; source = vdd } ∷ [])
+    → new ≡ with_named_cards start (inner_precharges nets 0 (n + 1))
 next_precharge nets n start cur new net clock vdd net_is clock_is vdd_is e g =
     let first : nets.inner n ≡ nets.inner (0 + n) = ap nets.inner (sym (zero-add n)) in
     let step : n + 1 ≡ suc n = omega arith in
     then_cards start cur new (inner_precharges nets 0 n) (record { kind = pch; drain = nets.inner (0 + n); gate = nets.clock; source = nets.vdd } ∷ []) e
-    (g ∙ (λ i. with_cards cur (record { kind = pch; drain = (net_is ∙ first) i; gate = clock_is i; source = vdd_is i } ∷ [])))
-    ∙ ap (with_cards start) (sym (inner_precharges-next nets 0 n)) ∙ ap (λ m. with_cards start (inner_precharges nets 0 m)) (sym step)
+    (g ∙ (λ i. with_named_cards cur (record { kind = pch; drain = (net_is ∙ first) i; gate = clock_is i; source = vdd_is i } ∷ [])))
+    ∙ ap (with_named_cards start) (sym (inner_precharges-next nets 0 n)) ∙ ap (λ m. with_named_cards start (inner_precharges nets 0 m)) (sym step)
 
 -- the cards of a cell by its parts
 pub cell_cards : (style : Style) (nets : CellNets (List ℕ)) (tree : Tree (List ℕ)) (old one two three new : CardTextData)
-    → one ≡ with_cards old (record { kind = pch; drain = nets.dynamic; gate = nets.clock; source = nets.vdd } ∷ behind_precharge style nets (inner_count tree))
-    → two ≡ with_cards one (spell nch nets.inner tree nets.dynamic nets.foot 0)
-    → three ≡ with_cards two (record { kind = nch; drain = nets.foot; gate = nets.clock; source = nets.vss } ∷ [])
-    → new ≡ with_cards three (inverter nets.vdd nets.vss nets.dynamic nets.output)
-    → new ≡ with_cards old (styled_cell style nets tree)
+    → one ≡ with_named_cards old (record { kind = pch; drain = nets.dynamic; gate = nets.clock; source = nets.vdd } ∷ behind_precharge style nets (inner_count tree))
+    → two ≡ with_named_cards one (spell nch nets.inner tree nets.dynamic nets.foot 0)
+    → three ≡ with_named_cards two (record { kind = nch; drain = nets.foot; gate = nets.clock; source = nets.vss } ∷ [])
+    → new ≡ with_named_cards three (inverter nets.vdd nets.vss nets.dynamic nets.output)
+    → new ≡ with_named_cards old (styled_cell style nets tree)
 cell_cards style nets tree old one two three new a b c d =
     let first : NamedDevice (List ℕ) = record { kind = pch; drain = nets.dynamic; gate = nets.clock; source = nets.vdd } in
     let foot : NamedDevice (List ℕ) = record { kind = nch; drain = nets.foot; gate = nets.clock; source = nets.vss } in

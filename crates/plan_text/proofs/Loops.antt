@@ -5,7 +5,7 @@ use Rattle.std.proofs.lemmas.List.{length-take-le, take_more}
 use Rattle.std.proofs.lemmas.List.Concat.{flat_map-append}
 use Rattle.dom_base.proofs.Lists.{enumerate_from-push}
 use Rattle.deck.specs.NamedDevices.{NamedDevice}
-use Rattle.plan_text.specs.CardTexts.{CardTextData, with_cards}
+use Rattle.plan_text.specs.CardTexts.{CardTextData, with_named_cards}
 use Rattle.plan_text.proofs.CardTexts.{then_cards}
 
 -- the parts of one more item
@@ -26,13 +26,13 @@ numbered-next f xs i d lt =
 
 -- the cards of one more item
 pub next_cards : {X : Type 0} (f : X → List (NamedDevice (List ℕ))) (xs : List X) (i : ℕ) (d : X) → i < length xs → (start cur new : CardTextData)
-    → cur ≡ with_cards start (flat_map f (take i xs)) → new ≡ with_cards cur (f (get_or xs i d)) → new ≡ with_cards start (flat_map f (take (i + 1) xs))
+    → cur ≡ with_named_cards start (flat_map f (take i xs)) → new ≡ with_named_cards cur (f (get_or xs i d)) → new ≡ with_named_cards start (flat_map f (take (i + 1) xs))
 next_cards f xs i d lt start cur new e g =
-    then_cards start cur new (flat_map f (take i xs)) (f (get_or xs i d)) e g ∙ ap (with_cards start) (sym (flat_map-next f xs i d lt))
+    then_cards start cur new (flat_map f (take i xs)) (f (get_or xs i d)) e g ∙ ap (with_named_cards start) (sym (flat_map-next f xs i d lt))
 
 pub next_numbered : {X : Type 0} (f : ℕ × X → List (NamedDevice (List ℕ))) (xs : List X) (i : ℕ) (d : X) → i < length xs → (start cur new : CardTextData)
-    → cur ≡ with_cards start (flat_map f (enumerate_from 0 (take i xs))) → new ≡ with_cards cur (f (i, get_or xs i d))
-    → new ≡ with_cards start (flat_map f (enumerate_from 0 (take (i + 1) xs)))
+    → cur ≡ with_named_cards start (flat_map f (enumerate_from 0 (take i xs))) → new ≡ with_named_cards cur (f (i, get_or xs i d))
+    → new ≡ with_named_cards start (flat_map f (enumerate_from 0 (take (i + 1) xs)))
 next_numbered f xs i d lt start cur new e g =
     then_cards start cur new (flat_map f (enumerate_from 0 (take i xs))) (f (i, get_or xs i d)) e g
-    ∙ ap (with_cards start) (sym (numbered-next f xs i d lt))
+    ∙ ap (with_named_cards start) (sym (numbered-next f xs i d lt))

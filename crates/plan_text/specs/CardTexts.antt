@@ -20,5 +20,5 @@ pub record CardTextData : Type 0 where
   pub next : ℕ
 
 -- the text with the cards of these devices behind it
-abbrev pub with_cards : CardTextData → List (NamedDevice (List ℕ)) → CardTextData
-with_cards t devices = record { text = t.text ++ named_cards t.next devices; next = t.next + length devices }
+abbrev pub with_named_cards : CardTextData → List (NamedDevice (List ℕ)) → CardTextData
+with_named_cards t devices = record { text = t.text ++ named_cards t.next devices; next = t.next + length devices }

@@ -1,5 +1,6 @@
 pub mod CardTexts
 pub mod DeckTexts
 pub mod Nets
+pub mod PlannedDecks
 pub mod PutCells
 pub mod PutGroups

@@ -1,10 +1,11 @@
 -- Clocked inverters by the names of their nets, and sinks by their places.
-use Rattle.std.specs.Prelude.{ℕ, ◌-◌, cond, nat_lt, Bool, List, [], ◌∷◌, ◌++◌, codes, length, map, slice_index_or}
+use Rattle.std.specs.Prelude.{ℕ, Bool, List, [], ◌∷◌, ◌++◌, codes, map}
 use Rattle.std.specs.List.{zip}
 use Rattle.deck.specs.NamedDevices.{NamedDevice}
 use Rattle.deck.specs.declared.phase.Phase.{Phase}
-use Rattle.deck_form.specs.DeckNets.{data_net, sink_nets}
+use Rattle.deck_form.specs.DeckNets.{sink_nets}
 use Rattle.dom_base.specs.declared.kind.Kind.TheVariants.{N as nch, P as pch}
+use Rattle.plan_text.specs.Nets.{listed_net}
 
 -- a clocked inverter with this output: while its clock is 1, and the opposite 0, it drives its output to the opposite of its input
 abbrev pub clocked_inverter : List ℕ → List ℕ → List ℕ → List ℕ → List (NamedDevice (List ℕ))
@@ -17,7 +18,7 @@ clocked_inverter out clock opposite input =
 
 -- the net of a sink by its place: the outputs stand first, then the data of the latches
 abbrev pub nth_sink : List (List ℕ) → ℕ → List ℕ
-nth_sink outs k = cond (nat_lt k (length outs)) (slice_index_or outs k []) (data_net (k - length outs))
+nth_sink outs k = listed_net outs (codes "x") k
 
 -- the phases of sinks with these signs
 abbrev pub signed_phases : List (List ℕ) → List Bool → List Bool → List Phase

@@ -1,19 +1,19 @@
 //! Texts to which the cards of devices are appended.
 ghost use Rattle.std.specs.Prelude.{◌≡◌, ◌≤◌, ◌<◌, ◌+◌, ◌++◌, ◌∷◌, [], OnOk, length};
-ghost use Rattle.spice_text.specs.Text.{bulk_of};
-ghost use Rattle.deck.specs.DeckText.{model_word};
 ghost use Rattle.domino_cell.specs.Cell.{inverter};
-ghost use Rattle.plan_text.specs.CardTexts.{named_card, with_cards};
+ghost use Rattle.plan_text.specs.CardTexts.{named_card, with_named_cards};
 ghost use Rattle.plan_text.specs.Nets.{net_text};
 
+use crate::buffered::BufferedText;
 use crate::net::{Net, put_net};
-use dom_base::{Kind, OutOfMemory, append, append_number};
+use dom_base::{Kind, OutOfMemory};
+use spice_text::card_end;
 use std::marker::Model;
 
 /// A text, and the number of its next card.
 #[derive(Drop)]
 pub struct CardText {
-    text: Vec<u8>,
+    text: BufferedText,
     next: u64,
 }
 
@@ -23,23 +23,23 @@ impl Model for CardText {
 
     ghost Value = { CardTextData };
 
-    ghost view = { λ t. record { text = t.text.items; next = t.next } };
+    ghost view = { λ t. record { text = t.text; next = t.next } };
 
     // each card has a byte
-    ghost invariant = { λ t. t.next ≤ length t.text.items };
+    ghost invariant = { λ t. t.next ≤ length t.text };
 }
 
 impl CardText {
     /// A text without cards.
-    pub fn new(text: Vec<u8>) -> CardText
-        ensures { result ≡ record { text = text.items; next = 0 } }
+    pub fn new(text: BufferedText) -> CardText
+        ensures { result ≡ record { text = text; next = 0 } }
     {
         CardText { text, next: 0 }
     }
 
-    /// The bytes.
-    pub fn into_text(self) -> Vec<u8>
-        ensures { result.items ≡ self.text }
+    /// The text.
+    pub fn into_text(self) -> BufferedText
+        ensures { result ≡ self.text }
     {
         let CardText { text, next: _ } = self;
         text
@@ -53,7 +53,7 @@ impl CardText {
         gate: Net<'_>,
         source: Net<'_>,
     ) -> Result<(), OutOfMemory>
-        ensures { OnOk result (self.new ≡ with_cards self.old
+        ensures { OnOk result (self.new ≡ with_named_cards self.old
             (record { kind = kind; drain = net_text drain.entry; gate = net_text gate.entry; source = net_text source.entry } ∷ [])) }
     {
         put_card(&mut self.text, self.next, kind, drain, gate, source)?;
@@ -70,7 +70,7 @@ impl CardText {
         gate: Net<'_>,
         out: Net<'_>,
     ) -> Result<(), OutOfMemory>
-        ensures { OnOk result (self.new ≡ with_cards self.old
+        ensures { OnOk result (self.new ≡ with_named_cards self.old
             (inverter (net_text vdd.entry) (net_text vss.entry) (net_text gate.entry) (net_text out.entry))) }
     {
         self.put(Kind::P, out, gate, vdd)?;
@@ -80,35 +80,25 @@ impl CardText {
 }
 
 /// Appends the card of a device with its number.
+#[inline(always)]
 fn put_card(
-    text: &mut Vec<u8>,
+    text: &mut BufferedText,
     number: u64,
     kind: Kind,
     drain: Net<'_>,
     gate: Net<'_>,
     source: Net<'_>,
 ) -> Result<(), OutOfMemory>
-    ensures card { OnOk result (text.new.items ≡ text.old.items ++ named_card
+    ensures card { OnOk result (text.new ≡ text.old ++ named_card
         (number, record { kind = kind; drain = net_text drain.entry; gate = net_text gate.entry; source = net_text source.entry })) }
-    ensures longer { OnOk result (length text.old.items < length text.new.items) }
-    ensures no_shorter { length text.old.items ≤ length text.new.items }
+    ensures longer { OnOk result (length text.old < length text.new) }
+    ensures no_shorter { length text.old ≤ length text.new }
 {
-    append(text, b"m")?;
-    append_number(text, number)?;
+    text.put(b"m")?;
+    text.put_number(number)?;
     put_net(text, drain)?;
     put_net(text, gate)?;
     put_net(text, source)?;
-    append(text, card_end(kind))?;
+    text.put(card_end(kind))?;
     Ok(())
-}
-
-/// The end of a card: the bulk and the model of a kind of device, each after a blank, and LF.
-fn card_end(kind: Kind) -> &'static [u8]
-    ensures { result.now ≡ 32 ∷ bulk_of kind ++ 32 ∷ model_word kind ++ 10 ∷ [] }
-{
-    match kind {
-        Kind::N => b" vss nch\n",
-        Kind::P => b" vdd pch\n",
-        Kind::Keep => b" vdd pkeep\n",
-    }
 }

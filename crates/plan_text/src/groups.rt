@@ -7,12 +7,12 @@ ghost use Rattle.deck_form.specs.ChosenDecks.{end_at_cell};
 ghost use Rattle.deck_form.specs.DeckNets.{named_complement, named_latch, named_reset, named_sink, sink_gate, sink_nets};
 ghost use Rattle.dual_rail.specs.Uses.{IsEndThere};
 ghost use Rattle.tree_map.specs.MappedCover.{root_cell_numbers};
-ghost use Rattle.plan_text.specs.CardTexts.{with_cards};
+ghost use Rattle.plan_text.specs.CardTexts.{with_named_cards};
 ghost use Rattle.plan_text.specs.Nets.{net_text};
 ghost use Rattle.plan_text.specs.PutGroups.{clocked_inverter, nth_sink};
 
 use crate::card_text::CardText;
-use crate::net::{Net, rail_net};
+use crate::net::{Net, listed_net, rail_net};
 use deck::{joined_name, numbered_name};
 use dom_base::{Kind, NetName, OutOfMemory};
 use dual_rail::{End, Rail};
@@ -24,7 +24,7 @@ pub fn put_complements(
     pins: &[NetName],
     leaves: &[u32],
 ) -> Result<(), OutOfMemory>
-    ensures { OnOk result (cards.new ≡ with_cards cards.old (flat_map (named_complement pins.now) leaves.now)) }
+    ensures { OnOk result (cards.new ≡ with_named_cards cards.old (flat_map (named_complement pins.now) leaves.now)) }
 {
     'leaves: for leaf in leaves {
         put_complement(cards, pins, *leaf)?;
@@ -34,7 +34,7 @@ pub fn put_complements(
 
 /// Appends the cards of the inverter of the complement of a leaf.
 fn put_complement(cards: &mut CardText, pins: &[NetName], leaf: u32) -> Result<(), OutOfMemory>
-    ensures { OnOk result (cards.new ≡ with_cards cards.old (named_complement pins.now leaf)) }
+    ensures { OnOk result (cards.new ≡ with_named_cards cards.old (named_complement pins.now leaf)) }
 {
     let own = rail_net(pins, Rail { leaf, plus: true });
     let opposite = rail_net(pins, Rail { leaf, plus: false });
@@ -53,7 +53,7 @@ fn put_clocked(
     input: Net<'_>,
 ) -> Result<(), OutOfMemory>
     requires { All IsNetByte front.now }
-    ensures { OnOk result (cards.new ≡ with_cards cards.old
+    ensures { OnOk result (cards.new ≡ with_named_cards cards.old
         (clocked_inverter (front.now ++ decimal number) (net_text clock.entry) (net_text opposite.entry) (net_text input.entry))) }
 {
     let name = numbered_name(alloc, front, number)?;
@@ -71,7 +71,7 @@ fn put_clocked(
 
 /// Appends the card of the device that resets the output of latch `j` to its start value.
 fn put_reset(cards: &mut CardText, j: u32, init: bool) -> Result<(), OutOfMemory>
-    ensures { OnOk result (cards.new ≡ with_cards cards.old (named_reset j init ∷ [])) }
+    ensures { OnOk result (cards.new ≡ with_named_cards cards.old (named_reset j init ∷ [])) }
 {
     let out = Net::numbered(b"q", j);
     if init {
@@ -84,7 +84,7 @@ fn put_reset(cards: &mut CardText, j: u32, init: bool) -> Result<(), OutOfMemory
 
 /// Appends the cards of latch `j` with its start value.
 fn put_latch(alloc: Global, cards: &mut CardText, j: u32, init: bool) -> Result<(), OutOfMemory>
-    ensures { OnOk result (cards.new ≡ with_cards cards.old (named_latch (j, init))) }
+    ensures { OnOk result (cards.new ≡ with_named_cards cards.old (named_latch (j, init))) }
 {
     let data = Net::numbered(b"x", j);
     put_clocked(
@@ -113,7 +113,7 @@ fn put_latch(alloc: Global, cards: &mut CardText, j: u32, init: bool) -> Result<
 /// Appends the cards of latches with these start values.
 pub fn put_latches(alloc: Global, cards: &mut CardText, starts: &[bool]) -> Result<(), OutOfMemory>
     requires { length starts.now < 2 ^ 32 }
-    ensures { OnOk result (cards.new ≡ with_cards cards.old (flat_map named_latch (enumerate_from 0 starts.now))) }
+    ensures { OnOk result (cards.new ≡ with_named_cards cards.old (flat_map named_latch (enumerate_from 0 starts.now))) }
 {
     'latches: for j in 0..starts.len() {
         put_latch(alloc, cards, j as u32, starts[j])?;
@@ -125,11 +125,7 @@ pub fn put_latches(alloc: Global, cards: &mut CardText, starts: &[bool]) -> Resu
 pub fn sink_net<'a>(outs: &'a [NetName], k: u32) -> Net<'a>
     ensures { net_text result ≡ nth_sink outs.now k }
 {
-    if (k as usize) < outs.len() {
-        Net::named(outs[k as usize].as_bytes())
-    } else {
-        Net::numbered(b"x", k - outs.len() as u32)
-    }
+    listed_net(outs, b"x", k)
 }
 
 /// The net that gates the inverter of a sink.
@@ -158,7 +154,7 @@ pub fn put_sinks(
     requires ends { All (IsEndThere (length cells.now)) ends.now }
     ensures { OnOk result ((kept starts : List Bool) → cells.now ≡ root_cell_numbers kept
         → length ends.now ≡ length outs.now + length starts
-        → cards.new ≡ with_cards cards.old
+        → cards.new ≡ with_named_cards cards.old
         (flat_map (named_sink pins.now) (zip (sink_nets outs.now starts) (map (end_at_cell kept) ends.now)))) }
 {
     'sinks: for k in 0..ends.len() {

@@ -8,9 +8,10 @@ ghost use Rattle.plan_text.specs.DeckTexts.{deck_head};
 ghost use Rattle.plan_text.specs.Nets.{net_text};
 ghost use Rattle.plan_text.specs.PutGroups.{nth_sink, signed_phases};
 
+use crate::buffered::BufferedText;
 use crate::groups::sink_net;
 use crate::net::put_net;
-use dom_base::{NetName, OutOfMemory, append, append_word};
+use dom_base::{NetName, OutOfMemory};
 use std::alloc::Global;
 
 /// The greatest number of names on a line that begins with `+`.
@@ -26,34 +27,34 @@ pub fn begin_deck(
     signs: &[bool],
     pins: &[NetName],
     outs: &[NetName],
-) -> Result<Vec<u8>, OutOfMemory>
+) -> Result<BufferedText, OutOfMemory>
     requires some_clock { 1 ≤ clocks }
     requires few_clocks { clocks ≤ 4 }
     requires few_signs { length signs.now < 2 ^ 32 }
     ensures { IfOk result (λ text. (starts : List Bool) → length signs.now ≡ length outs.now + length starts
-        → text.items ≡ deck_head name.now (signed_phases outs.now starts signs.now) clocks pins.now outs.now) }
+        → text ≡ deck_head name.now (signed_phases outs.now starts signs.now) clocks pins.now outs.now) }
 {
-    let mut text = Vec::with_capacity(alloc, room)?;
-    append(&mut text, b"* domsyn deck 1\n")?;
+    let mut text = BufferedText::new(Vec::with_capacity(alloc, room)?);
+    text.put(b"* domsyn deck 1\n")?;
     put_phases(&mut text, outs, signs)?;
     put_subckt(&mut text, name, clocks, pins, outs)?;
     Ok(text)
 }
 
 /// Appends the last line of a deck.
-pub fn end_deck(text: &mut Vec<u8>, name: &[u8]) -> Result<(), OutOfMemory>
-    ensures { OnOk result (text.new.items ≡ text.old.items ++ deck_line (codes ".ends") (name.now ∷ [])) }
+pub fn end_deck(text: &mut BufferedText, name: &[u8]) -> Result<(), OutOfMemory>
+    ensures { OnOk result (text.new ≡ text.old ++ deck_line (codes ".ends") (name.now ∷ [])) }
 {
-    append(text, b".ends")?;
-    append_word(text, name)?;
-    append(text, b"\n")
+    text.put(b".ends")?;
+    text.put_word(name)?;
+    text.put(b"\n")
 }
 
 /// Appends a line for the phase of each sink.
-fn put_phases(text: &mut Vec<u8>, outs: &[NetName], signs: &[bool]) -> Result<(), OutOfMemory>
+fn put_phases(text: &mut BufferedText, outs: &[NetName], signs: &[bool]) -> Result<(), OutOfMemory>
     requires { length signs.now < 2 ^ 32 }
     ensures { OnOk result ((starts : List Bool) → length signs.now ≡ length outs.now + length starts
-        → text.new.items ≡ text.old.items ++ flat_map phase_line (signed_phases outs.now starts signs.now)) }
+        → text.new ≡ text.old ++ flat_map phase_line (signed_phases outs.now starts signs.now)) }
 {
     'sinks: for k in 0..signs.len() {
         put_phase(text, outs, k as u32, signs[k])?;
@@ -62,12 +63,17 @@ fn put_phases(text: &mut Vec<u8>, outs: &[NetName], signs: &[bool]) -> Result<()
 }
 
 /// Appends the line of the phase of a sink.
-fn put_phase(text: &mut Vec<u8>, outs: &[NetName], k: u32, plus: bool) -> Result<(), OutOfMemory>
-    ensures { OnOk result (text.new.items ≡ text.old.items ++ phase_line (record { net = nth_sink outs.now k; plus = plus })) }
+fn put_phase(
+    text: &mut BufferedText,
+    outs: &[NetName],
+    k: u32,
+    plus: bool,
+) -> Result<(), OutOfMemory>
+    ensures { OnOk result (text.new ≡ text.old ++ phase_line (record { net = nth_sink outs.now k; plus = plus })) }
 {
-    append(text, b"* phase")?;
+    text.put(b"* phase")?;
     put_net(text, sink_net(outs, k))?;
-    append(text, if plus { b" +\n" } else { b" -\n" })
+    text.put(if plus { b" +\n" } else { b" -\n" })
 }
 
 /// The first so many clocks, each with a blank before it.
@@ -87,7 +93,7 @@ fn clock_words(clocks: u8) -> &'static [u8]
 /// Appends `.subckt`, the name, and the ports: the supplies, so many clocks and the clocks and resets of latches on this
 /// line, and pins and outputs on lines of their own.
 fn put_subckt(
-    text: &mut Vec<u8>,
+    text: &mut BufferedText,
     name: &[u8],
     clocks: u8,
     pins: &[NetName],
@@ -95,40 +101,40 @@ fn put_subckt(
 ) -> Result<(), OutOfMemory>
     requires some_clock { 1 ≤ clocks }
     requires few_clocks { clocks ≤ 4 }
-    ensures { OnOk result (text.new.items ≡ text.old.items ++ subckt_with name.now (leading_ports clocks) (pins.now ∷ outs.now ∷ [])) }
+    ensures { OnOk result (text.new ≡ text.old ++ subckt_with name.now (leading_ports clocks) (pins.now ∷ outs.now ∷ [])) }
 {
-    append(text, b".subckt")?;
-    append_word(text, name)?;
-    append(text, b" vdd vss")?;
-    append(text, clock_words(clocks))?;
-    append(text, b" lm lmb ls lsb rs rsb\n")?;
+    text.put(b".subckt")?;
+    text.put_word(name)?;
+    text.put(b" vdd vss")?;
+    text.put(clock_words(clocks))?;
+    text.put(b" lm lmb ls lsb rs rsb\n")?;
     put_port_lines(text, pins)?;
     put_port_lines(text, outs)?;
     Ok(())
 }
 
 /// Appends a blank before each name, and the name.
-fn put_names(text: &mut Vec<u8>, names: &[NetName]) -> Result<(), OutOfMemory>
-    ensures { OnOk result (text.new.items ≡ text.old.items ++ flat_map (λ word. 32 ∷ word) names.now) }
+fn put_names(text: &mut BufferedText, names: &[NetName]) -> Result<(), OutOfMemory>
+    ensures { OnOk result (text.new ≡ text.old ++ flat_map (λ word. 32 ∷ word) names.now) }
 {
     'names: for name in names {
-        append_word(text, name.as_bytes())?;
+        text.put_word(name.as_bytes())?;
     }
     Ok(())
 }
 
 /// Appends a line that begins with `+` and has these names.
-fn put_port_line(text: &mut Vec<u8>, names: &[NetName]) -> Result<(), OutOfMemory>
-    ensures { OnOk result (text.new.items ≡ text.old.items ++ deck_line (codes "+") names.now) }
+fn put_port_line(text: &mut BufferedText, names: &[NetName]) -> Result<(), OutOfMemory>
+    ensures { OnOk result (text.new ≡ text.old ++ deck_line (codes "+") names.now) }
 {
-    append(text, b"+")?;
+    text.put(b"+")?;
     put_names(text, names)?;
-    append(text, b"\n")
+    text.put(b"\n")
 }
 
 /// Appends names on lines that begin with `+`.
-fn put_port_lines(text: &mut Vec<u8>, names: &[NetName]) -> Result<(), OutOfMemory>
-    ensures { OnOk result (text.new.items ≡ text.old.items ++ plus_lines names.now) }
+fn put_port_lines(text: &mut BufferedText, names: &[NetName]) -> Result<(), OutOfMemory>
+    ensures { OnOk result (text.new ≡ text.old ++ plus_lines names.now) }
 {
     let mut rest = names;
     'groups: while !rest.is_empty() {

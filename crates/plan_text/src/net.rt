@@ -1,17 +1,29 @@
 //! Nets of a deck by the parts of their names.
-ghost use Rattle.std.specs.Prelude.{◌≡◌, ◌≤◌, ◌<◌, ◌+◌, ◌++◌, ◌∷◌, OnOk, length};
+ghost use Rattle.std.specs.Prelude.{◌≡◌, ◌≤◌, ◌++◌, ◌∷◌, OnOk, codes, length};
 ghost use Rattle.std.specs.Fmt.{decimal};
-ghost use Rattle.deck_form.specs.DeckNets.{data_net, own_net, rail_net};
-ghost use Rattle.plan_text.specs.Nets.{net_text};
+ghost use Rattle.deck_form.specs.DeckNets.{own_net, rail_net};
+ghost use Rattle.domino_cell.specs.NamedTrees.{inner_net};
+ghost use Rattle.plan_text.specs.Nets.{listed_net, net_text, tree_front};
 
-use dom_base::{NetName, OutOfMemory, append_number, append_word};
+use crate::buffered::BufferedText;
+use dom_base::{NetName, OutOfMemory};
 use dual_rail::Rail;
 
-/// A net, by how its name begins and the number behind, if there is one.
+/// A net, by how its name begins, and what stands behind it.
 #[derive(Clone, Copy)]
 pub struct Net<'a> {
     pub front: &'a [u8],
-    pub number: Option<u32>,
+    pub end: NetEnd<'a>,
+}
+
+/// What stands behind the beginning of a net's name: nothing, the digits of the number of a cell, a number, or the digits of the
+/// number of a cell, `_`, and the number of an inner net.
+#[derive(Clone, Copy)]
+pub enum NetEnd<'a> {
+    Nothing,
+    Digits(&'a [u8]),
+    Number(u32),
+    Inner(&'a [u8], u32),
 }
 
 impl<'a> Net<'a> {
@@ -19,32 +31,69 @@ impl<'a> Net<'a> {
     pub fn named(front: &'a [u8]) -> Net<'a>
         ensures { net_text result ≡ front.now }
     {
-        Net {
-            front,
-            number: None,
-        }
+        let end = NetEnd::Nothing;
+        Net { front, end }
     }
 
     /// The net whose name is this with a number behind.
     pub fn numbered(front: &'a [u8], number: u32) -> Net<'a>
         ensures { net_text result ≡ front.now ++ decimal number }
     {
-        Net {
-            front,
-            number: Some(number),
-        }
+        let end = NetEnd::Number(number);
+        Net { front, end }
+    }
+
+    /// The net whose name is this with the digits of a cell's number behind.
+    pub fn of_cell(front: &'a [u8], digits: &'a [u8]) -> Net<'a>
+        ensures { net_text result ≡ front.now ++ digits.now }
+    {
+        let end = NetEnd::Digits(digits);
+        Net { front, end }
+    }
+
+    /// The inner net of this number of the cell whose number has these digits.
+    pub fn inner(digits: &'a [u8], number: u32) -> Net<'a>
+        ensures { net_text result ≡ inner_net (tree_front digits.now) number }
+    {
+        let front = b"t";
+        let end = NetEnd::Inner(digits, number);
+        Net { front, end }
     }
 }
 
 /// Appends a blank and the name of a net.
-pub fn put_net(text: &mut Vec<u8>, net: Net<'_>) -> Result<(), OutOfMemory>
-    ensures name { OnOk result (text.new.items ≡ text.old.items ++ 32 ∷ net_text net.entry) }
-    ensures longer { length text.old.items ≤ length text.new.items }
+#[inline(always)]
+pub fn put_net(text: &mut BufferedText, net: Net<'_>) -> Result<(), OutOfMemory>
+    ensures name { OnOk result (text.new ≡ text.old ++ 32 ∷ net_text net.entry) }
+    ensures longer { length text.old ≤ length text.new }
 {
-    append_word(text, net.front)?;
-    match net.number {
-        Some(number) => append_number(text, u64::from(number)),
-        None => Ok(()),
+    text.put_word(net.front)?;
+    match net.end {
+        NetEnd::Nothing => Ok(()),
+        NetEnd::Digits(digits) => text.put(digits),
+        NetEnd::Number(number) => text.put_number(u64::from(number)),
+        NetEnd::Inner(digits, number) => put_inner(text, digits, number),
+    }
+}
+
+/// Appends the digits of the number of a cell, `_`, and the number of an inner net.
+fn put_inner(text: &mut BufferedText, digits: &[u8], number: u32) -> Result<(), OutOfMemory>
+    ensures name { OnOk result (text.new ≡ ((text.old ++ digits.now) ++ codes "_") ++ decimal number) }
+    ensures longer { length text.old ≤ length text.new }
+{
+    text.put(digits)?;
+    text.push(b'_')?;
+    text.put_number(u64::from(number))
+}
+
+/// The net at a place: one of these names, or behind them this one with a number from 0 on.
+pub fn listed_net<'a>(names: &'a [NetName], front: &'a [u8], place: u32) -> Net<'a>
+    ensures { net_text result ≡ listed_net names.now front.now place }
+{
+    if (place as usize) < names.len() {
+        Net::named(names[place as usize].as_bytes())
+    } else {
+        Net::numbered(front, place - names.len() as u32)
     }
 }
 
@@ -52,11 +101,7 @@ pub fn put_net(text: &mut Vec<u8>, net: Net<'_>) -> Result<(), OutOfMemory>
 fn own_net<'a>(pins: &'a [NetName], leaf: u32) -> Net<'a>
     ensures { net_text result ≡ own_net pins.now leaf }
 {
-    if (leaf as usize) < pins.len() {
-        Net::named(pins[leaf as usize].as_bytes())
-    } else {
-        Net::numbered(b"q", leaf - pins.len() as u32)
-    }
+    listed_net(pins, b"q", leaf)
 }
 
 /// The net of a leaf as it is, or of its opposite.

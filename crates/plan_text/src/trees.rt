@@ -7,13 +7,15 @@ ghost use Rattle.domino_cell.specs.Spelling.{spell};
 ghost use Rattle.sp_network.specs.Tree.{Tree, inner_count};
 ghost use Rattle.tree_map.specs.MappedCover.{IsArmInForest, root_cell_numbers};
 ghost use Rattle.tree_map.specs.Plans.{IsArmTree, IsTreeOf};
-ghost use Rattle.plan_text.specs.CardTexts.{with_cards};
-ghost use Rattle.plan_text.specs.Nets.{net_text};
-ghost use Rattle.plan_text.specs.PutCells.{HasRoomForArm, HasRoomForTree, netted};
+ghost use Rattle.plan_text.specs.CardTexts.{with_named_cards};
+ghost use Rattle.plan_text.specs.Nets.{net_text, tree_front};
+ghost use Rattle.plan_text.specs.PlannedDecks.{netted_in};
+ghost use Rattle.plan_text.specs.PutCells.{HasRoomForArm, HasRoomForTree};
 
 use crate::card_text::CardText;
 use crate::net::{Net, rail_net};
-use dom_base::{Kind, NetName, OutOfMemory};
+use crate::planned::CutForest;
+use dom_base::{Kind, OutOfMemory};
 use dual_rail::{Arm, Forest, Pair};
 
 /// How many inner nets the tree of a pair takes: one for each series.
@@ -60,45 +62,36 @@ fn arm_inner(forest: &Forest, kept: &[bool], arm: Arm) -> u32
 #[cycle(put)]
 pub fn put_pair(
     cards: &mut CardText,
-    forest: &Forest,
-    kept: &[bool],
-    cells: &[u32],
-    pins: &[NetName],
+    cover: &CutForest<'_>,
     place: usize,
     top: Net<'_>,
     bottom: Net<'_>,
-    front: &[u8],
+    digits: &[u8],
     inner: u32,
 ) -> Result<u32, OutOfMemory>
-    requires forest { IsForest forest.now }
-    requires one_each { length kept.now ≡ length forest.now.pairs }
-    requires cells { cells.now ≡ root_cell_numbers kept.now }
-    requires there { place < length forest.now.pairs }
-    requires room { HasRoomForTree forest.now kept.now place inner }
-    ensures next { IfOk result (λ next. (tree : Tree ℕ) → IsTreeOf forest.now kept.now place tree → next ≡ inner + inner_count tree) }
-    ensures cards { OnOk result ((tree : Tree ℕ) → IsTreeOf forest.now kept.now place tree
-        → cards.new ≡ with_cards cards.old
-        (spell nch (inner_net front.now) (netted pins.now forest.now.leaves tree) (net_text top.entry) (net_text bottom.entry) inner)) }
+    requires forest { IsForest cover.now.forest.now }
+    requires one_each { length cover.now.kept.now ≡ length cover.now.forest.now.pairs }
+    requires cells { cover.now.cells.now ≡ root_cell_numbers cover.now.kept.now }
+    requires there { place < length cover.now.forest.now.pairs }
+    requires room { HasRoomForTree cover.now.forest.now cover.now.kept.now place inner }
+    ensures next { IfOk result (λ next. (tree : Tree ℕ) → IsTreeOf cover.now.forest.now cover.now.kept.now place tree
+        → next ≡ inner + inner_count tree) }
+    ensures cards { OnOk result ((tree : Tree ℕ) → IsTreeOf cover.now.forest.now cover.now.kept.now place tree
+        → cards.new ≡ with_named_cards cards.old
+        (spell nch (inner_net (tree_front digits.now)) (netted_in cover.now tree) (net_text top.entry) (net_text bottom.entry) inner)) }
 {
+    let forest = cover.forest;
     match forest.pairs[place] {
         Pair::And(left, right) => {
-            let middle = Net::numbered(front, inner);
+            let middle = Net::inner(digits, inner);
             let next = inner + 1;
-            let next = put_arm(
-                cards, forest, kept, cells, pins, left, top, middle, front, next,
-            )?;
-            let next = put_arm(
-                cards, forest, kept, cells, pins, right, middle, bottom, front, next,
-            )?;
+            let next = put_arm(cards, cover, left, top, middle, digits, next)?;
+            let next = put_arm(cards, cover, right, middle, bottom, digits, next)?;
             Ok(next)
         }
         Pair::Or(left, right) => {
-            let next = put_arm(
-                cards, forest, kept, cells, pins, left, top, bottom, front, inner,
-            )?;
-            let next = put_arm(
-                cards, forest, kept, cells, pins, right, top, bottom, front, next,
-            )?;
+            let next = put_arm(cards, cover, left, top, bottom, digits, inner)?;
+            let next = put_arm(cards, cover, right, top, bottom, digits, next)?;
             Ok(next)
         }
     }
@@ -108,40 +101,41 @@ pub fn put_pair(
 #[cycle(put)]
 fn put_arm(
     cards: &mut CardText,
-    forest: &Forest,
-    kept: &[bool],
-    cells: &[u32],
-    pins: &[NetName],
+    cover: &CutForest<'_>,
     arm: Arm,
     top: Net<'_>,
     bottom: Net<'_>,
-    front: &[u8],
+    digits: &[u8],
     inner: u32,
 ) -> Result<u32, OutOfMemory>
-    requires forest { IsForest forest.now }
-    requires one_each { length kept.now ≡ length forest.now.pairs }
-    requires cells { cells.now ≡ root_cell_numbers kept.now }
-    requires there { IsArmInForest forest.now arm }
-    requires room { HasRoomForArm forest.now kept.now arm inner }
-    ensures next { IfOk result (λ next. (tree : Tree ℕ) → IsArmTree forest.now kept.now arm tree → next ≡ inner + inner_count tree) }
-    ensures cards { OnOk result ((tree : Tree ℕ) → IsArmTree forest.now kept.now arm tree
-        → cards.new ≡ with_cards cards.old
-        (spell nch (inner_net front.now) (netted pins.now forest.now.leaves tree) (net_text top.entry) (net_text bottom.entry) inner)) }
+    requires forest { IsForest cover.now.forest.now }
+    requires one_each { length cover.now.kept.now ≡ length cover.now.forest.now.pairs }
+    requires cells { cover.now.cells.now ≡ root_cell_numbers cover.now.kept.now }
+    requires there { IsArmInForest cover.now.forest.now arm }
+    requires room { HasRoomForArm cover.now.forest.now cover.now.kept.now arm inner }
+    ensures next { IfOk result (λ next. (tree : Tree ℕ) → IsArmTree cover.now.forest.now cover.now.kept.now arm tree
+        → next ≡ inner + inner_count tree) }
+    ensures cards { OnOk result ((tree : Tree ℕ) → IsArmTree cover.now.forest.now cover.now.kept.now arm tree
+        → cards.new ≡ with_named_cards cards.old
+        (spell nch (inner_net (tree_front digits.now)) (netted_in cover.now tree) (net_text top.entry) (net_text bottom.entry) inner)) }
 {
     match arm {
         Arm::Literal(rail) => {
-            cards.put(Kind::N, top, rail_net(pins, rail), bottom)?;
+            cards.put(Kind::N, top, rail_net(cover.pins, rail), bottom)?;
             Ok(inner)
         }
         Arm::Pair(place) => {
             let place = place as usize;
-            if kept[place] {
-                let next = put_pair(
-                    cards, forest, kept, cells, pins, place, top, bottom, front, inner,
-                )?;
+            if cover.kept[place] {
+                let next = put_pair(cards, cover, place, top, bottom, digits, inner)?;
                 Ok(next)
             } else {
-                cards.put(Kind::N, top, Net::numbered(b"z", cells[place]), bottom)?;
+                cards.put(
+                    Kind::N,
+                    top,
+                    Net::numbered(b"z", cover.cells[place]),
+                    bottom,
+                )?;
                 Ok(inner)
             }
         }

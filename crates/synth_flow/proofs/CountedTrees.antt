@@ -56,7 +56,3 @@ root_tree forest kept trees are places same k lt =
 
 pub root_there : (kept : List Bool) (places : List ℕ) → places ≡ roots kept → (k : ℕ) → k < length places → get_or places k 0 < length kept
 root_there kept places same k lt = (root_of_cell kept k (get_or places k 0) (ap (λ l. slice_get l k) (sym same) ∙ slice_get-get_or places k 0 lt)).2
-
-pub few_roots : (kept : List Bool) (places : List ℕ) → places ≡ roots kept → length places ≤ length kept
-few_roots kept places same =
-    omega (arith, ap length same, few_filtered (λ place. not (is_kept kept place)) (range_with_len 0 (length kept)), length-range_with_len 0 (length kept))

@@ -7,6 +7,7 @@ use Rattle.std.specs.Cmp.Lexicographic.{pointwise}
 use Rattle.std.proofs.lemmas.List.Elements.{All-from_recursion, recursion_from_All}
 use Rattle.dom_base.proofs.Lists.{IsDistinct-append, list_any-none, AllByRecursion-append, AllByRecursion-every, AllByRecursion-map, AllByRecursion-weaker}
 use Rattle.dom_base.proofs.Names.{AreApart-from_start}
+use Rattle.deck.proofs.CircuitGrowth.{with_devices-append}
 use Rattle.deck.specs.CircuitData.{CircuitData}
 use Rattle.deck.specs.NamedDevices.{NamedDevice, with_devices}
 use Rattle.deck.specs.Nets.{IsCircuit, net_name, net_number}
@@ -19,7 +20,6 @@ use Rattle.sp_network.specs.Tree.{Tree, Leaf, Series, Parallel, EachLeaf}
 use Rattle.sp_network.specs.TypedTree.{tree_of}
 use Rattle.sp_network.specs.declared.plan.GatePlan.{GatePlan}
 use Rattle.domino_cell.specs.NamedTrees.{named_tree}
-use Rattle.domino_cell.proofs.CellCircuits.{with_devices-append}
 use Rattle.dual_rail.proofs.Zips.{all_from}
 use Rattle.std.proofs.lemmas.Option.{slice_get_within}
 use Rattle.clock_phase.proofs.Greatest.{each_leaf_weaker}

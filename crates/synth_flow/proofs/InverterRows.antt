@@ -12,7 +12,7 @@ use Rattle.deck.specs.Nets.{IsCircuit, net_number}
 use Rattle.deck.specs.NumberedDevices.{HasNumber, IsNumberedDevice, numbered_device}
 use Rattle.deck.specs.Sources.{is_source}
 use Rattle.deck.specs.declared.device.Device.{Device}
-use Rattle.deck.proofs.CircuitGrowth.{with_devices-devices, with_devices-numbered}
+use Rattle.deck.proofs.CircuitGrowth.{with_devices-append, with_devices-devices, with_devices-numbered}
 use Rattle.deck.proofs.NetNumbers.{HasNumber-below, number_cases, same_number}
 use Rattle.domino_cell.specs.Cell.{inverter}
 use Rattle.domino_cell.specs.PushedNames.{IsPort}
@@ -20,7 +20,7 @@ use Rattle.domino_cell.proofs.AppendedNets.{behind_no_source, new_behind, old_so
 use Rattle.latch_bind.specs.Sinks.{HasRoomForSink, sink_inverter}
 use Rattle.latch_bind.proofs.LatchParts.{two_parts}
 use Rattle.synth_flow.specs.MadeDecks.{EndsApart, HasRoomForInverters, inverters}
-use Rattle.domino_cell.proofs.CellCircuits.{count_with, with_devices-append}
+use Rattle.domino_cell.proofs.CellCircuits.{count_with}
 use Rattle.synth_flow.proofs.LoopItems.{item_at}
 
 -- the devices of a circuit that end elsewhere by name end elsewhere by number

@@ -6,12 +6,13 @@ use Rattle.std.specs.Prelude.{◌≢◌, codes}
 use Rattle.std.specs.Fmt.{decimal}
 use Rattle.std.specs.List.{AllByRecursion}
 use Rattle.dom_base.proofs.Lists.{AllByRecursion-weaker}
+use Rattle.deck.proofs.CircuitGrowth.{with_devices-append}
 use Rattle.deck.specs.CircuitData.{CircuitData}
 use Rattle.deck.specs.NamedDevices.{with_devices}
 use Rattle.latch_bind.specs.Latches.{HasRoomForLatch, named_latch, named_reset}
 use Rattle.synth_flow.specs.MadeDecks.{IsBeforeLatch, latches_from}
 use Rattle.latch_bind.proofs.LatchParts.{two_parts}
-use Rattle.domino_cell.proofs.CellCircuits.{count_with, with_devices-append}
+use Rattle.domino_cell.proofs.CellCircuits.{count_with}
 use Rattle.deck_form.specs.NameParts.{NoDigit}
 use Rattle.deck_form.proofs.NameParts.{HasNames, all_nets, bare_number_is, none_named, number_is, rest_is}
 

@@ -49,7 +49,7 @@ use Rattle.tree_map.proofs.ArmTrees.{cell_within}
 use Rattle.synth_flow.specs.CellCounts.{is_read_in}
 use Rattle.synth_flow.specs.ChosenForests.{IsChosenForest}
 use Rattle.synth_flow.specs.NamedComplements.{is_plus_end}
-use Rattle.synth_flow.specs.WholeTexts.{IsWholeText}
+use Rattle.synth_flow.specs.WholeTexts.{IsChosenText}
 use Rattle.synth_flow.proofs.DeckFigures.{complements_same, devices_counted}
 use Rattle.synth_flow.proofs.NetworkDecks.{all_apart, few_leaves, few_sinks, outs_begin, outs_count, pins_begin, pins_count}
 use Rattle.synth_flow.proofs.PlainDevices.{IsLowCell, IsLowEnd, devices_plain, sinks_are_plain}
@@ -186,7 +186,7 @@ module _ (network : NetworkData) (is : IsNetwork network) (bytes : All (λ name.
 
     -- the text is whole
     pub text_is_whole : IsNetName (escaped network.name)
-        → IsWholeText network options (named_deck_text (escaped network.name) (phases_of_sinks network signs) options.phases (pins_of network) (outs_of network)
+        → IsChosenText network options (named_deck_text (escaped network.name) (phases_of_sinks network signs) options.phases (pins_of network) (outs_of network)
         (named_devices options.style (pins_of network) (outs_of network) (starts_of network) cells complements ends))
     text_is_whole name =
         let devices = named_devices options.style (pins_of network) (outs_of network) (starts_of network) cells (complements_of network cells ends) ends in

@@ -18,7 +18,7 @@ use Rattle.synth_flow.specs.CellCounts.{is_read_in}
 use Rattle.synth_flow.specs.NamedComplements.{is_plus_end}
 
 -- the text of the circuit that synthesis gives of the network, which is whole
-pub record IsWholeText (network : NetworkData) (options : SynthOptions) (text : List ℕ) : Type 0 where
+pub record IsChosenText (network : NetworkData) (options : SynthOptions) (text : List ℕ) : Type 0 where
   pub circuit : CircuitData
   pub is_chosen : IsChosenDeck network (deck_options options) circuit
   pub whole : IsWhole circuit

@@ -1,21 +1,21 @@
 //! The figures of the deck of a network, without the deck.
 ghost use Rattle.std.specs.Prelude.{◌≡◌, ◌≤◌, ◌<◌, ◌*◌, ◌^◌, All, IfOk, count_by, length};
 ghost use Rattle.network.specs.NetworkData.{NetworkData};
+ghost use Rattle.synth_flow.specs.ChosenForests.{IsChosenForest};
 ghost use Rattle.synth_flow.specs.Summaries.{IsSummaryOf};
 ghost use Rattle.style_costs.specs.Styles.{is_series};
 ghost use Rattle.synth_flow.specs.SummaryParts.{cost_of_plan, figures_by};
 
 use crate::both::both_signs;
+use crate::chosen::{CountedForest, counted_forest};
 use crate::counted::{CountedCover, counted_cover};
 use crate::counts::{clock_counts, greatest_level, minus_count};
 use crate::figures::Summary;
 use deck_form::SynthOptions;
 use dom_base::OutOfMemory;
 use domino_cell::Style;
-use dual_rail::{Forest, Pair, rails};
-use gate_decompose::decompose;
+use dual_rail::{Forest, Pair};
 use network::Network;
-use phase_assign::assign;
 use std::alloc::Global;
 
 /// The figures of the circuit that `synth` gives of a network with the same options. It doesn't make the
@@ -34,17 +34,44 @@ pub fn summary(
     requires few_phases { options.phases ≤ 4 }
     ensures { IfOk result (IsSummaryOf network.now options) }
 {
-    let gates = decompose(alloc, network)?;
-    let signs = assign(alloc, &gates)?;
-    let forest = rails(alloc, &gates, signs.as_slice())?;
-    let both = both_signs(alloc, forest.origin.as_slice(), gates.nodes.len())?;
+    let CountedForest { chosen, nodes } = counted_forest(alloc, network)?;
+    figures_of_forest(
+        alloc,
+        network,
+        options,
+        chosen.signs.as_slice(),
+        &chosen.forest,
+        nodes,
+    )
+}
+
+/// The figures of the circuit that `synth` gives of a network with the same options, of its chosen signs and the forest of its
+/// gates, which have so many nodes, under them. The one error is out of memory.
+pub fn figures_of_forest(
+    alloc: Global,
+    network: &Network,
+    options: SynthOptions,
+    signs: &[bool],
+    forest: &Forest,
+    nodes: usize,
+) -> Result<Summary, OutOfMemory>
+    requires some_width { 2 ≤ options.bounds.w }
+    requires few_wide { options.bounds.w ≤ 8 }
+    requires some_height { 2 ≤ options.bounds.h }
+    requires few_high { options.bounds.h ≤ 6 }
+    requires some_phase { 1 ≤ options.phases }
+    requires few_phases { options.phases ≤ 4 }
+    requires chosen { (is : IsChosenForest network.now signs.now forest.now) × (nodes ≡ length is.gates.nodes) }
+    ensures { IfOk result (IsSummaryOf network.now options) }
+{
+    let both = both_signs(alloc, forest.origin.as_slice(), nodes)?;
     let CountedCover {
         kept,
         cells,
         places,
         levels,
         complements,
-    } = counted_cover(alloc, &forest, options.bounds)?;
+    } = counted_cover(alloc, forest, options.bounds)?;
     drop(kept);
     drop(cells);
     drop(places);
@@ -53,8 +80,8 @@ pub fn summary(
         network,
         options.phases,
         options.style,
-        signs.as_slice(),
-        &forest,
+        signs,
+        forest,
         levels.as_slice(),
         complements.as_slice(),
         both,

@@ -6,6 +6,7 @@ ghost use Rattle.gate_decompose.specs.GatesData.{GatesData};
 ghost use Rattle.tree_map.specs.MappedCover.{plan_trees};
 ghost use Rattle.deck_form.specs.ChosenDecks.{AreGiven, IsChosenDeck, IsDeckOfSigns};
 ghost use Rattle.deck_form.specs.AskedOptions.{deck_options};
+ghost use Rattle.synth_flow.specs.ChosenForests.{IsChosenForest};
 
 use crate::bare::deck_of;
 use crate::chosen::{ChosenForest, chosen_forest};
@@ -102,6 +103,39 @@ pub fn synth_signs(
     Ok(circuit)
 }
 
+/// The circuit of a network under its chosen signs, and the chosen cover of the forest of its gates under them, with the plans
+/// of its cells and its forest. The one error is out of memory.
+pub fn deck_of_chosen(
+    alloc: Global,
+    network: &Network,
+    chosen: ChosenForest,
+    options: SynthOptions,
+) -> Result<ChosenDeck, OutOfMemory>
+    requires some_width { 2 ≤ options.bounds.w }
+    requires few_wide { options.bounds.w ≤ 8 }
+    requires some_height { 2 ≤ options.bounds.h }
+    requires few_high { options.bounds.h ≤ 6 }
+    requires some_phase { 1 ≤ options.phases }
+    requires few_phases { options.phases ≤ 4 }
+    requires chosen { IsChosenForest network.now chosen.signs.items chosen.forest }
+    ensures { IfOk result (λ made. (is : IsChosenDeck network.now (deck_options options) made.circuit)
+        × (is.forest ≡ made.forest) × (is.trees ≡ plan_trees made.plans.items)) }
+{
+    let ChosenForest { signs, forest } = chosen;
+    let PlannedCircuit { circuit, plans } = deck_of_forest(
+        alloc,
+        network,
+        signs.as_slice(),
+        &forest,
+        options,
+    )?;
+    Ok(ChosenDeck {
+        circuit,
+        plans,
+        forest,
+    })
+}
+
 /// The circuit of the chosen signs of a network's sinks and the chosen cover, with the plans of its cells
 /// and its forest. The one error is out of memory.
 pub fn chosen_deck(
@@ -118,19 +152,8 @@ pub fn chosen_deck(
     ensures { IfOk result (λ made. (is : IsChosenDeck network.now (deck_options options) made.circuit)
         × (is.forest ≡ made.forest) × (is.trees ≡ plan_trees made.plans.items)) }
 {
-    let ChosenForest { signs, forest } = chosen_forest(alloc, network)?;
-    let PlannedCircuit { circuit, plans } = deck_of_forest(
-        alloc,
-        network,
-        signs.as_slice(),
-        &forest,
-        options,
-    )?;
-    Ok(ChosenDeck {
-        circuit,
-        plans,
-        forest,
-    })
+    let chosen = chosen_forest(alloc, network)?;
+    deck_of_chosen(alloc, network, chosen, options)
 }
 
 /// The circuit of a network: a domino deck of the chosen signs of its sinks and the chosen cover, by

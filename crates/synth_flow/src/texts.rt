@@ -4,7 +4,7 @@ ghost use Rattle.deck.specs.Escapes.{escaped};
 ghost use Rattle.dom_base.specs.Names.{IsNetName};
 ghost use Rattle.deck_form.specs.DominoDecks.{outs_of, pins_of, starts_of};
 ghost use Rattle.network.specs.declared.network.NetLatch.{NetLatch};
-ghost use Rattle.synth_flow.specs.WholeTexts.{IsWholeText};
+ghost use Rattle.synth_flow.specs.WholeTexts.{IsChosenText};
 
 use crate::bare::{see_bytes, see_names};
 use crate::chosen::{ChosenForest, chosen_forest};
@@ -14,7 +14,7 @@ use crate::names::{escaped_name, out_names, pin_names};
 use deck_form::SynthOptions;
 use dom_base::{NetName, OutOfMemory};
 use network::{NetLatch, Network};
-use plan_text::text_of_plan;
+use plan_text::{CutForest, PlannedDeck, text_of_plan};
 use std::alloc::Global;
 
 /// The escaped name of a network, the nets of its inputs and outputs, and the start values of its latches.
@@ -72,7 +72,7 @@ pub fn deck_text(
     requires few_high { options.bounds.h ≤ 6 }
     requires some_phase { 1 ≤ options.phases }
     requires few_phases { options.phases ≤ 4 }
-    ensures { IfOk result (λ text. IsWholeText network options text.items) }
+    ensures { IfOk result (λ text. IsChosenText network options text.items) }
 {
     let ChosenForest { signs, forest } = chosen_forest(alloc, &network)?;
     let DeckNames {
@@ -90,22 +90,25 @@ pub fn deck_text(
         complements,
     } = counted_cover(alloc, &forest, options.bounds)?;
     let top = greatest_level(levels.as_slice());
-    let text = text_of_plan(
-        alloc,
-        name.as_bytes(),
-        options.style,
-        options.phases,
-        signs.as_slice(),
-        &forest,
-        kept.as_slice(),
-        cells.as_slice(),
-        places.as_slice(),
-        levels.as_slice(),
+    let cover = CutForest {
+        forest: &forest,
+        kept: kept.as_slice(),
+        cells: cells.as_slice(),
+        pins: pins.as_slice(),
+    };
+    let deck = PlannedDeck {
+        name: name.as_bytes(),
+        style: options.style,
+        phases: options.phases,
+        signs: signs.as_slice(),
+        cover,
+        places: places.as_slice(),
+        levels: levels.as_slice(),
         top,
-        complements.as_slice(),
-        pins.as_slice(),
-        outs.as_slice(),
-        starts.as_slice(),
-    )?;
+        complements: complements.as_slice(),
+        outs: outs.as_slice(),
+        starts: starts.as_slice(),
+    };
+    let text = text_of_plan(alloc, &deck)?;
     Ok(text)
 }

@@ -1,4 +1,5 @@
 pub mod AskedNets
+pub mod CircuitVerdicts
 pub mod ComparedCycles
 pub mod ComparedRuns
 pub mod CosimCauses
@@ -29,7 +30,6 @@ pub mod ToldEdges
 pub mod TraceCauses
 pub mod TraceRuns
 pub mod TraceThere
-pub mod VerdictClauses
 pub mod VerdictThere
 pub mod VerdictsBy
 pub mod WrongOutputs

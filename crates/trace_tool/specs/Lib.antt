@@ -1,4 +1,5 @@
 pub mod AskedEdges
+pub mod CircuitVerdicts
 pub mod Comparisons
 pub mod CosimRefusals
 pub mod Courses

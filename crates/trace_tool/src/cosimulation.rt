@@ -4,14 +4,10 @@ ghost use Rattle.trace_tool.specs.CosimRefusals.{HasNetworkOf, IsCosimRefused, I
 ghost use Rattle.trace_tool.specs.Verdicts.{IsVerdictOf};
 ghost use Rattle.trace_tool.specs.declared.fault.TraceFault.{TraceFault as Fault};
 
-use crate::ordered::compared_by;
-use crate::port_names::different_port;
-use crate::setup::Setup;
-use crate::{Clocking, Order, TraceFault, Verdict};
-use deck::roles;
+use crate::circuit_verdict::verdict_of_circuit;
+use crate::{Order, TraceFault, Verdict};
 use net_flatten::{Network, flatten};
 use std::alloc::Global;
-use stim_text::read_stim;
 
 /// The verdict of a deck beside the network of a text of BLIF over a stimulus for the network's inputs,
 /// in an order of events with a seed: whether the ports from the first pin on are the network's inputs
@@ -32,21 +28,7 @@ pub fn cosim(
 {
     let network = network_of_text(alloc, blif)?;
     let circuit = spice_read::read(alloc, deck)?;
-    let roles = roles(&circuit)?;
-    let cycles = read_stim(alloc, stim, network.inputs)?;
-    if let Some(place) = different_port(alloc, &network, &circuit, roles)? {
-        return Ok(Verdict::PortsDiffer { place });
-    }
-    let setup = Setup {
-        circuit,
-        roles,
-        clocking: Clocking::Together,
-        events: false,
-        probes: &[],
-        asked: Vec::new(alloc),
-    };
-    let verdict = compared_by(alloc, setup, &network, &cycles, order, seed)?;
-    Ok(verdict)
+    verdict_of_circuit(alloc, &network, circuit, stim, order, seed)
 }
 
 /// The network of a text of BLIF, which is read and flattened; or the first fault of it.

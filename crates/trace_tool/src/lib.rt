@@ -2,6 +2,7 @@
 #![tactic(auto)]
 
 mod asked;
+mod circuit_verdict;
 mod comparison;
 mod cosimulation;
 mod cycles;
@@ -21,6 +22,7 @@ mod simulation;
 mod trace;
 mod verdict;
 
+pub use circuit_verdict::verdict_of_circuit;
 pub use cosimulation::{cosim, network_of_text};
 pub use fault::TraceFault;
 pub use laws::{

@@ -4,6 +4,6 @@ use Rattle.plan_text.proofs.card_text.put_card.Goals as goal
 
 pub returns-clause-card : goal.returns-clause-card
 returns-clause-card c =
-    card_with_end _ _ _ _ _ _ _ c.in_ok-append.ensures.bytes c.in_ok-append_number.ensures.digits
+    card_with_end _ _ _ _ _ _ _ c.in_ok-put.ensures.bytes c.in_ok-put_number.ensures.digits
     c.in_ok-put_net.ensures.name c.in_ok-put_net-2.ensures.name c.in_ok-put_net-3.ensures.name
-    (c.in_ok-append-2.ensures.bytes ∙ ap (λ w. c.put_net-3.new.text.items ++ w) c.card_end.ensures)
+    (c.in_ok-put-2.ensures.bytes ∙ ap (λ w. c.put_net-3.new.text ++ w) c.card_end.ensures)

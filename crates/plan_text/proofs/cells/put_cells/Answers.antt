@@ -1,4 +1,5 @@
 use Rattle.std.proofs.Common.{◌≡◌, ◌<◌, length, get_or, take, ap, ◌∙◌, arith}
+use Rattle.std.specs.Fmt.{decimal}
 use Rattle.std.specs.List.{enumerate_from, flat_map}
 use Rattle.std.proofs.lemmas.List.{take_all}
 use Rattle.std.proofs.lemmas.Option.{slice_get-get_or}
@@ -6,45 +7,48 @@ use Rattle.clock_phase.specs.Levels.{clock_of}
 use Rattle.clock_phase.proofs.Levels.{level_at_most}
 use Rattle.deck_form.specs.DeckNets.{named_cell}
 use Rattle.deck_form.specs.DominoDecks.{cells_of}
-use Rattle.plan_text.specs.CardTexts.{with_cards}
+use Rattle.domino_cell.specs.StyledCells.{styled_cell}
+use Rattle.plan_text.specs.CardTexts.{with_named_cards}
+use Rattle.plan_text.specs.PutCells.{digits_cell, netted}
 use Rattle.plan_text.proofs.CellLoops.{cell_total, few_places, next_cell, root_has_room, root_is_there, trees_total}
 use Rattle.plan_text.proofs.cells.put_cells.Goals as goal
 
 pub clock_of_level-clock-requires-clause-within : goal.clock_of_level-clock-requires-clause-within
 clock_of_level-clock-requires-clause-within c =
-    let levels = c.args.levels.now in
+    let levels = c.args.deck.now.levels.now in
     let low : c.cells.k < length levels = omega (arith, c.cells-test.true, c.requires.levels) in
     omega (arith, level_at_most levels c.cells.k (get_or levels c.cells.k 0) (slice_get-get_or levels c.cells.k 0 low), c.requires.top)
 
 pub overflow_cast-k : goal.overflow_cast-k
 overflow_cast-k c =
-    omega (arith, c.cells-test.true, few_places c.args.kept.now c.args.places.now c.requires.places, c.requires.one_each, c.requires.forest.few_pairs)
+    omega (arith, c.cells-test.true, few_places c.args.deck.now.cover.kept.now c.args.deck.now.places.now c.requires.places, c.requires.one_each, c.requires.forest.few_pairs)
 
 pub put_cell-requires-clause-there : goal.put_cell-requires-clause-there
 put_cell-requires-clause-there c =
-    root_is_there c.args.forest.now c.args.kept.now c.args.places.now c.requires.places c.cells.k c.cells-test.true c.requires.one_each
+    root_is_there c.args.deck.now.cover.forest.now c.args.deck.now.cover.kept.now c.args.deck.now.places.now c.requires.places c.cells.k c.cells-test.true c.requires.one_each
 
 pub put_cell-requires-clause-room : goal.put_cell-requires-clause-room
 put_cell-requires-clause-room c =
-    root_has_room c.args.forest.now c.args.kept.now c.args.places.now c.requires.places c.cells.k c.cells-test.true c.requires.trees
+    root_has_room c.args.deck.now.cover.forest.now c.args.deck.now.cover.kept.now c.args.deck.now.places.now c.requires.places c.cells.k c.cells-test.true c.requires.trees
 
 pub cells-preserved : goal.cells-preserved
 cells-preserved c =
-    let clock = c.clock_of_level-clock.ensures ∙ ap (λ t. clock_of c.args.phases t (get_or c.args.levels.now c.cells.k 0)) c.requires.top in
-    record {
-      cards = λ trees are.
-          next_cell c.args.forest.now c.args.kept.now c.args.places.now c.requires.places c.cells.k c.cells-test.true c.args.style c.args.phases
-          c.clock_of_level-clock.result c.args.pins.now c.args.levels.now c.renumber.new.self c.args.cards.now c.cells.cards c.put_cell.new.cards
-          c.requires.levels clock c.in_ok-renumber.ensures trees are (c.cells.invariant.cards trees are) c.in_ok-put_cell.ensures;
-      vdd = (c.in_ok-renumber.ensures {u = tt}).vdd;
-      vss = (c.in_ok-renumber.ensures {u = tt}).vss;
-    }
+    let style = c.args.deck.now.style in
+    let pins = c.args.deck.now.cover.pins.now in
+    let leaves = c.args.deck.now.cover.forest.now.leaves in
+    let digits : c.as_bytes-digits.result.now ≡ decimal c.cells.k = c.as_bytes-digits.ensures.value ∙ c.format.ensures.text in
+    let clock = c.clock_of_level-clock.ensures ∙ ap (λ t. clock_of c.args.deck.now.phases t (get_or c.args.deck.now.levels.now c.cells.k 0)) c.requires.top in
+    λ trees are.
+    next_cell c.args.deck.now.cover.forest.now c.args.deck.now.cover.kept.now c.args.deck.now.places.now c.requires.places c.cells.k c.cells-test.true c.args.deck.now.style
+    c.args.deck.now.phases c.clock_of_level-clock.result c.args.deck.now.cover.pins.now c.args.deck.now.levels.now c.args.cards.now c.cells.cards c.put_cell.new.cards
+    c.requires.levels clock trees are (c.cells.invariant trees are)
+    (λ tree is. c.in_ok-put_cell.ensures tree is ∙ ap (λ d. with_named_cards c.cells.cards (styled_cell style (digits_cell c.clock_of_level-clock.result d) (netted pins leaves tree))) digits)
 
 pub returns : goal.returns
 returns c = λ trees are.
-    let cells = cells_of c.args.phases c.args.levels.now trees in
-    let total = trees_total c.args.forest.now c.args.kept.now c.args.places.now c.requires.places trees are in
-    let count = cell_total c.args.phases c.args.levels.now trees (omega (arith, c.requires.levels, total)) in
+    let cells = cells_of c.args.deck.now.phases c.args.deck.now.levels.now trees in
+    let total = trees_total c.args.deck.now.cover.forest.now c.args.deck.now.cover.kept.now c.args.deck.now.places.now c.requires.places trees are in
+    let count = cell_total c.args.deck.now.phases c.args.deck.now.levels.now trees (omega (arith, c.requires.levels, total)) in
     let all : take c.cells.k cells ≡ cells = take_all c.cells.k cells (omega (arith, count, c.requires.levels, c.cells-test.false)) in
-    c.cells.invariant.cards trees are
-    ∙ ap (λ l. with_cards c.args.cards.now (flat_map (named_cell c.args.style c.args.pins.now c.args.forest.now.leaves) (enumerate_from 0 l))) all
+    c.cells.invariant trees are
+    ∙ ap (λ l. with_named_cards c.args.cards.now (flat_map (named_cell c.args.deck.now.style c.args.deck.now.cover.pins.now c.args.deck.now.cover.forest.now.leaves) (enumerate_from 0 l))) all

@@ -17,8 +17,8 @@ sinks-preserved c = λ starts same.
     let lt : c.sinks.k < length phases = omega (arith, c.sinks-test.true, phase_total outs starts signs same) in
     c.in_ok-put_phase.ensures
     ∙ ap (λ t. t ++ phase_line (record { net = nth_sink outs c.sinks.k; plus = get_or signs c.sinks.k false })) (c.sinks.invariant starts same)
-    ∙ append_assoc c.args.text.now.items _ _
-    ∙ ap (λ t. c.args.text.now.items ++ t)
+    ∙ append_assoc c.args.text.now _ _
+    ∙ ap (λ t. c.args.text.now ++ t)
     (ap (λ (p : Phase). flat_map phase_line (take c.sinks.k phases) ++ phase_line p) (sym (phase_at outs starts signs c.sinks.k none same c.sinks-test.true))
     ∙ sym (flat_map-next phase_line phases c.sinks.k none lt))
 
@@ -27,4 +27,4 @@ returns c = λ starts same.
     let phases = signed_phases c.args.outs.now starts c.args.signs.now in
     let all : take c.sinks.k phases ≡ phases =
     take_all c.sinks.k phases (omega (arith, phase_total c.args.outs.now starts c.args.signs.now same, c.sinks-test.false)) in
-    c.sinks.invariant starts same ∙ ap (λ l. c.args.text.now.items ++ flat_map phase_line l) all
+    c.sinks.invariant starts same ∙ ap (λ l. c.args.text.now ++ flat_map phase_line l) all

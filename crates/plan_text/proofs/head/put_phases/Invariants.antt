@@ -7,4 +7,4 @@ use Rattle.plan_text.proofs.head.put_phases.Given as goal
 abbrev pub invariant-sinks : goal.invariant-sinks
 invariant-sinks l =
     (starts : List Bool) → length l.signs ≡ length l.outs + length starts
-    → l.text.items ≡ l.fn.text.items ++ flat_map phase_line (take l.k (signed_phases l.outs starts l.signs))
+    → l.text ≡ l.fn.text ++ flat_map phase_line (take l.k (signed_phases l.outs starts l.signs))

@@ -11,4 +11,4 @@ groups-preserved c =
     let append = c.in_ok-put_port_line.ensures {u = tt} in
     let step = plus_lines-step c.groups.rest.now c.min-group.result some count in
     simp take_rest (ap (λ (t : List ℕ). t ++ plus_lines (drop c.min-group.result c.groups.rest.now)) append
-    ∙ append_assoc c.groups.text.items _ _ ∙ ap (λ (t : List ℕ). c.groups.text.items ++ t) step ∙ c.groups.invariant)
+    ∙ append_assoc c.groups.text _ _ ∙ ap (λ (t : List ℕ). c.groups.text ++ t) step ∙ c.groups.invariant)

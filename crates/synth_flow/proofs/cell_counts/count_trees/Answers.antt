@@ -2,11 +2,12 @@
 use Rattle.std.proofs.Common.{◌≡◌, ◌+◌, ◌*◌, ◌∙◌, ◌||◌, ap, arith, false, get_or, length, subst, sym, take}
 use Rattle.std.proofs.lemmas.List.{take_all}
 use Rattle.std.proofs.lemmas.Option.{get_or_from_slice_get, slice_get_within}
+use Rattle.plan_text.proofs.CellLoops.{few_places}
 use Rattle.clock_phase.proofs.LevelsUpTo.{AreLevelsUpTo, all_levels, level_within, one_level_more}
 use Rattle.tree_map.specs.Plans.{IsTreeOf, roots}
 use Rattle.synth_flow.specs.CellCounts.{is_read_in}
 use Rattle.deck_form.specs.NamedDecks.{reads}
-use Rattle.synth_flow.proofs.CountedTrees.{few_roots, root_there, root_tree}
+use Rattle.synth_flow.proofs.CountedTrees.{root_there, root_tree}
 use Rattle.deck_form.proofs.DeckForms.{all_zip_length}
 use Rattle.synth_flow.proofs.LeafMarks.{any_more, marks_both}
 use Rattle.synth_flow.proofs.cell_counts.count_trees.Goals as goal
@@ -21,7 +22,7 @@ overflow_add-levels c =
     let are = c.requires.trees.1 in
     let t = root_tree c.args.forest.now c.args.kept.now trees are c.args.places.now c.requires.places c.cells.k c.cells-test.true in
     let most = level_within c.args.forest.now.leaves trees c.cells.levels c.cells.k (c.cells.invariant.levels trees are) t.0 (are.earlier c.cells.k t.0 t.1) in
-    omega (arith, most, c.pair_count-level.ensures.level t.0 t.2, c.cells-test.true, few_roots c.args.kept.now c.args.places.now c.requires.places, c.requires.one_each, c.requires.forest.few_pairs)
+    omega (arith, most, c.pair_count-level.ensures.level t.0 t.2, c.cells-test.true, few_places c.args.kept.now c.args.places.now c.requires.places, c.requires.one_each, c.requires.forest.few_pairs)
 
 pub cells-preserved : goal.cells-preserved
 cells-preserved c = record {

@@ -1,18 +1,8 @@
-use Rattle.std.proofs.Common.{◌≡◌, ℕ, All, Bool, List, length, ap, sym, subst}
-use Rattle.std.proofs.lemmas.Result.{err_from_is_err_and}
-use Rattle.network.specs.NetworkData.{NetworkData}
-use Rattle.net_run.specs.Runs.{Cycle, IsNetworkRun}
-use Rattle.event_sim.specs.Orders.{By}
-use Rattle.stim_text.specs.Stimuli.{IsStimFaultAt, IsStimulusOf}
-use Rattle.trace_tool.specs.PortDifferences.{ComparesPorts}
-use Rattle.trace_tool.specs.Refusals.{of_deck, of_stim}
-use Rattle.trace_tool.specs.SetupData.{silent}
-use Rattle.trace_tool.specs.Traces.{picked_place}
-use Rattle.trace_tool.specs.Verdicts.{IsRunVerdict}
-use Rattle.trace_tool.proofs.CosimCauses.{deck_refused, stim_refused, unflattened_refused}
-use Rattle.trace_tool.proofs.NetworkTexts.{text_network_kept}
-use Rattle.trace_tool.proofs.PortCounts.{counts_agree}
-use Rattle.trace_tool.proofs.VerdictClauses.{verdict_of_ports, verdict_of_run}
+use Rattle.std.proofs.Common.{◌≡◌}
+use Rattle.std.proofs.lemmas.Result.{IfOk-weaker, err_from_is_err_and}
+use Rattle.trace_tool.specs.Refusals.{of_deck}
+use Rattle.trace_tool.proofs.CircuitVerdicts.{refused_of_texts, verdict_of_texts}
+use Rattle.trace_tool.proofs.CosimCauses.{deck_refused, unflattened_refused}
 use Rattle.trace_tool.proofs.cosimulation.cosim.Goals as goal
 
 pub returns-in_err-network-clause-refused : goal.returns-in_err-network-clause-refused
@@ -31,53 +21,15 @@ returns-in_err-circuit-clause-refused c why is =
     deck_refused c.args.blif.now c.args.deck.now c.args.stim.now c.in_ok-network.network c.in_err-circuit.field-0.0 why c.in_ok-network.ensures.network
     (λ line kind e. c.in_err-circuit.ensures.fault line kind (let d = e in cc)) same
 
-pub returns-in_err-cycles-clause-refused : goal.returns-in_err-cycles-clause-refused
-returns-in_err-cycles-clause-refused c why is =
-    let p = err_from_is_err_and c.from_residual-in_err-cycles.result c.from_residual-in_err-cycles.ensures.1 in
-    let a = p.1 in
-    let b = p.2 in
-    let same : why ≡ of_stim c.in_err-cycles.field-0.0 = cc in
-    stim_refused c.args.blif.now c.args.deck.now c.args.stim.now c.in_ok-network.network c.in_ok-circuit.circuit c.in_ok-roles.roles c.in_err-cycles.field-0.0 why
-    c.in_ok-network.ensures.network c.in_ok-circuit.ensures.circuit c.in_ok-roles.ensures.roles
-    (λ line kind e.
-    subst (λ (width : ℕ). IsStimFaultAt width c.args.stim.now line kind) (ap (λ (n : NetworkData). n.inputs) c.network.view_is)
-    (c.in_err-cycles.ensures.fault line kind (let d = e in cc))) same
-
-pub returns-in-Some-clause-verdict : goal.returns-in-Some-clause-verdict
-returns-in-Some-clause-verdict c =
-    let stimulus = subst (λ (width : ℕ). IsStimulusOf width c.args.stim.now c.in_ok-cycles.cycles.items) (ap (λ (n : NetworkData). n.inputs) c.network.view_is) c.in_ok-cycles.ensures.stimulus in
-    verdict_of_ports c.args.blif.now c.args.deck.now c.args.stim.now c.args.order c.args.seed c.in_ok-network.network c.in_ok-circuit.circuit c.in_ok-roles.roles c.in_ok-cycles.cycles.items
-    c.in_ok-network.ensures.network c.in_ok-circuit.ensures.circuit c.in_ok-roles.ensures.roles stimulus c.in-Some.place
-    (subst (ComparesPorts c.in_ok-network.network c.in_ok-circuit.circuit c.in_ok-roles.roles) c.in-Some.is c.in_ok-place.ensures)
-
-pub compared_by-requires-clause-inputs : goal.compared_by-requires-clause-inputs
-compared_by-requires-clause-inputs c =
-    (counts_agree c.in_ok-circuit.circuit c.in_ok-roles.roles c.in_ok-network.network c.in_ok-roles.ensures.roles
-    (text_network_kept c.args.blif.now c.in_ok-network.network c.in_ok-network.ensures.network)
-    (subst (ComparesPorts c.in_ok-network.network c.in_ok-circuit.circuit c.in_ok-roles.roles) c.in_default.is c.in_ok-place.ensures)).0
-
-pub compared_by-requires-clause-outputs : goal.compared_by-requires-clause-outputs
-compared_by-requires-clause-outputs c =
-    (counts_agree c.in_ok-circuit.circuit c.in_ok-roles.roles c.in_ok-network.network c.in_ok-roles.ensures.roles
-    (text_network_kept c.args.blif.now c.in_ok-network.network c.in_ok-network.ensures.network)
-    (subst (ComparesPorts c.in_ok-network.network c.in_ok-circuit.circuit c.in_ok-roles.roles) c.in_default.is c.in_ok-place.ensures)).1
-
-pub compared_by-requires-clause-widths : goal.compared_by-requires-clause-widths
-compared_by-requires-clause-widths c =
-    let stimulus = subst (λ (width : ℕ). IsStimulusOf width c.args.stim.now c.in_ok-cycles.cycles.items) (ap (λ (n : NetworkData). n.inputs) c.network.view_is) c.in_ok-cycles.ensures.stimulus in
-    let counts = counts_agree c.in_ok-circuit.circuit c.in_ok-roles.roles c.in_ok-network.network c.in_ok-roles.ensures.roles
-    (text_network_kept c.args.blif.now c.in_ok-network.network c.in_ok-network.ensures.network)
-    (subst (ComparesPorts c.in_ok-network.network c.in_ok-circuit.circuit c.in_ok-roles.roles) c.in_default.is c.in_ok-place.ensures) in
-    subst (λ (l : List (List Bool)). All (λ (pins : List Bool). length pins ≡ c.in_ok-roles.roles.pins) l) (sym c.deref.ensures.value)
-    (subst (λ (w : ℕ). All (λ (pins : List Bool). length pins ≡ w) c.in_ok-cycles.cycles.items) counts.0 stimulus.widths_are)
-
 pub returns-clause-verdict : goal.returns-clause-verdict
 returns-clause-verdict c =
-    let stimulus = subst (λ (width : ℕ). IsStimulusOf width c.args.stim.now c.in_ok-cycles.cycles.items) (ap (λ (n : NetworkData). n.inputs) c.network.view_is) c.in_ok-cycles.ensures.stimulus in
-    verdict_of_run c.args.blif.now c.args.deck.now c.args.stim.now c.args.order c.args.seed c.in_ok-network.network c.in_ok-circuit.circuit c.in_ok-roles.roles c.in_ok-cycles.cycles.items
-    c.in_ok-network.ensures.network c.in_ok-circuit.ensures.circuit c.in_ok-roles.ensures.roles stimulus c.in_ok-verdict.verdict
-    (subst (ComparesPorts c.in_ok-network.network c.in_ok-circuit.circuit c.in_ok-roles.roles) c.in_default.is c.in_ok-place.ensures)
-    (subst
-    (λ (l : List (List Bool)). (cycles : List Cycle) → IsNetworkRun c.in_ok-network.network l cycles
-    → IsRunVerdict (By (picked_place c.args.order c.args.seed)) (silent c.in_ok-circuit.circuit c.in_ok-roles.roles) l cycles c.in_ok-verdict.verdict)
-    c.deref.ensures.value c.in_ok-verdict.ensures)
+    IfOk-weaker c.verdict_of_circuit.result _ _
+    (λ verdict is.
+    verdict_of_texts c.in_ok-network.network c.in_ok-circuit.circuit c.args.stim.now c.args.blif.now c.args.deck.now c.in_ok-network.ensures.network c.in_ok-circuit.ensures.circuit
+    c.args.order c.args.seed verdict is)
+    c.verdict_of_circuit.ensures.verdict
+
+pub returns-clause-refused : goal.returns-clause-refused
+returns-clause-refused c why is =
+    refused_of_texts c.in_ok-network.network c.in_ok-circuit.circuit c.args.stim.now c.args.blif.now c.args.deck.now c.in_ok-network.ensures.network c.in_ok-circuit.ensures.circuit
+    why (c.verdict_of_circuit.ensures.refused why is)
