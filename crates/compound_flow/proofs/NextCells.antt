@@ -9,14 +9,13 @@ use Rattle.dom_base.proofs.Lists.{All-at, AllByRecursion-weaker}
 use Rattle.deck.specs.CircuitData.{CircuitData}
 use Rattle.deck.specs.NamedDevices.{with_devices}
 use Rattle.deck.specs.Nets.{IsCircuit, net_name, net_number}
-use Rattle.deck.proofs.CircuitGrowth.{with_devices-grew}
+use Rattle.deck.proofs.CircuitGrowth.{with_devices-append, with_devices-grew}
 use Rattle.deck.proofs.DeviceNumbers.{IsCircuit-ports}
 use Rattle.deck.proofs.NetNumbers.{HasNumber-below, net_number-append, net_number-behind}
 use Rattle.sp_network.specs.Tree.{EachLeaf, Leaf, Parallel, Series, Tree, map_tree}
 use Rattle.domino_cell.specs.NamedTrees.{inner_net}
 use Rattle.domino_cell.specs.PushedNames.{HasRoomForCell, HasRoomForGate, IsNewNet, IsPort, IsUndriven, inner_front, lower_front, numbered_cell, upper_front}
 use Rattle.domino_cell.proofs.AppendedNets.{old_in_range}
-use Rattle.domino_cell.proofs.CellCircuits.{with_devices-append}
 use Rattle.domino_cell.proofs.NamedCells.{is_source-inside}
 use Rattle.compound_plan.specs.Plans.{CellTrees, Compound, Simple}
 use Rattle.compound_cell.specs.CompoundCells.{named_cell, right_cell, right_front, whole_tree}

@@ -5,6 +5,7 @@ use Rattle.std.proofs.Common.{◌≡◌, ◌⊎◌, ℕ, ◌/◌, ◌%◌, ◌<�
 use Rattle.std.proofs.lemmas.Bool.{ne_eqb}
 use Rattle.std.proofs.lemmas.Bool.Decides.{nat_tests}
 use Rattle.std.proofs.lemmas.List.Elements.{All-head, All-tail}
+use Rattle.deck_law.proofs.NamesApart.{hexadecimal_unmarked}
 use Rattle.deck.specs.Escapes.{escaped, escaped_byte, hexadecimal_digit, is_plain}
 use Rattle.deck_form.specs.DeckNets.{data_net}
 use Rattle.deck_form.specs.NameParts.{leading_letter, number_of}
@@ -24,12 +25,6 @@ digit_apart n other low a b =
       | inl digit ↦ a (subst (λ m. m < 58) e digit)
       | inr letter ↦ b (subst (λ m. (96 < m) × (m < 103)) e letter)
     ])
-
-digit_no_mark : (n : ℕ) → n < 16 → is_mark (hexadecimal_digit n) ≡ false
-digit_no_mark n low =
-    let small = digit_apart n 110 low (λ e. omega (arith, e)) (λ e. omega (arith, e.1)) in
-    let great = digit_apart n 112 low (λ e. omega (arith, e)) (λ e. omega (arith, e.1)) in
-    rw (small, great) refl
 
 -- what stands before the first mark
 before_other : (c : ℕ) (xs : List ℕ) → (c == 95) ≡ false → before_mark (c ∷ xs) ≡ c ∷ before_mark xs
@@ -51,7 +46,7 @@ before_byte b xs low = by (is_plain b) refl
         let d = hexadecimal_digit (b % 16) in
         let high = digit_apart (b / 16) 95 (omega arith) (λ z. omega (arith, z)) (λ z. omega (arith, z.0)) in
         let deep = digit_apart (b % 16) 95 (omega arith) (λ z. omega (arith, z)) (λ z. omega (arith, z.0)) in
-        rw e (before_code u (d ∷ xs) (digit_no_mark (b / 16) (omega arith))
+        rw e (before_code u (d ∷ xs) (hexadecimal_unmarked (b / 16) (omega arith))
         ∙ ap (λ l. 95 ∷ l) (before_other u (d ∷ xs) high ∙ ap (λ l. u ∷ l) (before_other d xs deep)))
 
 before_escape : (name after : List ℕ) → All (λ b. b < 256) name → before_mark (escaped name ++ after) ≡ escaped name ++ before_mark after

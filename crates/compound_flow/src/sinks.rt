@@ -14,6 +14,7 @@ ghost use Rattle.compound_flow.specs.MadeCells.{plain_cells};
 ghost use Rattle.compound_flow.specs.MadeSinks.{HasRoomForSinks, has_two_trees, sink_gates};
 
 use crate::wholes::is_compound;
+use compound_cell::series_of_two;
 use compound_plan::CellPlan;
 use deck::{Circuit, numbered_name};
 use dom_base::{NetName, OutOfMemory, ToVss};
@@ -54,21 +55,6 @@ fn compound_taken(plans: &[CellPlan], cells: &[u32], end: End) -> Option<u32>
         }
         End::Const(_) | End::Literal(_) | End::FromOutput(_) => None,
     }
-}
-
-/// Two leaves in series, with the gates 0 and 1. The one error is out of memory.
-fn series_of_two(alloc: Global) -> Result<Sp<ToVss>, OutOfMemory>
-    ensures { IfOk result (λ tree. tree_of tree ≡ Series (Leaf 0) (Leaf 1)) }
-{
-    let first = Sp::Leaf {
-        gate: 0,
-        rail: ToVss,
-    };
-    let second = Sp::Leaf {
-        gate: 1,
-        rail: ToVss,
-    };
-    Ok(Sp::Series(Box::new(alloc, first)?, Box::new(alloc, second)?))
 }
 
 /// Appends the static gate of both dynamic nets of compound cell `k` in series, with this output. The one error is out of

@@ -3,6 +3,7 @@ use Rattle.std.specs.Prelude.{All}
 use Rattle.std.specs.List.{range_with_len}
 use Rattle.std.proofs.Common.{◌≡◌, ℕ, ◌≤◌, ◌++◌, ◌∙◌, List, ap₂, arith, inl, length, map, refl, subst, sym, take}
 use Rattle.std.proofs.Math.Seq.{take-append_seam}
+use Rattle.dom_base.proofs.Lists.{slice_get-there}
 use Rattle.blif_read.proofs.AcceptedIsGoodModels.{accepted_file}
 use Rattle.deck.specs.CircuitData.{CircuitData}
 use Rattle.deck.specs.CircuitGrowth.{Grew}
@@ -23,7 +24,6 @@ use Rattle.network.specs.NetworkData.{NetworkData}
 use Rattle.network.specs.Networks.{IsNetwork}
 use Rattle.net_flatten.proofs.Kept.{network_kept}
 use Rattle.switch_model.specs.LinksData.{is_first, links_of}
-use Rattle.dual_rail.proofs.Zips.{get_some}
 use Rattle.gate_decompose.specs.Sinks.{leaf_count}
 use Rattle.port_runs.specs.Environment.{World}
 use Rattle.port_runs.specs.declared.clocking.Clocking.TheVariants.{Together}
@@ -41,15 +41,17 @@ use Rattle.deck_form.specs.DominoDecks.{complements_of, outs_of, phases_of_sinks
 use Rattle.deck_form.specs.NamedDecks.{IsEndIn}
 use Rattle.deck_form.proofs.DeckForms.{length_map}
 use Rattle.deck_law.specs.Headline.{IsRightInEveryRun, input_ports, output_ports, roles_of}
+use Rattle.deck_law.specs.HonestDecks.{IsHonestDeck}
 use Rattle.deck_law.specs.NetNames.{deck_name, numbering}
 use Rattle.deck_law.specs.OwnRuns.{DoesNetwork}
+use Rattle.deck_law.proofs.HonestDecks.{honest_network}
 use Rattle.deck_law.proofs.NetworkDecks.{network_decks_are_right}
 use Rattle.deck_law.proofs.NetworkRuns.{outs_count}
 use Rattle.deck_law.proofs.OwnRun.{range_length}
 use Rattle.deck_law.proofs.RightDecks.{planned_good as whole_good}
 use Rattle.compound_cell.specs.CompoundCells.{whole_tree}
 use Rattle.compound_law.specs.CompoundDecks.{IsDominoDeck, IsPlannedDeck, planned, whole_cells}
-use Rattle.compound_law.specs.Laws.{AreByteNames, ChosenTextsAreRight, PlannedDecksAreRight, PlannedTextsAreRight}
+use Rattle.compound_law.specs.Laws.{AreByteNames, ChosenTextsAreRight, PlannedCircuitsAreHonest, PlannedDecksAreRight, PlannedTextsAreRight}
 use Rattle.compound_law.proofs.LeastDecks.{chosen_decks_are_least}
 use Rattle.compound_law.proofs.LooseDecks.{latch_count, loose_deck, the_roles}
 use Rattle.compound_law.proofs.PlannedShapes.{ends, runs, the_shape, whole_deck}
@@ -82,13 +84,16 @@ module _ (network : NetworkData) (w h phases : ℕ) (circuit : CircuitData) (is 
     runs = runs network w h phases circuit is net_is;
     pins_are = pin_count;
     outs_are = outs_count network;
-    latch_there = λ j lt. get_some s.latches j (omega (arith, lt, latch_count network w h phases circuit is net_is bytes some few ok));
+    latch_there = λ j lt. slice_get-there s.latches j (omega (arith, lt, latch_count network w h phases circuit is net_is bytes some few ok));
     data_are = λ j lt. refl;
     outputs_are = λ j lt. refl;
   }
 
   pub right : IsRightInEveryRun Together network circuit (roles_of network phases)
   right = subst (IsRightInEveryRun Together network circuit) roles_same (network_decks_are_right Together network circuit roles net s does (inl refl))
+
+  pub honest : IsHonestDeck Together WithPrecharge network circuit (roles_of network phases)
+  honest = subst (IsHonestDeck Together WithPrecharge network circuit) roles_same (honest_network does refl refl)
 
   pub never_joins : (v : World) (p : List Device) → IsContest circuit.devices (is_first (source_count (roles_of network phases))) v.values vdd_port vss_port p → ⊥
   never_joins v p k =
@@ -144,6 +149,9 @@ module _ (network : NetworkData) (w h phases : ℕ) (circuit : CircuitData) (is 
         ports_good = subst (All HasNoEquals) (ports_kept whole_grew ∙ sym (ports_kept grew)) whole.ports_good;
       }
 
+pub planned_circuits_are_honest : PlannedCircuitsAreHonest
+planned_circuits_are_honest = λ network w h phases circuit is net_is bytes some few ok. honest network w h phases circuit is net_is bytes some few ok
+
 pub planned_decks_are_right : PlannedDecksAreRight
 planned_decks_are_right = λ blif deck w h phases file network circuit is_file is_network bytes some few is reads_back.
     let ok = IsDeckOf-circuit deck circuit reads_back in
@@ -159,6 +167,7 @@ planned_decks_are_right = λ blif deck w h phases file network circuit is_file i
       is_deck = is_domino network w h phases circuit is net_is bytes some few ok;
       ports = ports_stand network w h phases circuit is net_is;
       right = right network w h phases circuit is net_is bytes some few ok;
+      honest = honest network w h phases circuit is net_is bytes some few ok;
       never_joins = never_joins network w h phases circuit is net_is bytes some few ok;
     }
 

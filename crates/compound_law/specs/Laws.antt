@@ -27,6 +27,7 @@ use Rattle.domino_law.specs.Spelled.{cell_cards}
 use Rattle.deck_form.specs.ChosenDecks.{end_at_cell}
 use Rattle.deck_form.specs.DominoDecks.{outs_of, pins_of}
 use Rattle.deck_law.specs.Headline.{IsRightInEveryRun, input_ports, output_ports, roles_of}
+use Rattle.deck_law.specs.HonestDecks.{IsHonestDeck}
 use Rattle.deck_law.specs.NetNames.{numbering}
 use Rattle.deck_law.specs.OwnRuns.{RunsAsNetwork}
 use Rattle.compound_law.specs.CompoundDecks.{IsChosenDeck, IsDominoDeck, IsPlannedDeck, network_shape}
@@ -47,6 +48,9 @@ pub record IsRightDeck (blif : List ℕ) (w h phases : ℕ) (deck : List ℕ) : 
   -- its ports are the supplies, the clocks, the clocks and resets of latches, the inputs and the outputs, in order
   pub ports : take circuit.ports circuit.nets ≡ leading_ports phases ++ input_ports network ++ output_ports network
   pub right : IsRightInEveryRun Together network circuit (roles_of network phases)
+  -- its legal runs are honest from the rest of reset on, each event and each move keeps that, its latches start as the network's, and
+  -- an honest reading has the network's outputs and next state
+  pub honest : IsHonestDeck Together WithPrecharge network circuit (roles_of network phases)
   -- there is no contest at all, at any values of the nets
   pub never_joins : (w : World) (p : List Device)
       → IsContest circuit.devices (is_first (source_count (roles_of network phases))) w.values vdd_port vss_port p → ⊥
@@ -83,6 +87,13 @@ PlannedDecksAreLoose =
     (links_of circuit (record { clocks = phases; pins = length (pins_of network); outs = length (outs_of network) }))
     (numbering circuit.nets (pins_of network) (outs_of network))
     (network_shape network phases is.cells is.levels (map (end_at_cell is.kept) is.forest.ends))
+
+-- and honest, whatever it is written as
+abbrev pub PlannedCircuitsAreHonest : Type 0
+PlannedCircuitsAreHonest =
+    (network : NetworkData) (w h phases : ℕ) (circuit : CircuitData) → IsPlannedDeck network w h phases circuit → IsNetwork network
+    → AreByteNames network.names → 1 ≤ phases → phases ≤ 4 → IsCircuit circuit.ports circuit.nets circuit.devices
+    → IsHonestDeck Together WithPrecharge network circuit (roles_of network phases)
 
 -- a text that stands for the circuit of any signs and any plan of the network within the bounds is a right deck
 abbrev pub PlannedDecksAreRight : Type 0

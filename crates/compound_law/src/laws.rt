@@ -4,6 +4,7 @@ ghost use Rattle.compound_law.specs.Laws.{
   ChosenDecksAreOne,
   ChosenDecksAreThere,
   ChosenTextsAreRight,
+  PlannedCircuitsAreHonest,
   PlannedDecksAreLoose,
   PlannedDecksAreRight,
   PlannedRunsAsNetwork,
@@ -17,9 +18,12 @@ pub fn planned_runs_as_network()
     ensures { PlannedRunsAsNetwork }
 {}
 
-/// A planned deck by names is a loose domino deck by numbers, where each net has the number of its name.
+/// A planned deck by names is a loose domino deck by numbers, where each net has the number of its name. So it is honest: each
+/// state of its legal runs from the rest of reset on is, each event and each move keeps that, its latches start as the network's,
+/// and an honest reading has the network's outputs and next state.
 pub fn planned_decks_are_loose()
-    ensures { PlannedDecksAreLoose }
+    ensures loose { PlannedDecksAreLoose }
+    ensures honest { PlannedCircuitsAreHonest }
 {}
 
 /// The chosen deck has the least cost over all plans with simple and compound roots, and its cells have
