@@ -3,7 +3,7 @@ use Rattle.std.specs.Prelude.{Contains, Option, Some, slice_get}
 use Rattle.std.proofs.Common.{Bool, List, ap, arith, false, get_or, inl, inr, length, refl, true, ℕ, ◌+◌, ◌<◌, ◌∙◌, ◌≡◌, ◌≤◌}
 use Rattle.std.proofs.lemmas.Option.{slice_get-get_or}
 use Rattle.dom_base.specs.Decided.{Decided}
-use Rattle.dom_base.proofs.Decided.{dec_and, dec_any, dec_map, dec_nat, dec_or, lt_or_ge}
+use Rattle.dom_base.proofs.Decided.{dec_and, dec_any, dec_less, dec_map, dec_nat, dec_or, lt_or_ge}
 use Rattle.dom_base.proofs.Lists.{Contains-slice_get, slice_get-contained}
 use Rattle.deck.specs.Paths.{Ends}
 use Rattle.deck.specs.PortLayout.{first_pin, source_count}
@@ -86,14 +86,11 @@ met_or numbers n =
 at_least : (a b : ℕ) → Decided (a ≤ b)
 at_least a b = elim (lt_or_ge b a) [ inl lt ↦ inr (λ le. omega (arith, lt, le)) | inr ge ↦ inl ge ]
 
-below : (a b : ℕ) → Decided (a < b)
-below a b = elim (lt_or_ge a b) [ inl lt ↦ inl lt | inr ge ↦ inr (λ lt. omega (arith, lt, ge)) ]
-
 module _ (ds : List Device) (roles : Roles) (nets : ℕ) (m : Marks) (are : AreNetMarks ds roles nets m)
     (f : FoundParts) (found : AreFound ds roles f) where
   leaf_or : (n : ℕ) → n < nets → Decided (IsLeafNet ds roles n)
   leaf_or n lt =
-      dec_or (dec_and (at_least (first_pin roles) n) (below n (source_count roles)))
+      dec_or (dec_and (at_least (first_pin roles) n) (dec_less n (source_count roles)))
       (dec_or (marked_or (IsLatchOutput ds roles) nets m.latch_outputs are.latch_outputs n lt)
       (dec_or (dec_map {A = IsMet f.complements n} {B = IsSomeComplement ds roles n} (λ z. found.complements_sound z.0 n z.1)
       (λ z. found.complements_full n z.0 z.1) (met_or f.complements n))

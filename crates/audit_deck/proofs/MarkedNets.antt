@@ -4,11 +4,8 @@ use Rattle.std.proofs.Common.{Bool, List, [], ap, arith, false, get_or, inl, inr
 use Rattle.std.proofs.lemmas.List.{get_or-set_same, length-append, length-replicate}
 use Rattle.std.proofs.lemmas.Option.{slice_get_read, slice_get_within}
 use Rattle.dom_base.proofs.Decided.{dec_nat, lt_or_ge}
-use Rattle.dom_base.proofs.Lists.{slice_get-push_cases, slice_get-set_other}
+use Rattle.dom_base.proofs.Lists.{none_set, slice_get-push_cases, slice_get-set_other}
 use Rattle.audit_deck.specs.Marks.{AddsMarks, AreMarks}
-
-pub not_both : (b : Bool) → b ≡ true → b ≡ false → ⊥
-not_both b e f = cc
 
 -- the mark at a net is one
 pub one_mark : (marks : List Bool) (n : ℕ) (a b : Bool) → slice_get marks n ≡ Some a → slice_get marks n ≡ Some b → a ≡ b
@@ -74,16 +71,11 @@ module _ (Q : ℕ → ℕ → Type 0) where
       → AddsMarks (Below Q k) a b → AddsMarks P a b
   adds_all P k a b to from h = adds_same (Below Q k) P a b (λ n (j, lt, q). to n j q) from h
 
-none_true : (count n : ℕ) → slice_get (replicate count false) n ≡ Some true → ⊥
-none_true zero n e = cc
-none_true (suc count) zero e = let z : Some false ≡ Some true = e in cc
-none_true (suc count) (suc n) e = none_true count n e
-
 -- where none was marked before, just those are that were added
 pub marks_of : (P : ℕ → Type 0) (count : ℕ) (before after : List Bool) → before ≡ replicate count false → AddsMarks P before after → AreMarks P count after
 marks_of P count before after none h = record {
   count = h.room ∙ ap length none ∙ length-replicate count false;
-  yes = λ n e. elim (h.sound n e) [ inl y ↦ absurd (none_true count n (ap (λ l. slice_get l n) (sym none) ∙ y)) | inr y ↦ y ];
+  yes = λ n e. elim (h.sound n e) [ inl y ↦ absurd (none_set count n (ap (λ l. slice_get l n) (sym none) ∙ y)) | inr y ↦ y ];
   no = λ n e p. let z : Some false ≡ Some true = sym e ∙ h.full n p in cc;
 }
 

@@ -15,12 +15,7 @@ use Rattle.circuit_law.specs.Exchanged.{exchange}
 use Rattle.deck_audit.specs.Audits.{Breaks, BrokenNetsAreNets, bridge, front, latch, leaf, loop, output, tree, use_of}
 use Rattle.deck_audit.specs.Rules.{IsSinkNet}
 use Rattle.deck_audit.specs.Words.{IsDynamic, StandsAt, group_cards}
-use Rattle.deck_audit.proofs.RuleFacts.{all_at}
-
--- an exchanged device has its gate
-same_gate : (d e : Device) → (d ≡ e) ⊎ (d ≡ exchange e) → d.gate ≡ e.gate
-same_gate d e (inl same) = ap (λ (x : Device). x.gate) same
-same_gate d e (inr same) = ap (λ (x : Device). x.gate) same
+use Rattle.deck_audit.proofs.RuleFacts.{all_at, twin_gate}
 
 module _ (c : CircuitData) (roles : Roles) (is : IsCircuit c.ports c.nets c.devices) (are : AreRoles (ports_of c) roles) where
   in_range : (p : ℕ) (d : Device) → StandsAt c.devices p d → IsInRange (length c.nets) d
@@ -41,7 +36,7 @@ module _ (c : CircuitData) (roles : Roles) (is : IsCircuit c.ports c.nets c.devi
   sink_net : (n : ℕ) → IsSinkNet c.devices roles n → n < length c.nets
   sink_net n (inl (g, places, group, same)) =
       let card = (all_at c.devices places (group_cards roles g) group.cards).1.0 in
-      let gate = same_gate card.device _ card.twin in
+      let gate = twin_gate card.device _ card.twin in
       subst (λ m. m < length c.nets) (gate ∙ same) (in_range card.place card.device card.there).gate
   sink_net n (inr port) = omega (arith, port.1, ports-count c roles is are, IsCircuit-ports c.ports c.nets c.devices is)
 

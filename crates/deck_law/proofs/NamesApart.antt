@@ -33,7 +33,7 @@ hexadecimal_plain n low = by (hexadecimal_digit n == 95) refl
     by false e = refl
     by true e = let z : hexadecimal_digit n ≡ 95 = eqb-true (hexadecimal_digit n) 95 e in absurd (grind (arith, z, low))
 
-hexadecimal_unmarked : (n : ℕ) → n < 16 → is_mark (hexadecimal_digit n) ≡ false
+pub hexadecimal_unmarked : (n : ℕ) → n < 16 → is_mark (hexadecimal_digit n) ≡ false
 hexadecimal_unmarked n low = by (hexadecimal_digit n == 110) (hexadecimal_digit n == 112) refl refl
   where
     by : (a b : Bool) → (hexadecimal_digit n == 110) ≡ a → (hexadecimal_digit n == 112) ≡ b → is_mark (hexadecimal_digit n) ≡ false

@@ -4,7 +4,7 @@ use Rattle.std.specs.List.{range_with_len, zip}
 use Rattle.std.proofs.Common.{Bool, List, [], ap, ap₂, arith, cond, false, true, length, map, not, refl, subst, suc, sym, take, drop, zero, ℕ, ◌*◌, ◌/◌, ◌%◌, ◌++◌, ◌+◌, ◌-◌, ◌<◌, ◌≤◌, ◌∙◌, ◌∷◌, ◌≡◌, Some, slice_get, nat_lt, ltb-true, ltb-false, eq-eqb, length-append, length-take, length-drop}
 use Rattle.std.proofs.lemmas.Option.{get_or_from_slice_get, slice_get_within}
 use Rattle.std.proofs.Math.Bool.{not-not}
-use Rattle.dom_base.proofs.Lists.{slice_get-append, slice_get-behind, All-at}
+use Rattle.dom_base.proofs.Lists.{All-at, slice_get-append, slice_get-behind, slice_get-there}
 use Rattle.deck.specs.CircuitData.{CircuitData}
 use Rattle.sp_network.specs.Tree.{EachLeaf, Leaf, Parallel, Series, Tree, joins, map_tree}
 use Rattle.network.specs.declared.network.NetLatch.{NetLatch}
@@ -21,7 +21,7 @@ use Rattle.dual_rail.specs.declared.forest.End.TheVariants.{Const, FromDynamic a
 use Rattle.dual_rail.specs.ForestData.{ForestData}
 use Rattle.dual_rail.specs.ForestValues.{ArePairValues, end_bit}
 use Rattle.dual_rail.specs.Forests.{IsPairOf, end_uses, is_end_from}
-use Rattle.dual_rail.proofs.Zips.{all_zip_back, get_some}
+use Rattle.dual_rail.proofs.Zips.{all_zip_back}
 use Rattle.dual_rail.proofs.PairValues.{ends_have_values, pairs_have_values}
 use Rattle.tree_map.specs.Plans.{IsTreeOf, cell_of, roots}
 use Rattle.tree_map.proofs.PlanValues.{trees_have_values}
@@ -273,7 +273,7 @@ module _ {network : NetworkData} {options : DeckOptions} {circuit : CircuitData}
   cell_value : (n k : ℕ) → k < n → k < length is.trees → bit_at bits k ≡ pair.0 (root k)
   cell_value zero k lt low = absurd (omega arith)
   cell_value (suc n) k lt low =
-      let c = get_some cells k (omega (arith, low, cells_count)) in
+      let c = slice_get-there cells k (omega (arith, low, cells_count)) in
       let t = cell_of_at k c.0 c.1 in
       cell_at k c.0 c.1
       ∙ ap (joins (gate_bit signal bits)) t.tree_is
@@ -291,9 +291,9 @@ module _ {network : NetworkData} {options : DeckOptions} {circuit : CircuitData}
     node.0,
     node.1,
     λ k low.
-        let t = get_some is.trees k low in
+        let t = slice_get-there is.trees k low in
         let r = all_zip_back (IsTreeOf is.forest is.kept) (roots is.kept) is.trees k t.0 is.is_plan.trees_are t.1 in
-        let x = get_some is.forest.pairs r.0 (omega (arith, (root_of_cell is.kept k r.0 r.1).2, one_each)) in
+        let x = slice_get-there is.forest.pairs r.0 (omega (arith, (root_of_cell is.kept k r.0 r.1).2, one_each)) in
         let o = all_zip_back (IsPairOf is.gates.nodes is.forest.origin) is.forest.origin is.forest.pairs r.0 x.0 is.is_forest.pairs_are x.1 in (
           r.0,
           o.0,
@@ -345,8 +345,8 @@ module _ {network : NetworkData} {options : DeckOptions} {circuit : CircuitData}
       → sink_bit s (bit_at pins) (bit_at state) (end_gate P (end_at_cell is.kept e)) ≡ value number
   sink_value k e number at sink =
       let lt = slice_get_within (sink_signals network) k number sink in
-      let r = get_some is.gates.sinks k (omega (arith, lt, sink_count)) in
-      let sign = get_some is.signs k (omega (arith, lt, sink_count, is.is_forest.signs_are)) in
+      let r = slice_get-there is.gates.sinks k (omega (arith, lt, sink_count)) in
+      let sign = slice_get-there is.signs k (omega (arith, lt, sink_count, is.is_forest.signs_are)) in
       ap (λ cs. not (gate_bit signal (cell_bits signal cs []) (end_gate P (end_at_cell is.kept e)))) cells_same
       ∙ end_value k e at
       ∙ ends_have_values is.gates is.signs is.forest value node.0 pair.0 in_place is.is_forest node.1 pair.1 k r.0 sign.0 e r.1 sign.1 at

@@ -3,6 +3,7 @@ use Rattle.std.specs.Prelude.{nat_eq, nat_lt, ◌≢◌, ◌⊎◌}
 use Rattle.std.proofs.Common.{Bool, arith, false, inl, inr, refl, suc, sym, true, zero, ℕ, ◌+◌, ◌<◌, ◌∙◌, ◌≡◌, subst, ap, ◌≤◌}
 use Rattle.std.proofs.lemmas.Bool.{eq-eqb, eqb-true}
 use Rattle.dom_base.specs.declared.tri.Tri.TheVariants.{One, Zero}
+use Rattle.dom_base.proofs.Bools.{never}
 use Rattle.dom_base.proofs.Decided.{dec_nat, lt_or_ge}
 use Rattle.sp_network.specs.Known.{IsKnown}
 use Rattle.switch_model.proofs.Searches.{first-false, first-true}
@@ -54,11 +55,8 @@ dec_previous up (suc i) = dec_fallen (up i)
 below : (i risen : ℕ) → nat_lt i risen ≡ true → i < risen
 below i risen h = elim (lt_or_ge i risen) [
   | inl l ↦ l
-  | inr g ↦ absurd (clash (nat_lt i risen) h (first-false risen i g))
+  | inr g ↦ absurd (never {b = nat_lt i risen} h (first-false risen i g))
 ]
-  where
-    clash : (b : Bool) → b ≡ true → b ≡ false → ⊥
-    clash b x y = cc
 
 pub same_previous : (up up' : ℕ → ClockState) → ((j : ℕ) → up j ≡ AfterFall → up' j ≡ AfterFall) → (i : ℕ) → HasPreviousFallen up i → HasPreviousFallen up' i
 same_previous up up' f zero p = p

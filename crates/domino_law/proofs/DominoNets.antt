@@ -6,11 +6,11 @@ use Rattle.dom_base.specs.declared.kind.Kind.TheVariants.{Keep, N as nch, P as p
 use Rattle.dom_base.specs.declared.tri.Tri.{Tri}
 use Rattle.dom_base.specs.declared.tri.Tri.TheVariants.{One, Zero}
 use Rattle.dom_base.proofs.Lists.{AllByRecursion-contains, AllByRecursion-map}
+use Rattle.dom_base.proofs.Bools.{never}
 use Rattle.deck.specs.Paths.{Ends}
 use Rattle.deck.specs.declared.device.Device.{Device}
 use Rattle.deck.specs.NamedDevices.{device_of}
 use Rattle.domino_cell.specs.Stage.{Branch, Spot, Top, stage}
-use Rattle.switch_model.proofs.Searches.{clash}
 use Rattle.domino_cell.specs.Tapped.{Tap, tapped}
 use Rattle.domino_law.specs.Branches.{HasBranches, master, reset_branch, slave, static_branches}
 use Rattle.domino_law.specs.Honest.{IsDynamicSpot}
@@ -33,7 +33,7 @@ pub data IsDomino (s : Shape) (i : ℕ) : Part → Spot → Tri → Type 0 where
 
 module _ {devices : List Device} {is_source : ℕ → Bool} {net : Net → ℕ} {s : Shape} (deck : HoldsDeck devices is_source net s) where
   part_no_source : (part : Part) → IsPart s part → (a : Net) → IsSourceNet s a → net (At part Top) ≡ net a → ⊥
-  part_no_source part p a i e = clash (is_source (net a)) (deck.sources a i) (rw e at (part-free deck part p))
+  part_no_source part p a i e = never {b = is_source (net a)} (deck.sources a i) (rw e at (part-free deck part p))
 
   -- what holds of the cards of the branches holds of a device of a stage
   stage_device : (F : Device → Type 0) (at : Spot → ℕ) (bs : List Branch) → AllByRecursion (λ c. F (device_of c)) (stage at 0 bs)
@@ -54,13 +54,13 @@ module _ {devices : List Device} {is_source : ℕ → Bool} {net : Net → ℕ} 
   spot_by : (k : CellSide) (c : DynamicStage) → IsSideAt s k c → (a : Spot) → IsDynamicSpot s.style c a → (n : ℕ)
       → ((net (At (Dynamic k) a) ≡ n) × (net Vdd ≡ net Vdd)) ⊎ ((net Vdd ≡ n) × (net (At (Dynamic k) a) ≡ net Vdd)) → n ≡ net (At (Dynamic k) a)
   spot_by k c e a x n (inl w) = sym w.0
-  spot_by k c e a x n (inr w) = absurd (clash (is_source (net Vdd)) (deck.sources Vdd tt) (rw w.1 at (spot-free deck k c e a x)))
+  spot_by k c e a x n (inr w) = absurd (never {b = is_source (net Vdd)} (deck.sources Vdd tt) (rw w.1 at (spot-free deck k c e a x)))
 
   -- of the dynamic nets of a cell the top alone gates devices
   pub gating_spot : (k : CellSide) (c : DynamicStage) → IsSideAt s k c → (a : Spot) → IsDynamicSpot s.style c a → (d : Device) → Contains devices d → d.gate ≡ net (At (Dynamic k) a) → a ≡ Top
   gating_spot k c e a x d m g =
       elim (gates_are_main deck d m) [
-        | inl w ↦ absurd (clash (is_source (net w.0)) (deck.sources w.0 w.1) (rw (sym g ∙ w.2) at (spot-free deck k c e a x)))
+        | inl w ↦ absurd (never {b = is_source (net w.0)} (deck.sources w.0 w.1) (rw (sym g ∙ w.2) at (spot-free deck k c e a x)))
         | inr w ↦ let z : At w.0 Top ≡ At (Dynamic k) a = deck.apart (At w.0 Top) (At (Dynamic k) a) w.1 (spot_is deck k c e a x) (sym w.2 ∙ g) in cc
       ]
 

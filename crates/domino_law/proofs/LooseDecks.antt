@@ -6,6 +6,7 @@ use Rattle.std.proofs.lemmas.Option.{same_Some}
 use Rattle.std.proofs.lemmas.List.Elements.{All-contains_itself, All-from_recursion, Contains-append_left, Contains-append_right, recursion_from_All}
 use Rattle.dom_base.specs.declared.kind.Kind.TheVariants.{N as nch}
 use Rattle.dom_base.proofs.Lists.{AllByRecursion-append, AllByRecursion-contains, AllByRecursion-left, AllByRecursion-map, AllByRecursion-right, AllByRecursion-weaker, Contains-first, Contains-later, Contains-slice_get}
+use Rattle.dom_base.proofs.Bools.{never}
 use Rattle.deck.specs.Nets.{ends}
 use Rattle.deck.specs.declared.device.Device.{Device}
 use Rattle.deck.specs.NamedDevices.{NamedDevice, device_of}
@@ -16,7 +17,7 @@ use Rattle.domino_cell.proofs.Stages.{each_branch}
 use Rattle.domino_cell.specs.TreeColours.{IsIn}
 use Rattle.domino_cell.proofs.Trees.{spell-ends}
 use Rattle.switch_model.specs.LinksData.{LinksData, is_first}
-use Rattle.switch_model.proofs.Searches.{clash, first-false, first-true}
+use Rattle.switch_model.proofs.Searches.{first-false, first-true}
 use Rattle.stage_law.specs.Precharged.{taps_from}
 use Rattle.domino_cell.specs.Tapped.{IsTapped, Tap, tap_branch, tap_card, tapped, ways}
 use Rattle.domino_law.specs.Branches.{HasBranches, clocked, dynamic, dynamic_taps, numbered, reset_branch, static_branches}
@@ -233,7 +234,7 @@ module _ (links : LinksData) (net : Net → ℕ) (s : Shape) (deck : IsSpelledDe
       -- the end that is the spot's net is a net of the same part
       touch : (q : Part) (cs : List Branch) (us : List Tap) (k : HasBranches s net q cs us) (d : Device) (a : Spot) (i : IsSpot bs a) (x : ℕ) → x ≡ net (At part a) → IsPartEnd q cs x
           → Contains (map device_of (tapped (λ y. net (At q y)) cs us)) d → Contains (map device_of (tapped (λ y. net (At part y)) bs taps)) d
-      touch q cs us k d a i x z (inr w) m = absurd (clash (is_first links.sources (net (At part a))) (rw z at w) (free part a (spot_of s net part bs taps h a i)))
+      touch q cs us k d a i x z (inr w) m = absurd (never {b = is_first links.sources (net (At part a))} (rw z at w) (free part a (spot_of s net part bs taps h a i)))
       touch q cs us k d a i x z (inl (spot, j, w)) m =
           let y : At q spot ≡ At part a = deck.apart (At q spot) (At part a) (spot_of s net q cs us k spot j) (spot_of s net part bs taps h a i) (sym w ∙ z) in
           let p : q ≡ part = cc in

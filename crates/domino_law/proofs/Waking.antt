@@ -9,7 +9,7 @@ use Rattle.deck.specs.declared.device.Device.{Device}
 use Rattle.sp_network.specs.Known.{IsKnown}
 use Rattle.domino_cell.specs.Stage.{IsStage, Top}
 use Rattle.dom_base.proofs.Decided.{dec_nat}
-use Rattle.switch_model.proofs.Searches.{clash}
+use Rattle.dom_base.proofs.Bools.{never}
 use Rattle.port_runs.specs.Environment.{Reset, bit}
 use Rattle.domino_law.specs.Branches.{static_branches}
 use Rattle.domino_law.specs.LooseDeck.{HoldsDeck, IsPart}
@@ -179,13 +179,13 @@ module _ {devices : List Device} {is_source : ℕ → Bool} {net : Net → ℕ} 
           ]) (gate_tree s g) e (at g a)
         where
           at : (g : Gate) → IsGate s g → EachLeaf (λ x. net x ≡ event.net → event.value ≡ wake_gate g) (gate_tree s g)
-          at (Plus (FromPin p)) a = λ m. absurd (clash (is_source event.net) (rw (← m) (deck.sources (Pin p) a)) event.pending.0)
+          at (Plus (FromPin p)) a = λ m. absurd (never {b = is_source event.net} (rw (← m) (deck.sources (Pin p) a)) event.pending.0)
           at (Plus (FromLatch j)) a = slave_wakes j a.0 a.1
           at (Minus l) a = wakes (Complement l) a
           at (FromOutput k) a = wakes (Output k) a
           at (FromDynamic k) a = rw (a.1) (each_dynamic s (λ x. net x ≡ event.net → event.value ≡ One) k a.0 a.1 (λ d z side i. dynamic_wakes _ d i))
-          at High a = λ m. absurd (clash (is_source event.net) (rw (← m) (deck.sources Vdd tt)) event.pending.0)
-          at Low a = λ m. absurd (clash (is_source event.net) (rw (← m) (deck.sources Vss tt)) event.pending.0)
+          at High a = λ m. absurd (never {b = is_source event.net} (rw (← m) (deck.sources Vdd tt)) event.pending.0)
+          at Low a = λ m. absurd (never {b = is_source event.net} (rw (← m) (deck.sources Vss tt)) event.pending.0)
 
       static_after : (part : Part) (g : Gate) (goal : Tri) → IsGate s g → IsStage devices is_source (λ a. net (At part a)) (static_branches net (gate_tree s g)) → goal ≡ opposite (wake_gate g)
           → Awakes before part g goal → Awakes (after_next event) part g goal

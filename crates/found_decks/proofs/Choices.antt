@@ -2,6 +2,7 @@
 use Rattle.std.specs.Prelude.{Some, slice_get}
 use Rattle.std.proofs.Common.{List, [], ap, arith, inl, inr, length, refl, subst, suc, sym, zero, ℕ, ◌<◌, ◌∙◌, ◌∷◌, ◌≡◌}
 use Rattle.std.proofs.lemmas.Option.{same_Some, slice_get_cases, slice_get_within}
+use Rattle.dom_base.proofs.Lists.{slice_get-there}
 
 pub record Chosen {X Y : Type 0} (R : ℕ → X → Y → Type 0) (xs : List X) : Type 0 where
   pub list : List Y
@@ -20,17 +21,10 @@ choose {X} {Y} R (x ∷ xs) h =
     behind y r ys k zero z e = (y, refl, subst (λ v. R 0 v y) (same_Some _ _ e) r)
     behind y r ys k (suc i) z e = k i z e
 
--- what stands in a list that isn't past its end
-pub there : {X : Type 0} (xs : List X) (i : ℕ) → i < length xs → (x : X) × (slice_get xs i ≡ Some x)
-there xs i l = elim (slice_get_cases xs i).1 [
-  | inl z ↦ (z.0, z.2)
-  | inr z ↦ absurd (omega (arith, l, z.0))
-]
-
 -- each choice is that of an element
 pub chosen_from : {X Y : Type 0} (R : ℕ → X → Y → Type 0) (xs : List X) (c : Chosen R xs) (i : ℕ) (y : Y) → slice_get c.list i ≡ Some y
     → (x : X) × (slice_get xs i ≡ Some x) × R i x y
 chosen_from R xs c i y e =
-    let x = there xs i (omega (arith, slice_get_within c.list i y e, c.count)) in
+    let x = slice_get-there xs i (omega (arith, slice_get_within c.list i y e, c.count)) in
     let z = c.at i x.0 x.1 in
     (x.0, x.1, subst (λ v. R i x.0 v) (same_Some _ _ (sym z.1 ∙ e)) z.2)

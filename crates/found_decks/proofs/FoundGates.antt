@@ -3,6 +3,7 @@ use Rattle.std.specs.Prelude.{Some, slice_get, ◌⊎◌}
 use Rattle.std.proofs.Common.{List, None, ap, arith, inl, inr, refl, subst, suc, sym, zero, ℕ, ◌+◌, ◌<◌, ◌∙◌, ◌≡◌, ◌≤◌}
 use Rattle.std.proofs.lemmas.Option.{same_Some, slice_get_within}
 use Rattle.dom_base.proofs.Decided.{lt_or_ge}
+use Rattle.dom_base.proofs.Lists.{slice_get-there}
 use Rattle.deck.specs.PortLayout.{first_output, source_count}
 use Rattle.deck.specs.declared.device.Device.{Device}
 use Rattle.sp_network.specs.Tree.{EachLeaf, Leaf, Parallel, Series, Tree}
@@ -17,7 +18,7 @@ use Rattle.deck_audit.specs.Words.{IsComplement, IsFree, IsInverterOutput, IsLat
 use Rattle.deck_audit.proofs.CellTrees.{one_device}
 use Rattle.deck_audit.proofs.RuleFacts.{one_input}
 use Rattle.found_decks.specs.FoundDecks.{FoundLatch, numbers_from}
-use Rattle.found_decks.proofs.Choices.{Chosen, choose, there}
+use Rattle.found_decks.proofs.Choices.{Chosen, choose}
 use Rattle.found_decks.proofs.FoundNets.{Found, IsFoundSignal, cell_at, cell_is, complement_at, devices, net, own_is, signal_of, signals}
 
 pub numbers_at : (a k i n : ℕ) → slice_get (numbers_from a k) i ≡ Some n → (i < k) × (n ≡ a + i)
@@ -150,7 +151,7 @@ module _ (w : Found) where
     where
       the_latch : (j : ℕ) (l : FoundLatch) → slice_get (w.parts).latches j ≡ Some l → (b : Latch) × IsLatchOf j l b
       the_latch j l e =
-          let block = there (w.places).nexts j (omega (arith, slice_get_within (w.parts).latches j l e, ((w.places).nexts_are).count)) in
+          let block = slice_get-there (w.places).nexts j (omega (arith, slice_get_within (w.parts).latches j l e, ((w.places).nexts_are).count)) in
           let z = ((w.places).nexts_are).each j l block.0 e block.1 in
           let g = sink_gate (l.group).data_net z.input (inl (l.group, l.places, (w.found).latches_sound j l e, refl)) z.inverter in
           (record { init = (l.group).start; next = g.0 }, (refl, g.1, subst (IsInverterOutput (devices w) (l.group).data_net) (sym g.2) z.inverter))
@@ -166,7 +167,7 @@ module _ (w : Found) where
     where
       the_output : (i n : ℕ) → slice_get out_ports i ≡ Some n → (g : Gate) × IsOutputGate i n g
       the_output i n e =
-          let block = there (w.places).outputs i (omega (arith, slice_get_within out_ports i n e, ((w.places).outputs_are).count)) in
+          let block = slice_get-there (w.places).outputs i (omega (arith, slice_get_within out_ports i n e, ((w.places).outputs_are).count)) in
           let z = ((w.places).outputs_are).each i n block.0 e block.1 in
           let m = numbers_at (first_output w.roles) w.roles.outs i n e in
           let g = sink_gate n z.input (inr (out_port n i (first_output w.roles) w.roles.outs m.0 m.1)) z.inverter in

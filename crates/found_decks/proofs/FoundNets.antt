@@ -4,6 +4,7 @@ use Rattle.std.proofs.Common.{List, [], ap, arith, get_or, inl, inr, length, ref
 use Rattle.std.proofs.lemmas.Option.{same_Some, slice_get-get_or, slice_get_within}
 use Rattle.dom_base.specs.Decided.{Decided}
 use Rattle.dom_base.proofs.Decided.{dec_nat, lt_or_ge}
+use Rattle.dom_base.proofs.Lists.{slice_get-there}
 use Rattle.deck.specs.CircuitData.{CircuitData}
 use Rattle.deck.specs.PortLayout.{first_clock, first_output, first_pin, source_count}
 use Rattle.deck.specs.declared.device.Device.{Device}
@@ -16,7 +17,7 @@ use Rattle.sp_reduction.specs.Networks.{Link, mids}
 use Rattle.deck_audit.specs.Rules.{KeepsRules}
 use Rattle.deck_audit.specs.Words.{Group, IsComplement, IsDynamic, IsLatchOutput, IsPin, StandsAt}
 use Rattle.found_decks.specs.FoundDecks.{AreFound, ArePlaces, FoundLatch, FoundParts, IsCellPlaces, IsSignalNet}
-use Rattle.found_decks.proofs.Choices.{Chosen, choose, there}
+use Rattle.found_decks.proofs.Choices.{Chosen, choose}
 use Rattle.found_decks.proofs.Signals.{signal_at}
 
 -- a cell by its nets: its dynamic net, the number of its clock, its output, its foot net, its tree, the inner nets of that, and its places
@@ -104,7 +105,7 @@ module _ (w : Found) where
 
   the_cell : (k x : ℕ) → slice_get (w.parts).tops k ≡ Some x → (c : CellParts) × IsCellOf k x c
   the_cell k x e =
-      let b = there (w.places).cells k (omega (arith, slice_get_within (w.parts).tops k x e, ((w.places).cells_are).count)) in
+      let b = slice_get-there (w.places).cells k (omega (arith, slice_get_within (w.parts).tops k x e, ((w.places).cells_are).count)) in
       let z = ((w.places).cells_are).each k x b.0 e b.1 in
       let clock_is = (z.4.front).clock_is in
       let clock : z.0 ≡ first_clock + (z.0 - first_clock) = shift z.0 clock_is.0 in

@@ -4,7 +4,7 @@ use Rattle.std.proofs.Common.{List, [], ap, arith, inl, inr, length, refl, subst
 use Rattle.std.proofs.lemmas.List.Elements.{Contains-append_left, Contains-append_right}
 use Rattle.std.proofs.lemmas.Option.{same_Some, slice_get_within}
 use Rattle.dom_base.proofs.Decided.{dec_any, dec_nat, lt_or_ge}
-use Rattle.dom_base.proofs.Lists.{Contains-first, Contains-later}
+use Rattle.dom_base.proofs.Lists.{Contains-first, Contains-later, slice_get-there}
 use Rattle.dom_base.specs.declared.kind.Kind.{Kind}
 use Rattle.dom_base.specs.declared.kind.Kind.TheVariants.{Keep, N as nch, P as pch}
 use Rattle.deck.specs.PortLayout.{first_output, source_count}
@@ -18,7 +18,6 @@ use Rattle.deck_audit.specs.Words.{Group, IsComplement, IsDynamic, IsFree, IsInv
 use Rattle.deck_audit.proofs.CellTrees.{one_device}
 use Rattle.deck_audit.proofs.RuleFacts.{at_own}
 use Rattle.found_decks.specs.FoundDecks.{AreBlocks, AreInverterPlaces, IsCellPlaces, numbers_from, whole}
-use Rattle.found_decks.proofs.Choices.{there}
 use Rattle.found_decks.proofs.FoundGates.{out_ports}
 use Rattle.found_decks.proofs.FoundNets.{Found, devices}
 
@@ -51,7 +50,7 @@ in_whole (d ∷ bs) (suc i) b p e c = Contains-append_right d (whole bs) p (in_w
 module _ {X : Type 0} (P : X → List ℕ → Type 0) (xs : List X) (bs : List (List ℕ)) (are : AreBlocks P xs bs) where
   pub block_of : (i : ℕ) (x : X) → slice_get xs i ≡ Some x → (b : List ℕ) × (slice_get bs i ≡ Some b) × P x b
   block_of i x e =
-      let b = there bs i (omega (arith, slice_get_within xs i x e, are.count)) in
+      let b = slice_get-there bs i (omega (arith, slice_get_within xs i x e, are.count)) in
       (b.0, b.1, are.each i x b.0 e b.1)
 
 module _ (w : Found) (p : ℕ) (d : Device) (at : StandsAt (devices w) p d) where

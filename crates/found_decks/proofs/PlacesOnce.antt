@@ -5,7 +5,7 @@ use Rattle.std.specs.List.{AllByRecursion}
 use Rattle.std.specs.Prelude.{Some, slice_get, ◌⊎◌}
 use Rattle.std.proofs.Common.{List, [], ap, arith, get_or, inl, inr, length, refl, subst, suc, sym, zero, ℕ, ◌++◌, ◌+◌, ◌<◌, ◌∙◌, ◌∷◌, ◌≡◌}
 use Rattle.std.proofs.lemmas.Option.{same_Some, slice_get-get_or, slice_get_within}
-use Rattle.dom_base.proofs.Lists.{AllByRecursion-append, AllByRecursion-left, AllByRecursion-right, AllByRecursion-weaker}
+use Rattle.dom_base.proofs.Lists.{AllByRecursion-append, AllByRecursion-from_places, AllByRecursion-left, AllByRecursion-right, AllByRecursion-weaker, slice_get-there}
 use Rattle.deck.specs.NamedDevices.{NamedDevice}
 use Rattle.deck.specs.declared.device.Device.{Device}
 use Rattle.circuit_law.specs.Counts.{Distinct}
@@ -19,15 +19,10 @@ use Rattle.deck_audit.proofs.OwnBlocks.{OfCell, OfLatch, cell_block, cell_own, c
 use Rattle.deck_audit.proofs.OwnCards.{devices_of}
 use Rattle.deck_audit.proofs.OwnFacts.{facts}
 use Rattle.found_decks.specs.FoundDecks.{whole}
-use Rattle.found_decks.proofs.Choices.{there}
 use Rattle.found_decks.proofs.FoundGates.{dominoes, latches, out_ports, outputs}
 use Rattle.found_decks.proofs.FoundNets.{Found, devices, net, signals}
 use Rattle.found_decks.proofs.FoundShapes.{is_shape, shape}
 use Rattle.found_decks.proofs.PlacesAt.{cell_block_at, complement_block_at, complements_same, latch_block_at, next_block_at, output_block_at}
-
-all_at_indices : {X : Type 0} (P : X → Type 0) (xs : List X) → ((i : ℕ) (x : X) → slice_get xs i ≡ Some x → P x) → AllByRecursion P xs
-all_at_indices P [] h = tt
-all_at_indices P (x ∷ xs) h = (h 0 x refl, all_at_indices P xs (λ i y e. h (suc i) y e))
 
 all_of_block : {X Card : Type 0} (block : ℕ → X → List Card) (P : Card → Type 0) (o : ℕ) (xs : List X) → AllByRecursion P (blocks block o xs)
     → (i : ℕ) (x : X) → slice_get xs i ≡ Some x → AllByRecursion P (block (o + i) x)
@@ -79,7 +74,7 @@ module _ (w : Found) where
   OfDeck x = IsNet (shape w) x.drain
 
   drains : AllByRecursion OfDeck (keeper_cards (shape w))
-  drains = all_at_indices OfDeck (keeper_cards (shape w)) (λ i x e. (facts (own_deck w) i x e).drain_is)
+  drains = AllByRecursion-from_places OfDeck (keeper_cards (shape w)) (λ i x e. (facts (own_deck w) i x e).drain_is)
 
   with_owner : (o : Owner) (xs : List (NamedDevice Net)) → AllByRecursion OfDeck xs → AllByRecursion (λ x. owner x.drain ≡ o) xs → AllByRecursion (Owned w o) xs
   with_owner o [] h k = tt
@@ -142,7 +137,7 @@ module _ (w : Found) where
     where
       each : (k : ℕ) (b : List ℕ) → slice_get (w.places).cells k ≡ Some b → Distinct b × AllByRecursion (EndsOf w (OneCell k)) b
       each k b e =
-          let x = there (w.parts).tops k (omega (arith, slice_get_within (w.places).cells k b e, ((w.places).cells_are).count)) in
+          let x = slice_get-there (w.parts).tops k (omega (arith, slice_get_within (w.places).cells k b e, ((w.places).cells_are).count)) in
           let q = ((w.places).cells_are).each k x.0 b x.1 e in
           let z = (dominoes w).at k x.0 x.1 in (
             cell_distinct w x.0 q.0 q.1 q.2 q.3 b ((w.found).tops_sound k x.0 x.1) q.4,
@@ -163,7 +158,7 @@ module _ (w : Found) where
       each : (k : ℕ) (b : List ℕ) → slice_get (w.places).complements k ≡ Some b → Distinct b × AllByRecursion (EndsOf w (OneComplement (signal_at k))) b
       each k b e =
           let within = slice_get_within (w.places).complements k b e in
-          let n = there (w.parts).complements k (omega (arith, within, ((w.places).complements_are).count)) in
+          let n = slice_get-there (w.parts).complements k (omega (arith, within, ((w.places).complements_are).count)) in
           let q = ((w.places).complements_are).each k n.0 b n.1 e in (
             inverter_distinct w n.0 b q,
             block_owned (OneComplement (signal_at k)) b (complement_block (signal_at k)) (complement_block_at w k b (signal_at k) e (known k within))
@@ -176,7 +171,7 @@ module _ (w : Found) where
     where
       each : (k : ℕ) (b : List ℕ) → slice_get (w.places).latches k ≡ Some b → Distinct b × AllByRecursion (EndsOf w (OneLatch k)) b
       each k b e =
-          let l = there (w.parts).latches k (omega (arith, slice_get_within (w.places).latches k b e, ((w.places).latches_are).count)) in
+          let l = slice_get-there (w.parts).latches k (omega (arith, slice_get_within (w.places).latches k b e, ((w.places).latches_are).count)) in
           let q = ((w.places).latches_are).each k l.0 b l.1 e in
           let z = (latches w).at k l.0 l.1 in (
             subst Distinct (sym q) ((w.found).latches_sound k l.0 l.1).once,
@@ -190,7 +185,7 @@ module _ (w : Found) where
     where
       each : (k : ℕ) (b : List ℕ) → slice_get (w.places).outputs k ≡ Some b → Distinct b × AllByRecursion (EndsOf w (OneSink k)) b
       each k b e =
-          let n = there (out_ports w) k (omega (arith, slice_get_within (w.places).outputs k b e, ((w.places).outputs_are).count)) in
+          let n = slice_get-there (out_ports w) k (omega (arith, slice_get_within (w.places).outputs k b e, ((w.places).outputs_are).count)) in
           let q = ((w.places).outputs_are).each k n.0 b n.1 e in
           let z = (outputs w).at k n.0 n.1 in (
             inverter_distinct w n.0 b q,
@@ -203,7 +198,7 @@ module _ (w : Found) where
     where
       each : (k : ℕ) (b : List ℕ) → slice_get (w.places).nexts k ≡ Some b → Distinct b × AllByRecursion (EndsOf w (OneNext k)) b
       each k b e =
-          let l = there (w.parts).latches k (omega (arith, slice_get_within (w.places).nexts k b e, ((w.places).nexts_are).count)) in
+          let l = slice_get-there (w.parts).latches k (omega (arith, slice_get_within (w.places).nexts k b e, ((w.places).nexts_are).count)) in
           let q = ((w.places).nexts_are).each k l.0 b l.1 e in
           let z = (latches w).at k l.0 l.1 in (
             inverter_distinct w ((l.0).group).data_net b q,

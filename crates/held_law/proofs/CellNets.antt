@@ -6,6 +6,7 @@ use Rattle.dom_base.specs.declared.kind.Kind.{Kind}
 use Rattle.dom_base.specs.declared.kind.Kind.TheVariants.{Keep, N as nch, P as pch}
 use Rattle.dom_base.specs.declared.tri.Tri.{Tri}
 use Rattle.dom_base.specs.declared.tri.Tri.TheVariants.{One, Zero}
+use Rattle.dom_base.proofs.Bools.{never}
 use Rattle.deck.specs.NamedDevices.{device_of}
 use Rattle.deck.specs.Paths.{Ends, Possible}
 use Rattle.deck.specs.Reach.{Reach, last, step}
@@ -21,7 +22,6 @@ use Rattle.domino_cell.specs.Tapped.{IsTapped, tapped}
 use Rattle.domino_cell.specs.declared.style.Style.TheVariants.{Keeper as WithKeeper}
 use Rattle.domino_cell.proofs.Paths.{Reach-from_any, definite_from_Reach}
 use Rattle.stage_law.proofs.Between.{Reach-reverse}
-use Rattle.switch_model.proofs.Searches.{clash}
 use Rattle.domino_law.specs.Branches.{dynamic}
 use Rattle.domino_law.specs.Honest.{cell_conduction}
 use Rattle.domino_law.specs.Nets.{At, CellSide, Clock, Gate, Net, Output, Vdd, Vss, gate_net}
@@ -82,12 +82,12 @@ module _ (devices : List Device) (is_source : ℕ → Bool) (net : Net → ℕ) 
     where
       end : (z : ℕ) → z ≡ y → IsEnd z → IsSideNet y
       end z w (inl q) = rw (← w) q
-      end z w (inr q) = absurd (clash (is_source y) (rw (sym w ∙ q) low_source) f)
+      end z w (inr q) = absurd (never {b = is_source y} (rw (sym w ∙ q) low_source) f)
 
       go : IsSideDevice (λ g. Unit {0}) d → Ends d x y → IsSideNet y
       go (inl q) (inl w) = end d.source w.1 q.3
       go (inl q) (inr w) = end d.drain w.1 q.2
-      go (inr q) (inl w) = absurd (clash (is_source y) (rw (sym w.1 ∙ q.2) high_source) f)
+      go (inr q) (inl w) = absurd (never {b = is_source y} (rw (sym w.1 ∙ q.2) high_source) f)
       go (inr q) (inr w) = end d.drain w.1 (inl q.1)
 
   -- the keeper is at the top, and the output gates it
@@ -144,7 +144,7 @@ module _ (devices : List Device) (is_source : ℕ → Bool) (net : Net → ℕ) 
     ]
 
     not_source : (x : ℕ) → IsSideNet x → (y : ℕ) → y ≡ x → is_source y ≡ true → ⊥
-    not_source x n y e s = clash (is_source y) s (rw e (side_free x n))
+    not_source x n y e s = never {b = is_source y} s (rw e (side_free x n))
 
     -- paths lead from the side to ground, or through the keeper, where the output is 0, to the high supply
     abbrev Leaves : ℕ → ℕ → Type 0
@@ -194,7 +194,7 @@ module _ (devices : List Device) (is_source : ℕ → Bool) (net : Net → ℕ) 
         → Reach (IsStrongStep devices is_one values) is_source x y
     goes_down {x} {y} n (last {d = d} q e) ne = last (strong_down d x y n q e ne) e
     goes_down {x} {y} n (step {d = d} {m = m} q e f r) ne =
-        step (strong_down d x m n q e (λ z. clash (is_source m) (rw z high_source) f)) e f (goes_down (side_closed d x m n q.of e f) r ne)
+        step (strong_down d x m n q e (λ z. never {b = is_source m} (rw z high_source) f)) e f (goes_down (side_closed d x m n q.of e f) r ne)
 
     not_both : (x : ℕ) → IsSideNet x → Reach (IsStep devices is_not_zero values) is_source x (net Vss)
         → value_of values (net (At (Output k.cell) Top)) ≡ Zero

@@ -6,6 +6,7 @@ use Rattle.dom_base.specs.declared.tri.Tri.{Tri}
 use Rattle.dom_base.specs.declared.tri.Tri.TheVariants.{One, Zero}
 use Rattle.dom_base.specs.Tri.{opposite}
 use Rattle.dom_base.proofs.Decided.{dec_nat}
+use Rattle.dom_base.proofs.Bools.{never}
 use Rattle.deck.specs.Switches.{value_of}
 use Rattle.sp_network.specs.Tree.{EachLeaf, Leaf, Series, inner_count}
 use Rattle.sp_network.proofs.TreeImages.{inner_count-map_tree, tree_conduction-same}
@@ -13,7 +14,6 @@ use Rattle.domino_cell.specs.Stage.{Inside, IsSpot, Spot, Top}
 use Rattle.domino_cell.specs.declared.style.Style.TheVariants.{Keeper as WithKeeper}
 use Rattle.switch_model.specs.LinksData.{LinksData, is_first}
 use Rattle.switch_model.specs.Targets.{EventAt}
-use Rattle.switch_model.proofs.Searches.{clash}
 use Rattle.port_runs.specs.Environment.{Capture, Captured, Evaluation, Fall, Happens, IsNext, Launch, Launched, Move, Moves, Open, Pins, Place, Precharge, Released, Reset, Rise, Step, Take, World, after_move, fallen_at, fallen_with, none_fallen, risen_at}
 use Rattle.port_runs.specs.LegalSteps.{RestsIn}
 use Rattle.port_runs.proofs.Steps.{leads_keep}
@@ -83,7 +83,7 @@ module _ (clocks : ℕ) where
       raised (suc j) r q =
           let up = (from_raised (risen + 1) fallen (suc j) r).1 in
           elim (from_open risen fallen (suc j) (order j q)) [
-            | inl z ↦ absurd (clash (fallen (suc j)) z up)
+            | inl z ↦ absurd (never {b = fallen (suc j)} z up)
             | inr l ↦ is_raised risen fallen (suc j) l up
           ]
 
@@ -92,7 +92,7 @@ module _ (clocks : ℕ) where
   fall_back k risen fallen i r =
       let up = from_raised risen (fallen_with k fallen) i r in
       elim (dec_nat i k) [
-        | inl z ↦ absurd (clash (fallen_with k fallen k) (fallen_with-same k fallen) (rw z at up.1))
+        | inl z ↦ absurd (never {b = fallen_with k fallen k} (fallen_with-same k fallen) (rw z at up.1))
         | inr ne ↦ is_raised risen fallen i up.0 (sym (fallen_with-other k fallen i ne) ∙ up.1)
       ]
 

@@ -6,6 +6,8 @@ use Rattle.dom_base.specs.declared.tri.Tri.{Tri}
 use Rattle.dom_base.specs.declared.tri.Tri.TheVariants.{Unknown}
 use Rattle.dom_base.proofs.Decided.{dec_keeper}
 use Rattle.dom_base.proofs.Lists.{AllByRecursion-both, AllByRecursion-weaker}
+use Rattle.dom_base.proofs.Bools.{never}
+use Rattle.switch_model.proofs.ByDrives.{weak_or_strong}
 use Rattle.deck.specs.Paths.{Ends, IsStrong, IsWeak, Path, Possible, more, one}
 use Rattle.deck.specs.Switches.{IsNotOff, IsOn, value_of}
 use Rattle.deck.specs.declared.device.Device.{Device}
@@ -13,7 +15,6 @@ use Rattle.deck.proofs.Reach.{Reach-trans}
 use Rattle.domino_cell.proofs.Paths.{Reach-from_any}
 use Rattle.stage_law.proofs.Between.{Reach-reverse}
 use Rattle.switch_model.specs.Targets.{IsTarget}
-use Rattle.switch_model.proofs.Searches.{clash}
 use Rattle.switch_model.proofs.Targets.{definite-possible_strong, definite-possible_weak, target_exists}
 use Rattle.domino_law.proofs.HonestTargets.{as_value}
 use Rattle.domino_law.proofs.KeptCells.{any_from_Reach}
@@ -31,14 +32,6 @@ IsFloating devices is_source values x = (y : ℕ) → Possible devices is_source
 abbrev pub IsSettled : List Device → (ℕ → Bool) → List Tri → ℕ → Type 0
 IsSettled devices is_source values x =
     AreAlike devices is_source values x ⊎ ((value_of values x ≡ Unknown) × IsFloating devices is_source values x)
-
--- a path has a keeper or has none
-keeper_or_none : (p : List Device) → IsWeak p ⊎ IsStrong p
-keeper_or_none [] = inr (λ w. w)
-keeper_or_none (d ∷ p) = elim (dec_keeper d.kind) [
-  | inl k ↦ inl (inl k)
-  | inr n ↦ elim (keeper_or_none p) [ inl w ↦ inl (inr w) | inr s ↦ inr (λ w. elim w [ inl k ↦ n k | inr v ↦ s v ]) ]
-]
 
 module _ (devices : List Device) (is_source : ℕ → Bool) (values : List Tri) where
   pub joined_on : (a m b : ℕ) → is_source m ≡ false → Possible devices is_source values a m → Possible devices is_source values m b
@@ -76,12 +69,12 @@ module _ (devices : List Device) (is_source : ℕ → Bool) (values : List Tri) 
         → IsTarget devices is_source values x v
         → v ≡ value_of values x
     floating_target own none v (inl ((s, d, q, e), all)) =
-        let h = definite-possible_strong devices is_source values x s d in absurd (clash (is_source s) q (none s (h.0, h.1, h.2, h.3)))
-    floating_target own none v (inr (not1, inl ((s, d, q), e))) = absurd (clash (is_source s) q (none s (d.0, d.1, d.2, d.3)))
+        let h = definite-possible_strong devices is_source values x s d in absurd (never {b = is_source s} q (none s (h.0, h.1, h.2, h.3)))
+    floating_target own none v (inr (not1, inl ((s, d, q), e))) = absurd (never {b = is_source s} q (none s (d.0, d.1, d.2, d.3)))
     floating_target own none v (inr (not1, inr (not2, inl ((s, d, q, e), all)))) =
-        let h = definite-possible_weak devices is_source values x s d in absurd (clash (is_source s) q (none s (h.0, h.1, h.2, h.3)))
+        let h = definite-possible_weak devices is_source values x s d in absurd (never {b = is_source s} q (none s (h.0, h.1, h.2, h.3)))
     floating_target own none v (inr (not1, inr (not2, inr (not3, inl ((s, d, q), e))))) =
-        absurd (clash (is_source s) q (none s (d.0, d.1, d.2, d.3)))
+        absurd (never {b = is_source s} q (none s (d.0, d.1, d.2, d.3)))
     floating_target own none v (inr (not1, inr (not2, inr (not3, inr (not4, inl h))))) = h.1
     floating_target own none v (inr (not1, inr (not2, inr (not3, inr (not4, inr (not5, u)))))) = u ∙ sym own
 
@@ -119,7 +112,7 @@ module _ (devices : List Device) (is_source : ℕ → Bool) (values : List Tri) 
           where
             go : (b : Bool) → is_source s ≡ b → is_source s ≡ false
             go false q = q
-            go true q = elim (keeper_or_none p.0) [
+            go true q = elim (weak_or_strong p.0) [
               | inl w ↦ absurd (not4 Unknown ((s, (p.0, p.1, p.2, p.3, w), q), refl))
               | inr st ↦ absurd (not2 Unknown ((s, (p.0, p.1, p.2, p.3, st), q), refl))
             ]
@@ -168,7 +161,7 @@ module _ (devices : List Device) (is_source : ℕ → Bool) (C : ℕ → Type 0)
               | inl (t, p', q', e') ↦ sym e' ∙ (same x t s n (joined_on devices is_source values x y t z r p') p q' q ∙ e)
               | inr (none, h) ↦
                   let back = joined_on devices is_source values y x s (free x n) (joined_back devices is_source values x y r) p in
-                  absurd (clash (is_source s) q (none s back))
+                  absurd (never {b = is_source s} q (none s back))
             ]
 
   -- where no device that was off is on, a settled net whose value, and that of all that was joined to it, stays is settled

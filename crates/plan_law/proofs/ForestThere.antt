@@ -3,7 +3,7 @@
 use Rattle.std.proofs.Common.{◌≡◌, inl, inr, ℕ, zero, suc, ◌+◌, ◌<◌, Bool, true, false, not, List, [], length, map, Some, slice_get, refl, sym, subst, ◌∙◌, arith}
 use Rattle.std.specs.List.{AllZip, range_with_len}
 use Rattle.std.proofs.lemmas.Option.{same_Some, slice_get_within}
-use Rattle.dom_base.proofs.Lists.{Contains-slice_get, slice_get-contained}
+use Rattle.dom_base.proofs.Lists.{Contains-slice_get, slice_get-contained, slice_get-there}
 use Rattle.gate_decompose.specs.declared.gates.Node.{Node}
 use Rattle.gate_decompose.specs.declared.gates.Node.TheVariants.{And as and_node, Not as not_node, Or as or_node}
 use Rattle.gate_decompose.specs.declared.gates.Ref.{Ref}
@@ -25,7 +25,6 @@ use Rattle.dual_rail.specs.WantedNodes.{IsPlainPart}
 use Rattle.dual_rail.proofs.ArmsOf.{plain_place}
 use Rattle.dual_rail.proofs.RailsOf.{nodes_ordered}
 use Rattle.dual_rail.proofs.TargetsOf.{asks_opposite}
-use Rattle.dual_rail.proofs.Zips.{get_some}
 use Rattle.plan_law.specs.Laws.{ForestsAreThere}
 use Rattle.plan_law.proofs.BuiltLists.{list_there, zip_there}
 
@@ -37,7 +36,7 @@ module _ (gates : GatesData) (is : AreInPlace gates) where
   node_asks : (room n : ℕ) → n < room → n < length gates.nodes → (sign : Bool) → Asks (node_ref n) sign
   node_asks zero n low there sign = absurd (omega (arith, low))
   node_asks (suc room) n low there sign =
-      let x = get_some gates.nodes n there in
+      let x = slice_get-there gates.nodes n there in
       by x.0 x.1 (is.nodes n x.0 x.1) (λ m less h s. node_asks room m less h s)
     where
       by : (x : Node) → slice_get gates.nodes n ≡ Some x → HasParts gates.leaves n x
@@ -157,8 +156,8 @@ module _ (gates : GatesData) (is : AreInPlace gates) where
       where
         each : (k : ℕ) → k < length gates.sinks → (end : End) × IsEndAt k end
         each k lt =
-            let r = get_some gates.sinks k lt in
-            let sign = get_some signs k (omega (arith, lt, count)) in
+            let r = slice_get-there gates.sinks k lt in
+            let sign = slice_get-there signs k (omega (arith, lt, count)) in
             let end = end_there r.0 sign.0 (is.sinks k r.0 r.1)
             (λ m t asks. λ holds closed. closed.sinks k r.0 sign.0 m t r.1 sign.1 asks) in (
               end.0,

@@ -4,7 +4,7 @@ use Rattle.std.specs.Prelude.{AllPairs}
 use Rattle.std.specs.List.{AllZip, range_with_len}
 use Rattle.std.proofs.lemmas.Bool.{cases_lt}
 use Rattle.std.proofs.lemmas.Option.{get_or_from_slice_get, same_Some, slice_get_within}
-use Rattle.dom_base.proofs.Lists.{AllZip-one}
+use Rattle.dom_base.proofs.Lists.{AllZip-one, slice_get-there}
 use Rattle.gate_decompose.specs.declared.gates.Node.{Node}
 use Rattle.gate_decompose.specs.declared.gates.Node.TheVariants.{And as and_node, Or as or_node}
 use Rattle.gate_decompose.specs.declared.gates.Ref.{Ref}
@@ -20,7 +20,6 @@ use Rattle.dual_rail.specs.declared.forest.Pair.TheVariants.{And, Or}
 use Rattle.dual_rail.specs.ForestData.{ForestData}
 use Rattle.dual_rail.specs.Forests.{IsArm, IsEndOf, IsForestOf, IsPairOf, arm_uses, end_uses}
 use Rattle.dual_rail.proofs.TargetsOf.{asks_one, asks_opposite}
-use Rattle.dual_rail.proofs.Zips.{get_some}
 use Rattle.plan_law.proofs.BuiltLists.{lists_same}
 
 precedes_itself : (p : ℕ × Bool) → Precedes p p → ⊥
@@ -129,8 +128,8 @@ forest_one gates signs a b is are =
     (subst (λ o. AllZip (IsPairOf gates.nodes o) o a.pairs) origin is.pairs_are) are.pairs_are in
     let ends : a.ends ≡ b.ends = lists_same a.ends b.ends (is.ends_count ∙ sym are.ends_count) (λ k x y e f.
     let lt : k < length gates.sinks = subst (λ n. k < n) is.ends_count (slice_get_within a.ends k x e) in
-    let sink = get_some gates.sinks k lt in
-    let sign = get_some signs k (subst (λ n. k < n) (sym is.signs_are) lt) in
+    let sink = slice_get-there gates.sinks k lt in
+    let sign = slice_get-there signs k (subst (λ n. k < n) (sym is.signs_are) lt) in
     end_one b.origin are.origin_is.in_order gates.nodes sink.0 sign.0 x y
     (subst (λ o. IsEndOf gates.nodes o sink.0 sign.0 x) origin (is.ends_are k sink.0 sign.0 x sink.1 sign.1 e))
     (are.ends_are k sink.0 sign.0 y sink.1 sign.1 f)) in

@@ -1,8 +1,9 @@
 -- A right deck of a text has the verdict that all is the same over each stimulus, and nothing is refused.
 use Rattle.std.specs.Prelude.{slice_index_or}
-use Rattle.std.specs.List.{range_with_len}
+use Rattle.std.specs.List.{AllByRecursion, range_with_len}
 use Rattle.std.proofs.Common.{◌≡◌, ℕ, zero, suc, ◌+◌, ◌≤◌, All, Bool, List, [], ◌∷◌, ◌++◌, length, map, take, drop, refl, sym, subst, ap, ◌∙◌, arith, inl, inr}
-use Rattle.std.proofs.lemmas.List.{drop_more, length-map, map-id}
+use Rattle.std.proofs.lemmas.List.{drop_more, length-map, length-take-le, map-id}
+use Rattle.std.proofs.lemmas.List.Elements.{All-from_recursion}
 use Rattle.std.proofs.lemmas.List.FromFn.{length-map-range_with_len}
 use Rattle.dom_base.specs.declared.tri.Tri.TheVariants.{Unknown}
 use Rattle.deck.specs.CircuitData.{CircuitData}
@@ -15,7 +16,7 @@ use Rattle.deck.proofs.NetNames.{pins_are_pins}
 use Rattle.deck.proofs.PortLayout.{AreRoles-same}
 use Rattle.network.specs.NetworkData.{NetworkData}
 use Rattle.network.specs.Networks.{IsNetwork}
-use Rattle.net_run.specs.Runs.{IsNetworkRun}
+use Rattle.net_run.specs.Runs.{Cycle, IsNetworkRun, IsNetworkRunFrom, start}
 use Rattle.event_sim.specs.Orders.{By}
 use Rattle.port_runs.specs.declared.clocking.Clocking.TheVariants.{Together}
 use Rattle.port_runs.proofs.RunOrder.{runs_stand_in_order}
@@ -38,14 +39,23 @@ use Rattle.deck_form.specs.DominoDecks.{signal_name}
 use Rattle.verdict_law.specs.Laws.{IsRightTogether, IsSame, RealisedIsSame, RealisesInTime, RightDeckIsAccepted, RightDeckIsSame}
 use Rattle.verdict_law.proofs.SameVerdicts.{none_differ, same_run}
 
+-- the pins of each cycle of a run have the width
+widths_from : (n : NetworkData) (state : List Bool) (stream : List (List Bool)) (cycles : List Cycle) → IsNetwork n → IsNetworkRunFrom n state stream cycles
+    → AllByRecursion (λ pins. length pins ≡ n.inputs) stream
+widths_from n state [] cycles is run = tt
+widths_from n state (pins ∷ stream) [] is run = absurd run
+widths_from n state (pins ∷ stream) (c ∷ cycles) is run =
+    let v = (run.0).valuation in
+    (sym (ap length v.inputs) ∙ length-take-le n.inputs (run.0).values (omega (arith, v.count, is.count)), widths_from n c.next stream cycles is run.1)
+
 pub realised_is_same : RealisedIsSame
-realised_is_same order network c roles stream cycles verdict is_network are ports realises fits run v = by roles.clocks are.in_order.some_clock refl v
+realised_is_same order network c roles stream cycles verdict is_network are ports realises run v = by roles.clocks are.in_order.some_clock refl v
   where
     by : (n : ℕ) → 1 ≤ n → roles.clocks ≡ n → IsVerdict (By order) network c roles stream cycles verdict → IsSame verdict (length stream)
     by zero some e v = absurd (omega (arith, some))
     by (suc more) some e (inl differ) = absurd (none_differ (network_ports network) (pins_and_outputs c roles) differ.0 (sym ports) differ.1)
     by (suc more) some e (inr same) =
-        same_run order network c roles more verdict is_network e (sym (counts_agree c roles network are is_network ports).0) realises stream cycles fits run same.1
+        same_run order network c roles more verdict is_network e (sym (counts_agree c roles network are is_network ports).0) realises stream cycles (All-from_recursion (λ pins. length pins ≡ network.inputs) stream (widths_from network (start network) stream cycles is_network run)) run same.1
 
 -- what stands in a row of a list, by its numbers
 ranged : {X Y : Type 0} (f : X → Y) (d : X) (xs : List X) (a n : ℕ) → a + n ≤ length xs → map (λ k. f (slice_index_or xs k d)) (range_with_len a n) ≡ map f (take n (drop a xs))
@@ -107,7 +117,6 @@ module _ (blif deck : List ℕ) (phases : ℕ) (right : IsRightTogether blif pha
   right_same stim order seed verdict v =
       realised_is_same (picked_place order seed) network circuit (roles_of network phases) v.stream v.cycles verdict is_network are ports_are
       (realises network circuit (roles_of network phases) are right.right)
-      (subst (λ (n : NetworkData). All (λ pins. length pins ≡ n.inputs) v.stream) networks (v.is_stimulus).widths_are)
       (subst (λ (n : NetworkData). IsNetworkRun n v.stream v.cycles) networks v.is_run)
       (subst (λ (r : Roles). IsVerdict (By (picked_place order seed)) network circuit r v.stream v.cycles verdict) roles
       (subst (λ (c : CircuitData). IsVerdict (By (picked_place order seed)) network c v.roles v.stream v.cycles verdict) circuits

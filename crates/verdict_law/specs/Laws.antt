@@ -52,7 +52,7 @@ abbrev pub RealisedIsSame : Type 0
 RealisedIsSame =
     (order : ℕ → ℕ → ℕ) (network : NetworkData) (c : CircuitData) (roles : Roles) (stream : List (List Bool)) (cycles : List Cycle) (verdict : Verdict)
     → IsNetwork network → AreRoles (ports_of c) roles → pins_and_outputs c roles ≡ network_ports network → RealisesInTime network c roles
-    → All (λ pins. length pins ≡ network.inputs) stream → IsNetworkRun network stream cycles
+    → IsNetworkRun network stream cycles
     → IsVerdict (By order) network c roles stream cycles verdict → IsSame verdict (length stream)
 
 -- a verdict of a text and a deck over a stimulus is that all is the same in each of its cycles
