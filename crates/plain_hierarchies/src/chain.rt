@@ -7,7 +7,7 @@ use plain_texts::Draws;
 use std::alloc::{AllocError, Global};
 
 /// What stands in the last model of a chain.
-#[derive(Clone, Copy, PartialEq, Eq)]
+#[derive(Clone, Copy)]
 enum Base {
     Nothing,
     Constant,
@@ -35,79 +35,99 @@ pub fn add_chain(alloc: Global, draws: &mut Draws, file: &mut PlainFile) -> Resu
         main.cards.push(instance(alloc, first))?;
     }
     for level in 0..levels {
-        let mut cards = Vec::new(alloc);
         let name = first.saturating_add(level);
-        if level.saturating_add(1) == levels {
-            add_base(alloc, base, &mut cards)?;
-        } else {
-            cards.push(instance(alloc, name.saturating_add(1)))?;
-            cards.push(instance(alloc, name.saturating_add(1)))?;
+        let is_last = level.saturating_add(1) == levels;
+        file.models.push(PlainModel::new(alloc, name))?;
+        if let Some(model) = file.models.last_mut() {
+            let base = if is_last { Some(base) } else { None };
+            add_cards(alloc, base, name.saturating_add(1), &mut model.cards)?;
         }
-        file.models.push(PlainModel {
-            name,
-            inputs: Vec::new(alloc),
-            outputs: Vec::new(alloc),
-            cards,
-            line: 0,
-        })?;
     }
     Ok(())
 }
 
+fn card(body: CardBody) -> PlainCard {
+    PlainCard { line: 0, body }
+}
+
 fn instance(alloc: Global, unit: usize) -> PlainCard {
-    PlainCard {
-        line: 0,
-        body: CardBody::Instance(NamedInstance {
-            unit,
-            bindings: Vec::new(alloc),
-        }),
+    card(CardBody::Instance(NamedInstance {
+        unit,
+        bindings: Vec::new(alloc),
+    }))
+}
+
+/// Adds the cards of a model of a chain: what stands in the last one, or two instances of the next one.
+fn add_cards(
+    alloc: Global,
+    base: Option<Base>,
+    next: usize,
+    cards: &mut Vec<PlainCard>,
+) -> Result<(), AllocError> {
+    match base {
+        Some(base) => add_base(alloc, base, cards),
+        None => {
+            cards.push(instance(alloc, next))?;
+            cards.push(instance(alloc, next))?;
+            Ok(())
+        }
     }
 }
 
-/// A table of one row that is repeated so often.
-fn table(alloc: Global, inputs: usize, rows: usize) -> Result<NamedTable, AllocError> {
+/// Adds so many inputs, and a row for them that is repeated so often.
+fn fill(
+    alloc: Global,
+    inputs: usize,
+    rows: usize,
+    table: &mut NamedTable,
+) -> Result<(), AllocError> {
+    table.inputs.resize(inputs, FIRST_SIGNAL.saturating_add(1))?;
+    for _ in 0..rows {
+        table.rows.push(vec![in alloc; b'1'; inputs]?)?;
+    }
+    Ok(())
+}
+
+/// Adds a table of this output with so many inputs, of one row that is repeated so often.
+fn add_table(
+    alloc: Global,
+    output: usize,
+    inputs: usize,
+    rows: usize,
+    cards: &mut Vec<PlainCard>,
+) -> Result<(), AllocError> {
     let mut table = NamedTable {
         inputs: Vec::new(alloc),
-        output: FIRST_SIGNAL,
+        output,
         on: true,
         rows: Vec::new(alloc),
     };
-    let mut row = Vec::new(alloc);
-    for _ in 0..inputs {
-        table.inputs.push(FIRST_SIGNAL.saturating_add(1))?;
-        row.push(b'1')?;
-    }
-    for _ in 0..rows {
-        table.rows.push(row.to_vec(alloc)?)?;
-    }
-    Ok(table)
+    fill(alloc, inputs, rows, &mut table)?;
+    cards.push(card(CardBody::Table(table)))?;
+    Ok(())
 }
 
 fn add_base(alloc: Global, base: Base, cards: &mut Vec<PlainCard>) -> Result<(), AllocError> {
-    let mut bodies = Vec::new(alloc);
     match base {
-        Base::Nothing => (),
-        Base::Constant => bodies.push(CardBody::Table(table(alloc, 0, 1)?))?,
+        Base::Nothing => Ok(()),
+        Base::Constant => add_table(alloc, FIRST_SIGNAL, 0, 1, cards),
         Base::Letters => {
-            let mut driver = table(alloc, 0, 1)?;
-            driver.output = FIRST_SIGNAL.saturating_add(1);
-            bodies.push(CardBody::Table(driver))?;
-            bodies.push(CardBody::Table(table(alloc, 9, 39)?))?;
+            add_table(alloc, FIRST_SIGNAL.saturating_add(1), 0, 1, cards)?;
+            add_table(alloc, FIRST_SIGNAL, 9, 39, cards)
         }
-        Base::Latches => {
-            for index in 0..6 {
-                let name = FIRST_SIGNAL.saturating_add(index);
-                bodies.push(CardBody::Latch(NamedLatch {
-                    input: name,
-                    output: name,
-                    control: None,
-                    init: 0,
-                }))?;
-            }
-        }
+        Base::Latches => add_latches(cards),
     }
-    for body in bodies {
-        cards.push(PlainCard { line: 0, body })?;
+}
+
+fn add_latches(cards: &mut Vec<PlainCard>) -> Result<(), AllocError> {
+    for index in 0..6 {
+        let name = FIRST_SIGNAL.saturating_add(index);
+        cards.push(card(CardBody::Latch(NamedLatch {
+            input: name,
+            output: name,
+            control: None,
+            init: 0,
+        })))?;
     }
     Ok(())
 }

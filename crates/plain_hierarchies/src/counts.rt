@@ -70,28 +70,35 @@ pub fn names_of(alloc: Global, model: &PlainModel) -> Result<Vec<usize>, AllocEr
         add_name(&mut names, *port)?;
     }
     for card in model.cards.iter() {
-        match &card.body {
-            CardBody::Table(table) => {
-                for input in table.inputs.iter() {
-                    add_name(&mut names, *input)?;
-                }
-                add_name(&mut names, table.output)?;
-            }
-            CardBody::Latch(latch) => {
-                add_name(&mut names, latch.input)?;
-                add_name(&mut names, latch.output)?;
-                if let Some(signal) = latch.control.and_then(|control| control.signal) {
-                    add_name(&mut names, signal)?;
-                }
-            }
-            CardBody::Instance(instance) => {
-                for (_, actual) in instance.bindings.iter() {
-                    add_name(&mut names, *actual)?;
-                }
-            }
-        }
+        add_names(&mut names, &card.body)?;
     }
     Ok(names)
+}
+
+/// Adds the names of signals on a card that are new.
+fn add_names(names: &mut Vec<usize>, body: &CardBody) -> Result<(), AllocError> {
+    match body {
+        CardBody::Table(table) => {
+            for input in table.inputs.iter() {
+                add_name(names, *input)?;
+            }
+            add_name(names, table.output)
+        }
+        CardBody::Latch(latch) => {
+            add_name(names, latch.input)?;
+            add_name(names, latch.output)?;
+            match latch.control.and_then(|control| control.signal) {
+                Some(signal) => add_name(names, signal),
+                None => Ok(()),
+            }
+        }
+        CardBody::Instance(instance) => {
+            for (_, actual) in instance.bindings.iter() {
+                add_name(names, *actual)?;
+            }
+            Ok(())
+        }
+    }
 }
 
 /// The sum over all paths that begin at a model and are at most so deep, from the sums of one level less.
@@ -113,15 +120,26 @@ fn sum_of(
     Ok(sum)
 }
 
+/// The sums over all paths from each model, from those of one level less.
+fn next_sums(
+    alloc: Global,
+    file: &PlainFile,
+    counted: Counted,
+    less: &[u64],
+) -> Result<Vec<u64>, AllocError> {
+    let mut sums = Vec::new(alloc);
+    for model in file.models.iter() {
+        let sum = sum_of(alloc, file, counted, model, less)?;
+        sums.push(sum)?;
+    }
+    Ok(sums)
+}
+
 /// A count over all paths of a file, at most 2^64 - 1.
 pub fn count_of(alloc: Global, file: &PlainFile, counted: Counted) -> Result<u64, AllocError> {
     let mut sums = Vec::new(alloc);
     for _ in file.models.iter() {
-        let mut next = Vec::new(alloc);
-        for model in file.models.iter() {
-            next.push(sum_of(alloc, file, counted, model, &sums)?)?;
-        }
-        sums = next;
+        sums = next_sums(alloc, file, counted, &sums)?;
     }
     let total = sums.first().copied().unwrap_or(0);
     match (counted, file.models.first()) {

@@ -26,7 +26,7 @@ pub struct PlacedPart {
 }
 
 /// Where a signal is read or driven: its signal, the line of the card and the name on it.
-#[derive(Clone, Copy, PartialEq, Eq)]
+#[derive(Clone, Copy)]
 pub struct CardEnd {
     pub signal: Signal,
     pub line: u64,
@@ -46,15 +46,20 @@ pub fn expanded(alloc: Global, file: &PlainFile) -> Result<Expansion, AllocError
         occurrences: Vec::new(alloc),
         parts: Vec::new(alloc),
     };
-    expansion.occurrences.push(Occurrence {
-        model: 0,
-        above: None,
-    })?;
-    expansion.expand(file, 0, 0, file.models.len())?;
+    expansion.expand_main(file)?;
     Ok(expansion)
 }
 
 impl Expansion {
+    /// Adds the main model.
+    fn expand_main(&mut self, file: &PlainFile) -> Result<(), AllocError> {
+        self.occurrences.push(Occurrence {
+            model: 0,
+            above: None,
+        })?;
+        self.expand(file, 0, 0, file.models.len())
+    }
+
     /// Adds the parts of a model at a path, at most so many paths deep.
     fn expand(
         &mut self,
@@ -158,18 +163,17 @@ impl Expansion {
         Some(self.end(file, part.path, card.line, name))
     }
 
-    /// The ends of these ports of the main model.
-    pub fn ports(
+    /// Adds the ends of these ports of the main model.
+    pub fn add_ports(
         &self,
-        alloc: Global,
         file: &PlainFile,
         ports: &[usize],
-    ) -> Result<Vec<CardEnd>, AllocError> {
+        ends: &mut Vec<CardEnd>,
+    ) -> Result<(), AllocError> {
         let line = file.models.first().map_or(0, |model| model.line);
-        let mut ends = Vec::new(alloc);
         for port in ports {
             ends.push(self.end(file, 0, line, *port))?;
         }
-        Ok(ends)
+        Ok(())
     }
 }

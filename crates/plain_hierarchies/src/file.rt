@@ -11,7 +11,7 @@ pub struct NamedTable {
 }
 
 /// What a latch is clocked by: a rising or a falling edge, of a signal or of `NIL`.
-#[derive(Clone, Copy, PartialEq, Eq)]
+#[derive(Clone, Copy)]
 pub struct NamedControl {
     pub rising: bool,
     pub signal: Option<usize>,
@@ -58,6 +58,19 @@ pub struct PlainModel {
     pub line: u64,
 }
 
+impl PlainModel {
+    /// A model of this name, without anything.
+    pub fn new(alloc: Global, name: usize) -> PlainModel {
+        PlainModel {
+            name,
+            inputs: Vec::new(alloc),
+            outputs: Vec::new(alloc),
+            cards: Vec::new(alloc),
+            line: 0,
+        }
+    }
+}
+
 /// A file, the main model first. Names are numbers of `names`, which all differ.
 #[derive(Drop)]
 pub struct PlainFile {
@@ -68,10 +81,7 @@ pub struct PlainFile {
 impl PlainFile {
     /// A name.
     pub fn name(&self, number: usize) -> &str {
-        match self.names.get(number) {
-            Some(name) => name.as_str(),
-            None => "",
-        }
+        name_in(&self.names, number)
     }
 
     /// The place of the first model of a name.
@@ -148,6 +158,21 @@ impl Lines {
         }
     }
 
+    /// Appends a model. It and its cards take the numbers of their lines.
+    fn model(&mut self, names: &[String], model: &mut PlainModel) -> Result<(), AllocError> {
+        self.text.push_str(".model")?;
+        self.word(name_in(names, model.name))?;
+        model.line = self.end()?;
+        self.ports(names, ".inputs", &model.inputs)?;
+        self.ports(names, ".outputs", &model.outputs)?;
+        for card in model.cards.iter_mut() {
+            card.line = self.card(names, &card.body)?;
+        }
+        self.text.push_str(".end")?;
+        self.end()?;
+        Ok(())
+    }
+
     fn table(&mut self, names: &[String], table: &NamedTable) -> Result<u64, AllocError> {
         self.text.push_str(".names")?;
         for input in table.inputs.iter() {
@@ -212,16 +237,7 @@ pub fn written(alloc: Global, file: &mut PlainFile) -> Result<String, AllocError
     };
     let names = file.names.as_slice();
     for model in file.models.iter_mut() {
-        lines.text.push_str(".model")?;
-        lines.word(name_in(names, model.name))?;
-        model.line = lines.end()?;
-        lines.ports(names, ".inputs", &model.inputs)?;
-        lines.ports(names, ".outputs", &model.outputs)?;
-        for card in model.cards.iter_mut() {
-            card.line = lines.card(names, &card.body)?;
-        }
-        lines.text.push_str(".end")?;
-        lines.end()?;
+        lines.model(names, model)?;
     }
     let Lines { text, .. } = lines;
     Ok(text)

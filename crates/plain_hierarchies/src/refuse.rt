@@ -6,7 +6,7 @@ use std::alloc::{AllocError, Global};
 
 /// Why a file has no network: the number of the kind, from 10 to 19, with the line and the number of the name
 /// that are told; or what there is too many of, and its count.
-#[derive(Clone, Copy, PartialEq, Eq)]
+#[derive(Clone, Copy)]
 pub enum PlainRefusal {
     At(u64, u64, usize),
     TooMany(Counted, u64),
@@ -21,28 +21,25 @@ pub fn refusal(alloc: Global, file: &PlainFile) -> Result<Option<PlainRefusal>, 
         bad_formal(file),
         recursion(alloc, file)?,
     ];
-    for found in models {
-        if found.is_some() {
-            return Ok(found);
-        }
+    let found = first_of(&models);
+    if found.is_some() {
+        return Ok(found);
     }
     if let Some((counted, count)) = too_many(alloc, file)? {
         return Ok(Some(PlainRefusal::TooMany(counted, count)));
     }
-    let ends = Ends::of(alloc, file)?;
-    let signals = [
-        ends.driven_twice(),
-        ends.undriven(),
-        ends.on_cycle(alloc, file)?,
-        ends.two_controls(),
-        ends.control_used(alloc, file)?,
-    ];
-    for found in signals {
-        if found.is_some() {
-            return Ok(found);
+    let mut ends = Ends::new(alloc, expanded(alloc, file)?);
+    ends.refusal(alloc, file)
+}
+
+/// The first of these refusals that is one.
+fn first_of(found: &[Option<PlainRefusal>]) -> Option<PlainRefusal> {
+    for one in found {
+        if one.is_some() {
+            return *one;
         }
     }
-    Ok(None)
+    None
 }
 
 fn duplicate_model(file: &PlainFile) -> Option<PlainRefusal> {
@@ -225,35 +222,54 @@ fn has_signal(ends: &[CardEnd], signal: Signal) -> bool {
 }
 
 impl Ends {
-    fn of(alloc: Global, file: &PlainFile) -> Result<Ends, AllocError> {
-        let expansion = expanded(alloc, file)?;
-        let mut reads = Vec::new(alloc);
-        let mut drives = Vec::new(alloc);
-        let mut clockings = Vec::new(alloc);
+    /// An expansion, of which no end is known yet.
+    fn new(alloc: Global, expansion: Expansion) -> Ends {
+        Ends {
+            expansion,
+            reads: Vec::new(alloc),
+            drives: Vec::new(alloc),
+            inputs: Vec::new(alloc),
+            outputs: Vec::new(alloc),
+            clockings: Vec::new(alloc),
+        }
+    }
+
+    /// Finds all ends, and the first refusal for one of them.
+    fn refusal(
+        &mut self,
+        alloc: Global,
+        file: &PlainFile,
+    ) -> Result<Option<PlainRefusal>, AllocError> {
+        self.add_parts(alloc, file)?;
+        if let Some(main) = file.models.first() {
+            self.expansion
+                .add_ports(file, &main.inputs, &mut self.inputs)?;
+            self.expansion
+                .add_ports(file, &main.outputs, &mut self.outputs)?;
+        }
+        let found = [
+            self.driven_twice(),
+            self.undriven(),
+            self.on_cycle(alloc, file)?,
+            self.two_controls(),
+            self.control_used(alloc, file)?,
+        ];
+        Ok(first_of(&found))
+    }
+
+    /// Adds what the parts read and drive, and the controls of latches.
+    fn add_parts(&mut self, alloc: Global, file: &PlainFile) -> Result<(), AllocError> {
+        let expansion = &self.expansion;
         for part in expansion.parts.iter() {
-            reads.push(expansion.reads(alloc, file, *part)?)?;
+            self.reads.push(expansion.reads(alloc, file, *part)?)?;
             if let Some(end) = expansion.drives(file, *part) {
-                drives.push(end)?;
+                self.drives.push(end)?;
             }
-            if let Some(found) = control_of(file, &expansion, *part) {
-                clockings.push(found)?;
+            if let Some(found) = control_of(file, expansion, *part) {
+                self.clockings.push(found)?;
             }
         }
-        let (inputs, outputs) = match file.models.first() {
-            Some(main) => (
-                expansion.ports(alloc, file, &main.inputs)?,
-                expansion.ports(alloc, file, &main.outputs)?,
-            ),
-            None => (Vec::new(alloc), Vec::new(alloc)),
-        };
-        Ok(Ends {
-            expansion,
-            reads,
-            drives,
-            inputs,
-            outputs,
-            clockings,
-        })
+        Ok(())
     }
 
     fn driven_twice(&self) -> Option<PlainRefusal> {

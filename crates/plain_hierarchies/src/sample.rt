@@ -35,14 +35,35 @@ enum Clocked {
     Control,
 }
 
-/// A model that is being made: its cards, its signals that are driven, and the next new name.
+/// A model that is being made, with its signals that are driven, and the next new name.
 #[derive(Drop)]
 struct ModelDraft {
-    inputs: Vec<usize>,
-    cards: Vec<PlainCard>,
+    model: PlainModel,
     driven: Vec<usize>,
     offset: usize,
     used: usize,
+}
+
+/// A drawn row of so many letters.
+fn drawn_row(alloc: Global, draws: &mut Draws, width: usize) -> Result<Vec<u8>, AllocError> {
+    let mut row = Vec::new(alloc);
+    for _ in 0..width {
+        row.push(match draws.below(3) {
+            0 => b'0',
+            1 => b'1',
+            _ => b'-',
+        })?;
+    }
+    Ok(row)
+}
+
+/// Fewer than three drawn rows of so many letters.
+fn drawn_rows(alloc: Global, draws: &mut Draws, width: usize) -> Result<Vec<Vec<u8>>, AllocError> {
+    let mut rows = Vec::new(alloc);
+    for _ in 0..draws.below(3) {
+        rows.push(drawn_row(alloc, draws, width)?)?;
+    }
+    Ok(rows)
 }
 
 impl ModelDraft {
@@ -53,38 +74,39 @@ impl ModelDraft {
         FIRST_SIGNAL.saturating_add(place)
     }
 
+    /// A new name, which is driven from now on.
+    fn fresh_driven(&mut self) -> Result<usize, AllocError> {
+        let name = self.fresh();
+        self.driven.push(name)?;
+        Ok(name)
+    }
+
     /// One of the driven signals, if there is one.
     fn drawn(&self, draws: &mut Draws) -> Option<usize> {
         self.driven.get(draws.below(self.driven.len())).copied()
     }
 
     fn add(&mut self, body: CardBody) -> Result<(), AllocError> {
-        self.cards.push(PlainCard { line: 0, body })?;
+        self.model.cards.push(PlainCard { line: 0, body })?;
         Ok(())
     }
 
-    fn add_table(&mut self, alloc: Global, draws: &mut Draws) -> Result<(), AllocError> {
+    /// Fewer than four drawn inputs.
+    fn drawn_inputs(&self, alloc: Global, draws: &mut Draws) -> Result<Vec<usize>, AllocError> {
         let mut inputs = Vec::new(alloc);
         for _ in 0..draws.below(4) {
             if let Some(input) = self.drawn(draws) {
                 inputs.push(input)?;
             }
         }
-        let output = self.fresh();
-        let mut rows = Vec::new(alloc);
-        for _ in 0..draws.below(3) {
-            let mut row = Vec::new(alloc);
-            for _ in inputs.iter() {
-                row.push(match draws.below(3) {
-                    0 => b'0',
-                    1 => b'1',
-                    _ => b'-',
-                })?;
-            }
-            rows.push(row)?;
-        }
+        Ok(inputs)
+    }
+
+    fn add_table(&mut self, alloc: Global, draws: &mut Draws) -> Result<(), AllocError> {
+        let inputs = self.drawn_inputs(alloc, draws)?;
+        let output = self.fresh_driven()?;
+        let rows = drawn_rows(alloc, draws, inputs.len())?;
         let on = rows.is_empty() || draws.below(2) == 0;
-        self.driven.push(output)?;
         self.add(CardBody::Table(NamedTable {
             inputs,
             output,
@@ -94,8 +116,7 @@ impl ModelDraft {
     }
 
     fn add_latch(&mut self, draws: &mut Draws, clocked: Clocked) -> Result<(), AllocError> {
-        let output = self.fresh();
-        self.driven.push(output)?;
+        let output = self.fresh_driven()?;
         let input = self.drawn(draws).unwrap_or(output);
         let control = match clocked {
             Clocked::Untyped => None,
@@ -113,13 +134,13 @@ impl ModelDraft {
         }))
     }
 
-    fn add_instance(
+    /// Binds the inputs of a model, and most of its other outputs.
+    fn bind(
         &mut self,
-        alloc: Global,
         draws: &mut Draws,
         unit: &PlainModel,
+        bindings: &mut Vec<(usize, usize)>,
     ) -> Result<(), AllocError> {
-        let mut bindings = Vec::new(alloc);
         for input in unit.inputs.iter() {
             let actual = if *input == CONTROL {
                 CONTROL
@@ -130,15 +151,63 @@ impl ModelDraft {
         }
         for output in unit.outputs.iter() {
             if !unit.inputs.contains(output) && draws.below(4) > 0 {
-                let actual = self.fresh();
-                self.driven.push(actual)?;
-                bindings.push((*output, actual))?;
+                bindings.push((*output, self.fresh_driven()?))?;
             }
         }
+        Ok(())
+    }
+
+    fn add_instance(
+        &mut self,
+        alloc: Global,
+        draws: &mut Draws,
+        unit: &PlainModel,
+    ) -> Result<(), AllocError> {
+        let mut bindings = Vec::new(alloc);
+        self.bind(draws, unit, &mut bindings)?;
         self.add(CardBody::Instance(NamedInstance {
             unit: unit.name,
             bindings,
         }))
+    }
+
+    /// Adds drawn inputs, cards and outputs.
+    fn fill(
+        &mut self,
+        alloc: Global,
+        draws: &mut Draws,
+        later: &[PlainModel],
+        clocked: Clocked,
+    ) -> Result<(), AllocError> {
+        for _ in 0..draws.below(3) {
+            let input = self.fresh_driven()?;
+            self.model.inputs.push(input)?;
+        }
+        self.add_table(alloc, draws)?;
+        for _ in 0..draws.below(4) {
+            match (draws.below(4), later.get(draws.below(later.len()))) {
+                (0, _) => self.add_latch(draws, clocked)?,
+                (1 | 2, Some(unit)) => self.add_instance(alloc, draws, unit)?,
+                _ => self.add_table(alloc, draws)?,
+            }
+        }
+        self.add_outputs(draws)?;
+        if clocked == Clocked::Control {
+            self.model.inputs.push(CONTROL)?;
+        }
+        Ok(())
+    }
+
+    /// Adds one or two of the driven signals as outputs, each once.
+    fn add_outputs(&mut self, draws: &mut Draws) -> Result<(), AllocError> {
+        for _ in 0..draws.below(2).saturating_add(1) {
+            if let Some(output) = self.drawn(draws) {
+                if !self.model.outputs.contains(&output) {
+                    self.model.outputs.push(output)?;
+                }
+            }
+        }
+        Ok(())
     }
 }
 
@@ -151,49 +220,15 @@ fn drawn_model(
     clocked: Clocked,
 ) -> Result<PlainModel, AllocError> {
     let mut draft = ModelDraft {
-        inputs: Vec::new(alloc),
-        cards: Vec::new(alloc),
+        model: PlainModel::new(alloc, name),
         driven: Vec::new(alloc),
         offset: draws.below(SIGNALS),
         used: 0,
     };
-    for _ in 0..draws.below(3) {
-        let input = draft.fresh();
-        draft.inputs.push(input)?;
-        draft.driven.push(input)?;
-    }
-    draft.add_table(alloc, draws)?;
-    for _ in 0..draws.below(4) {
-        match (draws.below(4), later.get(draws.below(later.len()))) {
-            (0, _) => draft.add_latch(draws, clocked)?,
-            (1 | 2, Some(unit)) => draft.add_instance(alloc, draws, unit)?,
-            _ => draft.add_table(alloc, draws)?,
-        }
-    }
-    let mut outputs = Vec::new(alloc);
-    for _ in 0..draws.below(2).saturating_add(1) {
-        if let Some(output) = draft.drawn(draws) {
-            if !outputs.contains(&output) {
-                outputs.push(output)?;
-            }
-        }
-    }
-    let ModelDraft {
-        mut inputs,
-        mut cards,
-        ..
-    } = draft;
-    if clocked == Clocked::Control {
-        inputs.push(CONTROL)?;
-    }
-    shuffle(draws, &mut cards);
-    Ok(PlainModel {
-        name,
-        inputs,
-        outputs,
-        cards,
-        line: 0,
-    })
+    draft.fill(alloc, draws, later, clocked)?;
+    let ModelDraft { mut model, .. } = draft;
+    shuffle(draws, &mut model.cards);
+    Ok(model)
 }
 
 fn shuffle(draws: &mut Draws, cards: &mut [PlainCard]) {
@@ -207,29 +242,46 @@ fn shuffle(draws: &mut Draws, cards: &mut [PlainCard]) {
 
 /// A generated file.
 pub fn drawn_file(alloc: Global, draws: &mut Draws) -> Result<PlainFile, AllocError> {
+    let mut file = PlainFile {
+        names: Vec::new(alloc),
+        models: Vec::new(alloc),
+    };
+    add_models(alloc, draws, &mut file.models)?;
+    add_rest(alloc, draws, &mut file)?;
+    Ok(file)
+}
+
+/// Adds generated models, of which each has instances of later ones.
+fn add_models(
+    alloc: Global,
+    draws: &mut Draws,
+    models: &mut Vec<PlainModel>,
+) -> Result<(), AllocError> {
     let clocked = match draws.below(4) {
         0 => Clocked::Untyped,
         1 => Clocked::Nothing,
         _ => Clocked::Control,
     };
-    let mut models: Vec<PlainModel> = Vec::new(alloc);
     let count = draws.below(FIRST_SIGNAL);
     for index in 0..count.saturating_add(1) {
         let name = count.saturating_sub(index);
-        let model = drawn_model(alloc, draws, name, &models, clocked)?;
+        let model = drawn_model(alloc, draws, name, models.as_slice(), clocked)?;
         models.push(model)?;
     }
     models.reverse();
-    let mut names = Vec::new(alloc);
+    Ok(())
+}
+
+/// Adds the names, here and there a chain of models, and up to three changes.
+fn add_rest(alloc: Global, draws: &mut Draws, file: &mut PlainFile) -> Result<(), AllocError> {
     for name in NAMES {
-        names.push(String::from_str(alloc, name)?)?;
+        file.names.push(String::from_str(alloc, name)?)?;
     }
-    let mut file = PlainFile { names, models };
     if draws.below(12) == 0 {
-        add_chain(alloc, draws, &mut file)?;
+        add_chain(alloc, draws, file)?;
     }
     for _ in 0..draws.below(4) {
-        change_file(draws, &mut file)?;
+        change_file(draws, file)?;
     }
-    Ok(file)
+    Ok(())
 }

@@ -42,7 +42,42 @@ fn moved_tree(
     Ok(moved)
 }
 
-/// These simple cells, each with its chain of buffers behind it. A buffer has the root of its chain's cell.
+/// Adds the chain of buffers behind the last cell up to this clock. A buffer has the root of its chain's cell.
+fn add_chain(
+    alloc: Global,
+    cell: &PlainCell,
+    last: usize,
+    all: &mut Vec<PlainCell>,
+) -> Result<(), AllocError> {
+    for clock in cell.clock.saturating_add(1)..last.saturating_add(1) {
+        let before = all.len().saturating_sub(1);
+        let mut tree = Vec::new(alloc);
+        tree.push(TreeItem::Device(PlainGate::Output(before)))?;
+        all.push(PlainCell {
+            root: cell.root,
+            tree,
+            right: None,
+            style: PlainStyle::Keeper,
+            level: cell.level,
+            clock,
+        })?;
+    }
+    Ok(())
+}
+
+/// A cell with another tree.
+fn with_tree(cell: &PlainCell, tree: Vec<TreeItem>) -> PlainCell {
+    PlainCell {
+        root: cell.root,
+        tree,
+        right: None,
+        style: cell.style,
+        level: cell.level,
+        clock: cell.clock,
+    }
+}
+
+/// These simple cells, each with its chain of buffers behind it.
 pub fn buffered(
     alloc: Global,
     cells: &[PlainCell],
@@ -53,28 +88,10 @@ pub fn buffered(
     let mut places = Vec::new(alloc);
     for (number, cell) in cells.iter().enumerate() {
         places.push(all.len())?;
-        all.push(PlainCell {
-            root: cell.root,
-            tree: moved_tree(alloc, cells, &places, &cell.tree, cell.clock)?,
-            right: None,
-            style: cell.style,
-            level: cell.level,
-            clock: cell.clock,
-        })?;
+        let tree = moved_tree(alloc, cells, &places, &cell.tree, cell.clock)?;
+        all.push(with_tree(cell, tree))?;
         let last = last_clock(cells, number, ends, clocks);
-        for clock in cell.clock.saturating_add(1)..last.saturating_add(1) {
-            let before = all.len().saturating_sub(1);
-            let mut tree = Vec::new(alloc);
-            tree.push(TreeItem::Device(PlainGate::Output(before)))?;
-            all.push(PlainCell {
-                root: cell.root,
-                tree,
-                right: None,
-                style: PlainStyle::Keeper,
-                level: cell.level,
-                clock,
-            })?;
-        }
+        add_chain(alloc, cell, last, &mut all)?;
     }
     Ok(all)
 }

@@ -1,7 +1,6 @@
 //! Cards: the devices of a deck, with nets by their names.
 use crate::cells::{PlainCell, PlainGate, PlainStyle, TreeItem};
 use crate::forest::PlainEnd;
-use crate::synthesis::Synthesis;
 use dom_base::Kind;
 use plain_networks::PlainNetwork;
 use std::alloc::{AllocError, Global};
@@ -29,12 +28,22 @@ pub fn escaped(alloc: Global, name: &str) -> Result<String, AllocError> {
     Ok(text)
 }
 
+/// Letters and a number behind them.
+pub fn numbered(alloc: Global, letters: &str, number: usize) -> Result<String, AllocError> {
+    format!(in alloc; "{letters}{number}")
+}
+
+/// Letters and an escaped name behind them.
+fn prefixed(alloc: Global, letters: &str, name: &str) -> Result<String, AllocError> {
+    let escape = escaped(alloc, name)?;
+    format!(in alloc; "{letters}{escape}")
+}
+
 /// The names of the pins, `i_` and the escaped names of the inputs.
 pub fn pin_names(alloc: Global, network: &PlainNetwork) -> Result<Vec<String>, AllocError> {
     let mut names = Vec::new(alloc);
     for name in network.names.iter().take(network.inputs) {
-        let escape = escaped(alloc, name.as_str())?;
-        names.push(format!(in alloc; "i_{escape}")?)?;
+        names.push(prefixed(alloc, "i_", name.as_str())?)?;
     }
     Ok(names)
 }
@@ -44,8 +53,7 @@ pub fn output_names(alloc: Global, network: &PlainNetwork) -> Result<Vec<String>
     let mut names = Vec::new(alloc);
     for signal in network.outputs.iter() {
         let name = network.names.get(*signal).map_or("", |name| name.as_str());
-        let escape = escaped(alloc, name)?;
-        names.push(format!(in alloc; "o_{escape}")?)?;
+        names.push(prefixed(alloc, "o_", name)?)?;
     }
     Ok(names)
 }
@@ -54,45 +62,77 @@ pub fn output_names(alloc: Global, network: &PlainNetwork) -> Result<Vec<String>
 pub fn sink_nets(alloc: Global, network: &PlainNetwork) -> Result<Vec<String>, AllocError> {
     let mut names = output_names(alloc, network)?;
     for index in 0..network.latches.len() {
-        names.push(format!(in alloc; "x{index}")?)?;
+        names.push(numbered(alloc, "x", index)?)?;
     }
     Ok(names)
 }
 
+/// The cards of a deck, and how many there are up to the end of each group.
+#[derive(Drop)]
+pub struct GroupedCards {
+    pub cards: Vec<Card>,
+    pub ends: Vec<usize>,
+}
+
 /// Cards that are added in order, with the names of the pins.
 #[derive(Drop)]
-struct Cards {
+pub struct Cards {
     alloc: Global,
     pins: Vec<String>,
-    all: Vec<Card>,
+    pub grouped: GroupedCards,
+}
+
+/// The nets of a side of a cell: its clock, its dynamic net, its foot, and what the names of inner nets begin with.
+#[derive(Clone, Copy)]
+struct SideNets<'a> {
+    clock: &'a str,
+    dynamic: &'a str,
+    foot: &'a str,
+    inner: &'a str,
 }
 
 impl Cards {
+    /// No cards of a network yet.
+    pub fn new(alloc: Global, network: &PlainNetwork) -> Result<Cards, AllocError> {
+        let pins = pin_names(alloc, network)?;
+        Ok(Cards {
+            alloc,
+            pins,
+            grouped: GroupedCards {
+                cards: Vec::new(alloc),
+                ends: Vec::new(alloc),
+            },
+        })
+    }
+
     fn add(&mut self, kind: Kind, drain: &str, gate: &str, source: &str) -> Result<(), AllocError> {
-        self.all.push(Card {
-            kind,
-            drain: String::from_str(self.alloc, drain)?,
-            gate: String::from_str(self.alloc, gate)?,
-            source: String::from_str(self.alloc, source)?,
-        })?;
+        let card = card_of(self.alloc, kind, drain, gate, source)?;
+        self.grouped.cards.push(card)?;
         Ok(())
     }
 
-    fn add_inverter(&mut self, gate: &str, out: &str) -> Result<(), AllocError> {
+    /// Ends a group.
+    pub fn end_group(&mut self) -> Result<(), AllocError> {
+        let end = self.grouped.cards.len();
+        self.grouped.ends.push(end)?;
+        Ok(())
+    }
+
+    pub fn add_inverter(&mut self, gate: &str, out: &str) -> Result<(), AllocError> {
         self.add(Kind::P, out, gate, "vdd")?;
         self.add(Kind::N, out, gate, "vss")
     }
 
     /// The net of a rail of a leaf: its own net, or `cP`.
-    fn rail(&self, leaf: usize, plus: bool) -> Result<String, AllocError> {
+    pub fn rail(&self, leaf: usize, plus: bool) -> Result<String, AllocError> {
         if !plus {
-            return format!(in self.alloc; "c{leaf}");
+            return numbered(self.alloc, "c", leaf);
         }
         match self.pins.get(leaf) {
             Some(pin) => String::from_str(self.alloc, pin.as_str()),
             None => {
                 let latch = leaf.saturating_sub(self.pins.len());
-                format!(in self.alloc; "q{latch}")
+                numbered(self.alloc, "q", latch)
             }
         }
     }
@@ -100,7 +140,7 @@ impl Cards {
     fn gate(&self, gate: PlainGate) -> Result<String, AllocError> {
         match gate {
             PlainGate::Rail(leaf, plus) => self.rail(leaf, plus),
-            PlainGate::Output(cell) => format!(in self.alloc; "z{cell}"),
+            PlainGate::Output(cell) => numbered(self.alloc, "z", cell),
         }
     }
 
@@ -140,63 +180,95 @@ impl Cards {
         }
     }
 
-    /// A side of a cell: what precharges its dynamic net, the keeper or what precharges its inner nets, its tree
-    /// and its foot. The names of its nets begin with these letters.
+    /// A side of a cell. The names of its nets begin with these letters.
     fn add_side(
         &mut self,
         number: usize,
         cell: &PlainCell,
         tree: &[TreeItem],
-        names: (&str, &str, &str),
+        letters: (&str, &str, &str),
     ) -> Result<(), AllocError> {
         let alloc = self.alloc;
-        let clock = format!(in alloc; "ck{}", cell.clock)?;
-        let dynamic = format!(in alloc; "{}{number}", names.0)?;
-        let foot = format!(in alloc; "{}{number}", names.1)?;
-        let inner = format!(in alloc; "{}{number}", names.2)?;
-        self.add(Kind::P, dynamic.as_str(), clock.as_str(), "vdd")?;
-        match cell.style {
-            PlainStyle::Keeper => {
-                let output = format!(in alloc; "z{number}")?;
-                self.add(Kind::Keep, dynamic.as_str(), output.as_str(), "vdd")?;
-            }
-            PlainStyle::Precharge => {
-                for (index, _) in tree
-                    .iter()
-                    .filter(|item| **item == TreeItem::Series)
-                    .enumerate()
-                {
-                    let net = format!(in alloc; "{}_{index}", inner.as_str())?;
-                    self.add(Kind::P, net.as_str(), clock.as_str(), "vdd")?;
-                }
-            }
+        let clock = numbered(alloc, "ck", cell.clock)?;
+        let dynamic = numbered(alloc, letters.0, number)?;
+        let foot = numbered(alloc, letters.1, number)?;
+        let inner = numbered(alloc, letters.2, number)?;
+        let nets = SideNets {
+            clock: clock.as_str(),
+            dynamic: dynamic.as_str(),
+            foot: foot.as_str(),
+            inner: inner.as_str(),
+        };
+        self.add_side_cards(number, cell.style, tree, nets)
+    }
+
+    /// What precharges the dynamic net of a side, the keeper or what precharges its inner nets, its tree and its
+    /// foot.
+    fn add_side_cards(
+        &mut self,
+        number: usize,
+        style: PlainStyle,
+        tree: &[TreeItem],
+        nets: SideNets<'_>,
+    ) -> Result<(), AllocError> {
+        self.add(Kind::P, nets.dynamic, nets.clock, "vdd")?;
+        match style {
+            PlainStyle::Keeper => self.add_keeper(number, nets)?,
+            PlainStyle::Precharge => self.add_precharge(tree, nets)?,
         }
-        let (top, bottom) = (dynamic.as_str(), foot.as_str());
-        self.spell(inner.as_str(), tree, top, bottom, 0, tree.len())?;
-        self.add(Kind::N, foot.as_str(), clock.as_str(), "vss")
+        self.spell(nets.inner, tree, nets.dynamic, nets.foot, 0, tree.len())?;
+        self.add(Kind::N, nets.foot, nets.clock, "vss")
+    }
+
+    fn add_keeper(&mut self, number: usize, nets: SideNets<'_>) -> Result<(), AllocError> {
+        let output = numbered(self.alloc, "z", number)?;
+        self.add(Kind::Keep, nets.dynamic, output.as_str(), "vdd")
+    }
+
+    /// What precharges the inner nets of a side, of which each series in its tree has one.
+    fn add_precharge(&mut self, tree: &[TreeItem], nets: SideNets<'_>) -> Result<(), AllocError> {
+        let count = tree
+            .iter()
+            .filter(|item| **item == TreeItem::Series)
+            .count();
+        for index in 0..count {
+            let net = format!(in self.alloc; "{}_{index}", nets.inner)?;
+            self.add(Kind::P, net.as_str(), nets.clock, "vdd")?;
+        }
+        Ok(())
     }
 
     /// The static pair of the dynamic nets of a cell: an inverter, or of a compound cell the pair of their series.
     fn add_pair(&mut self, number: usize, cell: &PlainCell, out: &str) -> Result<(), AllocError> {
         let alloc = self.alloc;
-        let left = format!(in alloc; "d{number}")?;
+        let left = numbered(alloc, "d", number)?;
         if cell.right.is_none() {
             return self.add_inverter(left.as_str(), out);
         }
-        let right = format!(in alloc; "e{number}")?;
+        let right = numbered(alloc, "e", number)?;
         let middle = format!(in alloc; "{out}_n0")?;
-        self.add(Kind::P, out, left.as_str(), "vdd")?;
-        self.add(Kind::P, out, right.as_str(), "vdd")?;
-        self.add(Kind::N, out, left.as_str(), middle.as_str())?;
-        self.add(Kind::N, middle.as_str(), right.as_str(), "vss")
+        self.add_compound_pair(left.as_str(), right.as_str(), middle.as_str(), out)
     }
 
-    fn add_cell(&mut self, number: usize, cell: &PlainCell) -> Result<(), AllocError> {
-        let output = format!(in self.alloc; "z{number}")?;
+    fn add_compound_pair(
+        &mut self,
+        left: &str,
+        right: &str,
+        middle: &str,
+        out: &str,
+    ) -> Result<(), AllocError> {
+        self.add(Kind::P, out, left, "vdd")?;
+        self.add(Kind::P, out, right, "vdd")?;
+        self.add(Kind::N, out, left, middle)?;
+        self.add(Kind::N, middle, right, "vss")
+    }
+
+    pub fn add_cell(&mut self, number: usize, cell: &PlainCell) -> Result<(), AllocError> {
         self.add_side(number, cell, &cell.tree, ("d", "f", "t"))?;
         if let Some(right) = &cell.right {
             self.add_side(number, cell, right, ("e", "g", "u"))?;
         }
+        let output = numbered(self.alloc, "z", number)?;
         self.add_pair(number, cell, output.as_str())
     }
 
@@ -209,29 +281,39 @@ impl Cards {
         shut: &str,
     ) -> Result<(), AllocError> {
         let upper = format!(in self.alloc; "{out}p")?;
-        let lower = format!(in self.alloc; "{out}n")?;
         self.add(Kind::P, out, shut, upper.as_str())?;
         self.add(Kind::P, upper.as_str(), data, "vdd")?;
+        let lower = format!(in self.alloc; "{out}n")?;
         self.add(Kind::N, out, open, lower.as_str())?;
         self.add(Kind::N, lower.as_str(), data, "vss")
     }
 
-    fn add_latch(&mut self, number: usize, init: bool) -> Result<(), AllocError> {
+    pub fn add_latch(&mut self, number: usize, init: bool) -> Result<(), AllocError> {
         let alloc = self.alloc;
-        let master = format!(in alloc; "m{number}")?;
-        let slave = format!(in alloc; "q{number}")?;
-        let data = format!(in alloc; "x{number}")?;
-        self.add_half(master.as_str(), data.as_str(), "lm", "lmb")?;
-        self.add_half(slave.as_str(), master.as_str(), "ls", "lsb")?;
+        let master = numbered(alloc, "m", number)?;
+        let slave = numbered(alloc, "q", number)?;
+        let data = numbered(alloc, "x", number)?;
+        self.add_halves(master.as_str(), slave.as_str(), data.as_str(), init)
+    }
+
+    fn add_halves(
+        &mut self,
+        master: &str,
+        slave: &str,
+        data: &str,
+        init: bool,
+    ) -> Result<(), AllocError> {
+        self.add_half(master, data, "lm", "lmb")?;
+        self.add_half(slave, master, "ls", "lsb")?;
         if init {
-            self.add(Kind::P, slave.as_str(), "rsb", "vdd")
+            self.add(Kind::P, slave, "rsb", "vdd")
         } else {
-            self.add(Kind::N, slave.as_str(), "rs", "vss")
+            self.add(Kind::N, slave, "rs", "vss")
         }
     }
 
     /// What drives the net of a sink.
-    fn add_sink(
+    pub fn add_sink(
         &mut self,
         cells: &[PlainCell],
         end: PlainEnd,
@@ -248,13 +330,26 @@ impl Cards {
                     None => Ok(()),
                 };
             }
-            PlainEnd::FromOutput(root) => {
-                let cell = cell_of(cells, root);
-                format!(in alloc; "z{cell}")?
-            }
+            PlainEnd::FromOutput(root) => { numbered(alloc, "z", cell_of(cells, root))? }
         };
         self.add_inverter(gate.as_str(), out)
     }
+}
+
+/// A device between the nets of these names.
+fn card_of(
+    alloc: Global,
+    kind: Kind,
+    drain: &str,
+    gate: &str,
+    source: &str,
+) -> Result<Card, AllocError> {
+    Ok(Card {
+        kind,
+        drain: String::from_str(alloc, drain)?,
+        gate: String::from_str(alloc, gate)?,
+        source: String::from_str(alloc, source)?,
+    })
 }
 
 /// The number of the last cell of this root: behind a cell with its root stand the buffers of its chain.
@@ -266,72 +361,4 @@ fn cell_of(cells: &[PlainCell], root: usize) -> usize {
         }
     }
     found
-}
-
-/// Whether a tree or the gate of a sink is the complement of a leaf.
-fn names_complement(synthesis: &Synthesis, leaf: usize) -> bool {
-    let rail = PlainGate::Rail(leaf, false);
-    for cell in synthesis.cells.iter() {
-        if cell.reads(rail) {
-            return true;
-        }
-    }
-    synthesis
-        .forest
-        .ends
-        .contains(&PlainEnd::Literal(leaf, true))
-}
-
-/// The cards of a deck, and how many there are up to the end of each group.
-#[derive(Drop)]
-pub struct GroupedCards {
-    pub cards: Vec<Card>,
-    pub ends: Vec<usize>,
-}
-
-/// All cards of a deck in order, of which each cell, complement, latch and inverter of a sink is a group.
-pub fn grouped_cards(
-    alloc: Global,
-    network: &PlainNetwork,
-    synthesis: &Synthesis,
-) -> Result<GroupedCards, AllocError> {
-    let mut ends = Vec::new(alloc);
-    let mut cards = Cards {
-        alloc,
-        pins: pin_names(alloc, network)?,
-        all: Vec::new(alloc),
-    };
-    for (number, cell) in synthesis.cells.iter().enumerate() {
-        cards.add_cell(number, cell)?;
-        ends.push(cards.all.len())?;
-    }
-    for leaf in 0..network.leaves() {
-        if names_complement(synthesis, leaf) {
-            let own = cards.rail(leaf, true)?;
-            let complement = cards.rail(leaf, false)?;
-            cards.add_inverter(own.as_str(), complement.as_str())?;
-            ends.push(cards.all.len())?;
-        }
-    }
-    for (number, latch) in network.latches.iter().enumerate() {
-        cards.add_latch(number, latch.init)?;
-        ends.push(cards.all.len())?;
-    }
-    let nets = sink_nets(alloc, network)?;
-    for (net, end) in nets.iter().zip(synthesis.forest.ends.iter()) {
-        cards.add_sink(&synthesis.cells, *end, net.as_str())?;
-        ends.push(cards.all.len())?;
-    }
-    let Cards { all, .. } = cards;
-    Ok(GroupedCards { cards: all, ends })
-}
-
-/// All cards of a deck in order: the cells, the complements, the latches and the inverters of the sinks.
-pub fn cards_of(
-    alloc: Global,
-    network: &PlainNetwork,
-    synthesis: &Synthesis,
-) -> Result<Vec<Card>, AllocError> {
-    let GroupedCards { cards, .. } = grouped_cards(alloc, network, synthesis)?;
-    Ok(cards)
 }

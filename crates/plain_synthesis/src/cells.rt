@@ -118,6 +118,27 @@ pub fn level_count(cells: &[PlainCell]) -> usize {
     cells.iter().map(|cell| cell.level).max().unwrap_or(0)
 }
 
+/// The cell of a root behind these, simple, with a keeper and on the first clock.
+fn cell_of(
+    alloc: Global,
+    forest: &PlainForest,
+    kept: &[bool],
+    cells: &[PlainCell],
+    root: usize,
+) -> Result<PlainCell, AllocError> {
+    let mut tree = Vec::new(alloc);
+    append_tree(forest, kept, root, forest.pairs.len(), &mut tree)?;
+    let level = level_of(cells, &tree);
+    Ok(PlainCell {
+        root,
+        tree,
+        right: None,
+        style: PlainStyle::Keeper,
+        level,
+        clock: 1,
+    })
+}
+
 /// The cells of a plan in order, with so many clocks, all simple and with keepers.
 pub fn cells_of(
     alloc: Global,
@@ -128,17 +149,8 @@ pub fn cells_of(
     let mut cells = Vec::new(alloc);
     for root in 0..forest.pairs.len() {
         if !is_kept(kept, root) {
-            let mut tree = Vec::new(alloc);
-            append_tree(forest, kept, root, forest.pairs.len(), &mut tree)?;
-            let level = level_of(&cells, &tree);
-            cells.push(PlainCell {
-                root,
-                tree,
-                right: None,
-                style: PlainStyle::Keeper,
-                level,
-                clock: 1,
-            })?;
+            let cell = cell_of(alloc, forest, kept, &cells, root)?;
+            cells.push(cell)?;
         }
     }
     let levels = level_count(&cells);

@@ -1,11 +1,11 @@
 //! The cover by tables: least sums joined up from what each pair reads, and the chosen plan.
-use crate::forest::{PlainArm, PlainForest};
+use crate::forest::{PlainArm, PlainForest, PlainPair};
 use crate::plans::{Entry, Measures, PlainBounds, add_entry};
 use std::alloc::{AllocError, Global};
 
 /// What a pair does with one of its arms: nothing where no free edge stands there, else it keeps the pair
 /// below in a shape, or cuts it.
-#[derive(Clone, Copy, PartialEq, Eq)]
+#[derive(Clone, Copy)]
 enum Choice {
     Nothing,
     Keep(usize, usize),
@@ -80,6 +80,28 @@ fn joined(series: bool, left: Offer, right: Offer) -> Entry {
     }
 }
 
+/// The table of a pair over these.
+fn entries_of(
+    alloc: Global,
+    forest: &PlainForest,
+    tables: &[Vec<Entry>],
+    pair: PlainPair,
+    bounds: PlainBounds,
+) -> Result<Vec<Entry>, AllocError> {
+    let lefts = offers(alloc, forest, tables, pair.left)?;
+    let rights = offers(alloc, forest, tables, pair.right)?;
+    let mut entries = Vec::new(alloc);
+    for left in lefts.iter() {
+        for right in rights.iter() {
+            let entry = joined(pair.series, *left, *right);
+            if entry.height <= bounds.height && entry.width <= bounds.width {
+                add_entry(&mut entries, entry)?;
+            }
+        }
+    }
+    Ok(entries)
+}
+
 /// The tables of all pairs: the least sum for each shape within the bounds.
 pub fn cover_tables(
     alloc: Global,
@@ -88,17 +110,7 @@ pub fn cover_tables(
 ) -> Result<Vec<Vec<Entry>>, AllocError> {
     let mut tables: Vec<Vec<Entry>> = Vec::new(alloc);
     for pair in forest.pairs.iter() {
-        let lefts = offers(alloc, forest, &tables, pair.left)?;
-        let rights = offers(alloc, forest, &tables, pair.right)?;
-        let mut entries = Vec::new(alloc);
-        for left in lefts.iter() {
-            for right in rights.iter() {
-                let entry = joined(pair.series, *left, *right);
-                if entry.height <= bounds.height && entry.width <= bounds.width {
-                    add_entry(&mut entries, entry)?;
-                }
-            }
-        }
+        let entries = entries_of(alloc, forest, &tables, *pair, bounds)?;
         tables.push(entries)?;
     }
     Ok(tables)
@@ -141,6 +153,27 @@ impl Decided {
         }
     }
 
+    /// Decides the pairs below the arms of a pair with this entry. It answers whether some choices give that.
+    fn decide_arms(
+        &mut self,
+        alloc: Global,
+        forest: &PlainForest,
+        tables: &[Vec<Entry>],
+        pair: PlainPair,
+        entry: Entry,
+    ) -> Result<bool, AllocError> {
+        let lefts = offers(alloc, forest, tables, pair.left)?;
+        let rights = offers(alloc, forest, tables, pair.right)?;
+        match first_choices(pair.series, &lefts, &rights, entry) {
+            Some((left, right)) => {
+                self.decide(forest, tables, pair.left, left);
+                self.decide(forest, tables, pair.right, right);
+                Ok(true)
+            }
+            None => Ok(false),
+        }
+    }
+
     /// Decides the pair below an arm by the choice for it.
     fn decide(
         &mut self,
@@ -175,9 +208,7 @@ pub fn chosen_plan(
         entries: Vec::new(alloc),
     };
     let mut kept = Vec::new(alloc);
-    for _ in 0..forest.pairs.len() {
-        decided.entries.push(None)?;
-    }
+    decided.entries.resize(forest.pairs.len(), None)?;
     for (place, pair) in forest.pairs.iter().enumerate().rev() {
         let entries = tables
             .get(place)
@@ -187,13 +218,9 @@ pub fn chosen_plan(
         let Some(entry) = below.or(root_entry(entries)) else {
             return Ok(None);
         };
-        let lefts = offers(alloc, forest, tables, pair.left)?;
-        let rights = offers(alloc, forest, tables, pair.right)?;
-        let Some((left, right)) = first_choices(pair.series, &lefts, &rights, entry) else {
+        if !decided.decide_arms(alloc, forest, tables, *pair, entry)? {
             return Ok(None);
-        };
-        decided.decide(forest, tables, pair.left, left);
-        decided.decide(forest, tables, pair.right, right);
+        }
     }
     kept.reverse();
     Ok(Some(kept))

@@ -43,6 +43,27 @@ impl PlainForest {
         self.free.get(place).copied().unwrap_or(false)
     }
 
+    /// Adds the pairs of these origins, the ends of the sinks, and which pairs are free.
+    fn add_all(
+        &mut self,
+        gates: &PlainGates,
+        signs: &[bool],
+        origins: &[SignedNode],
+    ) -> Result<(), AllocError> {
+        for origin in origins {
+            self.pairs.push(pair_of(gates, origins, *origin))?;
+        }
+        for (index, sink) in gates.sinks.iter().enumerate() {
+            let plus = signs.get(index).copied().unwrap_or(true);
+            self.ends.push(end_of(gates, origins, *sink, plus))?;
+        }
+        for place in 0..self.pairs.len() {
+            let is_free = arm_uses(&self.pairs, place) == 1 && !has_end(&self.ends, place);
+            self.free.push(is_free)?;
+        }
+        Ok(())
+    }
+
     /// The pair that an arm leads to through a free edge.
     pub fn free_pair(&self, arm: PlainArm) -> Option<usize> {
         match arm {
@@ -131,25 +152,14 @@ pub fn forest_of(
     signs: &[bool],
 ) -> Result<PlainForest, AllocError> {
     let origins = needed(alloc, gates, signs)?;
-    let mut pairs = Vec::new(alloc);
-    for origin in origins.iter() {
-        pairs.push(pair_of(gates, &origins, *origin))?;
-    }
-    let mut ends = Vec::new(alloc);
-    for (index, sink) in gates.sinks.iter().enumerate() {
-        let plus = signs.get(index).copied().unwrap_or(true);
-        ends.push(end_of(gates, &origins, *sink, plus))?;
-    }
-    let mut free = Vec::new(alloc);
-    for place in 0..pairs.len() {
-        free.push(arm_uses(&pairs, place) == 1 && !has_end(&ends, place))?;
-    }
-    Ok(PlainForest {
+    let mut forest = PlainForest {
         leaves: gates.leaves,
-        pairs,
-        free,
-        ends,
-    })
+        pairs: Vec::new(alloc),
+        free: Vec::new(alloc),
+        ends: Vec::new(alloc),
+    };
+    forest.add_all(gates, signs, &origins)?;
+    Ok(forest)
 }
 
 /// The value of an arm, of these values of the leaves and of the pairs.

@@ -154,24 +154,33 @@ fn add_table(
 
 /// The gates of a network.
 pub fn gates_of(alloc: Global, network: &PlainNetwork) -> Result<PlainGates, AllocError> {
-    let mut signals = Vec::new(alloc);
-    for leaf in 0..network.leaves() {
-        signals.push(PlainRef::Leaf(leaf))?;
-    }
     let mut gates = PlainGates {
         leaves: network.leaves(),
         nodes: Vec::new(alloc),
         sinks: Vec::new(alloc),
     };
+    add_network(alloc, network, &mut gates)?;
+    Ok(gates)
+}
+
+/// Adds the tables and the sinks of a network.
+fn add_network(
+    alloc: Global,
+    network: &PlainNetwork,
+    gates: &mut PlainGates,
+) -> Result<(), AllocError> {
+    let mut signals = Vec::new(alloc);
+    for leaf in 0..network.leaves() {
+        signals.push(PlainRef::Leaf(leaf))?;
+    }
     for table in network.tables.iter() {
-        let found = add_table(alloc, &mut gates, &signals, table)?;
-        signals.push(found)?;
+        signals.push(add_table(alloc, gates, &signals, table)?)?;
     }
     for index in 0..network.sinks() {
         let sink = signal_ref(&signals, network.sink(index));
         gates.sinks.push(sink)?;
     }
-    Ok(gates)
+    Ok(())
 }
 
 /// The value of a reference, of these values of the leaves and of the nodes.

@@ -117,6 +117,23 @@ fn is_asked(gates: &PlainGates, signs: &[bool], set: &[SignedNode], pair: Signed
     false
 }
 
+/// The pairs of these that a set has, or that it or a sink asks for.
+fn asked_for(
+    alloc: Global,
+    gates: &PlainGates,
+    signs: &[bool],
+    all: &[SignedNode],
+    set: &[SignedNode],
+) -> Result<Vec<SignedNode>, AllocError> {
+    let mut more = Vec::new(alloc);
+    for pair in all {
+        if set.contains(pair) || is_asked(gates, signs, set, *pair) {
+            more.push(*pair)?;
+        }
+    }
+    Ok(more)
+}
+
 /// The least closed set, grown from nothing, in order.
 pub fn needed(
     alloc: Global,
@@ -126,12 +143,7 @@ pub fn needed(
     let all = all_pairs(alloc, gates)?;
     let mut set = Vec::new(alloc);
     for _ in 0..all.len().saturating_add(1) {
-        let mut more = Vec::new(alloc);
-        for pair in all.iter() {
-            if set.contains(pair) || is_asked(gates, signs, &set, *pair) {
-                more.push(*pair)?;
-            }
-        }
+        let more = asked_for(alloc, gates, signs, &all, &set)?;
         if more.len() == set.len() {
             return Ok(set);
         }

@@ -13,7 +13,7 @@ pub struct PlainBounds {
 }
 
 /// The height, the width and the number of leaves of a tree.
-#[derive(Clone, Copy, PartialEq, Eq)]
+#[derive(Clone, Copy)]
 pub struct Measures {
     pub height: usize,
     pub width: usize,
@@ -135,10 +135,7 @@ fn kept_by(
     places: &[usize],
     number: usize,
 ) -> Result<Vec<bool>, AllocError> {
-    let mut kept: Vec<bool> = Vec::new(alloc);
-    for _ in 0..forest.pairs.len() {
-        kept.push(false)?;
-    }
+    let mut kept: Vec<bool> = vec![in alloc; false; forest.pairs.len()]?;
     let mut rest = number;
     for place in places {
         if let Some(slot) = kept.get_mut(*place) {
@@ -214,23 +211,31 @@ pub fn add_entry(entries: &mut Vec<Entry>, entry: Entry) -> Result<(), AllocErro
     Ok(())
 }
 
+/// The pairs that free edges lead to from these, and that are none of these.
+fn more_below(
+    alloc: Global,
+    forest: &PlainForest,
+    places: &[usize],
+) -> Result<Vec<usize>, AllocError> {
+    let mut more = Vec::new(alloc);
+    for pair in places.iter().filter_map(|place| forest.pairs.get(*place)) {
+        for arm in [pair.left, pair.right] {
+            if let Some(below) = forest.free_pair(arm) {
+                if !places.contains(&below) && !more.contains(&below) {
+                    more.push(below)?;
+                }
+            }
+        }
+    }
+    Ok(more)
+}
+
 /// A pair and all that free edges reach from it.
 fn part_below(alloc: Global, forest: &PlainForest, top: usize) -> Result<Vec<usize>, AllocError> {
     let mut places = Vec::new(alloc);
     places.push(top)?;
     for _ in 0..forest.pairs.len() {
-        let mut more = Vec::new(alloc);
-        for place in places.iter() {
-            if let Some(pair) = forest.pairs.get(*place) {
-                for arm in [pair.left, pair.right] {
-                    if let Some(below) = forest.free_pair(arm) {
-                        if !places.contains(&below) && !more.contains(&below) {
-                            more.push(below)?;
-                        }
-                    }
-                }
-            }
-        }
+        let more = more_below(alloc, forest, &places)?;
         if more.is_empty() {
             return Ok(places);
         }
@@ -269,6 +274,26 @@ fn part_entry(
     })
 }
 
+/// The least sums of a pair by shape, over so many sets of these free edges.
+fn sums_of_sets(
+    alloc: Global,
+    forest: &PlainForest,
+    places: &[usize],
+    free: &[usize],
+    count: usize,
+    bounds: PlainBounds,
+) -> Result<Vec<Entry>, AllocError> {
+    let top = places.first().copied().unwrap_or(0);
+    let mut entries = Vec::new(alloc);
+    for number in 0..count {
+        let kept = kept_by(alloc, forest, free, number)?;
+        if let Some(entry) = part_entry(forest, places, top, &kept, bounds) {
+            add_entry(&mut entries, entry)?;
+        }
+    }
+    Ok(entries)
+}
+
 /// The least sums of a pair by shape, where all plans of the part below it are tried.
 pub fn sums_by_plans(
     alloc: Global,
@@ -279,15 +304,11 @@ pub fn sums_by_plans(
     let places = part_below(alloc, forest, top)?;
     let mut free = free_places(alloc, forest, &places)?;
     free.retain(|place| *place != top);
-    let Some(count) = set_count(&free) else {
-        return Ok(None);
-    };
-    let mut entries = Vec::new(alloc);
-    for number in 0..count {
-        let kept = kept_by(alloc, forest, &free, number)?;
-        if let Some(entry) = part_entry(forest, &places, top, &kept, bounds) {
-            add_entry(&mut entries, entry)?;
+    match set_count(&free) {
+        Some(count) => {
+            let entries = sums_of_sets(alloc, forest, &places, &free, count, bounds)?;
+            Ok(Some(entries))
         }
+        None => Ok(None),
     }
-    Ok(Some(entries))
 }

@@ -34,13 +34,22 @@ pub fn are_settled(alloc: Global, gates: &PlainGates, signs: &[bool]) -> Result<
     Ok(true)
 }
 
+/// Whether signs need fewer pairs than others.
+fn is_better(
+    alloc: Global,
+    gates: &PlainGates,
+    signs: &[bool],
+    others: &[bool],
+) -> Result<bool, AllocError> {
+    Ok(size(alloc, gates, signs)? < size(alloc, gates, others)?)
+}
+
 /// Changes each sink in order where that lowers the number of needed pairs.
 fn pass(alloc: Global, gates: &PlainGates, before: &[bool]) -> Result<Vec<bool>, AllocError> {
-    let mut signs = Vec::new(alloc);
-    signs.extend_from_slice(before)?;
+    let mut signs = Vec::from_slice(alloc, before)?;
     for sink in 0..before.len() {
         let other = changed(alloc, &signs, sink)?;
-        if size(alloc, gates, &other)? < size(alloc, gates, &signs)? {
+        if is_better(alloc, gates, &other, &signs)? {
             signs = other;
         }
     }
@@ -49,11 +58,7 @@ fn pass(alloc: Global, gates: &PlainGates, before: &[bool]) -> Result<Vec<bool>,
 
 /// All sinks with the sign plus.
 pub fn all_plus(alloc: Global, gates: &PlainGates) -> Result<Vec<bool>, AllocError> {
-    let mut signs = Vec::new(alloc);
-    for _ in 0..gates.sinks.len() {
-        signs.push(true)?;
-    }
-    Ok(signs)
+    vec![in alloc; true; gates.sinks.len()]
 }
 
 /// From all plus, pass after pass up to one that changes nothing.
@@ -69,21 +74,29 @@ pub fn chosen_signs(alloc: Global, gates: &PlainGates) -> Result<Vec<bool>, Allo
     Ok(signs)
 }
 
+/// A list with one more sign.
+fn with_sign(alloc: Global, list: &[bool], sign: bool) -> Result<Vec<bool>, AllocError> {
+    let mut signs = Vec::from_slice(alloc, list)?;
+    signs.push(sign)?;
+    Ok(signs)
+}
+
+/// These lists, each with one more sign: plus before minus.
+fn longer(alloc: Global, lists: &[Vec<bool>]) -> Result<Vec<Vec<bool>>, AllocError> {
+    let mut all = Vec::new(alloc);
+    for list in lists {
+        all.push(with_sign(alloc, list, true)?)?;
+        all.push(with_sign(alloc, list, false)?)?;
+    }
+    Ok(all)
+}
+
 /// All lists of so many signs: plus before minus, and the first sign counts first.
 fn all_signs(alloc: Global, sinks: usize) -> Result<Vec<Vec<bool>>, AllocError> {
     let mut lists = Vec::new(alloc);
     lists.push(Vec::new(alloc))?;
     for _ in 0..sinks {
-        let mut longer = Vec::new(alloc);
-        for list in lists.iter() {
-            for sign in [true, false] {
-                let mut signs = Vec::new(alloc);
-                signs.extend_from_slice(list)?;
-                signs.push(sign)?;
-                longer.push(signs)?;
-            }
-        }
-        lists = longer;
+        lists = longer(alloc, &lists)?;
     }
     Ok(lists)
 }

@@ -4,25 +4,19 @@
 #[cfg(test)]
 mod deep;
 #[cfg(test)]
-mod events;
-#[cfg(test)]
 mod generation;
 #[cfg(test)]
 mod names;
+#[cfg(test)]
+mod orders;
 #[cfg(test)]
 mod outside;
 #[cfg(test)]
 mod pending;
 #[cfg(test)]
-mod ports;
-#[cfg(test)]
 mod probes;
 #[cfg(test)]
-mod read_blif;
-#[cfg(test)]
 mod read_decks;
-#[cfg(test)]
-mod stimuli;
 #[cfg(test)]
 mod targets;
 #[cfg(test)]

@@ -1,6 +1,6 @@
 //! Decks, and what is read of them.
 use deck::Circuit;
-use spice_read::{DeckFault, DeckKind, read};
+use spice_read::read;
 use std::alloc::Global;
 use std::test::Fail;
 use worked_texts::AND_DECK;
@@ -89,129 +89,6 @@ fn reads_circuits(rt: HostRuntime) -> Result<(), Fail> {
         let circuit = read(alloc, text)?;
         let told = summary(alloc, &circuit)?;
         assert_eq!(rt; told.as_slice(), wanted.as_bytes());
-    }
-    Ok(())
-}
-
-fn refusal(alloc: Global, text: &str) -> Option<(u64, DeckKind)> {
-    match read(alloc, text.as_bytes()) {
-        Err(DeckFault::At { line, kind }) => Some((line, kind)),
-        _ => None,
-    }
-}
-
-/// Texts, with the line and the kind of the fault that is told.
-const REFUSED: &[(&str, u64, DeckKind)] = &[
-    // a deck that was cut short, one line with `+`, and no line
-    (
-        "* domsyn deck 1\n* phase o_f +\n.subckt and2 vdd vss ck1 lm lmb ls lsb rs rsb\n+ i_a i_b\n\
-         + o_f\nm0 d0 ck1 vdd vdd pch\nm1 d0 z0 vdd vdd pkeep\nm2 d0 i_a t0_0 vss nch\n",
-        9,
-        DeckKind::NotClosed,
-    ),
-    ("+ x\n", 1, DeckKind::BadCard),
-    ("", 1, DeckKind::NoSubckt),
-    // each kind
-    (
-        ".subckt a\n\nm a b c\n+ d nch \x01\n",
-        3,
-        DeckKind::ControlByte,
-    ),
-    (".subckt a\rb\n", 1, DeckKind::ControlByte),
-    (".subckt a\n.include b\n", 2, DeckKind::UnknownCard),
-    (".subckt a\nm a b c d\n", 2, DeckKind::BadCard),
-    (".subckt\n", 1, DeckKind::BadCard),
-    (".subckt a b=c\n", 1, DeckKind::BadCard),
-    (".subckt a\n.ends a b\n", 2, DeckKind::BadCard),
-    ("* x\n\n + \x01\n.subckt a\n", 3, DeckKind::BadCard),
-    (".subckt a\nm a b c d nmos\n", 2, DeckKind::UnknownDevice),
-    ("m a b c d nch\n", 1, DeckKind::NoSubckt),
-    (".ends\n", 1, DeckKind::NoSubckt),
-    (".subckt a\n.ends\n.ends\n", 3, DeckKind::NoSubckt),
-    ("* a\n.end\n.subckt a\n", 2, DeckKind::NoSubckt),
-    (".subckt a\n.subckt b\n", 2, DeckKind::SecondSubckt),
-    (".subckt a\n.ends\n.subckt A\n", 3, DeckKind::SecondSubckt),
-    (".subckt a\n.end\n\n", 2, DeckKind::NotClosed),
-    (".subckt a\n\n", 3, DeckKind::NotClosed),
-    (".subckt a\n.ends\n.subckt b\n", 4, DeckKind::NotClosed),
-    (".subckt a b\n+ c\n+ B\n", 1, DeckKind::DuplicatePort),
-    (".subckt a\nx1 a\n", 2, DeckKind::UnknownSubckt),
-    (
-        ".subckt a p\n.ends\n.subckt b\nx1 A\n",
-        4,
-        DeckKind::WrongCount,
-    ),
-    (
-        ".subckt two a b\nm1 a g n n nch\nm2 n g b b nch\n.ends\n.subckt top o_y vss\nx1 o_y two\n.ends\n",
-        6,
-        DeckKind::WrongCount,
-    ),
-    (
-        ".subckt two a b\nm1 a g n n nch\nm2 n g b b nch\n.ends\n.subckt top o_y vss\nx1 o_y vss tow\n.ends\n",
-        6,
-        DeckKind::UnknownSubckt,
-    ),
-    // calls out of place, and out of form
-    ("x y\n", 1, DeckKind::NoSubckt),
-    (".subckt a\nx1\n", 2, DeckKind::BadCard),
-    (
-        ".subckt a\n.ends\n.subckt b\nx1 a=b a\n",
-        4,
-        DeckKind::BadCard,
-    ),
-    // two kinds on one line
-    (
-        ".subckt a p\n.ends\n.subckt A p p\n",
-        3,
-        DeckKind::SecondSubckt,
-    ),
-    ("x a b\n", 1, DeckKind::NoSubckt),
-    ("m a b c d nmos\n", 1, DeckKind::UnknownDevice),
-    ("m a b c d\n", 1, DeckKind::BadCard),
-    (".ends a b\n", 1, DeckKind::BadCard),
-    (".subckt a\n.subckt b c c\n", 2, DeckKind::SecondSubckt),
-    (".subckt a\n.subckt\n", 2, DeckKind::BadCard),
-    (".subckt a\n.end \x01\n", 2, DeckKind::ControlByte),
-    (".include \x7f\n", 1, DeckKind::ControlByte),
-    // two lines
-    (".subckt a\n.ends a b\n.include\n", 2, DeckKind::BadCard),
-    (".subckt a\n\nm a\n+ b c\n.x\n", 3, DeckKind::BadCard),
-];
-
-/// Subcircuits that each call the one before so often, behind one with a device.
-fn levels(alloc: Global, count: u64, times: u64) -> Result<String, Fail> {
-    let mut text = String::new(alloc);
-    text.push_str(".subckt s0 a b\nm a b a a nch\n.ends\n")?;
-    for level in 0..count {
-        let next = level.saturating_add(1);
-        text.push_str(format!(in alloc; ".subckt s{next} a b\n")?.as_str())?;
-        for call in 0..times {
-            text.push_str(format!(in alloc; "x{call} a b s{level}\n")?.as_str())?;
-        }
-        text.push_str(".ends\n")?;
-    }
-    Ok(text)
-}
-
-/// What would be too large is refused at its card, before anything is expanded.
-#[test]
-fn refuses_what_is_too_large(rt: HostRuntime) -> Result<(), Fail> {
-    let alloc = rt.alloc();
-    let doubled = levels(alloc, 25, 2)?;
-    assert!(rt; refusal(alloc, doubled.as_str()) == Some((102, DeckKind::TooMany)));
-    let deep = levels(alloc, 65, 1)?;
-    assert!(rt; refusal(alloc, deep.as_str()) == Some((197, DeckKind::TooMany)));
-    let circuit = read(alloc, levels(alloc, 64, 1)?.as_bytes())?;
-    let told = summary(alloc, &circuit)?;
-    assert_eq!(rt; told.as_slice(), b"s64 2 a b,N 0 1 0".as_slice());
-    Ok(())
-}
-
-#[test]
-fn refuses_at_the_first_line(rt: HostRuntime) -> Result<(), Fail> {
-    let alloc = rt.alloc();
-    for (text, line, kind) in REFUSED {
-        assert!(rt; refusal(alloc, text) == Some((*line, *kind)), "{text}");
     }
     Ok(())
 }

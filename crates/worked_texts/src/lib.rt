@@ -3,4 +3,4 @@
 
 mod texts;
 
-pub use texts::{AND_DECK, CHARGES};
+pub use texts::AND_DECK;

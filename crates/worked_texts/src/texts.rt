@@ -16,10 +16,3 @@ pub const AND_DECK: &[u8] = b"* domsyn deck 1\n\
     m7 o_f d0 vdd vdd pch\n\
     m8 o_f d0 vss vss nch\n\
     .ends and2\n";
-
-/// Two nets that are charged apart and meet at `ck1`: `o_a` and `o_b`, at 9 and 10.
-pub const CHARGES: &[u8] = b".subckt charges vdd vss ck1 lm lmb ls lsb rs rsb o_a o_b\n\
-    m0 o_a rs vss vss nch\n\
-    m1 o_b rsb vdd vdd pch\n\
-    m2 o_a ck1 o_b vss nch\n\
-    .ends charges\n";
