@@ -1,5 +1,5 @@
 -- What a hasher of names does: as the fast one, or as the one that has a key.
-use Rattle.std.specs.Prelude.{ℕ, List}
+use Rattle.std.specs.Prelude.{ℕ, List, ◌*◌, ◌^◌, ◌%◌}
 use Rattle.std.specs.Hash.FoldHasher as folding
 use Rattle.std.specs.Hash.DefaultHasher as sip
 use Rattle.dom_base.specs.declared.name_hash.NameHash.{NameHash}
@@ -17,7 +17,7 @@ abbrev pub written : NameHasher → List ℕ → NameHasher
 written (Folding state) bytes = Folding (folding.write state bytes)
 written (Sipping state) bytes = Sipping (sip.write state bytes)
 
--- what `finish` answers
+-- what `finish` answers; the fast hash is spread once more
 abbrev pub finished : NameHasher → ℕ
-finished (Folding state) = folding.finish state
+finished (Folding state) = (folding.finish state * 0x9e37_79b9_7f4a_7c15) % 2 ^ 64
 finished (Sipping state) = sip.finish state
