@@ -1,0 +1,12 @@
+pub mod Appended
+pub mod BuilderSteps
+pub mod Builds
+pub mod CardSteps
+pub mod Copying
+pub mod FileSteps
+pub mod Growth
+pub mod NameLists
+pub mod PieceEnds
+pub mod Pieces
+pub mod Places
+pub mod Reading

@@ -1,0 +1,12 @@
+use Rattle.std.proofs.Common.{◌≡◌, map, take}
+use Rattle.blif_numbers.specs.BuilderData.{binding_words}
+use Rattle.blif_numbers.specs.NameNumbers.{Grows}
+use Rattle.blif_numbers.specs.OpenLists.{open_lists, with_words}
+use Rattle.blif_numbers.proofs.cards.push_bindings.Given as goal
+
+pub record Pushes (l : goal.Live-loop-index) : Type 0 where
+  pub lists : open_lists l.file ≡ with_words (open_lists l.fn.file) (binding_words (take l.index (map (λ w. w.now) l.words)))
+  pub grown : Grows l.fn.file.names l.file.names
+
+abbrev pub invariant-loop-index : goal.invariant-loop-index
+invariant-loop-index l = Pushes l

@@ -1,0 +1,11 @@
+use Rattle.std.proofs.Common.{◌≡◌, map, take}
+use Rattle.blif_numbers.specs.NameNumbers.{Grows}
+use Rattle.blif_numbers.specs.OpenLists.{open_lists, with_outputs}
+use Rattle.blif_numbers.proofs.cards.push_outputs.Given as goal
+
+pub record Pushes (l : goal.Live-loop-index) : Type 0 where
+  pub lists : open_lists l.file ≡ with_outputs (open_lists l.fn.file) (take l.index (map (λ w. w.now) l.names))
+  pub grown : Grows l.fn.file.names l.file.names
+
+abbrev pub invariant-loop-index : goal.invariant-loop-index
+invariant-loop-index l = Pushes l

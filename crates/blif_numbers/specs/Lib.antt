@@ -1,0 +1,9 @@
+pub mod BuilderData
+pub mod Copied
+pub mod LatchWords
+pub mod NameNumbers
+pub mod Numbered
+pub mod NumberedData
+pub mod OpenLists
+pub mod Pieces
+pub mod Places
