@@ -16,10 +16,9 @@ use crate::network_names::names_of_network;
 use crate::network_parts::{net_latches, net_tables, places_of};
 use crate::numbering::{add_outputs, add_pins, add_states, renumber};
 use crate::table_order::tables_by_level;
-use blif_ast::BlifFile;
 use dom_base::{Name, OutOfMemory};
 use network::Network;
-use part_numbers::{NumberedFile, NumberedPart, main_model_of};
+use part_numbers::{CardFile, NumberedFile, NumberedPart};
 use std::alloc::Global;
 
 /// The number of the signal that controls latches, if one does.
@@ -31,18 +30,18 @@ fn control_of(parts: &[NumberedPart]) -> Option<u32>
 }
 
 /// The name of the main model. The one error is want of memory.
-fn main_name(file: &BlifFile) -> Result<Name, OutOfMemory>
+fn main_name(alloc: Global, file: &CardFile<'_>) -> Result<Name, OutOfMemory>
     requires some { file.now.models ≢ [] }
     ensures { IfOk result (λ name. name ≡ (main_model file.now).name) }
 {
-    Ok(main_model_of(file).name.clone()?)
+    Name::from_bytes(alloc, file.main_name())
 }
 
 /// The network of a good file that has nothing to be refused for, from its numbers and the levels of
 /// its signals, which it lets go of. The one error is want of memory.
 pub fn network_of(
     alloc: Global,
-    file: &BlifFile,
+    file: &CardFile<'_>,
     numbered: &NumberedFile<'_>,
     levels: Vec<usize>,
 ) -> Result<Network, OutOfMemory>
@@ -63,7 +62,7 @@ pub fn network_of(
     let names = names_of_network(alloc, numbered.names(), &numbers)?;
     drop(numbers);
     Ok(Network {
-        name: main_name(file)?,
+        name: main_name(alloc, file)?,
         names,
         inputs,
         outputs: places_of(alloc, &places, numbered.outputs())?,

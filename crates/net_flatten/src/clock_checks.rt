@@ -5,24 +5,34 @@ ghost use Rattle.part_numbers.specs.CheckOutcomes.{IsCheckOf};
 ghost use Rattle.part_numbers.specs.NumberedFiles.{HasNumbers};
 
 use crate::clocking::{find_control, find_number, find_other_clock, has};
-use blif_ast::BlifFile;
 use model_calls::{FlatFault, FlatKind};
-use part_numbers::{NumberedFile, fault_at_control, fault_at_main_control, fault_at_output};
+use part_numbers::{
+    CardFile, NumberedFile, fault_at_control, fault_at_main_control, fault_at_output,
+};
+use std::alloc::Global;
 
 /// Looks for the first latch with an edge or a signal that is another than an earlier latch's.
-pub fn check_clocks(file: &BlifFile, numbered: &NumberedFile<'_>) -> Result<(), FlatFault>
+pub fn check_clocks(
+    alloc: Global,
+    file: &CardFile<'_>,
+    numbered: &NumberedFile<'_>,
+) -> Result<(), FlatFault>
     requires numbers { HasNumbers file.now numbered.now }
     ensures check { IsCheckOf file.now TwoControls result }
 {
     match find_other_clock(file, numbered) {
         None => Ok(()),
-        Some(index) => Err(fault_at_output(FlatKind::TwoControls, file, numbered, index)),
+        Some(index) => Err(fault_at_output(alloc, FlatKind::TwoControls, file, numbered, index)),
     }
 }
 
 /// Looks for the first reader or driver, main outputs being last, of the signal that controls the
 /// latches. A main input is no such driver.
-pub fn check_control(file: &BlifFile, numbered: &NumberedFile<'_>) -> Result<(), FlatFault>
+pub fn check_control(
+    alloc: Global,
+    file: &CardFile<'_>,
+    numbered: &NumberedFile<'_>,
+) -> Result<(), FlatFault>
     requires some { file.now.models ≢ [] }
     requires numbers { HasNumbers file.now numbered.now }
     ensures check { IsCheckOf file.now ControlUsed result }
@@ -32,10 +42,23 @@ pub fn check_control(file: &BlifFile, numbered: &NumberedFile<'_>) -> Result<(),
         return Ok(());
     };
     if let Some(index) = find_number(parts, control.number) {
-        return Err(fault_at_control(FlatKind::ControlUsed, file, numbered, index, control.latch));
+        return Err(fault_at_control(
+            alloc,
+            FlatKind::ControlUsed,
+            file,
+            numbered,
+            index,
+            control.latch,
+        ));
     }
     if has(numbered.outputs(), control.number) {
-        return Err(fault_at_main_control(FlatKind::ControlUsed, file, numbered, control.latch));
+        return Err(fault_at_main_control(
+            alloc,
+            FlatKind::ControlUsed,
+            file,
+            numbered,
+            control.latch,
+        ));
     }
     Ok(())
 }

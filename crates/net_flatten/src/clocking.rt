@@ -4,8 +4,8 @@ ghost use Rattle.net_flatten.specs.ClockSearches.{IsAtNumber, IsControlFound, Is
 ghost use Rattle.net_flatten.specs.FoundFirst.{IsFoundFirst};
 ghost use Rattle.part_numbers.specs.NumberedFiles.{HasNumbers};
 
-use blif_ast::{BlifFile, Edge2};
-use part_numbers::{NumberedFile, NumberedPart, edge_of};
+use blif_ast::Edge2;
+use part_numbers::{CardFile, NumberedFile, NumberedPart, edge_of};
 
 /// What latches are clocked by, as far as any says it: the edge, and the number of the signal.
 #[derive(Clone, Copy)]
@@ -52,7 +52,7 @@ impl Clock {
 }
 
 /// The index of the first latch with a type that is clocked otherwise than one before it.
-pub fn find_other_clock(file: &BlifFile, numbered: &NumberedFile<'_>) -> Option<usize>
+pub fn find_other_clock(file: &CardFile<'_>, numbered: &NumberedFile<'_>) -> Option<usize>
     requires numbers { HasNumbers file.now numbered.now }
     ensures { IsOtherClockFound file.now numbered.now.parts result }
 {

@@ -13,11 +13,10 @@ ghost use Rattle.model_calls.specs.Refusals.{IsOfKind};
 
 use crate::dependence::dependences;
 use crate::levelling::find_levels;
-use blif_ast::BlifFile;
 use dom_base::OutOfMemory;
 use graph_order::{Node, Order, circle_marks, put_in_order};
 use model_calls::{FlatFault, FlatKind};
-use part_numbers::{NumberedFile, NumberedPart, PartCard, fault_at_output};
+use part_numbers::{CardFile, NumberedFile, NumberedPart, PartCard, fault_at_output};
 use std::alloc::Global;
 
 /// The levels of all signals, or the index of the first table whose signal depends on itself.
@@ -78,7 +77,7 @@ fn find_levelled(
 /// Looks for the first table whose signal depends on itself. It gives the levels of all signals.
 pub fn check_cycles(
     alloc: Global,
-    file: &BlifFile,
+    file: &CardFile<'_>,
     numbered: &NumberedFile<'_>,
 ) -> Result<Vec<usize>, FlatFault>
     requires numbers { HasNumbers file.now numbered.now }
@@ -88,6 +87,12 @@ pub fn check_cycles(
 {
     match find_levelled(alloc, numbered.signals, numbered.parts())? {
         Levelled::Levels(levels) => Ok(levels),
-        Levelled::Loop(index) => Err(fault_at_output(FlatKind::Cycle, file, numbered, index)),
+        Levelled::Loop(index) => Err(fault_at_output(
+            alloc,
+            FlatKind::Cycle,
+            file,
+            numbered,
+            index,
+        )),
     }
 }

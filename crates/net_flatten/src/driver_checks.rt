@@ -7,16 +7,15 @@ ghost use Rattle.part_numbers.specs.NumberedFaults.{driven_by};
 ghost use Rattle.part_numbers.specs.NumberedFiles.{HasNumbers};
 
 use crate::driven::{Drivers, find_drivers, find_outside, find_read_outside};
-use blif_ast::BlifFile;
 use model_calls::{FlatFault, FlatKind, NumberSet};
-use part_numbers::{NumberedFile, fault_at_input, fault_at_main_output, fault_at_output};
+use part_numbers::{CardFile, NumberedFile, fault_at_input, fault_at_main_output, fault_at_output};
 use std::alloc::Global;
 
 /// Looks for the first part that drives a signal with an earlier driver, main inputs being earliest.
 /// It gives the set of all that is driven.
 pub fn check_drivers(
     alloc: Global,
-    file: &BlifFile,
+    file: &CardFile<'_>,
     numbered: &NumberedFile<'_>,
 ) -> Result<NumberSet, FlatFault>
     requires numbers { HasNumbers file.now numbered.now }
@@ -25,13 +24,20 @@ pub fn check_drivers(
 {
     match find_drivers(alloc, numbered.signals, numbered.inputs(), numbered.parts())? {
         Drivers::Once(driven) => Ok(driven),
-        Drivers::Twice(index) => Err(fault_at_output(FlatKind::DrivenTwice, file, numbered, index)),
+        Drivers::Twice(index) => Err(fault_at_output(
+            alloc,
+            FlatKind::DrivenTwice,
+            file,
+            numbered,
+            index,
+        )),
     }
 }
 
 /// Looks for the first reader of a signal that isn't driven, main outputs being last.
 pub fn check_readers(
-    file: &BlifFile,
+    alloc: Global,
+    file: &CardFile<'_>,
     numbered: &NumberedFile<'_>,
     driven: &NumberSet,
 ) -> Result<(), FlatFault>
@@ -40,10 +46,10 @@ pub fn check_readers(
     ensures check { IsCheckOf file.now Undriven result }
 {
     if let Some(at) = find_read_outside(driven, numbered.parts()) {
-        return Err(fault_at_input(FlatKind::Undriven, file, numbered, at.part, at.read));
+        return Err(fault_at_input(alloc, FlatKind::Undriven, file, numbered, at.part, at.read));
     }
     match find_outside(driven, numbered.outputs()) {
         None => Ok(()),
-        Some(index) => Err(fault_at_main_output(FlatKind::Undriven, file, index)),
+        Some(index) => Err(fault_at_main_output(alloc, FlatKind::Undriven, file, index)),
     }
 }

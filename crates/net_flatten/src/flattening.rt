@@ -12,7 +12,7 @@ use crate::signal_checks::check_signals;
 use blif_ast::BlifFile;
 use model_calls::{FlatFault, file_calls};
 use network::Network;
-use part_numbers::{check_sizes, first_tables, number_planned_file};
+use part_numbers::{CardFile, check_sizes, first_tables, number_planned_file};
 use std::alloc::Global;
 
 /// The network of a good file, or its refusal. What can refuse a file is looked for in order, each
@@ -32,6 +32,7 @@ pub fn flatten(alloc: Global, file: &BlifFile) -> Result<Network, FlatFault>
     check_sizes(alloc, file, &calls, &names)?;
     let numbered = number_planned_file(alloc, file, &calls, names)?;
     drop(calls);
-    let levels = check_signals(alloc, file, &numbered)?;
-    Ok(network_of(alloc, file, &numbered, levels)?)
+    let cards = CardFile::named(file);
+    let levels = check_signals(alloc, &cards, &numbered)?;
+    Ok(network_of(alloc, &cards, &numbered, levels)?)
 }

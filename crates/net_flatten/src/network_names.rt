@@ -35,8 +35,8 @@ fn taken_width(name: &[u8]) -> Option<usize>
     }
 }
 
-/// The name at this index.
-fn name_at<'a>(names: &[&'a Name], index: usize) -> &'a Name
+/// The bytes of the name at this index.
+fn name_at<'a>(names: &[&'a [u8]], index: usize) -> &'a [u8]
     requires { index < length names.now }
     ensures { slice_get (map (λ k. k.now) names.now) index ≡ Some result.now }
 {
@@ -44,12 +44,12 @@ fn name_at<'a>(names: &[&'a Name], index: usize) -> &'a Name
 }
 
 /// The length of the longest name that takes a width, or 0.
-fn longest_taking(names: &[&Name]) -> usize
+fn longest_taking(names: &[&[u8]]) -> usize
     ensures { All (IsNoLongerTaking result) (map (λ k. k.now) names.now) }
 {
     let mut longest = 0;
     for index in 0..names.len() {
-        let name = name_at(names, index).as_bytes();
+        let name = name_at(names, index);
         if let Some(_) = taken_width(name) {
             longest = longest.max(name.len());
         }
@@ -58,7 +58,7 @@ fn longest_taking(names: &[&Name]) -> usize
 }
 
 /// A mark for each width that a name takes.
-fn taken_widths(alloc: Global, names: &[&Name]) -> Result<Vec<bool>, OutOfMemory>
+fn taken_widths(alloc: Global, names: &[&[u8]]) -> Result<Vec<bool>, OutOfMemory>
     ensures { IfOk result (λ marks. MarksTaken (map (λ k. k.now) names.now) marks.items) }
 {
     let mut marks = vec![in alloc; false; longest_taking(names)]?;
@@ -66,7 +66,7 @@ fn taken_widths(alloc: Global, names: &[&Name]) -> Result<Vec<bool>, OutOfMemory
         return Ok(marks);
     }
     for index in 0..names.len() {
-        if let Some(width) = taken_width(name_at(names, index).as_bytes()) {
+        if let Some(width) = taken_width(name_at(names, index)) {
             marks[width] = true;
         }
     }
@@ -88,7 +88,7 @@ fn first_free(marks: &[bool]) -> usize
 
 /// The least number of letters `w`, at least one, such that no name is so many of them followed by digits only. The one
 /// error is want of memory.
-pub fn least_prefix(alloc: Global, names: &[&Name]) -> Result<usize, OutOfMemory>
+pub fn least_prefix(alloc: Global, names: &[&[u8]]) -> Result<usize, OutOfMemory>
     ensures { IfOk result (λ width. IsLeastPrefixAmong (map (λ k. k.now) names.now) width) }
 {
     let marks = taken_widths(alloc, names)?;
@@ -107,7 +107,7 @@ fn prefixed_number(alloc: Global, width: usize, number: usize) -> Result<Name, O
 /// The name at an index of a network of the signal of this number in the file.
 fn signal_name(
     alloc: Global,
-    main_names: &[&Name],
+    main_names: &[&[u8]],
     width: usize,
     index: usize,
     number: u32,
@@ -115,7 +115,7 @@ fn signal_name(
     ensures { IfOk result (λ name. name ≡ network_name (map (λ k. k.now) main_names.now) (letters_w width) index number) }
 {
     match main_names.get(number as usize) {
-        Some(name) => Ok((*name).clone()?),
+        Some(name) => Name::from_bytes(alloc, name),
         None => prefixed_number(alloc, width, index),
     }
 }
@@ -124,7 +124,7 @@ fn signal_name(
 /// a name of the main model stays, and any other is the prefix and the signal's index. The one error is want of memory.
 pub fn names_of_network(
     alloc: Global,
-    main_names: &[&Name],
+    main_names: &[&[u8]],
     numbers: &[u32],
 ) -> Result<Vec<Name>, OutOfMemory>
     ensures { IfOk result (λ names. AreNetworkNames (map (λ k. k.now) main_names.now) numbers.now names.items) }

@@ -5,10 +5,9 @@ ghost use Rattle.net_flatten.specs.NetworkParts.{latch_in_network, levelled_in_n
 ghost use Rattle.part_numbers.specs.NumberedFaults.{IsPartWithin};
 
 use crate::table_order::LevelledTable;
-use blif_ast::BlifFile;
 use dom_base::OutOfMemory;
 use network::{NetLatch, NetTable, Reads};
-use part_numbers::{NumberedPart, PartCard, latch_at, table_at};
+use part_numbers::{CardFile, NumberedPart, PartCard, card_of};
 use std::alloc::Global;
 
 /// The places of some numbers. The one error is want of memory.
@@ -38,7 +37,7 @@ fn places_read(alloc: Global, places: &[u32], numbers: &[u32]) -> Result<Reads, 
 /// A table in the network. The one error is want of memory.
 fn net_table(
     alloc: Global,
-    file: &BlifFile,
+    file: &CardFile<'_>,
     part: &NumberedPart,
     places: &[u32],
 ) -> Result<NetTable, OutOfMemory>
@@ -46,31 +45,26 @@ fn net_table(
     requires within { IsPartWithin (length places.now) part.now }
     ensures { IfOk result (λ table. table_in_network file.now places.now part.now ≡ Some table) }
 {
-    let PartCard::Table(index) = part.card else {
-        unreachable!()
-    };
-    let table = table_at(file, part.model, index);
-    let rows = table.rows.clone()?;
+    let card = card_of(file, part);
+    let rows = card.rows(alloc)?;
     let inputs = places_read(alloc, places, part.reads.as_slice())?;
     Ok(NetTable {
         inputs,
-        on: table.on,
+        on: card.on(),
         rows,
     })
 }
 
 /// A latch in the network.
-fn net_latch(file: &BlifFile, part: &NumberedPart, places: &[u32]) -> NetLatch
+fn net_latch(file: &CardFile<'_>, part: &NumberedPart, places: &[u32]) -> NetLatch
     requires there { IsSome (latch_in_network file.now places.now part.now) }
     requires within { IsPartWithin (length places.now) part.now }
     ensures { latch_in_network file.now places.now part.now ≡ Some result }
 {
-    let PartCard::Latch(index) = part.card else {
-        unreachable!()
-    };
+    let card = card_of(file, part);
     NetLatch {
         input: places[part.reads.as_slice()[0] as usize],
-        init: latch_at(file, part.model, index).init == 1,
+        init: card.init() == 1,
     }
 }
 
@@ -78,7 +72,7 @@ fn net_latch(file: &BlifFile, part: &NumberedPart, places: &[u32]) -> NetLatch
 /// want of memory.
 pub fn net_tables(
     alloc: Global,
-    file: &BlifFile,
+    file: &CardFile<'_>,
     parts: &[NumberedPart],
     ordered: &[LevelledTable],
     places: &[u32],
@@ -100,7 +94,7 @@ pub fn net_tables(
 /// The latches of a network in the order of the parts. The one error is want of memory.
 pub fn net_latches(
     alloc: Global,
-    file: &BlifFile,
+    file: &CardFile<'_>,
     parts: &[NumberedPart],
     places: &[u32],
 ) -> Result<Vec<NetLatch>, OutOfMemory>

@@ -11,16 +11,15 @@ ghost use Rattle.net_flatten.specs.Unrefused.{HasNoRefusal};
 use crate::clock_checks::{check_clocks, check_control};
 use crate::cycle_check::check_cycles;
 use crate::driver_checks::{check_drivers, check_readers};
-use blif_ast::BlifFile;
 use model_calls::FlatFault;
-use part_numbers::NumberedFile;
+use part_numbers::{CardFile, NumberedFile};
 use std::alloc::Global;
 
 /// Looks for what refuses a file because of its signals, in order: drivers, readers, loops, clocks.
 /// It gives the levels of all signals.
 pub fn check_signals(
     alloc: Global,
-    file: &BlifFile,
+    file: &CardFile<'_>,
     numbered: &NumberedFile<'_>,
 ) -> Result<Vec<usize>, FlatFault>
     requires some { file.now.models ≢ [] }
@@ -33,9 +32,9 @@ pub fn check_signals(
     ensures no_count { (limit : Limit) (count : ℕ) → IsErrOf result (FlatFault.TooMany limit count) → ⊥ }
 {
     let driven = check_drivers(alloc, file, numbered)?;
-    check_readers(file, numbered, &driven)?;
+    check_readers(alloc, file, numbered, &driven)?;
     let levels = check_cycles(alloc, file, numbered)?;
-    check_clocks(file, numbered)?;
-    check_control(file, numbered)?;
+    check_clocks(alloc, file, numbered)?;
+    check_control(alloc, file, numbered)?;
     Ok(levels)
 }

@@ -27,7 +27,7 @@ use Rattle.model_calls.proofs.MainNames.{contains_flat}
 use Rattle.model_calls.proofs.Pairs.{contains_to}
 
 -- the model of a name is one of the models, and has that name
-called_is : (models : List BlifModelData) (name : List ℕ) (n : BlifModelData) → Contains (models_called models name) n → Contains models n × (n.name ≡ name)
+pub called_is : (models : List BlifModelData) (name : List ℕ) (n : BlifModelData) → Contains (models_called models name) n → Contains models n × (n.name ≡ name)
 called_is [] name n (k, l, e) = absurd (omega (arith, l))
 called_is (m ∷ models) name n c = by (called_is models name n) (same m.name name) refl c
   where

@@ -7,14 +7,17 @@ pub mod ExpansionSteps
 pub mod ExpansionWork
 pub mod FirstNames
 pub mod GoodParts
+pub mod LentCards
 pub mod LineOccurrences
 pub mod NetworkSizes
 pub mod NumberedEnds
 pub mod NumberedExpansion
+pub mod NumberedMains
 pub mod OccurrencesApart
 pub mod PairsApart
 pub mod PathSums
 pub mod Permuted
+pub mod PlacedCards
 pub mod Ranges
 pub mod ScopeRoots
 pub mod SignalNumbers

@@ -9,3 +9,5 @@ pub mod PartCards
 pub mod CheckOutcomes
 pub mod NetworkSizes
 pub mod Ranges
+pub mod LentCards
+pub mod CardFiles

@@ -1,8 +1,9 @@
 -- What stands on the card of a table or of a latch.
-use Rattle.std.specs.Prelude.{ℕ, List, [], ◌∷◌, Option, None, option_and_then, option_map}
+use Rattle.std.specs.Prelude.{ℕ, Bool, false, List, [], ◌∷◌, Option, None, option_and_then, option_map}
 use Rattle.blif_ast.specs.BlifFileData.{BlifFileData}
 use Rattle.blif_ast.specs.declared.latch.Control.{Control}
 use Rattle.blif_ast.specs.declared.latch.Edge2.{Edge2}
+use Rattle.blif_ast.specs.declared.letter.Letter.{Letter}
 use Rattle.model_calls.specs.Expanded.{BodyCard, InstanceCard, LatchCard, TableCard}
 use Rattle.part_numbers.specs.NumberedFiles.{NumberedPartData, card_at, model_at}
 
@@ -29,6 +30,23 @@ abbrev pub card_control : BodyCard → Option (List ℕ)
 card_control (TableCard t) = None
 card_control (LatchCard l) = option_and_then (λ (c : Control). c.signal) l.control
 card_control (InstanceCard i) = None
+
+-- whether the rows of a table end in 1, and its rows
+abbrev pub card_on : BodyCard → Bool
+card_on (TableCard t) = t.on
+card_on (LatchCard l) = false
+card_on (InstanceCard i) = false
+
+abbrev pub card_rows : BodyCard → List (List Letter)
+card_rows (TableCard t) = t.rows
+card_rows (LatchCard l) = []
+card_rows (InstanceCard i) = []
+
+-- the start value of a latch
+abbrev pub card_init : BodyCard → ℕ
+card_init (TableCard t) = 0
+card_init (LatchCard l) = l.init
+card_init (InstanceCard i) = 0
 
 -- the edge of a part by numbers
 abbrev pub edge_of : BlifFileData → NumberedPartData → Option Edge2

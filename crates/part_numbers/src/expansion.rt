@@ -204,7 +204,7 @@ pub fn number_file<'a>(
     let main = main_model(file);
     Ok(NumberedFile {
         signals: numbers.count(),
-        names: numbers.model_names(0).names(alloc)?,
+        names: numbers.main_names(alloc)?,
         parts: number_parts(alloc, file, &numbers, &expansion.parts)?,
         inputs: number_names(alloc, &numbers, 0, 0, &main.inputs, 0)?,
         outputs: number_names(alloc, &numbers, 0, 0, &main.outputs, main.inputs.len())?,

@@ -1,7 +1,6 @@
 //! Files by numbers: the expanded list of a file, with a number in place of each signal.
 ghost use Rattle.std.specs.Prelude.{◌≡◌, map};
 
-use dom_base::Name;
 use network::Reads;
 use std::marker::Model;
 
@@ -38,7 +37,7 @@ impl Model for NumberedPart {
 #[derive(Drop)]
 pub struct NumberedFile<'a> {
     pub signals: u32,
-    pub names: Vec<&'a Name>,
+    pub names: Vec<&'a [u8]>,
     pub parts: Vec<NumberedPart>,
     pub inputs: Vec<u32>,
     pub outputs: Vec<u32>,
@@ -76,7 +75,7 @@ impl<'a> NumberedFile<'a> {
     }
 
     /// The names of the main model, which have the first numbers.
-    pub fn names(&self) -> &[&'a Name]
+    pub fn names(&self) -> &[&'a [u8]]
         ensures { map (λ k. k.now) result.now ≡ self.now.names }
     {
         self.names.as_slice()

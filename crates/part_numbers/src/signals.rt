@@ -8,6 +8,7 @@ ghost use Rattle.part_numbers.specs.NumberedFiles.{model_at};
 ghost use Rattle.part_numbers.specs.SignalNumbers.{AddsScope, AreDistinctNames, AreFirstNames, HasFewPairs, HasSignalNumber, HasSignalNumbers, IsBelowNumbered, IsInstanceAt, IsNextScope, model_names, names_at, scope_roots, signal_number, with_binding};
 ghost use Rattle.part_numbers.specs.declared.walk.Scope.{Scope};
 
+use crate::name_bytes::bytes_of_names;
 use crate::walk::Scope;
 use blif_ast::{Binding, BlifFile, BlifModel, Instance};
 use dom_base::{Name, OutOfMemory};
@@ -76,6 +77,15 @@ impl<'a> SignalNumbers<'a> {
         ensures { result.now ≡ names_at self.now model }
     {
         &self.names[model as usize]
+    }
+
+    /// The names of the main model, as the bytes that they lend.
+    pub fn main_names(&self, alloc: Global) -> Result<Vec<&'a [u8]>, OutOfMemory>
+        requires { 0 < length self.now.names }
+        ensures { IfOk result (λ names. map (λ k. k.now) names.items ≡ names_at self.now 0) }
+    {
+        let names = self.model_names(0).names(alloc)?;
+        bytes_of_names(alloc, &names)
     }
 
     /// Sets the number of the signal of a formal, if it is one of these names, to that of its actual in

@@ -1,14 +1,15 @@
 //! Whether the network of a file is within the limits.
 ghost use Rattle.std.specs.Prelude.{◌≡◌, ◌≤◌, OnOk};
+ghost use Rattle.blif_ast.specs.BlifFileData.{BlifFileData};
 ghost use Rattle.blif_ast.specs.Good.{IsGoodFile};
 ghost use Rattle.model_calls.specs.Counts.{signal_count};
 ghost use Rattle.model_calls.specs.declared.fault.FlatFault.TheVariants.{TooMany};
 ghost use Rattle.network.specs.Limits.{most_signals};
 ghost use Rattle.model_calls.specs.ModelCalls.{AreModelCalls};
-ghost use Rattle.part_numbers.specs.NetworkSizes.{IsSizeCheck};
+ghost use Rattle.part_numbers.specs.NetworkSizes.{AreSizes, IsSizeCheck};
 ghost use Rattle.part_numbers.specs.SignalNumbers.{AreFirstNames};
 
-use crate::counting::count_network;
+use crate::counting::{Sizes, count_network};
 use blif_ast::BlifFile;
 use model_calls::{FlatFault, Limit, ModelCalls, NameTable};
 use std::alloc::Global;
@@ -36,6 +37,14 @@ pub fn check_sizes(
     ensures few { OnOk result (signal_count file.now ≤ most_signals) }
 {
     let sizes = count_network(alloc, file, calls, first)?;
+    check_counts(sizes)
+}
+
+/// Looks for the first of a file's counts that is above its limit: signals, instances, letters and sinks, in this order.
+pub fn check_counts(sizes: Sizes) -> Result<(), FlatFault>
+    ensures check { (file : BlifFileData) → AreSizes file sizes → IsSizeCheck file result }
+    ensures few { OnOk result ((file : BlifFileData) → AreSizes file sizes → signal_count file ≤ most_signals) }
+{
     if MOST_SIGNALS < sizes.signals {
         return Err(too_many(Limit::Signals, sizes.signals));
     }

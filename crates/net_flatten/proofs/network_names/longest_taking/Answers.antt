@@ -1,8 +1,7 @@
-use Rattle.std.proofs.Common.{ℕ, ◌≤◌, List, length, map, sym, subst, arith, rules}
+use Rattle.std.proofs.Common.{ℕ, ◌≤◌, List, length, map, subst, arith, rules}
 use Rattle.std.specs.Prelude.{All}
 use Rattle.std.proofs.lemmas.List.{length-map, take_all}
 use Rattle.net_flatten.specs.NetworkNames.{IsNoLongerTaking}
-use Rattle.model_calls.specs.Numbering.{IsPrefixedNumber, letters_w}
 use Rattle.net_flatten.proofs.NetworkNames.{longer_taking, nothing_taking}
 use Rattle.net_flatten.proofs.network_names.longest_taking.Goals.{in-Some, in_default}
 use Rattle.net_flatten.proofs.network_names.longest_taking.Goals as goal
@@ -11,15 +10,14 @@ pub loop-index-preserved : goal.loop-index-preserved
 loop-index-preserved c =
     let names : List (List ℕ) = map (λ k. k.now) c.args.names.now in
     let count = c.loop-index.index in
-    let name = c.name_at.result.now in
+    let name = c.name_at-name.result.now in
     elim c.match-taken_width.branch [
       | in-Some w ↦
           let longer : c.loop-index.longest ≤ w.max-longest.result = search (rules, arith) in
-          let this : length c.as_bytes-name.result.now ≤ w.max-longest.result = search (rules, arith) in
-          let named : length name ≤ w.max-longest.result = rw (← c.as_bytes-name.ensures) this in
-          rw w.longest-is (longer_taking names count name c.loop-index.longest w.max-longest.result c.name_at.ensures longer named c.loop-index.invariant)
-      | in_default w ↦ rw w.longest-is (nothing_taking names count name c.loop-index.longest c.name_at.ensures
-          (λ width h. w.in_default.ensures {u = tt} width (subst (IsPrefixedNumber (letters_w width)) (sym c.as_bytes-name.ensures) h)) c.loop-index.invariant)
+          let named : length name ≤ w.max-longest.result = search (rules, arith) in
+          rw w.longest-is (longer_taking names count name c.loop-index.longest w.max-longest.result c.name_at-name.ensures longer named c.loop-index.invariant)
+      | in_default w ↦ rw w.longest-is (nothing_taking names count name c.loop-index.longest c.name_at-name.ensures
+          (w.in_default.ensures {u = tt}) c.loop-index.invariant)
     ]
 
 pub returns : goal.returns

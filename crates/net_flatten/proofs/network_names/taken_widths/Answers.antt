@@ -1,8 +1,7 @@
-use Rattle.std.proofs.Common.{ℕ, ◌≡◌, List, length, map, sym, subst, arith, rules, vec_len}
+use Rattle.std.proofs.Common.{ℕ, ◌≡◌, List, length, map, subst, arith, rules, vec_len}
 use Rattle.std.specs.Prelude.{All}
 use Rattle.std.proofs.lemmas.List.{length-map, take_all}
 use Rattle.net_flatten.specs.NetworkNames.{IsNoLongerTaking, MarksTaken}
-use Rattle.model_calls.specs.Numbering.{IsPrefixedNumber, letters_w}
 use Rattle.net_flatten.proofs.NetworkNames.{has_mark, none_added, none_marked, nothing_taken, width_marked}
 use Rattle.net_flatten.proofs.network_names.taken_widths.Goals.{in-Some, in_default}
 use Rattle.net_flatten.proofs.network_names.taken_widths.Goals as goal
@@ -24,7 +23,7 @@ index_mut-requires c =
     let names : List (List ℕ) = map (λ k. k.now) c.args.names.now in
     let long : length c.loop-index.marks.items ≡ vec_len c.loop-index.marks = search rules in
     let within = has_mark names c.loop-index.index c.name_at.result.now c.loop-index.marks.items c.in-Some.width c.name_at.ensures
-    (subst (IsPrefixedNumber (letters_w c.in-Some.width)) c.as_bytes.ensures (c.in-Some.ensures {u = tt})) c.loop-index.invariant in
+    (c.in-Some.ensures {u = tt}) c.loop-index.invariant in
     omega (arith, within, long)
 
 pub loop-index-preserved : goal.loop-index-preserved
@@ -34,9 +33,9 @@ loop-index-preserved c =
     let name = c.name_at.result.now in
     elim c.match-taken_width.branch [
       | in-Some w ↦ rw w.marks-is (width_marked names count name c.loop-index.marks.items w.in-Some.width c.name_at.ensures
-          (subst (IsPrefixedNumber (letters_w w.in-Some.width)) c.as_bytes.ensures (w.in-Some.ensures {u = tt})) c.loop-index.invariant)
+          (w.in-Some.ensures {u = tt}) c.loop-index.invariant)
       | in_default w ↦ rw w.marks-is (none_added names count name c.loop-index.marks.items c.name_at.ensures
-          (λ width h. w.in_default.ensures {u = tt} width (subst (IsPrefixedNumber (letters_w width)) (sym c.as_bytes.ensures) h)) c.loop-index.invariant)
+          (w.in_default.ensures {u = tt}) c.loop-index.invariant)
     ]
 
 pub returns : goal.returns

@@ -31,8 +31,8 @@ count-requires c =
       );
     }
 
-pub model_names-requires : goal.model_names-requires
-model_names-requires c =
+pub main_names-requires : goal.main_names-requires
+main_names-requires c =
     let scopes : c.deref.result.now ≡ c.in_ok-expansion.expansion.scopes = c.deref.ensures.value ∙ ap (λ (v : ExpansionData). v.scopes) c.expansion.view_is in
     let numbers = numbers_at c.args.file.now c.args.depth c.in_ok-expansion.expansion (c.in_ok-expansion.ensures c.args.file.now c.requires.planned) c.in_ok-numbers.numbers c.deref.result.now scopes c.in_ok-numbers.ensures in
     first_named c.args.file.now c.args.depth c.requires.good c.requires.deep c.requires.no_recursion c.in_ok-expansion.expansion (c.in_ok-expansion.ensures c.args.file.now c.requires.planned) c.in_ok-numbers.numbers numbers c.requires.planned.main
@@ -76,7 +76,7 @@ returns c =
     let parts : c.deref-2.result.now ≡ c.in_ok-expansion.expansion.parts = c.deref-2.ensures.value ∙ ap (λ (v : ExpansionData). v.parts) c.expansion.view_is in
     let made : NumberedFileData = record {
       signals = c.count.result;
-      names = map (λ k. k.now) c.in_ok-names.field-0.items;
+      names = map (λ k. k.now) c.in_ok-main_names.field-0.items;
       parts = c.in_ok-number_parts.field-0.items;
       inputs = c.in_ok-number_names.field-0.items;
       outputs = c.in_ok-number_names-2.field-0.items;
@@ -84,7 +84,7 @@ returns c =
       scope_pairs c.args.file.now (c.in_ok-expansion.ensures c.args.file.now c.requires.planned).paths c.in_ok-expansion.expansion.scopes,
       made_file c.args.file.now c.args.depth c.requires.good c.requires.deep c.requires.no_recursion c.in_ok-expansion.expansion (c.in_ok-expansion.ensures c.args.file.now c.requires.planned) c.in_ok-numbers.numbers numbers c.requires.planned.main c.requires.few made (record {
         signals = c.count.ensures;
-        names = c.in_ok-names.ensures ∙ c.model_names.ensures;
+        names = c.in_ok-main_names.ensures;
         parts = c.in_ok-number_parts.ensures ∙ ap (map (part_by_numbers c.args.file.now c.in_ok-numbers.numbers)) parts;
         inputs = c.in_ok-number_names.ensures ∙ ap (map (signal_number c.in_ok-numbers.numbers 0 0)) inputs;
         outputs = c.in_ok-number_names-2.ensures ∙ ap (map (signal_number c.in_ok-numbers.numbers 0 0)) outputs;

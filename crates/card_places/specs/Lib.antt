@@ -1,0 +1,4 @@
+pub mod CardPlaces
+pub mod KindPlaces
+pub mod NumberLists
+pub mod PartCards

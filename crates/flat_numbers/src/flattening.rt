@@ -1,0 +1,141 @@
+//! The network of a file of BLIF by numbers, or what refuses the file.
+ghost use Rattle.std.specs.Prelude.{ℕ, ◌≤◌, List, IfOk, IfSome, IsErrOf, OnOk};
+ghost use Rattle.blif_ast.specs.Good.{IsGoodFile};
+ghost use Rattle.blif_numbers.specs.Numbered.{file_of, models_in};
+ghost use Rattle.card_places.specs.CardPlaces.{AreCardPlaces};
+ghost use Rattle.local_names.specs.LocalNames.{AreLocalNames};
+ghost use Rattle.model_calls.specs.Counts.{signal_count};
+ghost use Rattle.model_calls.specs.ModelCalls.{AreModelCalls, HavePlans};
+ghost use Rattle.net_flatten.specs.Unrefused.{HasNoRefusal};
+ghost use Rattle.network.specs.Limits.{most_signals};
+ghost use Rattle.part_numbers.specs.NetworkSizes.{IsSizeCheck};
+ghost use Rattle.model_calls.specs.declared.fault.FlatKind.{FlatKind};
+ghost use Rattle.model_calls.specs.declared.fault.Limit.{Limit};
+ghost use Rattle.model_calls.specs.Refusal.{At, TooMany};
+ghost use Rattle.model_calls.specs.Refusals.{IsRefusal};
+ghost use Rattle.net_flatten.specs.Flattening.{IsNetworkOf};
+
+use blif_numbers::{NumberedFile, to_file};
+use card_places::{CardPlaces, card_places, plans};
+use local_names::{LocalNames, count, local_names};
+use model_calls::{FlatFault, ModelCalls, Plan};
+use net_flatten::{check_signals, flatten, network_of};
+use network::Network;
+use numbered_calls::{calls, units};
+use numbered_signals::number;
+use part_numbers::{CardFile, check_counts};
+use std::alloc::Global;
+
+/// The network of a good file by numbers, or its refusal, as `net_flatten::flatten` gives it of the file that it stands for.
+/// Where something is wrong with the models of the file, that file is made and says what it is. The one other error is want
+/// of memory.
+pub fn flatten_numbers(alloc: Global, file: &NumberedFile<'_>) -> Result<Network, FlatFault>
+    requires good { IsGoodFile (file_of file.now) }
+    ensures network { IfOk result (IsNetworkOf (file_of file.now)) }
+    ensures refused { (line : ℕ) (kind : FlatKind) (name : List ℕ) → IsErrOf result (FlatFault.At line kind name)
+        → IsRefusal (file_of file.now) (At kind line name) }
+    ensures too_many { (limit : Limit) (count : ℕ) → IsErrOf result (FlatFault.TooMany limit count)
+        → IsRefusal (file_of file.now) (TooMany limit count) }
+{
+    match flatten_known(alloc, file)? {
+        Some(network) => Ok(network),
+        None => {
+            let copy = to_file(alloc, file)?;
+            flatten(alloc, &copy)
+        }
+    }
+}
+
+/// The same where nothing is wrong with the models of the file and the lines of their cards rise, and else nothing.
+fn flatten_known(alloc: Global, file: &NumberedFile<'_>) -> Result<Option<Network>, FlatFault>
+    requires good { IsGoodFile (file_of file.now) }
+    ensures network { IfOk result (λ found. IfSome found (IsNetworkOf (file_of file.now))) }
+    ensures refused { (line : ℕ) (kind : FlatKind) (name : List ℕ) → IsErrOf result (FlatFault.At line kind name)
+        → IsRefusal (file_of file.now) (At kind line name) }
+    ensures too_many { (limit : Limit) (count : ℕ) → IsErrOf result (FlatFault.TooMany limit count)
+        → IsRefusal (file_of file.now) (TooMany limit count) }
+{
+    let places = card_places(alloc, file)?;
+    let Some(units) = units(alloc, file)? else {
+        return Ok(None);
+    };
+    let Some(names) = local_names(alloc, file, &units)? else {
+        return Ok(None);
+    };
+    match calls(alloc, file, &places, &units, &names)? {
+        Some(calls) => flatten_called(alloc, file, &places, &names, &calls),
+        None => Ok(None),
+    }
+}
+
+/// The same by the calls of the models.
+fn flatten_called(
+    alloc: Global,
+    file: &NumberedFile<'_>,
+    places: &CardPlaces,
+    names: &LocalNames,
+    calls: &ModelCalls,
+) -> Result<Option<Network>, FlatFault>
+    requires good { IsGoodFile (file_of file.now) }
+    requires places { AreCardPlaces file.now places.now }
+    requires names { AreLocalNames file.now names.now }
+    requires calls { AreModelCalls (file_of file.now) calls.now }
+    ensures network { IfOk result (λ found. IfSome found (IsNetworkOf (file_of file.now))) }
+    ensures refused { (line : ℕ) (kind : FlatKind) (name : List ℕ) → IsErrOf result (FlatFault.At line kind name)
+        → IsRefusal (file_of file.now) (At kind line name) }
+    ensures too_many { (limit : Limit) (count : ℕ) → IsErrOf result (FlatFault.TooMany limit count)
+        → IsRefusal (file_of file.now) (TooMany limit count) }
+{
+    check_sizes(alloc, file, calls, names)?;
+    match plans(alloc, file, &calls.nodes)? {
+        Some(plans) => {
+            let network = flatten_planned(alloc, file, places, names, calls, &plans)?;
+            Ok(Some(network))
+        }
+        None => Ok(None),
+    }
+}
+
+/// Looks for the first count of the file's network that is above its limit.
+fn check_sizes(
+    alloc: Global,
+    file: &NumberedFile<'_>,
+    calls: &ModelCalls,
+    names: &LocalNames,
+) -> Result<(), FlatFault>
+    requires good { IsGoodFile (file_of file.now) }
+    requires names { AreLocalNames file.now names.now }
+    requires calls { AreModelCalls (file_of file.now) calls.now }
+    ensures check { IsSizeCheck (file_of file.now) result }
+    ensures few { OnOk result (signal_count (file_of file.now) ≤ most_signals) }
+{
+    let sizes = count(alloc, file, calls, names)?;
+    check_counts(sizes)
+}
+
+/// The network of a file within the limits by the plans of its models, or what is wrong with its signals.
+fn flatten_planned(
+    alloc: Global,
+    file: &NumberedFile<'_>,
+    places: &CardPlaces,
+    names: &LocalNames,
+    calls: &ModelCalls,
+    plans: &[Plan],
+) -> Result<Network, FlatFault>
+    requires good { IsGoodFile (file_of file.now) }
+    requires places { AreCardPlaces file.now places.now }
+    requires names { AreLocalNames file.now names.now }
+    requires calls { AreModelCalls (file_of file.now) calls.now }
+    requires planned { HavePlans (models_in file.now) calls.now.nodes plans.now }
+    requires few { signal_count (file_of file.now) ≤ most_signals }
+    requires before { HasNoRefusal (file_of file.now) 6 }
+    ensures network { IfOk result (IsNetworkOf (file_of file.now)) }
+    ensures refused { (line : ℕ) (kind : FlatKind) (name : List ℕ) → IsErrOf result (FlatFault.At line kind name)
+        → IsRefusal (file_of file.now) (At kind line name) }
+    ensures no_count { (limit : Limit) (count : ℕ) → IsErrOf result (FlatFault.TooMany limit count) → ⊥ }
+{
+    let numbered = number(alloc, file, places, names, calls, plans)?;
+    let cards = CardFile::numbered(file, places);
+    let levels = check_signals(alloc, &cards, &numbered)?;
+    Ok(network_of(alloc, &cards, &numbered, levels)?)
+}

@@ -1,0 +1,122 @@
+-- Numbers that are kept once each, from the last one on, are those of the names that are kept so.
+use Rattle.std.proofs.Common.{◌≡◌, ℕ, ◌≤◌, ◌<◌, ◌+◌, ◌-◌, ◌⊎◌, inl, inr, Bool, true, false, List, [], ◌∷◌, ◌++◌, length, drop, reverse, set, Some, refl, ap, sym, ◌∙◌, subst, arith}
+use Rattle.std.specs.Prelude.{Contains, slice_get, if◌then◌else◌}
+use Rattle.std.specs.Cmp.Lexicographic.{same_text}
+use Rattle.std.specs.List.{IsDistinct, list_any}
+use Rattle.std.specs.Set.{unique_keys}
+use Rattle.std.proofs.lemmas.Bool.{cases_lt, true≢false}
+use Rattle.std.proofs.lemmas.Cmp.{nat_list_eq_equiv}
+use Rattle.std.proofs.lemmas.List.{length-map, length-set, reverse-reverse}
+use Rattle.std.proofs.lemmas.Map.Keys.{apart_from_distinct}
+use Rattle.std.proofs.lemmas.Map.Views.{list_any-from_Contains}
+use Rattle.std.proofs.lemmas.Option.{slice_get_within}
+use Rattle.dom_base.proofs.Lists.{AllByRecursion-from_places, AllByRecursion-map, Contains-slice_get, list_any-none, map-push, reverse-cons, slice_get-append, slice_get-contained, slice_get-push_cases, slice_get-set_other}
+use Rattle.dom_base.proofs.Names.{names_equal}
+use Rattle.blif_ast.specs.Cards.{same}
+use Rattle.blif_numbers.specs.Numbered.{name_of, named}
+use Rattle.graph_order.proofs.Placed.{set_here}
+use Rattle.network.proofs.Lists.{get_map}
+use Rattle.model_calls.proofs.UniqueNames.{insert_back}
+use Rattle.local_names.specs.Places.{IsIndexed, IsNoted}
+
+module _ (names : List (List ℕ)) (apart : IsDistinct same names) where
+  not_same : (a b : ℕ) → a < b → b < length names → name_of names a ≡ name_of names b → ⊥
+  not_same a b l within e = true≢false (
+      sym (nat_list_eq_equiv.refl (name_of names a)) ∙ ap (same (name_of names a)) e ∙ apart_from_distinct same names a b [] apart l within)
+
+  -- a name has one number
+  pub number_once : (a b : ℕ) → a < length names → b < length names → name_of names a ≡ name_of names b → a ≡ b
+  number_once a b p q e = by (cases_lt a b) (cases_lt b a)
+    where
+      by : (a < b) ⊎ (b ≤ a) → (b < a) ⊎ (a ≤ b) → a ≡ b
+      by (inl l) _ = absurd (not_same a b l q e)
+      by (inr g) (inl l) = absurd (not_same b a l p (sym e))
+      by (inr g) (inr h) = omega (arith, g, h)
+
+  module _ (kept after place : List ℕ) (number : ℕ) (count : length names ≡ length place) (noted : IsNoted kept after place number) where
+    kept_other : (after ≡ kept ++ number ∷ []) → (Contains kept number → ⊥) → (i n : ℕ) → slice_get kept i ≡ Some n
+        → same (name_of names number) (name_of names n) ≡ false
+    kept_other is none i n at = by (same (name_of names number) (name_of names n)) refl
+      where
+        below : n < length names
+        below = let l = slice_get_within place n i (noted.indexed i n (subst (λ l. slice_get l i ≡ Some n) (sym is) (slice_get-append kept (number ∷ []) i n at))) in
+            omega (arith, l, count)
+
+        by : (b : Bool) → same (name_of names number) (name_of names n) ≡ b → b ≡ false
+        by true e =
+            let one = number_once number n (omega (arith, noted.within, count)) below (same_text (name_of names number) (name_of names n) (sym e)) in
+            absurd (none (subst (Contains kept) (sym one) (Contains-slice_get kept i n at)))
+        by false e = refl
+
+    -- what is kept then
+    pub names-noted : named names after
+        ≡ (if list_any (same (name_of names number)) (named names kept) then named names kept else named names kept ++ name_of names number ∷ [])
+    names-noted = elim noted.kept [
+      | inl (there, is) ↦
+          let at = slice_get-contained kept number there in
+          let c : Contains (named names kept) (name_of names number) = Contains-slice_get (named names kept) at.0 _ (get_map (name_of names) kept at.0 number at.1) in
+          ap (named names) is
+          ∙ ap (λ b. if b then named names kept else named names kept ++ name_of names number ∷ []) (sym (list_any-from_Contains names_equal (name_of names number) (named names kept) c))
+      | inr (none, is) ↦
+          let each = AllByRecursion-map (λ y. same (name_of names number) y ≡ false) (name_of names) kept
+          (AllByRecursion-from_places (λ n. same (name_of names number) (name_of names n) ≡ false) kept (kept_other is none)) in
+          ap (named names) is ∙ map-push (name_of names) kept number
+          ∙ ap (λ b. if b then named names kept else named names kept ++ name_of names number ∷ []) (sym (list_any-none (same (name_of names number)) (named names kept) each))
+    ]
+
+-- the names of the numbers from an index on, each once, from the last one on
+abbrev pub AreKept : List ℕ → ℕ → ℕ → List ℕ → Type 0
+AreKept numbers count index kept = (names : List (List ℕ)) → IsDistinct same names → length names ≡ count
+    → named names kept ≡ reverse (unique_keys same (drop (length (named names numbers) - index) (named names numbers)))
+
+pub kept-next : (numbers kept after place : List ℕ) (count index number : ℕ) → index < length numbers
+    → slice_get numbers (length numbers - 1 - index) ≡ Some number → count ≡ length place
+    → IsNoted kept after place number → AreKept numbers count index kept → AreKept numbers count (index + 1) after
+kept-next numbers kept after place count index number l at count_is noted are names apart known =
+    let all = named names numbers in
+    let long : length all ≡ length numbers = length-map numbers (name_of names) in
+    let there : slice_get all (length all - 1 - index) ≡ Some (name_of names number) =
+    ap (λ n. slice_get all (n - 1 - index)) long ∙ get_map (name_of names) numbers (length numbers - 1 - index) number at in
+    names-noted names apart kept after place number (known ∙ count_is) noted
+    ∙ ap (λ ks. if list_any (same (name_of names number)) ks then ks else ks ++ name_of names number ∷ []) (are names apart known)
+    ∙ insert_back all index (name_of names number) (omega (arith, l, long)) there
+
+named-reverse : (names : List (List ℕ)) (numbers : List ℕ) → named names (reverse numbers) ≡ reverse (named names numbers)
+named-reverse names [] = refl
+named-reverse names (n ∷ numbers) = ap (named names) (reverse-cons n numbers) ∙ map-push (name_of names) (reverse numbers) n
+    ∙ ap (λ ns. ns ++ name_of names n ∷ []) (named-reverse names numbers) ∙ sym (reverse-cons (name_of names n) (named names numbers))
+
+pub kept-all : (numbers kept found : List ℕ) (count index : ℕ) → AreKept numbers count index kept → found ≡ reverse kept → length numbers ≤ index
+    → (names : List (List ℕ)) → IsDistinct same names → length names ≡ count → named names found ≡ unique_keys same (named names numbers)
+kept-all numbers kept found count index are is all names apart known =
+    let whole = named names numbers in
+    let none : length whole - index ≡ 0 = omega (arith, all, length-map numbers (name_of names)) in
+    ap (named names) is ∙ named-reverse names kept ∙ ap reverse (are names apart known) ∙ reverse-reverse (unique_keys same (drop (length whole - index) whole))
+    ∙ ap (λ n. unique_keys same (drop n whole)) none
+
+-- a number that isn't there goes in
+pub noted-new : (kept after old place : List ℕ) (number index : ℕ) → IsIndexed kept old → slice_get old number ≡ Some index
+    → (slice_get kept index ≡ Some number → ⊥) → after ≡ kept ++ number ∷ [] → place ≡ set old number (length kept) → IsNoted kept after place number
+noted-new kept after old place number index indexed at other is set_is = record {
+  within = omega (arith, within, length-set old number (length kept), ap length set_is);
+  indexed = λ i n there. by i n (slice_get-push_cases kept number i n (subst (λ l. slice_get l i ≡ Some n) is there));
+  kept = inr (none, is);
+}
+  where
+    within : number < length old
+    within = slice_get_within old number index at
+
+    none : Contains kept number → ⊥
+    none c =
+        let k = slice_get-contained kept number c in
+        let same : k.0 ≡ index = let e : Some k.0 ≡ Some index = sym (indexed k.0 number k.1) ∙ at in cc in
+        other (subst (λ j. slice_get kept j ≡ Some number) same k.1)
+
+    by : (i n : ℕ) → (slice_get kept i ≡ Some n) ⊎ ((i ≡ length kept) × (number ≡ n)) → slice_get place n ≡ Some i
+    by i n (inl old_at) =
+        ap (λ l. slice_get l n) set_is
+        ∙ slice_get-set_other old number n (length kept) (λ same. none (subst (Contains kept) same (Contains-slice_get kept i n old_at)))
+        ∙ indexed i n old_at
+    by i n (inr (last, same)) =
+        ap (λ l. slice_get l n) set_is ∙ ap (λ m. slice_get (set old number (length kept)) m) (sym same)
+        ∙ set_here old number (length kept) within ∙ ap Some (sym last)

@@ -1,0 +1,12 @@
+use Rattle.std.proofs.Common.{◌<◌, length, rules}
+use Rattle.std.proofs.lemmas.Result.{IfOk-weaker}
+use Rattle.local_names.proofs.Placing.{placed-instance}
+use Rattle.local_names.proofs.word_places.put_instance.Goals as goal
+
+pub returns : goal.returns
+returns c =
+    let some : 0 < length c.args.words.now = search rules in
+    IfOk-weaker c.put_bindings.result _ _
+    (λ good h is. placed-instance c.args.names.now c.args.unit_names.now c.args.words.now c.behind_first.result.now c.args.all.now.items c.push.new.self.items
+    c.put_bindings.new.all.items some c.behind_first.ensures c.in_ok-push.ensures.items (h is))
+    c.put_bindings.ensures

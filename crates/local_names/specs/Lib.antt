@@ -1,0 +1,7 @@
+pub mod AllPlaced
+pub mod LocalNames
+pub mod PartNames
+pub mod PartWeights
+pub mod Placed
+pub mod Places
+pub mod Units

@@ -1,0 +1,151 @@
+//! All names on the cards of a model by their numbers, as often as they stand there.
+ghost use Rattle.std.specs.Prelude.{◌≡◌, ◌<◌, ◌+◌, ◌++◌, ℕ, List, IfOk, IfSome, IsTrue, drop, length, slice_get, true};
+ghost use Rattle.std.specs.List.{flat_map};
+ghost use Rattle.blif_numbers.specs.Numbered.{named, part_by};
+ghost use Rattle.blif_numbers.specs.Places.{first_part};
+ghost use Rattle.local_names.specs.PartNames.{IsLatchForm, actuals_by, all_names, names_by, parts_at, with_cards};
+
+use blif_numbers::{NumberedFile, PartAt, PartKind};
+use dom_base::OutOfMemory;
+use std::alloc::Global;
+
+/// A kind of card.
+#[derive(Clone, Copy, Debug)]
+pub enum CardKind {
+    Table,
+    Latch,
+    Instance,
+}
+
+/// The numbers of all names that occur in a model, as often as they occur; none where a card is not in its form.
+pub fn numbers_of_model(
+    alloc: Global,
+    file: &NumberedFile<'_>,
+    model: usize,
+) -> Result<Option<Vec<u32>>, OutOfMemory>
+    requires { model < length file.now.models }
+    ensures { IfOk result (λ found. IfSome found (λ v. named file.now.names v.items ≡ all_names file.now model)) }
+{
+    let mut all = Vec::new(alloc);
+    all.extend_from_slice(file.inputs_of(model))?;
+    all.extend_from_slice(file.outputs_of(model))?;
+    if !put_cards(&mut all, file, model)? {
+        return Ok(None);
+    }
+    Ok(Some(all))
+}
+
+/// Appends the numbers of the names on the cards of a model, by their kinds. It answers whether all cards are in their form.
+fn put_cards(all: &mut Vec<u32>, file: &NumberedFile<'_>, model: usize) -> Result<bool, OutOfMemory>
+    requires { model < length file.now.models }
+    ensures { IfOk result (λ good. good ≡ true → named file.now.names all.new.items
+        ≡ with_cards (named file.now.names all.old.items) (parts_at file.now model)) }
+{
+    Ok(
+        put_kind(all, file, model, CardKind::Table)?
+            && put_kind(all, file, model, CardKind::Latch)?
+            && put_kind(all, file, model, CardKind::Instance)?,
+    )
+}
+
+/// The same for the cards of one kind.
+fn put_kind(
+    all: &mut Vec<u32>,
+    file: &NumberedFile<'_>,
+    model: usize,
+    kind: CardKind,
+) -> Result<bool, OutOfMemory>
+    requires { model < length file.now.models }
+    ensures { IfOk result (λ good. good ≡ true → named file.now.names all.new.items
+        ≡ named file.now.names all.old.items ++ flat_map (names_by kind) (parts_at file.now model)) }
+{
+    let first = file.first_part(model);
+    let end = parts_end(file, model);
+    for place in first..end {
+        match part_at(file, place) {
+            Some(part) if put_part(all, part, file.words_of(place), kind)? => {}
+            _ => return Ok(false),
+        }
+    }
+    Ok(true)
+}
+
+/// The part at a place, if there is one.
+pub fn part_at(file: &NumberedFile<'_>, place: usize) -> Option<PartAt>
+    ensures { result ≡ slice_get file.now.parts place }
+{
+    file.parts().get(place).copied()
+}
+
+/// Where the parts of a model end: where those of the next model begin.
+pub fn parts_end(file: &NumberedFile<'_>, model: usize) -> usize
+    requires { model < length file.now.models }
+    ensures { result ≡ first_part file.now (model + 1) }
+{
+    if model < file.models().len() {
+        file.first_part(model + 1)
+    } else {
+        unreachable!()
+    }
+}
+
+/// Appends the numbers of the names on a part's card, where it is of this kind. It answers whether the card is in its form.
+fn put_part(
+    all: &mut Vec<u32>,
+    part: PartAt,
+    words: &[u32],
+    kind: CardKind,
+) -> Result<bool, OutOfMemory>
+    ensures { IfOk result (λ good. good ≡ true → (text : List ℕ) (names : List (List ℕ)) (line : ℕ) (rows : List ℕ)
+        → named names all.new.items
+        ≡ named names all.old.items ++ names_by kind (part_by text part.kind line (named names words.now) rows)) }
+{
+    match (kind, part.kind) {
+        (CardKind::Table, PartKind::Table { .. }) => put_words(all, words, !words.is_empty()),
+        (CardKind::Latch, PartKind::Latch { edge, .. }) => {
+            put_words(all, words, is_latch(words, edge.is_some()))
+        }
+        (CardKind::Instance, PartKind::Instance) => put_actuals(all, words),
+        _ => Ok(true),
+    }
+}
+
+/// Appends the words of a card, where it is in its form.
+fn put_words(all: &mut Vec<u32>, words: &[u32], good: bool) -> Result<bool, OutOfMemory>
+    ensures { IfOk result (λ done. done ≡ true → (good ≡ true) × (all.new.items ≡ all.old.items ++ words.now)) }
+{
+    if good {
+        all.extend_from_slice(words)?;
+    }
+    Ok(good)
+}
+
+/// Whether these are the words of a latch: two, and a third only where it has an edge.
+fn is_latch(words: &[u32], has_edge: bool) -> bool
+    ensures { IsTrue result → IsLatchForm (length words.now) has_edge }
+{
+    words.len() == 2 || (words.len() == 3 && has_edge)
+}
+
+/// Appends the actuals of an instance.
+fn put_actuals(all: &mut Vec<u32>, words: &[u32]) -> Result<bool, OutOfMemory>
+    ensures { IfOk result (λ good. (names : List (List ℕ))
+        → named names all.new.items ≡ named names all.old.items ++ actuals_by (named names (drop 1 words.now))) }
+{
+    let mut rest = behind_first(words);
+    'bindings: while let [_, actual, more @ ..] = rest {
+        all.push(*actual)?;
+        rest = more;
+    }
+    Ok(true)
+}
+
+/// All numbers but the first.
+pub fn behind_first(numbers: &[u32]) -> &[u32]
+    ensures { result.now ≡ drop 1 numbers.now }
+{
+    match numbers {
+        [_, more @ ..] => more,
+        [] => numbers,
+    }
+}

@@ -1,0 +1,31 @@
+-- The ports of the models of a file of BLIF (Berkeley Logic Interchange Format), and the formals of its instances, by their places
+-- among the names of the models.
+use Rattle.std.specs.Prelude.{ℕ, ◌≡◌, ◌<◌, List, ◌++◌, drop, length, Some, slice_get}
+use Rattle.blif_numbers.specs.NumberedData.{NumberedData}
+use Rattle.blif_numbers.specs.Places.{of_inputs, of_outputs, of_part}
+use Rattle.local_names.specs.LocalNames.{IsInstance, LocalNamesData, firsts}
+use Rattle.numbered_calls.specs.PortMarks.{AreBound, ArePorts}
+
+-- the inputs and the outputs of a model, by the places of their names
+abbrev pub inputs_in : NumberedData → LocalNamesData → ℕ → List ℕ
+inputs_in d l m = of_inputs d m l.inputs
+
+abbrev pub outputs_in : NumberedData → LocalNamesData → ℕ → List ℕ
+outputs_in d l m = of_outputs d m l.outputs
+
+-- the formals of an instance, by the places of their names
+abbrev pub formals_at : NumberedData → LocalNamesData → ℕ → List ℕ
+formals_at d l k = firsts (drop 1 (of_part d k l.words))
+
+-- the marks of the ports of each model are below a bound
+pub record HavePortMarks (d : NumberedData) (l : LocalNamesData) (bound : ℕ) (marks : List (List ℕ)) : Type 0 where
+  pub count : length marks ≡ length d.models
+  pub ports : (m : ℕ) (row : List ℕ) → slice_get marks m ≡ Some row → ArePorts (inputs_in d l m) (outputs_in d l m) bound row
+
+-- the formals of an instance of this model are right
+abbrev pub IsBoundAt : NumberedData → LocalNamesData → ℕ → ℕ → Type 0
+IsBoundAt d l unit k = AreBound (inputs_in d l unit) (inputs_in d l unit ++ outputs_in d l unit) (formals_at d l k)
+
+-- the formals of the instances among the first so many parts are right
+abbrev pub AreBoundBelow : NumberedData → LocalNamesData → List ℕ → ℕ → Type 0
+AreBoundBelow d l units n = (k unit : ℕ) → k < n → slice_get units k ≡ Some unit → IsInstance d k → IsBoundAt d l unit k

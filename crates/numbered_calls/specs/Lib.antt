@@ -1,0 +1,3 @@
+pub mod BoundFormals
+pub mod Owners
+pub mod PortMarks

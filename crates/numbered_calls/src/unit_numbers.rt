@@ -1,0 +1,126 @@
+//! The models that instances name.
+ghost use Rattle.std.specs.Prelude.{◌≡◌, ◌<◌, ◌+◌, IfOk, IfSome, IsFalse, IsTrue, Some, length, slice_get, slice_set};
+ghost use Rattle.blif_numbers.specs.declared.parts.PartAt.{PartAt};
+ghost use Rattle.blif_numbers.specs.declared.parts.PartKind.TheVariants.{Instance};
+ghost use Rattle.blif_numbers.specs.Numbered.{models_in};
+ghost use Rattle.local_names.specs.LocalNames.{IsInstance, IsUnitOf};
+ghost use Rattle.local_names.specs.Units.{AreUnits};
+ghost use Rattle.model_calls.specs.FirstFaults.{NoneHolds};
+ghost use Rattle.model_calls.specs.ModelFaults.{IsDuplicateModel};
+ghost use Rattle.numbered_calls.specs.Owners.{AreOwners};
+
+use blif_numbers::{ModelAt, NumberedFile, PartAt, PartKind};
+use dom_base::OutOfMemory;
+use std::alloc::Global;
+
+/// A number for each part of a file: of an instance that of its model. `None` where two models have one name, or an instance
+/// names no model. It takes a time that is linear in the models and parts, and fails only for want of memory.
+pub fn units(alloc: Global, file: &NumberedFile<'_>) -> Result<Option<Vec<u32>>, OutOfMemory>
+    ensures { IfOk result (λ found. IfSome found (λ units. AreUnits file.now units.items)) }
+{
+    file.is_in_order();
+    let Some(owners) = name_models(alloc, file.names().len(), file.models())? else {
+        return Ok(None);
+    };
+    find_units(alloc, file, &owners)
+}
+
+/// The models by the numbers of so many names, unless two have one name.
+fn name_models(
+    alloc: Global,
+    count: usize,
+    models: &[ModelAt],
+) -> Result<Option<Vec<u32>>, OutOfMemory>
+    ensures { IfOk result (λ found. IfSome found (λ owners. AreOwners models.now owners.items)) }
+{
+    let mut owners = vec![in alloc; 0u32; count]?;
+    for index in 0..models.len() {
+        let name = model_at(models, index).name;
+        if !own(&mut owners, name, index) {
+            return Ok(None);
+        }
+    }
+    Ok(Some(owners))
+}
+
+fn model_at(models: &[ModelAt], index: usize) -> ModelAt
+    requires { index < length models.now }
+    ensures { slice_get models.now index ≡ Some result }
+{
+    models[index]
+}
+
+/// Gives a name to the model of this number, unless another has it.
+fn own(owners: &mut Vec<u32>, name: u32, model: usize) -> bool
+    ensures free { IsTrue result → slice_get owners.old.items name ≡ Some 0 }
+    ensures owned { IsTrue result → owners.new.items ≡ slice_set owners.old.items name (model + 1) }
+{
+    let place = name as usize;
+    let Ok(number) = u32::try_from(model) else {
+        return false;
+    };
+    if owners.len() <= place || owners[place] != 0 || number == u32::MAX {
+        return false;
+    }
+    owners[place] = number + 1;
+    true
+}
+
+/// The numbers of the models of all instances, unless one names no model.
+fn find_units(
+    alloc: Global,
+    file: &NumberedFile<'_>,
+    owners: &[u32],
+) -> Result<Option<Vec<u32>>, OutOfMemory>
+    requires owners { AreOwners file.now.models owners.now }
+    requires apart { NoneHolds IsDuplicateModel (models_in file.now) }
+    ensures { IfOk result (λ found. IfSome found (λ units. AreUnits file.now units.items)) }
+{
+    let parts = file.parts();
+    let mut units = Vec::with_capacity(alloc, parts.len())?;
+    for index in 0..parts.len() {
+        let Some(unit) = unit_of(file, owners, index) else {
+            return Ok(None);
+        };
+        units.push(unit)?;
+    }
+    Ok(Some(units))
+}
+
+/// The number of the model of a part that is an instance, and 0 of another; `None` where an instance names no model.
+fn unit_of(file: &NumberedFile<'_>, owners: &[u32], index: usize) -> Option<u32>
+    requires owners { AreOwners file.now.models owners.now }
+    requires within { index < length file.now.parts }
+    ensures { IfSome result (λ unit. IsInstance file.now index → IsUnitOf file.now index unit) }
+{
+    if !is_instance(file.parts(), index) {
+        return Some(0);
+    }
+    let name = first(file.words_of(index))?;
+    model_called(owners, name)
+}
+
+/// Whether the part at a place is an instance.
+pub fn is_instance(parts: &[PartAt], index: usize) -> bool
+    requires within { index < length parts.now }
+    ensures other { IsFalse result → (part : PartAt) → slice_get parts.now index ≡ Some part → part.kind ≡ Instance → ⊥ }
+{
+    match parts[index].kind {
+        PartKind::Instance => true,
+        _ => false,
+    }
+}
+
+fn first(words: &[u32]) -> Option<u32>
+    ensures { IfSome result (λ word. slice_get words.now 0 ≡ Some word) }
+{
+    words.first().copied()
+}
+
+/// The number of the model that has a name.
+fn model_called(owners: &[u32], name: u32) -> Option<u32>
+    ensures { IfSome result (λ model. slice_get owners.now name ≡ Some (model + 1)) }
+{
+    let owner = owners.get(name as usize).copied()?;
+    owner.checked_sub(1)
+}

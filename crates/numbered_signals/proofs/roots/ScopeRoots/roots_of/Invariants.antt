@@ -1,0 +1,6 @@
+use Rattle.std.proofs.Common.{◌≡◌, map, take}
+use Rattle.numbered_signals.specs.ScopeRoots.{local_root}
+use Rattle.numbered_signals.proofs.roots.ScopeRoots.roots_of.Given as goal
+
+abbrev pub invariant-loop-local : goal.invariant-loop-local
+invariant-loop-local l = l.all.items ≡ map (local_root l.self l.scope) (take l.local-index l.locals)

@@ -1,0 +1,3 @@
+pub mod PartRoots
+pub mod ScopeBlocks
+pub mod ScopeRoots
