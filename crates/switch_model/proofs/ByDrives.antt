@@ -8,9 +8,7 @@ use Rattle.deck.specs.Paths.{IsWeak, IsStrong, Possible, PossibleStrong, Possibl
 use Rattle.deck.specs.Switches.{IsOn, IsNotOff, value_of}
 use Rattle.deck.proofs.Reach.{strong_each, strong_from_each}
 use Rattle.dom_base.proofs.Lists.{AllByRecursion-both, AllByRecursion-weaker}
-use Rattle.switch_model.specs.declared.drive.Drive.{Drive}
-use Rattle.switch_model.specs.declared.drive.Drive.TheVariants.{Mixed, Nothing, Only}
-use Rattle.switch_model.specs.SourceDrives.{IsDrive, pull_of}
+use Rattle.switch_model.specs.SourceDrives.{Drive, IsDrive, Mixed, Nothing, Only, pull_of}
 use Rattle.switch_model.specs.Targets.{Pulls, Disputes, Else, Holds, IsTarget}
 use Rattle.dom_base.proofs.Decided.{dec_keeper}
 use Rattle.switch_model.proofs.Rules.{none_pulls, rules-none, rules-some}

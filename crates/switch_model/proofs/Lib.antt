@@ -3,7 +3,9 @@ pub mod Classes
 pub mod ClosedGroups
 pub mod ComponentLists
 pub mod Connections
+pub mod DriveBits
 pub mod Forests
+pub mod FoundClasses
 pub mod Joined
 pub mod Leading
 pub mod Locality
@@ -18,5 +20,7 @@ pub mod SharedClasses
 pub mod SourceNets
 pub mod Sweeping
 pub mod Targets
+pub mod Told
+pub mod ToldTargets
 pub mod Touching
 pub mod Walking

@@ -15,26 +15,12 @@ use Rattle.deck.specs.Switches.{value_of}
 use Rattle.deck.specs.declared.device.Device.{Device}
 use Rattle.switch_model.specs.Components.{IsClosedPart}
 use Rattle.switch_model.specs.Drives.{IsClass}
-use Rattle.switch_model.specs.FourDrives.{IsPlain, drive_of, no_drives, sort_of}
+use Rattle.switch_model.specs.FourDrives.{IsPlain, sort_of}
 use Rattle.switch_model.specs.Joins.{top_of}
 use Rattle.switch_model.specs.Walks.{Conducts, PassesSort}
-use Rattle.switch_model.specs.declared.drive.Drive.TheVariants.{Nothing}
 use Rattle.switch_model.specs.declared.sort.Sort.{Sort}
 use Rattle.switch_model.proofs.Searches.{ends_at, other_at}
 use Rattle.switch_model.proofs.SharedClasses.{shared_class}
-
--- what holds of each of the four sorts
-pub each_sort : (P : Bool → Bool → Type 0) → P true false → P false false → P true true → P false true → (definite keepers : Bool) → P definite keepers
-each_sort P a b c d true false = a
-each_sort P a b c d false false = b
-each_sort P a b c d true true = c
-each_sort P a b c d false true = d
-
-pub none_of : (definite keepers : Bool) → drive_of no_drives definite keepers ≡ Nothing
-none_of true true = refl
-none_of true false = refl
-none_of false true = refl
-none_of false false = refl
 
 on_where_known : (level : Tri) → level ≢ Unknown → level ≢ Zero → level ≡ One
 on_where_known One u z = refl

@@ -3,10 +3,8 @@ use Rattle.std.proofs.Common.{◌≡◌, ℕ, Bool, true, List, refl, sym, subst
 use Rattle.std.specs.Prelude.{Some, None}
 use Rattle.dom_base.specs.declared.tri.Tri.{Tri}
 use Rattle.dom_base.specs.declared.tri.Tri.TheVariants.{Unknown}
-use Rattle.switch_model.specs.SourceDrives.{IsDrive, pull_of}
+use Rattle.switch_model.specs.SourceDrives.{Drive, IsDrive, Mixed, Nothing, Only, pull_of}
 use Rattle.switch_model.specs.Targets.{Pulls, Disputes, Else}
-use Rattle.switch_model.specs.declared.drive.Drive.{Drive}
-use Rattle.switch_model.specs.declared.drive.Drive.TheVariants.{Nothing, Only, Mixed}
 
 module _ (D P : ℕ → Type 0) (is_source : ℕ → Bool) (values : List Tri) (within : (s : ℕ) → D s → P s) where
   -- where nothing pulls, no possible path leads to a source

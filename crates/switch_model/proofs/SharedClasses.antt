@@ -9,13 +9,13 @@ use Rattle.deck.specs.declared.device.Device.{Device}
 use Rattle.switch_model.specs.Components.{IsClosedPart}
 use Rattle.switch_model.specs.Drives.{IsClass, IsEndOf, JoinsBy}
 use Rattle.switch_model.specs.Joins.{AreJoined, top_of}
-use Rattle.switch_model.specs.SourceDrives.{IsDrive}
+use Rattle.switch_model.specs.FourDrives.{IsTold}
 use Rattle.switch_model.specs.Walks.{AreAt, IsLed, PassesSort}
-use Rattle.switch_model.specs.declared.drive.Drive.{Drive}
+use Rattle.switch_model.specs.declared.drives.Drives.{Drives}
 use Rattle.switch_model.specs.declared.sort.Sort.{Sort}
 use Rattle.switch_model.proofs.Joined.{Path-append}
 use Rattle.switch_model.proofs.Searches.{ends_at, other_at}
-use Rattle.switch_model.proofs.Walking.{drive_same}
+use Rattle.switch_model.proofs.Told.{told_same}
 
 module _ (devices : List Device) (is_source : ℕ → Bool) (nets places : List ℕ) (closed : IsClosedPart devices is_source nets places) where
   ends_free : (d : Device) (a b : ℕ) → Ends d a b → is_source a ≡ false → is_source b ≡ false → (is_source d.drain ≡ false) × (is_source d.source ≡ false)
@@ -104,7 +104,7 @@ module _ (devices : List Device) (is_source : ℕ → Bool) (nets places : List 
           let place = closed.all z.0 g.0 z.2 joined.0 (ends_at z.0 g.0 s g.3) in
           (z.0, (at z.0).1 place, z.3, (g.0, g.3, g.2, sym joined.1), src)
 
-      -- the drive of the sources that devices lead to below the top is that of the sources at the ends of paths
-      pub shared_drive : (drive : Drive) → IsDrive (IsLed parents (PassesSort sort values) is_source es (top_of parents net)) values drive
-          → IsDrive (IsEndOf devices is_source values sort net) values drive
-      shared_drive drive h = drive_same _ _ values drive led_ends ends_led h
+      -- what drives tell of the sources that devices lead to below the top they tell of the sources at the ends of paths
+      pub shared_told : (drives : Drives) (definite keepers : Bool) → IsTold drives definite keepers (IsLed parents (PassesSort sort values) is_source es (top_of parents net)) values
+          → IsTold drives definite keepers (IsEndOf devices is_source values sort net) values
+      shared_told drives definite keepers h = told_same drives definite keepers _ _ values led_ends ends_led h

@@ -1,19 +1,17 @@
 -- What the charge of a class says.
 use Rattle.std.proofs.Common.{◌≡◌, ℕ, Bool, true, false, List, refl, sym, ap, ◌∙◌, inl, inr}
-use Rattle.std.specs.Prelude.{◌↔◌, Contains}
+use Rattle.std.specs.Prelude.{◌↔◌, if◌then◌else◌, Contains}
 use Rattle.dom_base.specs.declared.tri.Tri.{Tri}
+use Rattle.dom_base.specs.declared.tri.Tri.TheVariants.{Unknown}
 use Rattle.dom_base.proofs.Lists.{AllByRecursion-weaker}
 use Rattle.deck.specs.declared.device.Device.{Device}
 use Rattle.deck.specs.Paths.{Possible}
 use Rattle.deck.specs.Switches.{IsNotOff, value_of}
-use Rattle.switch_model.specs.SourceDrives.{IsDrive}
-use Rattle.switch_model.specs.declared.drive.Drive.{Drive}
-use Rattle.switch_model.specs.declared.drive.Drive.TheVariants.{Nothing, Only, Mixed}
 use Rattle.switch_model.specs.declared.sort.Sort.{Sort}
 use Rattle.switch_model.specs.Components.{IsClosedPart}
 use Rattle.switch_model.specs.Drives.{IsClass, JoinsBy}
 use Rattle.switch_model.specs.Joins.{top_of}
-use Rattle.switch_model.specs.Sweeps.{has_one_value}
+use Rattle.switch_model.specs.Found.{IsCharge}
 use Rattle.switch_model.specs.Walks.{PassesSort}
 
 never : true ≡ false → ⊥
@@ -42,15 +40,9 @@ module _ (devices : List Device) (is_source : ℕ → Bool) (values : List Tri) 
     | inr j ↦ h m (from_joins m j) (closed.free m b.0)
   ]
 
-  charged_to : (c : Drive) → IsDrive Below values c → has_one_value c ≡ true → (n : ℕ) → Possible devices is_source values net n → is_source n ≡ false → value_of values n ≡ value_of values net
-  charged_to Nothing h e n p f = absurd (h net (member, refl))
-  charged_to (Only v) h e n p f = h.1 n (below n p f) ∙ sym (h.1 net (member, refl))
-  charged_to Mixed h e n p f = absurd (never (sym e))
-
-  charged_from : (c : Drive) → IsDrive Below values c → ((n : ℕ) → Possible devices is_source values net n → is_source n ≡ false → value_of values n ≡ value_of values net) → has_one_value c ≡ true
-  charged_from Nothing h a = refl
-  charged_from (Only v) h a = refl
-  charged_from Mixed h a = absurd (h.4 (above a h.0 h.2 ∙ sym (above a h.1 h.3)))
-
-  pub charged : (c : Drive) → IsDrive Below values c → (has_one_value c ≡ true) ↔ ((n : ℕ) → Possible devices is_source values net n → is_source n ≡ false → value_of values n ≡ value_of values net)
-  charged c h = (charged_to c h, charged_from c h)
+  -- the charge is the own value where all nets that possible paths join to the net have it
+  pub charged : (c : Tri) → IsCharge Below values c
+      → (alike : Bool) × ((alike ≡ true) ↔ ((n : ℕ) → Possible devices is_source values net n → is_source n ≡ false → value_of values n ≡ value_of values net))
+      × (c ≡ (if alike then (value_of values net) else Unknown))
+  charged c (inl h) = (true, ((λ e n p f. h n (below n p f) ∙ sym (h net (member, refl))), λ a. refl), sym (h net (member, refl)))
+  charged c (inr h) = (false, ((λ e. absurd (never (sym e))), λ a. absurd (h.1.4 (above a h.1.0 h.1.2 ∙ sym (above a h.1.1 h.1.3)))), h.0)

@@ -51,7 +51,7 @@ target_unique devices is_source values net =
     (Else-at_most_one _ _ (λ v w a b. a.1 ∙ sym b.1) (λ v w a b. a ∙ sym b)))))
 
 -- whether R leads to a net with any property can be decided
-abbrev Searchable : (ℕ → Type 0) → Type 1
+abbrev pub Searchable : (ℕ → Type 0) → Type 1
 Searchable R = (P : ℕ → Type 0) → ((n : ℕ) → Decided (P n)) → Decided ((n : ℕ) × R n × P n)
 
 dec_pulls : (definite possible : ℕ → Type 0) (is_source : ℕ → Bool) (values : List Tri) → Searchable definite → Searchable possible → Decided ((v : Tri) × Pulls definite possible is_source values v)
@@ -96,7 +96,7 @@ search_map : (R S : ℕ → Type 0) → ((n : ℕ) → R n → S n) → ((n : �
 search_map R S f g s P dec = dec_map (λ z. (z.0, f z.0 z.1, z.2)) (λ z. (z.0, g z.0 z.1, z.2)) (s P dec)
 
 module _ (devices : List Device) (is_source : ℕ → Bool) (net : ℕ) (free : is_source net ≡ false) (F : Device → Type 0) (dec : (d : Device) → Decided (F d)) where
-  search_any : Searchable (λ b. (p : List Device) × Path is_source net p b × AllByRecursion (Contains devices) p × AllByRecursion F p)
+  pub search_any : Searchable (λ b. (p : List Device) × Path is_source net p b × AllByRecursion (Contains devices) p × AllByRecursion F p)
   search_any =
       search_map (λ b. Reaches F is_source devices net b) _
       (λ b r. let w = path_from_Reach _ is_source r in (w.0, w.1, AllByRecursion-weaker _ (Contains devices) (λ d k. k.0) w.0 w.2, AllByRecursion-weaker _ F (λ d k. k.1) w.0 w.2))

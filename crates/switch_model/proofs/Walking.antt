@@ -1,5 +1,5 @@
 -- One more device of a walk.
-use Rattle.std.proofs.Common.{◌≡◌, ℕ, Bool, true, false, zero, suc, ◌+◌, ◌<◌, ◌≤◌, List, [], ◌∷◌, length, get_or, refl, sym, ap, subst, ◌∙◌, inl, inr, arith}
+use Rattle.std.proofs.Common.{◌≡◌, ℕ, Bool, true, false, zero, suc, ◌+◌, ◌<◌, ◌≤◌, List, [], ◌∷◌, length, get_or, sym, ap, subst, ◌∙◌, inl, inr, arith}
 use Rattle.std.specs.Prelude.{◌⊎◌, ◌↔◌, Contains, Some, slice_get}
 use Rattle.std.proofs.lemmas.Bool.{cases_eq}
 use Rattle.std.proofs.lemmas.List.{get_or_default}
@@ -8,10 +8,11 @@ use Rattle.deck.specs.declared.device.Device.{Device}
 use Rattle.dom_base.proofs.Lists.{Contains-first, Contains-later}
 use Rattle.dom_base.specs.declared.tri.Tri.{Tri}
 use Rattle.deck.specs.Paths.{Ends}
-use Rattle.deck.specs.Switches.{value_of}
-use Rattle.switch_model.specs.declared.drive.Drive.{Drive}
-use Rattle.switch_model.specs.declared.drive.Drive.TheVariants.{Nothing, Only, Mixed}
-use Rattle.switch_model.specs.SourceDrives.{IsAdded, IsDrive}
+use Rattle.switch_model.specs.Found.{IsWith}
+use Rattle.switch_model.specs.FourDrives.{IsTold}
+use Rattle.switch_model.specs.SourceDrives.{Drive, IsDrive, Mixed, Nothing, Only}
+use Rattle.switch_model.specs.declared.drives.Drives.{Drives}
+use Rattle.switch_model.proofs.Told.{told_same, told_with}
 use Rattle.switch_model.specs.Joins.{AreJoined, top_of}
 use Rattle.switch_model.specs.Walks.{AreAt, IsJoint, IsLed, Linked}
 
@@ -87,19 +88,11 @@ module _ (R : ℕ → ℕ → Type 0) (Q : Device → Type 0) (is_source : ℕ �
       from (inl e) = (same x y).1 e
       from (inr z) = absurd (none z.0)
 
--- drives with one more source
+-- drives of sources that are the same
 pub drive_same : (S T : ℕ → Type 0) (values : List Tri) (d : Drive) → ((s : ℕ) → S s → T s) → ((s : ℕ) → T s → S s) → IsDrive S values d → IsDrive T values d
 drive_same S T values Nothing f g h = λ s t. h s (g s t)
 drive_same S T values (Only v) f g h = ((h.0.0, f h.0.0 h.0.1, h.0.2), (λ s t. h.1 s (g s t)))
 drive_same S T values Mixed f g h = (h.0, h.1, f h.0 h.2, f h.1 h.3, h.4)
-
-module _ (S T : ℕ → Type 0) (values : List Tri) (v : Tri) (s : ℕ) (here : T s) (is : value_of values s ≡ v) (to : (n : ℕ) → S n → T n) (from : (n : ℕ) → T n → S n ⊎ (n ≡ s)) where
-  pub drive_added : (before after : Drive) → IsAdded before v after → IsDrive S values before → IsDrive T values after
-  drive_added Nothing after e h = subst (IsDrive T values) (sym e) ((s, here, is), λ n t. elim (from n t) [ inl x ↦ absurd (h n x) | inr z ↦ ap (value_of values) z ∙ is ])
-  drive_added (Only u) after (inl e) h =
-      subst (IsDrive T values) (sym e.1) ((h.0.0, to h.0.0 h.0.1, h.0.2), λ n t. elim (from n t) [ inl x ↦ h.1 n x | inr z ↦ ap (value_of values) z ∙ is ∙ sym e.0 ])
-  drive_added (Only u) after (inr e) h = subst (IsDrive T values) (sym e.1) (h.0.0, s, to h.0.0 h.0.1, here, (λ z. e.0 (sym h.0.2 ∙ z ∙ is)))
-  drive_added Mixed after e h = subst (IsDrive T values) (sym e) (h.0, h.1, to h.0 h.2, to h.1 h.3, h.4)
 
 module _ (parents : List ℕ) (Q : Device → Type 0) (is_source : ℕ → Bool) (ds : List Device) (d : Device) (t : ℕ) where
   pub led_later : (s : ℕ) → IsLed parents Q is_source ds t s → IsLed parents Q is_source (d ∷ ds) t s
@@ -114,14 +107,17 @@ module _ (parents : List ℕ) (Q : Device → Type 0) (is_source : ℕ → Bool)
   ]
 
   -- the device leads to no source
-  pub drive_skip : (values : List Tri) (drive : Drive) → ((m s : ℕ) → Q d → Ends d m s → is_source m ≡ false → is_source s ≡ true → top_of parents m ≡ t → ⊥)
-      → IsDrive (IsLed parents Q is_source ds t) values drive → IsDrive (IsLed parents Q is_source (d ∷ ds) t) values drive
-  drive_skip values drive none h = drive_same _ _ values drive led_later (λ s l. elim (led_cases s l) [ inl x ↦ x | inr z ↦ absurd (none z.1.0 s z.0 z.1.1 z.1.2 z.2 z.1.3) ]) h
+  pub told_skip : (values : List Tri) (drives : Drives) (definite keepers : Bool) → ((m s : ℕ) → Q d → Ends d m s → is_source m ≡ false → is_source s ≡ true → top_of parents m ≡ t → ⊥)
+      → IsTold drives definite keepers (IsLed parents Q is_source ds t) values → IsTold drives definite keepers (IsLed parents Q is_source (d ∷ ds) t) values
+  told_skip values drives definite keepers none h =
+      told_same drives definite keepers _ _ values led_later (λ s l. elim (led_cases s l) [ inl x ↦ x | inr z ↦ absurd (none z.1.0 s z.0 z.1.1 z.1.2 z.2 z.1.3) ]) h
 
   -- the device leads from below the top to a source
-  pub drive_more : (values : List Tri) (before after : Drive) (m s : ℕ) → Q d → Ends d m s → is_source m ≡ false → is_source s ≡ true → top_of parents m ≡ t
+  pub told_more : (values : List Tri) (before more after : Drives) (definite keepers : Bool) (m s : ℕ) → Ends d m s → is_source m ≡ false → is_source s ≡ true → top_of parents m ≡ t
       → ((m' s' : ℕ) → Q d → Ends d m' s' → is_source m' ≡ false → is_source s' ≡ true → s' ≡ s)
-      → IsAdded before (value_of values s) after → IsDrive (IsLed parents Q is_source ds t) values before → IsDrive (IsLed parents Q is_source (d ∷ ds) t) values after
-  drive_more values before after m s q e f g at only added h =
-      drive_added (IsLed parents Q is_source ds t) (IsLed parents Q is_source (d ∷ ds) t) values (value_of values s) s (d, Contains-first d ds, q, (m, e, f, at), g) refl led_later
-      (λ n l. elim (led_cases n l) [ inl x ↦ inl x | inr z ↦ inr (only z.1.0 n z.0 z.1.1 z.1.2 z.2) ]) before after added h
+      → IsWith before more after → IsTold more definite keepers (λ s'. Q d × (s' ≡ s)) values
+      → IsTold before definite keepers (IsLed parents Q is_source ds t) values → IsTold after definite keepers (IsLed parents Q is_source (d ∷ ds) t) values
+  told_more values before more after definite keepers m s e f g at only both here h =
+      told_with before more after definite keepers (IsLed parents Q is_source ds t) (λ s'. Q d × (s' ≡ s)) (IsLed parents Q is_source (d ∷ ds) t) values both led_later
+      (λ s' z. subst (IsLed parents Q is_source (d ∷ ds) t) (sym z.1) (d, Contains-first d ds, z.0, (m, e, f, at), g))
+      (λ s' l. elim (led_cases s' l) [ inl x ↦ inl x | inr z ↦ inr (z.0, only z.1.0 s' z.0 z.1.1 z.1.2 z.2) ]) h here

@@ -6,8 +6,7 @@ use Rattle.dom_base.specs.declared.tri.Tri.TheVariants.{Unknown}
 use Rattle.deck.specs.declared.device.Device.{Device}
 use Rattle.deck.specs.Paths.{Path, Possible}
 use Rattle.deck.specs.Switches.{value_of}
-use Rattle.switch_model.specs.declared.drive.Drive.{Drive}
-use Rattle.switch_model.specs.SourceDrives.{IsDrive, pull_of}
+use Rattle.switch_model.specs.SourceDrives.{Drive, IsDrive, pull_of}
 use Rattle.switch_model.specs.Targets.{IsTarget}
 use Rattle.switch_model.specs.declared.sort.Sort.{Sort}
 use Rattle.switch_model.specs.Joins.{AreJoined}

@@ -1,6 +1,7 @@
 pub mod ComponentLists
 pub mod Components
 pub mod Drives
+pub mod Found
 pub mod FourDrives
 pub mod Joins
 pub mod Laws

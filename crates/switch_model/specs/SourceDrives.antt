@@ -1,22 +1,20 @@
 -- What is known of the values of some sources, and what they pull a net to.
-use Rattle.std.specs.Prelude.{◌≡◌, ◌≢◌, ℕ, List, ◌⊎◌, Option, Some, None}
+use Rattle.std.specs.Prelude.{◌≡◌, ◌≢◌, ℕ, List, Option, Some, None}
 use Rattle.dom_base.specs.declared.tri.Tri.{Tri}
 use Rattle.dom_base.specs.declared.tri.Tri.TheVariants.{Unknown}
 use Rattle.deck.specs.Switches.{value_of}
-use Rattle.switch_model.specs.declared.drive.Drive.{Drive}
-use Rattle.switch_model.specs.declared.drive.Drive.TheVariants.{Nothing, Only, Mixed}
+
+-- there is no source, all have one value, or two have different values
+pub data Drive : Type 0 where
+  Nothing : Drive
+  Only : Tri → Drive
+  Mixed : Drive
 
 -- what is known of the values of some sources: there is none, all have one value, or two differ
 abbrev pub IsDrive : (ℕ → Type 0) → List Tri → Drive → Type 0
 IsDrive S values Nothing = (s : ℕ) → S s → ⊥
 IsDrive S values (Only v) = ((s : ℕ) × S s × (value_of values s ≡ v)) × ((s : ℕ) → S s → value_of values s ≡ v)
 IsDrive S values Mixed = (s : ℕ) × (t : ℕ) × S s × S t × (value_of values s ≢ value_of values t)
-
--- a drive with one more value
-abbrev pub IsAdded : Drive → Tri → Drive → Type 0
-IsAdded Nothing v after = after ≡ Only v
-IsAdded (Only u) v after = ((u ≡ v) × (after ≡ Only u)) ⊎ ((u ≢ v) × (after ≡ Mixed))
-IsAdded Mixed v after = after ≡ Mixed
 
 -- what sources pull a net to: nothing where no possible path leads to one; their value where it is one and
 -- a definite path leads to one; else Unknown

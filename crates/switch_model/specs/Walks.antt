@@ -1,5 +1,5 @@
 -- Walks over the devices at some places.
-use Rattle.std.specs.Prelude.{◌≡◌, ◌≢◌, ◌⊎◌, ◌↔◌, ℕ, Bool, true, false, List, [], ◌∷◌, Some, slice_get, slice_index_or, Contains}
+use Rattle.std.specs.Prelude.{◌≡◌, ◌≢◌, ◌⊎◌, ◌↔◌, ℕ, Bool, true, false, List, [], ◌∷◌, Some, slice_get, Contains}
 use Rattle.dom_base.specs.Conduction.{conduction}
 use Rattle.dom_base.specs.declared.kind.Kind.TheVariants.{Keep}
 use Rattle.dom_base.specs.declared.tri.Tri.{Tri}
@@ -7,8 +7,6 @@ use Rattle.dom_base.specs.declared.tri.Tri.TheVariants.{Zero, One}
 use Rattle.deck.specs.declared.device.Device.{Device}
 use Rattle.deck.specs.Switches.{value_of}
 use Rattle.deck.specs.Paths.{Ends}
-use Rattle.switch_model.specs.declared.drive.Drive.{Drive}
-use Rattle.switch_model.specs.declared.drive.Drive.TheVariants.{Nothing}
 use Rattle.switch_model.specs.Joins.{top_of}
 use Rattle.switch_model.specs.declared.sort.Sort.{Sort}
 
@@ -40,7 +38,3 @@ AreAt devices places ds = (d : Device) → Contains ds d ↔ ((place : ℕ) × C
 abbrev pub IsLed : List ℕ → (Device → Type 0) → (ℕ → Bool) → List Device → ℕ → ℕ → Type 0
 IsLed parents Q is_source ds top s =
     (d : Device) × Contains ds d × Q d × ((m : ℕ) × Ends d m s × (is_source m ≡ false) × (top_of parents m ≡ top)) × (is_source s ≡ true)
-
--- the drive of a top
-abbrev pub drive_at : List Drive → ℕ → Drive
-drive_at drives top = slice_index_or drives top Nothing

@@ -1,68 +1,144 @@
 //! What the sources at the ends of paths of four sorts say.
-ghost use Rattle.std.specs.Prelude.{◌≡◌, Bool, length};
+ghost use Rattle.std.specs.Prelude.{◌≡◌, ◌≢◌, ◌<◌, ◌↔◌, ◌⊎◌, Bool, false, length, nat_eq, true};
+ghost use Rattle.std.specs.Int.{bit_at};
 ghost use Rattle.deck.specs.Nets.{IsInRange};
-ghost use Rattle.switch_model.specs.FourDrives.{IsAddedWhere, drive_of, sort_of};
-ghost use Rattle.switch_model.specs.Walks.{PassesSort};
+ghost use Rattle.dom_base.specs.Conduction.{conduction};
+ghost use Rattle.dom_base.specs.declared.kind.Kind.TheVariants.{Keep};
+ghost use Rattle.switch_model.specs.FourDrives.{drives_by, has, pull_by, pull_where, side, sort_of, tells};
+ghost use Rattle.switch_model.specs.Walks.{Conducts, PassesSort};
 
-use crate::drive::Drive;
-use crate::sort::Sort;
+use crate::{Switch, conducts};
 use deck::Device;
-use dom_base::Tri;
+use dom_base::{Kind, Tri};
 
-/// What the sources at the ends of paths say, of each sort of paths: definite and possible ones, by
-/// strong devices and by all.
+/// What is known of the sources at the ends of paths: for definite and for possible paths, by strong
+/// devices and by all, whether one leads to a source that isn't `One` and whether one leads to a source
+/// that isn't `Zero`, a bit each.
 #[derive(Clone, Copy, Debug, PartialEq, Eq)]
 pub struct Drives {
-    pub strong_definite: Drive,
-    pub strong_possible: Drive,
-    pub definite: Drive,
-    pub possible: Drive,
+    pub bits: u8,
 }
 
 /// No source by any sort of paths.
-pub const NO_DRIVES: Drives = Drives {
-    strong_definite: Drive::Nothing,
-    strong_possible: Drive::Nothing,
-    definite: Drive::Nothing,
-    possible: Drive::Nothing,
-};
+pub const NO_DRIVES: Drives = Drives { bits: 0 };
+
+// The bits of all sorts of paths; of possible ones; and of those by all devices.
+const ALL_SORTS: u8 = 255;
+
+const POSSIBLE_SORTS: u8 = 204;
+
+const WEAK_SORTS: u8 = 15;
+
+// The bits of one sort each.
+const DEFINITE: u8 = 3;
+
+const POSSIBLE: u8 = 12;
+
+const STRONG_DEFINITE: u8 = 48;
+
+const STRONG_POSSIBLE: u8 = 192;
+
+// The bits of sources that aren't `One`, and of those that aren't `Zero`.
+const NOT_ONE: u8 = 85;
+
+const NOT_ZERO: u8 = 170;
 
 impl Drives {
-    /// With one more source, by the sorts of paths that go through the device that leads to it.
-    pub fn with_source(self, device: Device, value: Tri, values: &[Tri]) -> Drives
+    /// The drives by a source of a value at the other end of a device.
+    pub fn of_source(device: Device, value: Tri, values: &[Tri]) -> Drives
         requires { IsInRange (length values.now) device }
-        ensures { (definite keepers : Bool) → IsAddedWhere (PassesSort (sort_of definite keepers) values.now device)
-            (drive_of self definite keepers) value (drive_of result definite keepers) }
+        ensures { (definite keepers high : Bool) → (tells result definite keepers high ≡ true)
+            ↔ (PassesSort (sort_of definite keepers) values.now device × (value ≢ side high)) }
     {
-        let strong_definite = with_where(self.strong_definite, true, false, device, value, values);
-        let strong_possible = with_where(self.strong_possible, false, false, device, value, values);
-        let definite = with_where(self.definite, true, true, device, value, values);
-        let possible = with_where(self.possible, false, true, device, value, values);
+        let sorts = sorts_by(device.kind, values[device.gate as usize]);
+        let bits = sorts & strengths_of(device.kind) & sides_of(value);
+        Drives { bits }
+    }
+
+    /// The drives by the sources of both.
+    pub fn with(self, other: Drives) -> Drives
+        ensures { (definite keepers high : Bool) → (tells result definite keepers high ≡ true)
+            ↔ ((tells self definite keepers high ≡ true) ⊎ (tells other definite keepers high ≡ true)) }
+    {
         Drives {
-            strong_definite,
-            strong_possible,
-            definite,
-            possible,
+            bits: self.bits | other.bits,
         }
+    }
+
+    /// What is known by each sort of paths from the drives that stand for this sort.
+    pub fn by_sort(
+        strong_definite: Drives,
+        strong_possible: Drives,
+        definite: Drives,
+        possible: Drives,
+    ) -> Drives
+        ensures { result ≡ drives_by strong_definite strong_possible definite possible }
+    {
+        let strong = strong_definite.bits & STRONG_DEFINITE
+            | strong_possible.bits & STRONG_POSSIBLE;
+        let all = definite.bits & DEFINITE | possible.bits & POSSIBLE;
+        Drives { bits: strong | all }
+    }
+
+    /// What the sources pull a net to, by strong devices or by all.
+    pub fn pulled(self, keepers: bool) -> Option<Tri>
+        ensures { result ≡ pull_by self keepers }
+    {
+        let base = if keepers { 0 } else { 4 };
+        let definite = self.tells(base) || self.tells(base + 1);
+        pulled_where(definite, self.tells(base + 2), self.tells(base + 3))
+    }
+
+    /// Whether a bit is set.
+    fn tells(self, place: u8) -> bool
+        requires { place < 8 }
+        ensures { result ≡ nat_eq (bit_at self.bits place) 1 }
+    {
+        self.bits >> place & 1 == 1
     }
 }
 
-/// A drive with one more source, where paths of a sort go through a device.
-fn with_where(
-    drive: Drive,
-    definite: bool,
-    keepers: bool,
-    device: Device,
-    value: Tri,
-    values: &[Tri],
-) -> Drive
-    requires { IsInRange (length values.now) device }
-    ensures { IsAddedWhere (PassesSort (sort_of definite keepers) values.now device) drive value result }
+/// What sources pull a net to: nothing where no possible path leads to one; their value where it is one
+/// and a definite path leads to one; else `Unknown`.
+fn pulled_where(definite: bool, low: bool, high: bool) -> Option<Tri>
+    ensures { result ≡ pull_where definite low high }
 {
-    let sort = Sort { definite, keepers };
-    if sort.passes(device, values) {
-        drive.with(value)
-    } else {
-        drive
+    match (definite, low, high) {
+        (_, false, false) => None,
+        (true, true, false) => Some(Tri::Zero),
+        (true, false, true) => Some(Tri::One),
+        _ => Some(Tri::Unknown),
+    }
+}
+
+/// The bits of the sorts of paths that a gate of this value lets through a device of this kind.
+fn sorts_by(kind: Kind, gate: Tri) -> u8
+    ensures { (definite keepers high : Bool) → (has result definite keepers high ≡ true) ↔ Conducts definite (conduction kind gate) }
+{
+    match conducts(kind, gate) {
+        Switch::On => ALL_SORTS,
+        Switch::Off => 0,
+        Switch::Maybe => POSSIBLE_SORTS,
+    }
+}
+
+/// The bits of the sorts of paths that a device of this kind may be part of.
+fn strengths_of(kind: Kind) -> u8
+    ensures { (definite keepers high : Bool) → (has result definite keepers high ≡ true) ↔ (keepers ≡ false → kind ≢ Keep) }
+{
+    match kind {
+        Kind::Keep => WEAK_SORTS,
+        _ => ALL_SORTS,
+    }
+}
+
+/// The bits of a source of this value.
+fn sides_of(value: Tri) -> u8
+    ensures { (definite keepers high : Bool) → (has result definite keepers high ≡ true) ↔ (value ≢ side high) }
+{
+    match value {
+        Tri::Zero => NOT_ONE,
+        Tri::One => NOT_ZERO,
+        Tri::Unknown => ALL_SORTS,
     }
 }

@@ -1,6 +1,6 @@
 //! Nets that are joined, as a forest: of each net the one above it, of a smaller number, or itself at the top.
-ghost use Rattle.std.specs.Prelude.{◌≡◌, ◌<◌, ◌≤◌, ◌^◌, ◌↔◌, ◌⊎◌, ℕ, length, All, Contains};
-ghost use Rattle.switch_model.specs.Joins.{AreJoined, IsJoinForest, above, top_of};
+ghost use Rattle.std.specs.Prelude.{◌≡◌, ◌<◌, ◌≤◌, ◌^◌, ◌↔◌, ◌⊎◌, ℕ, length, All};
+ghost use Rattle.switch_model.specs.Joins.{AreJoined, AreTopsOf, IsJoinForest, IsTopMoved, above, top_of};
 
 /// The top above a net.
 pub fn top(parents: &[u32], net: u32) -> u32
@@ -16,7 +16,7 @@ pub fn top(parents: &[u32], net: u32) -> u32
 }
 
 /// The top above a net. Nets on the way come to stand nearer to it.
-fn lift(parents: &mut Vec<u32>, net: u32) -> u32
+pub fn lift(parents: &mut Vec<u32>, net: u32) -> u32
     requires forest { IsJoinForest parents.old.items }
     requires within { net < length parents.old.items }
     ensures top { result ≡ top_of parents.old.items net }
@@ -71,8 +71,8 @@ pub fn flatten_all(parents: &mut Vec<u32>)
     }
 }
 
-/// Joins two nets.
-pub fn join(parents: &mut Vec<u32>, a: u32, b: u32)
+/// Joins two nets, and gives the top that stays and the one that goes below it.
+pub fn join(parents: &mut Vec<u32>, a: u32, b: u32) -> (u32, u32)
     requires forest { IsJoinForest parents.old.items }
     requires a { a < length parents.old.items }
     requires b { b < length parents.old.items }
@@ -81,25 +81,16 @@ pub fn join(parents: &mut Vec<u32>, a: u32, b: u32)
     ensures joined { (x y : ℕ) → AreJoined parents.new.items x y ↔ AreJoined parents.old.items x y
         ⊎ ((AreJoined parents.old.items x a × AreJoined parents.old.items b y)
         ⊎ (AreJoined parents.old.items x b × AreJoined parents.old.items a y)) }
+    ensures both { AreTopsOf parents.old.items a b result.0 result.1 }
+    ensures tops { (n : ℕ) → IsTopMoved parents.old.items parents.new.items result.0 result.1 n }
 {
     let first = lift(parents, a);
     let second = lift(parents, b);
     if first < second {
         parents[second as usize] = first;
+        (first, second)
     } else {
         parents[first as usize] = second;
-    }
-}
-
-/// Takes some nets out of all joins.
-pub fn reset(parents: &mut Vec<u32>, nets: &[u32])
-    requires forest { IsJoinForest parents.old.items }
-    requires within { All (λ net. net < length parents.old.items) nets.now }
-    ensures forest { IsJoinForest parents.new.items }
-    ensures long { length parents.new.items ≡ length parents.old.items }
-    ensures alone { (net : ℕ) → Contains nets.now net → top_of parents.new.items net ≡ net }
-{
-    for net in nets {
-        parents[*net as usize] = *net;
+        (second, first)
     }
 }

@@ -4,7 +4,6 @@
 
 mod class;
 mod components;
-mod drive;
 mod drives;
 mod groups;
 mod joins;
@@ -14,6 +13,7 @@ mod links;
 mod lists;
 mod places;
 mod refresh;
+mod room;
 mod rooms;
 mod single;
 mod sort;

@@ -122,7 +122,7 @@ impl Links {
             &mut self.rooms,
             steps,
         );
-        self.rooms.target(plain, values, net)
+        self.rooms.target(plain, net)
     }
 
     /// Whether no net is to take another value, at one value per net. Takes no memory, and leaves

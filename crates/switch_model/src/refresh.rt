@@ -130,7 +130,7 @@ fn refresh_nets<L: Ledger>(
 {
     let plain = find_targets(wires, nets, places, sources, values, rooms, steps);
     for net in nets {
-        let target = rooms.target(plain, values, *net);
+        let target = rooms.target(plain, *net);
         keep(pending, *net, target, values);
     }
 }

@@ -3,9 +3,8 @@ ghost use Rattle.std.specs.Prelude.{◌≡◌, ◌<◌, ◌+◌, [], ◌∷◌, 
 ghost use Rattle.deck.specs.Nets.{IsInRange};
 ghost use Rattle.switch_model.specs.Components.{IsClosedPart};
 ghost use Rattle.switch_model.specs.Drives.{IsEndOf};
-ghost use Rattle.switch_model.specs.FourDrives.{drive_of, sort_of};
+ghost use Rattle.switch_model.specs.FourDrives.{IsTold, sort_of};
 ghost use Rattle.switch_model.specs.LinksData.{is_first};
-ghost use Rattle.switch_model.specs.SourceDrives.{IsDrive};
 ghost use Rattle.switch_model.specs.Targets.{IsTarget};
 
 use crate::drives::{Drives, NO_DRIVES};
@@ -33,14 +32,7 @@ pub fn single_target<L: Ledger>(
     ensures cost { steps.new ≡ steps.old + length places.now }
 {
     let drives = single_drives(wires, net, places, sources, values, steps);
-    target_from(
-        drives.strong_definite,
-        drives.strong_possible,
-        drives.definite,
-        drives.possible,
-        true,
-        values[net as usize],
-    )
+    target_from(drives, values[net as usize])
 }
 
 /// The drives of the one net of a component, in a step a device.
@@ -55,16 +47,15 @@ fn single_drives<L: Ledger>(
     requires places { All (λ place. place < length wires.now) places.now }
     requires in_range { All (IsInRange (length values.now)) wires.now }
     requires closed { IsClosedPart wires.now (is_first sources) (net ∷ []) places.now }
-    ensures driven { (definite keepers : Bool)
-        → IsDrive (IsEndOf wires.now (is_first sources) values.now (sort_of definite keepers) net) values.now
-        (drive_of result definite keepers) }
+    ensures driven { (definite keepers : Bool) → IsTold result definite keepers
+        (IsEndOf wires.now (is_first sources) values.now (sort_of definite keepers) net) values.now }
     ensures cost { steps.new ≡ steps.old + length places.now }
 {
     let mut drives = NO_DRIVES;
     for place in places {
         let device = wires.wire(*place, steps);
         if let Some(lead) = lead_of(POSSIBLE, device, sources, values) {
-            drives = drives.with_source(device, values[lead.1 as usize], values);
+            drives = drives.with(Drives::of_source(device, values[lead.1 as usize], values));
         }
     }
     drives

@@ -1,7 +1,7 @@
 use Rattle.std.proofs.Common.{arith, ap, ◌∙◌, ◌≡◌, ◌<◌, ◌≤◌, sym, length, List, ℕ, inl, inr}
 use Rattle.std.specs.Prelude.{◌⊎◌}
-use Rattle.switch_model.specs.Joins.{AreJoined, above, top_of}
-use Rattle.switch_model.proofs.Forests.{top_is, top_low, joined_to, joined_from}
+use Rattle.switch_model.specs.Joins.{AreJoined, IsTopMoved, above, top_of}
+use Rattle.switch_model.proofs.Forests.{joined_from, joined_to, moved, moved_is, top_is, top_low}
 use Rattle.switch_model.proofs.joins.join.Goals as goal
 
 -- a top, read
@@ -77,3 +77,43 @@ returns-else-first-second-clause-joined c =
       λ j. moved_either p old same c.args.a c.args.b x y (swap (joined_to p f c.lift-second.result c.lift-first.result le lt u t c.args.b c.args.a (sym g) (sym e) x y j)),
       λ j. joined_from p f c.lift-second.result c.lift-first.result le lt u t c.args.b c.args.a (sym g) (sym e) x y (swap (moved_either old p (λ n. sym (same n)) c.args.a c.args.b x y j)),
     )
+
+-- the tops are those of before, but of one
+moved_tops : (p old : List ℕ) (f : (n : ℕ) → above p n ≤ n) (keep gone : ℕ) (le : keep ≤ gone) (lt : gone < length p) (t : above p keep ≡ keep) (u : above p gone ≡ gone)
+    → ((n : ℕ) → top_of p n ≡ top_of old n) → (n : ℕ) → IsTopMoved old (moved p f keep gone le lt t) keep gone n
+moved_tops p old f keep gone le lt t u same n = elim (moved_is p f keep gone le lt t u n) [
+  | inl z ↦ inl (sym (same n) ∙ z.0, z.1)
+  | inr z ↦ inr ((λ e. z.0 (same n ∙ e)), z.1 ∙ same n)
+]
+
+pub returns-then-first-second-clause-tops : goal.returns-then-first-second-clause-tops
+returns-then-first-second-clause-tops c =
+    let old = c.args.parents.now.items in
+    let p = c.lift-second.new.parents.items in
+    let f = c.lift-second.ensures.forest in
+    let same : (n : ℕ) → top_of p n ≡ top_of old n = λ n. c.lift-second.ensures.tops n ∙ c.lift-first.ensures.tops n in
+    let e : c.lift-first.result ≡ top_of p c.args.a = c.lift-first.ensures.top ∙ sym (same c.args.a) in
+    let g : c.lift-second.result ≡ top_of p c.args.b = c.lift-second.ensures.top ∙ sym (c.lift-second.ensures.tops c.args.b) in
+    let le : c.lift-first.result ≤ c.lift-second.result = omega (arith, c.if-first-second.true) in
+    let in_b : c.args.b < length p = omega (arith, c.requires.b, c.lift-first.ensures.long, c.lift-second.ensures.long) in
+    moved_tops p old f c.lift-first.result c.lift-second.result le (below p f c.args.b c.lift-second.result g in_b)
+    (is_top p f c.args.a c.lift-first.result e) (is_top p f c.args.b c.lift-second.result g) same
+
+pub returns-else-first-second-clause-tops : goal.returns-else-first-second-clause-tops
+returns-else-first-second-clause-tops c =
+    let old = c.args.parents.now.items in
+    let p = c.lift-second.new.parents.items in
+    let f = c.lift-second.ensures.forest in
+    let same : (n : ℕ) → top_of p n ≡ top_of old n = λ n. c.lift-second.ensures.tops n ∙ c.lift-first.ensures.tops n in
+    let e : c.lift-first.result ≡ top_of p c.args.a = c.lift-first.ensures.top ∙ sym (same c.args.a) in
+    let g : c.lift-second.result ≡ top_of p c.args.b = c.lift-second.ensures.top ∙ sym (c.lift-second.ensures.tops c.args.b) in
+    let le : c.lift-second.result ≤ c.lift-first.result = omega (arith, c.if-first-second.false) in
+    let in_a : c.args.a < length p = omega (arith, c.requires.a, c.lift-first.ensures.long, c.lift-second.ensures.long) in
+    moved_tops p old f c.lift-second.result c.lift-first.result le (below p f c.args.a c.lift-first.result e in_a)
+    (is_top p f c.args.b c.lift-second.result g) (is_top p f c.args.a c.lift-first.result e) same
+
+pub returns-then-first-second-clause-both : goal.returns-then-first-second-clause-both
+returns-then-first-second-clause-both c = inl (c.lift-first.ensures.top, c.lift-second.ensures.top ∙ c.lift-first.ensures.tops c.args.b)
+
+pub returns-else-first-second-clause-both : goal.returns-else-first-second-clause-both
+returns-else-first-second-clause-both c = inr (c.lift-second.ensures.top ∙ c.lift-first.ensures.tops c.args.b, c.lift-first.ensures.top)

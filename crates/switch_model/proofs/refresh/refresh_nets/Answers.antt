@@ -2,12 +2,19 @@ use Rattle.std.proofs.Common.{arith, ap, ◌∙◌, ◌≡◌, ◌≢◌, ◌<�
 use Rattle.std.specs.Prelude.{◌↔◌, Contains}
 use Rattle.std.proofs.lemmas.Bool.{cases_eq}
 use Rattle.std.proofs.lemmas.List.{get_or_default}
+use Rattle.std.proofs.lemmas.List.Elements.{All-contains, Contains-get_or}
 use Rattle.deck.specs.Switches.{value_of}
 use Rattle.switch_model.specs.LinksData.{is_first}
 use Rattle.switch_model.proofs.Targets.{target_unique}
 use Rattle.switch_model.specs.Sweeps.{target_in}
 use Rattle.switch_model.specs.Targets.{IsTarget}
 use Rattle.switch_model.proofs.refresh.refresh_nets.Goals as goal
+
+pub target-target-requires : goal.target-target-requires
+target-target-requires g c =
+    let nets = c.args.nets.now in
+    let at = c.loop-net.net-index in
+    (length c.args.values.now, c.find_targets-plain.ensures.rooms, All-contains (λ (n : ℕ). n < length c.args.values.now) nets (get_or nets at 0) c.requires.nets (Contains-get_or nets at 0 c.loop-net-test.true))
 
 pub loop-net-preserved : goal.loop-net-preserved
 loop-net-preserved g c =
@@ -16,8 +23,8 @@ loop-net-preserved g c =
     let nets = c.args.nets.now in
     let at = c.loop-net.net-index in
     let net = get_or nets at 0 in
-    let target : c.target-target.result ≡ target_in c.find_targets-plain.result c.find_targets-plain.new.rooms values net = c.target-target.ensures in
-    let found = target_in c.find_targets-plain.result c.find_targets-plain.new.rooms values net in
+    let target : c.target-target.result ≡ target_in c.find_targets-plain.result c.find_targets-plain.new.rooms net = c.target-target.ensures in
+    let found = target_in c.find_targets-plain.result c.find_targets-plain.new.rooms net in
     let here : Contains c.keep.new.pending.listed net ↔ (found ≢ value_of values net) = (
       λ h e. c.keep.ensures.here.0 h (target ∙ e),
       λ ne. c.keep.ensures.here.1 (λ e. ne (sym target ∙ e)),
@@ -30,7 +37,7 @@ loop-net-preserved g c =
       whole = c.keep.ensures.whole ∙ i.whole;
       rising = λ up. c.keep.ensures.rising;
       targets = λ m k below is. elim (cases_eq m net) [
-        | inl e ↦ subst (λ (n : ℕ). value_of targets n ≡ target_in c.find_targets-plain.result c.find_targets-plain.new.rooms values n) (sym e) kept_here
+        | inl e ↦ subst (λ (n : ℕ). value_of targets n ≡ target_in c.find_targets-plain.result c.find_targets-plain.new.rooms n) (sym e) kept_here
         | inr ne ↦ elim (cases_eq k at) [
           | inl same ↦ absurd (ne (sym is ∙ ap (λ (j : ℕ). get_or nets j 0) same))
           | inr other ↦ kept_there m ne ∙ i.targets m k (omega (arith, below, other)) is
@@ -38,7 +45,7 @@ loop-net-preserved g c =
       ];
       kept = λ m none. kept_there m (λ e. none at (omega arith) (sym e)) ∙ i.kept m (λ k below is. none k (omega (arith, below)) is);
       here = λ m k below is. elim (cases_eq m net) [
-        | inl e ↦ subst (λ (n : ℕ). Contains c.keep.new.pending.listed n ↔ (target_in c.find_targets-plain.result c.find_targets-plain.new.rooms values n ≢ value_of values n)) (sym e) here
+        | inl e ↦ subst (λ (n : ℕ). Contains c.keep.new.pending.listed n ↔ (target_in c.find_targets-plain.result c.find_targets-plain.new.rooms n ≢ value_of values n)) (sym e) here
         | inr ne ↦ elim (cases_eq k at) [
           | inl same ↦ absurd (ne (sym is ∙ ap (λ (j : ℕ). get_or nets j 0) same))
           | inr other ↦
@@ -64,7 +71,7 @@ returns-clause-here g c = λ net member.
     let e : get_or nets member.0 0 ≡ net = get_or_default nets member.0 0 net member.1 ∙ member.2 in
     let h = i.here net member.0 (omega (arith, member.1, c.loop-net-test.false)) e in
     let swept = c.find_targets-plain.ensures.swept net member in (
-      λ x. (target_in c.find_targets-plain.result c.find_targets-plain.new.rooms values net, (c.requires.closed.free net member, swept, λ z. h.0 x (sym z))),
+      λ x. (target_in c.find_targets-plain.result c.find_targets-plain.new.rooms net, (c.requires.closed.free net member, swept, λ z. h.0 x (sym z))),
       λ p. h.1 (λ z. p.1.2 (sym z ∙ target_unique devices free values net _ p.0 swept p.1.1)),
     )
 

@@ -1,36 +1,28 @@
-use Rattle.std.proofs.Common.{◌≡◌, ◌∙◌, refl, subst, Bool, true, false, ℕ, Vec, Global}
+use Rattle.std.proofs.Common.{Bool, true, false}
 use Rattle.switch_model.specs.Drives.{IsEndOf}
-use Rattle.switch_model.specs.FourDrives.{drive_of, sort_of}
-use Rattle.switch_model.specs.Joins.{top_of}
+use Rattle.switch_model.specs.Found.{class_of}
+use Rattle.switch_model.specs.FourDrives.{IsTold, drives_by, sort_of}
 use Rattle.switch_model.specs.LinksData.{is_first}
-use Rattle.switch_model.specs.SourceDrives.{IsDrive}
-use Rattle.switch_model.specs.Sweeps.{class_drives, drives_in, has_one_value}
-use Rattle.switch_model.specs.Walks.{drive_at}
-use Rattle.switch_model.specs.declared.drive.Drive.{Drive}
-use Rattle.switch_model.specs.declared.drives.Drives.{Drives}
-use Rattle.switch_model.specs.declared.rooms.Rooms.{Rooms}
-use Rattle.switch_model.proofs.ByDrives.{by_four}
+use Rattle.switch_model.proofs.DriveBits.{told_by}
+use Rattle.switch_model.proofs.PlainClasses.{plain_class}
 use Rattle.switch_model.proofs.Sweeping.{charged}
+use Rattle.switch_model.proofs.ToldTargets.{by_told}
 use Rattle.switch_model.proofs.sweep.find_targets.Goals as goal
 
-abbrev with_charge : Rooms → Vec Drive Global → Rooms
-with_charge rooms charge = record {
-  strong_definite = rooms.strong_definite;
-  strong_possible = rooms.strong_possible;
-  definite = rooms.definite;
-  possible = rooms.possible;
-  charge = charge;
-}
-
--- the charge changes no drives
-drives_same : (plain : Bool) (rooms : Rooms) (charge : Vec Drive Global) (net : ℕ) → drives_in plain rooms net ≡ drives_in plain (with_charge rooms charge) net
-drives_same true rooms charge net = refl
-drives_same false rooms charge net = refl
-
--- drives by possible paths are those of the classes by possible paths
-possible_same : (plain : Bool) (rooms : Rooms) (net : ℕ) → drive_of (class_drives rooms.possible net) false true ≡ drive_of (drives_in plain rooms net) false true
-possible_same true rooms net = refl
-possible_same false rooms net = refl
+pub returns-then-plain-clause-swept : goal.returns-then-plain-clause-swept
+returns-then-plain-clause-swept g c = λ net member.
+    let devices = c.args.wires.now in
+    let free = is_first c.args.sources in
+    let values = c.args.values.now in
+    let nets = c.args.nets.now in
+    let places = c.args.places.now in
+    let found = c.find_classes-plain.ensures in
+    let room = c.find_classes-plain.new.room in
+    let charge = charged devices free values nets places room.parents.items c.requires.closed found.class net member (class_of room net).charge (found.charged net member) in
+    by_told devices free values net (c.requires.closed.free net member) (class_of room net).drives
+    (λ definite keepers. found.driven definite keepers
+    (plain_class devices free nets places c.requires.closed values (found.plain c.if-plain.true) definite keepers room.parents.items found.class) net member)
+    charge.0 charge.1 (class_of room net).charge charge.2
 
 pub returns-clause-swept : goal.returns-clause-swept
 returns-clause-swept g c = λ net member.
@@ -39,13 +31,12 @@ returns-clause-swept g c = λ net member.
     let values = c.args.values.now in
     let nets = c.args.nets.now in
     let places = c.args.places.now in
-    let found = c.find_drives-plain.new.rooms in
-    let parents = found.possible.parents.items in
-    let rooms : Rooms = with_charge found c.charge_open.new.charge in
-    let charge = drive_at c.charge_open.new.charge.items (top_of parents net) in
-    let drive : (d k : Bool) → IsDrive (IsEndOf devices free values (sort_of d k) net) values (drive_of (drives_in c.find_drives-plain.result rooms net) d k) =
-    λ d k. subst (λ (x : Drives). IsDrive (IsEndOf devices free values (sort_of d k) net) values (drive_of x d k)) (drives_same c.find_drives-plain.result found c.charge_open.new.charge net)
-    (c.find_drives-plain.ensures.driven d k net member) in
-    by_four devices free values net _ _ _ _ (has_one_value charge) (drive true false) (drive false false) (drive true true) (drive false true)
-    (λ bare. charged devices free values nets places parents c.requires.closed c.find_drives-plain.ensures.class net member charge
-    (c.charge_open.ensures.charged net member (possible_same c.find_drives-plain.result rooms net ∙ bare)))
+    let found = c.find_classes-plain.ensures in
+    let room = c.find_classes-plain.new.room in
+    let charge = charged devices free values nets places room.parents.items c.requires.closed found.class net member (class_of room net).charge (found.charged net member) in
+    let told : (definite keepers : Bool) → IsTold (drives_by (class_of c.find_classes.new.room net).drives (class_of c.find_classes-2.new.room net).drives (class_of c.find_classes-3.new.room net).drives
+    (class_of room net).drives) definite keepers (IsEndOf devices free values (sort_of definite keepers) net) values =
+    told_by values (λ definite keepers. IsEndOf devices free values (sort_of definite keepers) net) _ _ _ _
+    (c.find_classes.ensures.driven true false c.find_classes.ensures.class net member) (c.find_classes-2.ensures.driven false false c.find_classes-2.ensures.class net member)
+    (c.find_classes-3.ensures.driven true true c.find_classes-3.ensures.class net member) (found.driven false true found.class net member) in
+    by_told devices free values net (c.requires.closed.free net member) _ told charge.0 charge.1 (class_of room net).charge charge.2

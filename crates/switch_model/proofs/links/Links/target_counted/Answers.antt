@@ -37,6 +37,12 @@ find_targets-plain-requires-clause-closed g c =
     (subst (λ (l : List ℕ). IsClosedPart w.wires (is_first w.sources) (list_at w.components.nets c.number-number.result) l) (sym c.at-2.ensures)
     (group_closed w.wires (is_first w.sources) (length w.components.nets) w.components i.components_are i.in_range c.number-number.result few))
 
+pub target-requires : goal.target-requires
+target-requires g c =
+    let w = c.self.inside in
+    let whole : length c.args.values.now ≡ length w.components.nets = c.requires.whole ∙ sym (ap (λ (l : LinksData). l.nets) c.self.view_is) in
+    (length c.args.values.now, c.find_targets-plain.ensures.rooms, omega (arith, whole, c.requires.within, ap (λ (l : LinksData). l.nets) c.self.view_is))
+
 pub returns-clause-target : goal.returns-clause-target
 returns-clause-target g c =
     let w = c.self.inside in
