@@ -18,7 +18,7 @@ front_none test line none =
     let place : position_or_len test line ≡ length line = position_or_len_is test line (length line) 0 (omega arith) (λ k l. false_from_ne_true _ (none k (omega arith) l)) (λ l. absurd (omega arith)) in
     sym (ap (λ n. take n line) place ∙ take_all (length line) line (omega arith))
 
-front-cons : (b : ℕ) (bs : List ℕ) → is_blank b ≡ false → before_first is_blank (b ∷ bs) ≡ b ∷ before_first is_blank bs
+pub front-cons : (b : ℕ) (bs : List ℕ) → is_blank b ≡ false → before_first is_blank (b ∷ bs) ≡ b ∷ before_first is_blank bs
 front-cons b bs e =
     let next : 1 + position_or_len is_blank bs ≡ suc (position_or_len is_blank bs) = omega arith in
     ap (λ (t : Bool). take (if not t then 1 + position_or_len is_blank bs else 0) (b ∷ bs)) e ∙ ap (λ n. take n (b ∷ bs)) next

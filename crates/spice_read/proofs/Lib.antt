@@ -11,9 +11,11 @@ pub mod FaultPlaces
 pub mod FirstWords
 pub mod FlatSubckts
 pub mod FoundUnits
+pub mod FrontPieces
 pub mod KindNumbers
 pub mod LinesRead
 pub mod LowerCase
+pub mod NamedNets
 pub mod NextState
 pub mod NoFault
 pub mod NumberedCards

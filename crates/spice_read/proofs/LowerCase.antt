@@ -1,5 +1,5 @@
 -- Lines and words in lower case: their letters change, and nothing that parts them.
-use Rattle.std.proofs.Common.{◌≡◌, ℕ, Bool, true, false, cond, ◌==◌, ◌||◌, if◌then◌else◌, List, [], ◌∷◌, map, filter, refl, sym, ap, ◌∙◌, arith}
+use Rattle.std.proofs.Common.{◌≡◌, ℕ, Bool, true, false, cond, ◌==◌, ◌||◌, ◌&&◌, codes, nat_eq, if◌then◌else◌, List, [], ◌∷◌, map, filter, refl, sym, ap, ◌∙◌, arith}
 use Rattle.std.specs.Char.{to_ascii_lowercase}
 use Rattle.std.specs.Str.{str_to_ascii_lowercase}
 use Rattle.std.specs.List.{AllByRecursion, before_first, list_any, slice_split, onto_first}
@@ -7,8 +7,11 @@ use Rattle.std.proofs.lemmas.Bool.Decides.{nat_tests}
 use Rattle.dom_base.specs.Lines.{is_blank, is_control, is_word, unindented, words, IsLowerWord, first_word}
 use Rattle.dom_base.proofs.Texts.{onto_first-map}
 use Rattle.dom_base.proofs.WordBytes.{lower_bytes, lower_words}
+use Rattle.std.specs.Cmp.Lexicographic.{pointwise}
+use Rattle.deck.specs.DeckText.{is_end}
 use Rattle.deck.specs.DeckCards.{has_equals}
-use Rattle.spice_read.proofs.FirstWords.{first_word-front}
+use Rattle.spice_read.proofs.FirstWords.{first_word-front, front-cons, no_blank}
+use Rattle.spice_read.specs.Readers.{begins_dotted}
 
 lower_blank : (b : ℕ) → is_blank (to_ascii_lowercase b) ≡ is_blank b
 lower_blank b = grind (arith, nat_tests)
@@ -59,6 +62,16 @@ pub front-lower : (line : List ℕ) → unindented line ≡ line → first_word 
 front-lower line is =
     ap first_word (words-lower line) ∙ first_word-lower (words line) ∙ ap str_to_ascii_lowercase (first_word-front line is)
 
+lower_dot : (b : ℕ) → (to_ascii_lowercase b == 46) ≡ (b == 46)
+lower_dot b = grind (arith, nat_tests)
+
+-- a line whose first byte is no `.` begins no card with that
+pub no_end : (line : List ℕ) → unindented line ≡ line → begins_dotted line ≡ false → is_end (str_to_ascii_lowercase line) ≡ false
+no_end [] is first = refl
+no_end (b ∷ bs) is first =
+    ap (λ w. pointwise nat_eq w (codes ".end")) (front-lower (b ∷ bs) is ∙ ap str_to_ascii_lowercase (front-cons b bs (no_blank b bs is)))
+    ∙ ap (λ t. t && pointwise nat_eq (str_to_ascii_lowercase (before_first is_blank bs)) (codes "end")) (lower_dot b ∙ first)
+
 any-lower : (test : ℕ → Bool) → ((b : ℕ) → test (to_ascii_lowercase b) ≡ test b) → (word : List ℕ) → list_any test (str_to_ascii_lowercase word) ≡ list_any test word
 any-lower test same [] = refl
 any-lower test same (b ∷ bs) = λ i. same b i || any-lower test same bs i
@@ -72,10 +85,6 @@ equals-lower word = any-lower (λ b. b == 61) lower_equals word
 
 -- the same of words that are read by any view
 module _ {X : Type 0} (view : X → List ℕ) where
-  pub controls-lower : (all : List X) → list_any (list_any is_control) (map (λ x. str_to_ascii_lowercase (view x)) all) ≡ list_any (list_any is_control) (map view all)
-  controls-lower [] = refl
-  controls-lower (x ∷ all) = λ i. control-lower (view x) i || controls-lower all i
-
   pub lower-map : (all : List X) → map (λ x. str_to_ascii_lowercase (view x)) all ≡ map str_to_ascii_lowercase (map view all)
   lower-map [] = refl
   lower-map (x ∷ all) = ap (λ l. str_to_ascii_lowercase (view x) ∷ l) (lower-map all)

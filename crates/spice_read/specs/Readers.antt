@@ -1,5 +1,5 @@
 -- Where the reader of a deck stands, and what one step of it reads: lines and cards, in lower case.
-use Rattle.std.specs.Prelude.{ℕ, ◌≡◌, ◌<◌, ◌+◌, Bool, true, false, ◌&&◌, not, nat_eq, if◌then◌else◌, List, [], ◌∷◌, ◌++◌, length, map, drop, codes, Option, Some, None, IsNone}
+use Rattle.std.specs.Prelude.{ℕ, ◌≡◌, ◌<◌, ◌+◌, Bool, true, false, ◌&&◌, ◌||◌, ◌==◌, not, nat_eq, nat_lt, if◌then◌else◌, List, [], ◌∷◌, ◌++◌, length, map, drop, codes, Option, Some, None, IsNone}
 use Rattle.std.specs.Cmp.Lexicographic.{pointwise}
 use Rattle.std.specs.List.{enumerate_from, filter_map, list_any}
 use Rattle.dom_base.specs.Lines.{is_control, unindented, words}
@@ -110,6 +110,15 @@ pub record IsAtFirstCard (text : List ℕ) (reader : Reader) : Type 0 where
   pub phases_are : deck_phases text ≡ reader.phases ++ phases_from (deck_lines reader.left.rest)
   pub end_is : end_line text ≡ end_from reader.left.number (deck_lines reader.left.rest)
   pub last : IsNone reader.held → reader.left.rest ≡ []
+
+-- a line whose first byte is `.`
+abbrev pub begins_dotted : List ℕ → Bool
+begins_dotted [] = false
+begins_dotted (b ∷ bs) = b == 46
+
+-- a byte that is no letter, digit or sign: each byte that parts words is one, and each control byte
+abbrev pub is_unplain : ℕ → Bool
+is_unplain b = nat_lt b 33 || nat_lt 126 b
 
 -- whether a sign is `+`, where it is `+` or `-`
 abbrev pub sign_given : List ℕ → Option Bool

@@ -1,5 +1,5 @@
 //! The cards of a text, each with its words cut once, and what a card is.
-ghost use Rattle.std.specs.Prelude.{◌≡◌, ◌<◌, ◌++◌, ℕ, IfOk, IsErrOf, OnOk, length, map};
+ghost use Rattle.std.specs.Prelude.{◌≡◌, ◌<◌, ◌++◌, ◌∷◌, ◌||◌, [], ℕ, IfOk, IsErrOf, OnOk, length, map};
 ghost use Rattle.std.specs.Cmp.Lexicographic.{pointwise};
 ghost use Rattle.std.specs.List.{list_any};
 ghost use Rattle.std.specs.Option.{option_to_list};
@@ -13,10 +13,10 @@ ghost use Rattle.spice_read.specs.Forms.{card_form, device_form, known_kind, nam
 ghost use Rattle.spice_read.specs.Readers.{continued_words, IsAtFirstCard, IsNextRead, IsStrayAt};
 
 use crate::DeckFault;
-use crate::lines::{Lines, begins_card, same_letters, strip_plus};
-use crate::words::{push_phase, push_words};
+use crate::lines::{Lines, begins_card, same_letters, strip_plus, unindent};
+use crate::words::{front_piece, push_phase};
 use deck::{DeckKind, Phase};
-use dom_base::{Kind, OutOfMemory, have_control};
+use dom_base::{Kind, OutOfMemory};
 use std::alloc::Global;
 use std::marker::Model;
 
@@ -31,22 +31,27 @@ pub enum Form {
     Skipped,
 }
 
-/// A card: the number of its first line, from 1, and its words, which are parts of the text.
-/// Letters of upper case count as those of lower case.
+/// A card: the number of its first line, from 1, its words, which are parts of the text, and whether
+/// one of them has a control byte. Letters of upper case count as those of lower case.
 #[derive(Drop)]
 pub struct Card<'a> {
     pub number: u64,
     pub words: Vec<&'a [u8]>,
+    pub unclean: bool,
 }
 
 impl<'a> Model for Card<'a> {
-    ghost use Rattle.std.specs.Prelude.{map};
+    ghost use Rattle.std.specs.Prelude.{◌≡◌, map};
+    ghost use Rattle.std.specs.List.{list_any};
     ghost use Rattle.std.specs.Str.{str_to_ascii_lowercase};
+    ghost use Rattle.dom_base.specs.Lines.{is_control};
     ghost use Rattle.deck.specs.DeckCards.{NumberedCard, word_at};
 
     ghost Value = { NumberedCard };
 
     ghost view = { λ c. record { number = c.number; words = map (λ w. str_to_ascii_lowercase w.now) c.words.items } };
+
+    ghost invariant = { λ c. c.unclean ≡ list_any (list_any is_control) (map (λ w. str_to_ascii_lowercase w.now) c.words.items) };
 }
 
 /// The kind of device of its word.
@@ -70,7 +75,58 @@ fn has_equals(word: &[u8]) -> bool
     word.iter().any(|b| *b == b'=')
 }
 
+/// Whether one of the two is true.
+fn either(one: bool, other: bool) -> bool
+    ensures { result ≡ (one || other) }
+{
+    one || other
+}
+
 impl<'a> Card<'a> {
+    /// A card without words.
+    pub fn new(alloc: Global) -> Card<'a> {
+        Card {
+            number: 0,
+            words: Vec::new(alloc),
+            unclean: false,
+        }
+    }
+
+    /// Begins a card at the line of this number, without words.
+    fn begin(&mut self, number: u64)
+        ensures number { self.new.number ≡ number }
+        ensures words { self.new.words ≡ [] }
+    {
+        self.number = number;
+        self.words.clear();
+        self.unclean = false;
+    }
+
+    /// Appends a word, of which it is known whether it has a control byte.
+    fn push_word(&mut self, word: &'a [u8], unclean: bool) -> Result<(), OutOfMemory>
+        requires { unclean ≡ list_any is_control word.now }
+        ensures number { self.new.number ≡ self.old.number }
+        ensures words { OnOk result (self.new.words ≡ self.old.words ++ str_to_ascii_lowercase word.now ∷ []) }
+    {
+        self.words.push(word)?;
+        self.unclean = either(self.unclean, unclean);
+        Ok(())
+    }
+
+    /// Appends the words of a line, which blanks and tabs part.
+    fn push_words(&mut self, line: &'a [u8]) -> Result<(), OutOfMemory>
+        ensures number { self.new.number ≡ self.old.number }
+        ensures words { OnOk result (self.new.words ≡ self.old.words ++ words (str_to_ascii_lowercase line.now)) }
+    {
+        let mut rest = unindent(line);
+        'words: while !rest.is_empty() {
+            let (word, unclean) = front_piece(rest);
+            self.push_word(word, unclean)?;
+            rest = unindent(&rest[word.len()..]);
+        }
+        Ok(())
+    }
+
     /// The word of this index, from 0, or no bytes where there is none.
     pub fn word(&self, index: usize) -> &[u8]
         ensures { str_to_ascii_lowercase result.now ≡ word_at self.now index }
@@ -128,7 +184,7 @@ impl<'a> Card<'a> {
     fn has_control(&self) -> bool
         ensures { result ≡ list_any (list_any is_control) self.now.words }
     {
-        have_control(&self.words)
+        self.unclean
     }
 
     fn has_equals(&self) -> bool
@@ -276,15 +332,14 @@ impl<'a> Cards<'a> {
         let Some((number, line)) = self.held.take() else {
             return Ok(false);
         };
-        card.number = number;
-        card.words.clear();
-        push_words(&mut card.words, line)?;
+        card.begin(number);
+        card.push_words(line)?;
         'lines: while let Some((number, line)) = self.lines.next() {
             if begins_card(line) {
                 self.held = Some((number, line));
                 return Ok(true);
             }
-            self.push_line(alloc, &mut card.words, line)?;
+            self.push_line(alloc, card, line)?;
         }
         Ok(true)
     }
@@ -293,18 +348,18 @@ impl<'a> Cards<'a> {
     fn push_line(
         &mut self,
         alloc: Global,
-        found: &mut Vec<&'a [u8]>,
+        card: &mut Card<'a>,
         line: &'a [u8],
     ) -> Result<(), OutOfMemory>
         ensures held { self.new.held ≡ self.old.held }
         ensures left { self.new.left ≡ self.old.left }
-        ensures found { OnOk result (map (λ w. str_to_ascii_lowercase w.now) found.new.items
-            ≡ map (λ w. str_to_ascii_lowercase w.now) found.old.items ++ continued_words (str_to_ascii_lowercase line.now)) }
+        ensures number { card.new.number ≡ card.old.number }
+        ensures words { OnOk result (card.new.words ≡ card.old.words ++ continued_words (str_to_ascii_lowercase line.now)) }
         ensures phases { OnOk result
             (self.new.phases ≡ self.old.phases ++ option_to_list (phase_of (words (str_to_ascii_lowercase line.now)))) }
     {
         match strip_plus(line) {
-            Some(rest) => push_words(found, rest),
+            Some(rest) => card.push_words(rest),
             None => push_phase(alloc, &mut self.phases, line),
         }
     }

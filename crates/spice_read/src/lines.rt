@@ -5,7 +5,7 @@ ghost use Rattle.std.specs.List.{before_first};
 ghost use Rattle.std.specs.Str.{str_to_ascii_lowercase};
 ghost use Rattle.dom_base.specs.Lines.{is_blank, unindented};
 ghost use Rattle.deck.specs.DeckText.{continues, is_end};
-ghost use Rattle.spice_read.specs.Readers.{begins_card, ReadsLine};
+ghost use Rattle.spice_read.specs.Readers.{begins_card, begins_dotted, ReadsLine};
 
 use dom_base::cut_line;
 use memchr::memchr2;
@@ -49,7 +49,8 @@ impl<'a> Lines<'a> {
     }
 }
 
-fn is_blank(byte: u8) -> bool
+/// Whether the byte parts words.
+pub fn is_blank(byte: u8) -> bool
     ensures { result ≡ is_blank byte }
 {
     byte == b' ' || byte == b'\t'
@@ -86,11 +87,24 @@ pub fn same_letters(word: &[u8], other: &[u8]) -> bool
     word.eq_ignore_ascii_case(other)
 }
 
+/// Whether the first byte is `.`.
+fn begins_dotted(line: &[u8]) -> bool
+    ensures { result ≡ begins_dotted line.now }
+{
+    match line {
+        [first, ..] => *first == b'.',
+        [] => false,
+    }
+}
+
 /// Whether the line begins the card `.end`.
 fn is_end(line: &[u8]) -> bool
     requires { unindented line.now ≡ line.now }
     ensures { result ≡ is_end (str_to_ascii_lowercase line.now) }
 {
+    if !begins_dotted(line) {
+        return false;
+    }
     same_letters(front_word(line), b".end")
 }
 

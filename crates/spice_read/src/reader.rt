@@ -57,10 +57,7 @@ fn read_cards<'a>(
     ensures fault { (line : ℕ) (kind : DeckKind) → IsErrOf result (DeckFault.At line kind) → IsDeckFaultAt text.now line kind }
 {
     let mut cards = Cards::new(alloc, text)?;
-    let mut card = Card {
-        number: 0,
-        words: Vec::new(alloc),
-    };
+    let mut card = Card::new(alloc);
     'cards: while cards.next(alloc, &mut card)? {
         subckts.push(alloc, crowds, &card)?;
     }

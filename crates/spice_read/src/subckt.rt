@@ -9,6 +9,8 @@ ghost use Rattle.spice_read.specs.FlatSubckts.{definition_of, flat_definition, o
 ghost use Rattle.spice_read.specs.ReadSubckts.{HasNames, numbers_in, with_call_of, with_device_of};
 
 use crate::cards::Card;
+use crate::named_nets::push_card;
+use crate::recent_nets::RecentNets;
 use crate::words::net_name;
 use deck::{Circuit, Device};
 use dom_base::{Crowd, Kind, NetName, OutOfMemory};
@@ -115,6 +117,23 @@ fn push_call(
     subckt.push_call(Call { name, unit, nets }, devices, depth)
 }
 
+/// Adds the device of a card to a subcircuit with calls. The one error is out of memory.
+fn push_part(
+    alloc: Global,
+    subckt: &mut Definition,
+    kind: Kind,
+    card: &Card<'_>,
+) -> Result<(), OutOfMemory>
+    requires room { subckt.old.devices < most_devices }
+    requires names { HasNames 5 card.now }
+    ensures { OnOk result (subckt.new ≡ with_device_of subckt.old kind card.now) }
+{
+    let drain = net_name(alloc, card.word(1))?;
+    let gate = net_name(alloc, card.word(2))?;
+    let source = net_name(alloc, card.word(3))?;
+    subckt.push_device(kind, drain, gate, source)
+}
+
 impl Subckt {
     /// The number of devices that it stands for.
     pub fn devices(&self) -> u32
@@ -138,6 +157,7 @@ impl Subckt {
     pub fn push_device(
         &mut self,
         alloc: Global,
+        recent: &mut RecentNets,
         kind: Kind,
         card: &Card<'_>,
     ) -> Result<(), OutOfMemory>
@@ -145,12 +165,9 @@ impl Subckt {
         requires names { HasNames 5 card.now }
         ensures { OnOk result (definition_of self.new ≡ with_device_of (definition_of self.old) kind card.now) }
     {
-        let drain = net_name(alloc, card.word(1))?;
-        let gate = net_name(alloc, card.word(2))?;
-        let source = net_name(alloc, card.word(3))?;
         match self {
-            Subckt::Flat(circuit) => circuit.push(kind, &drain, &gate, &source),
-            Subckt::Calling(definition) => definition.push_device(kind, drain, gate, source),
+            Subckt::Flat(circuit) => push_card(alloc, recent, circuit, kind, card),
+            Subckt::Calling(definition) => push_part(alloc, definition, kind, card),
         }
     }
 

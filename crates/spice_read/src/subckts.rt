@@ -247,7 +247,7 @@ impl Subckts {
         ensures fault { AnswersFault result card.now.number (fault_in self.old card.now) }
     {
         match card.form() {
-            Ok(Form::Device(kind)) => self.push_device(alloc, &mut crowds.nets, kind, card),
+            Ok(Form::Device(kind)) => self.push_device(alloc, crowds, kind, card),
             Ok(Form::Call) => self.push_call(alloc, &mut crowds.nets, card),
             Ok(Form::Subckt) => self.open(alloc, crowds, card),
             Ok(Form::Ends) => self.close(alloc, &mut crowds.units, card),
@@ -259,7 +259,7 @@ impl Subckts {
     fn push_device(
         &mut self,
         alloc: Global,
-        crowd: &mut Crowd,
+        crowds: &mut Crowds,
         kind: Kind,
         card: &Card<'_>,
     ) -> Result<(), DeckFault>
@@ -274,8 +274,8 @@ impl Subckts {
         if subckt.devices() >= MOST_DEVICES {
             return Err(card.fault(DeckKind::TooMany));
         }
-        subckt.look(crowd)?;
-        subckt.push_device(alloc, kind, card)?;
+        subckt.look(&mut crowds.nets)?;
+        subckt.push_device(alloc, &mut crowds.recent, kind, card)?;
         Ok(())
     }
 

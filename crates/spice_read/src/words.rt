@@ -1,30 +1,47 @@
 //! Words of lines, names out of words, and phases out of comments.
 ghost use Rattle.std.specs.Prelude.{◌≡◌, ◌++◌, IfOk, OnOk, map};
-ghost use Rattle.std.specs.List.{AllByRecursion};
+ghost use Rattle.std.specs.List.{AllByRecursion, before_first, list_any, position};
 ghost use Rattle.std.specs.Option.{option_to_list};
 ghost use Rattle.std.specs.Str.{str_to_ascii_lowercase};
-ghost use Rattle.dom_base.specs.Lines.{words, IsLowerWord};
+ghost use Rattle.dom_base.specs.Lines.{is_blank, is_control, words, IsLowerWord};
 ghost use Rattle.dom_base.specs.Names.{IsNetName};
 ghost use Rattle.deck.specs.DeckText.{phase_of, signed_phase};
-ghost use Rattle.spice_read.specs.Readers.{begins_phase, sign_given};
+ghost use Rattle.spice_read.specs.Readers.{begins_phase, is_unplain, sign_given};
 
-use crate::lines::{front_word, same_letters, unindent};
+use crate::lines::{front_word, is_blank, same_letters};
 use deck::Phase;
 use dom_base::{NetName, OutOfMemory, cut_words, has_control, name_in_lower_case};
 use std::alloc::Global;
 
-/// Appends the words of a line, which blanks and tabs part.
-pub fn push_words<'a>(found: &mut Vec<&'a [u8]>, line: &'a [u8]) -> Result<(), OutOfMemory>
-    ensures { OnOk result (map (λ w. str_to_ascii_lowercase w.now) found.new.items
-        ≡ map (λ w. str_to_ascii_lowercase w.now) found.old.items ++ words (str_to_ascii_lowercase line.now)) }
+/// Whether the byte is no letter, digit or sign of ASCII: each byte that parts words is one, and each control byte.
+fn is_unplain(byte: u8) -> bool
+    ensures { result ≡ is_unplain byte }
 {
-    let mut rest = unindent(line);
-    'words: while !rest.is_empty() {
-        let word = front_word(rest);
-        found.push(word)?;
-        rest = unindent(&rest[word.len()..]);
+    byte < b'!' || b'~' < byte
+}
+
+/// The place of the first such byte.
+fn unplain_place(line: &[u8]) -> Option<usize>
+    ensures { result ≡ position is_unplain line.now }
+{
+    line.iter().position(|byte| is_unplain(*byte))
+}
+
+/// The bytes before the first blank or tab, and whether there is a control byte among them.
+pub fn front_piece(line: &[u8]) -> (&[u8], bool)
+    ensures word { result.0.now ≡ before_first is_blank line.now }
+    ensures control { result.1 ≡ list_any is_control result.0.now }
+{
+    match unplain_place(line) {
+        None => (line, false),
+        Some(end) => {
+            if is_blank(line[end]) {
+                return (&line[..end], false);
+            }
+            let word = front_word(line);
+            (word, has_control(word))
+        }
     }
-    Ok(())
 }
 
 /// The word in lower case, as the name of a net.

@@ -1,4 +1,4 @@
-use Rattle.std.proofs.Common.{◌∙◌, ◌++◌, sym, ap, subst, refl, map, Some, None}
+use Rattle.std.proofs.Common.{◌∙◌, ◌++◌, sym, ap, subst, refl, Some, None}
 use Rattle.std.specs.Prelude.{option_map}
 use Rattle.std.specs.Str.{str_to_ascii_lowercase}
 use Rattle.dom_base.specs.Lines.{words}
@@ -8,9 +8,12 @@ use Rattle.spice_read.proofs.cards.Cards.next.Goals as goal
 
 pub lines-init : goal.lines-init
 lines-init c =
-    in_first_line c.args.self.now _ (c.in-Some.number, str_to_ascii_lowercase c.in-Some.line.now) _
-    (sym (ap (λ (r : Reader). r.held) c.self.view_is) ∙ ap (option_map (λ p. (p.0, str_to_ascii_lowercase p.1.now))) (sym c.take.ensures.value ∙ c.in-Some.is))
-    (c.in_ok-push_words.ensures ∙ ap (λ l. map (λ w. str_to_ascii_lowercase w.now) l ++ words (str_to_ascii_lowercase c.in-Some.line.now)) c.clear.ensures.items)
+    let line = str_to_ascii_lowercase c.in-Some.line.now in
+    let number = c.in_ok-push_words.ensures.number ∙ c.begin.ensures.number in
+    in_first_line c.args.self.now _ (c.push_words.new.self.number, line) _
+    (sym (ap (λ (r : Reader). r.held) c.self.view_is) ∙ ap (option_map (λ p. (p.0, str_to_ascii_lowercase p.1.now))) (sym c.take.ensures.value ∙ c.in-Some.is)
+    ∙ ap (λ n. Some (n, line)) (sym number))
+    (c.in_ok-push_words.ensures.words ∙ ap (λ l. l ++ words line) c.begin.ensures.words)
     (ap (λ h. record { held = option_map (λ p. (p.0, str_to_ascii_lowercase p.1.now)) h; left = c.self.inside.lines; phases = c.self.inside.phases.items }) c.take.ensures.after ∙ ap (λ (r : Reader). record r { held = None }) c.self.view_is)
 
 pub returns-then-begins_card : goal.returns-then-begins_card
