@@ -30,6 +30,7 @@ pub mod ToldEdges
 pub mod TraceCauses
 pub mod TraceRuns
 pub mod TraceThere
+pub mod UnflattenedFiles
 pub mod VerdictThere
 pub mod VerdictsBy
 pub mod WrongOutputs

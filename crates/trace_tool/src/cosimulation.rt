@@ -6,7 +6,9 @@ ghost use Rattle.trace_tool.specs.declared.fault.TraceFault.{TraceFault as Fault
 
 use crate::circuit_verdict::verdict_of_circuit;
 use crate::{Order, TraceFault, Verdict};
-use net_flatten::{Network, flatten};
+use blif_numbers::read_numbers;
+use flat_numbers::flatten_numbers;
+use net_flatten::Network;
 use std::alloc::Global;
 
 /// The verdict of a deck beside the network of a text of BLIF over a stimulus for the network's inputs,
@@ -36,7 +38,7 @@ pub fn network_of_text(alloc: Global, blif: &[u8]) -> Result<Network, TraceFault
     ensures network { IfOk result (HasNetworkOf blif.now) }
     ensures refused { (why : Fault) → IsErrOf result why → IsUnflattened blif.now why }
 {
-    let file = blif_read::read(alloc, blif)?;
-    let network = flatten(alloc, &file)?;
+    let file = read_numbers(alloc, blif)?;
+    let network = flatten_numbers(alloc, &file)?;
     Ok(network)
 }
