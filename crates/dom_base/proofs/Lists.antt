@@ -316,3 +316,9 @@ module _ {X : Type 0} (eq : X → X → Bool) where
   unfolding IsDistinct
   IsDistinct-append [] ys a b c = b
   IsDistinct-append (x ∷ xs) ys a b c = (AllByRecursion-append (λ y. eq x y ≡ false) xs ys a.0 c.0, IsDistinct-append xs ys a.1 b c.1)
+
+-- what is left of a list from an element on
+pub drop_next : {X : Type 0} (xs : List X) (k : ℕ) (x : X) → slice_get xs k ≡ Some x → drop k xs ≡ x ∷ drop (k + 1) xs
+drop_next [] k x e = absurd cc
+drop_next (y ∷ ys) zero x e = let i : y ≡ x = cc in ap (λ z. z ∷ ys) i
+drop_next (y ∷ ys) (suc k) x e = drop_next ys k x e ∙ ap (λ n. x ∷ drop n (y ∷ ys)) (let z : suc (k + 1) ≡ suc k + 1 = omega arith in z)

@@ -1,6 +1,6 @@
 -- What is known of an option or a result once its case is known.
 use Rattle.std.proofs.Common.{◌≡◌, Option, Some, None, Result, Ok, Err, IfOk, subst}
-use Rattle.std.specs.Prelude.{MatchOption}
+use Rattle.std.specs.Prelude.{IfSome, MatchOption}
 
 -- the two cases of an option
 pub none_case : {X : Type 0} (P : Type 0) (Q : X → Type 0) (o : Option X) → o ≡ None → MatchOption o P Q → P
@@ -22,3 +22,8 @@ some≢none x e = cc
 pub if_ok-weaker : {T E : Type 0} {A B : T → Type 0} (result : Result T E) → ((x : T) → A x → B x) → IfOk result A → IfOk result B
 if_ok-weaker (Ok x) f h = f x h
 if_ok-weaker (Err e) f h = tt
+
+-- what there is meets more, where it is there
+pub some_weaker : {X : Type 0} (o : Option X) (P Q : X → Type 0) → ((x : X) → P x → Q x) → IfSome o P → IfSome o Q
+some_weaker None P Q f h = tt
+some_weaker (Some x) P Q f h = f x h

@@ -32,7 +32,7 @@ comment_at line i first = ap (λ n. take n line) (sym (place_of_first 35 line i 
 pub no_comment : (line : List ℕ) → IsFirstByte (is_byte 35) line None → line ≡ without_comment line
 no_comment line none = sym (ap (λ n. take n line) (place_of_none 35 line none) ∙ take_all (length line) line (omega arith))
 
-without_empty_last-cons : (piece : List ℕ) (pieces : List (List ℕ)) → 0 < length pieces → without_empty_last (piece ∷ pieces) ≡ piece ∷ without_empty_last pieces
+pub without_empty_last-cons : (piece : List ℕ) (pieces : List (List ℕ)) → 0 < length pieces → without_empty_last (piece ∷ pieces) ≡ piece ∷ without_empty_last pieces
 without_empty_last-cons piece [] some = absurd (omega arith)
 without_empty_last-cons piece (next ∷ pieces) some = refl
 

@@ -46,7 +46,7 @@ without_empty_last-each P [] h = tt
 without_empty_last-each P (piece ∷ []) h = some_piece-each P piece h.0
 without_empty_last-each P (piece ∷ next ∷ pieces) h = (h.0, without_empty_last-each P (next ∷ pieces) h.1)
 
-without_return-each : (P : ℕ → Type 0) (line : List ℕ) → AllByRecursion P line → AllByRecursion P (without_return line)
+pub without_return-each : (P : ℕ → Type 0) (line : List ℕ) → AllByRecursion P line → AllByRecursion P (without_return line)
 without_return-each P [] h = tt
 without_return-each P (b ∷ []) h = by (b == 13) refl
   where

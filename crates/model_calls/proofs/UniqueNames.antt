@@ -10,13 +10,12 @@ use Rattle.std.proofs.lemmas.Bool.{true≢false}
 use Rattle.std.proofs.lemmas.Cmp.{nat_list_eq_equiv}
 use Rattle.std.proofs.lemmas.List.Folds.{list_any-append, list_any-from_Any}
 use Rattle.dom_base.proofs.Bools.{or_false}
-use Rattle.dom_base.proofs.Lists.{reverse-cons, AllByRecursion-weaker}
+use Rattle.dom_base.proofs.Lists.{reverse-cons, AllByRecursion-weaker, drop_next}
 use Rattle.blif_ast.specs.Cards.{same}
 use Rattle.indexmap.specs.IndexSet.{insert_key}
 use Rattle.model_calls.proofs.Apart.{Apart}
 use Rattle.model_calls.proofs.EachPart.{each_itself}
 use Rattle.model_calls.proofs.Fitting.{contains_cons}
-use Rattle.network.proofs.Lists.{drop_next}
 
 or_swap : (a b : Bool) → (a || b) ≡ (b || a)
 or_swap true true = refl

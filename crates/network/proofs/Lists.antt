@@ -63,9 +63,3 @@ each_le_greatest a (x ∷ xs) = (omega (arith, le-max_right a x, le_greatest (ma
 pub map_same : {X Y : Type 0} (f g : X → Y) (xs : List X) → AllByRecursion (λ x. f x ≡ g x) xs → map f xs ≡ map g xs
 map_same f g [] h = refl
 map_same f g (x ∷ xs) h = ap (λ y. y ∷ map f xs) h.0 ∙ ap (λ l. g x ∷ l) (map_same f g xs h.1)
-
--- what is left of a list from an element on
-pub drop_next : {X : Type 0} (xs : List X) (k : ℕ) (x : X) → slice_get xs k ≡ Some x → drop k xs ≡ x ∷ drop (k + 1) xs
-drop_next [] k x e = absurd cc
-drop_next (y ∷ ys) zero x e = let i : y ≡ x = cc in ap (λ z. z ∷ ys) i
-drop_next (y ∷ ys) (suc k) x e = drop_next ys k x e ∙ ap (λ n. x ∷ drop n (y ∷ ys)) (let z : suc (k + 1) ≡ suc k + 1 = omega arith in z)

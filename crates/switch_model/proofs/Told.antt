@@ -4,6 +4,7 @@ use Rattle.std.specs.Prelude.{◌⊎◌, ◌||◌}
 use Rattle.dom_base.specs.Decided.{Decided}
 use Rattle.dom_base.specs.declared.tri.Tri.{Tri}
 use Rattle.dom_base.specs.declared.tri.Tri.TheVariants.{One, Unknown, Zero}
+use Rattle.dom_base.proofs.Bools.{not_true}
 use Rattle.dom_base.proofs.Decided.{dec_tri}
 use Rattle.deck.specs.Switches.{value_of}
 use Rattle.switch_model.specs.Found.{IsCharge, IsMixed, IsWith}
@@ -78,15 +79,11 @@ shows_yes false Unknown ne = refl
 shows_yes true One ne = refl
 shows_yes true Unknown ne = refl
 
-is_false : (b : Bool) → (b ≡ true → ⊥) → b ≡ false
-is_false false none = refl
-is_false true none = absurd (none refl)
-
 told_shows : (drives : Drives) (definite keepers : Bool) (S : ℕ → Type 0) (values : List Tri) → IsTold drives definite keepers S values
     → (high : Bool) (x : Drive) → IsDrive S values x → tells drives definite keepers high ≡ shows high x
-told_shows drives definite keepers S values t high Nothing h = is_false _ (λ e. let w = (t high).0 e in h w.0 w.1)
+told_shows drives definite keepers S values t high Nothing h = not_true _ (λ e. let w = (t high).0 e in h w.0 w.1)
 told_shows drives definite keepers S values t high (Only v) h = elim (dec_tri v (side high)) [
-  | inl e ↦ is_false _ (λ yes. let w = (t high).0 yes in w.2 (h.1 w.0 w.1 ∙ e)) ∙ sym (shows_no high v e)
+  | inl e ↦ not_true _ (λ yes. let w = (t high).0 yes in w.2 (h.1 w.0 w.1 ∙ e)) ∙ sym (shows_no high v e)
   | inr ne ↦ (t high).1 (h.0.0, h.0.1, λ e. ne (sym h.0.2 ∙ e)) ∙ sym (shows_yes high v ne)
 ]
 told_shows drives definite keepers S values t high Mixed h = elim (dec_tri (value_of values h.0) (side high)) [

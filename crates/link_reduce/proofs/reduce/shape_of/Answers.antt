@@ -3,7 +3,8 @@ use Rattle.sp_reduction.specs.Reduction.{IsNetwork}
 use Rattle.link_reduce.specs.Parts.{links_of}
 use Rattle.link_reduce.specs.Reductions.{IsSound}
 use Rattle.link_reduce.proofs.Begun.{begun_sound}
-use Rattle.link_reduce.proofs.Options.{none_weaker, some_weaker}
+use Rattle.link_reduce.proofs.Options.{none_weaker}
+use Rattle.dom_base.proofs.Options.{some_weaker}
 use Rattle.link_reduce.proofs.reduce.shape_of.Goals as goal
 
 pub run-requires : goal.run-requires

@@ -1,13 +1,13 @@
 use Rattle.std.specs.Prelude.{List}
 use Rattle.std.proofs.Common.{refl, ℕ}
-use Rattle.dom_base.proofs.Options.{if_ok-weaker}
+use Rattle.dom_base.proofs.Options.{if_ok-weaker, some_weaker}
 use Rattle.sp_reduction.specs.Reduction.{IsNetwork}
 use Rattle.link_reduce.specs.Parts.{IsSpelled, links_of}
 use Rattle.link_reduce.specs.Reductions.{IsSound}
 use Rattle.link_reduce.specs.Spellings.{SpelledData}
 use Rattle.link_reduce.specs.declared.part.Ends.{Ends}
 use Rattle.link_reduce.proofs.Begun.{begun_sound}
-use Rattle.link_reduce.proofs.Options.{none_weaker, some_weaker}
+use Rattle.link_reduce.proofs.Options.{none_weaker}
 use Rattle.link_reduce.proofs.reduce.spelled_of.Goals as goal
 
 pub run-requires : goal.run-requires

@@ -3,7 +3,8 @@ use Rattle.audit_deck.specs.Fronts.{IsInverterAt, IsPairAt}
 use Rattle.audit_deck.specs.declared.fronts.Inverter.{Inverter}
 use Rattle.deck_audit.specs.Words.{IsInverterOutput}
 use Rattle.audit_deck.proofs.Found.{no_pair, not_two, pair_inverts, turned_inverts}
-use Rattle.link_reduce.proofs.Options.{none_weaker, some_weaker}
+use Rattle.link_reduce.proofs.Options.{none_weaker}
+use Rattle.dom_base.proofs.Options.{some_weaker}
 use Rattle.audit_deck.proofs.index.Index.inverter.Goals as goal
 
 pub returns-then-ending-ne2-clause-none : goal.returns-then-ending-ne2-clause-none

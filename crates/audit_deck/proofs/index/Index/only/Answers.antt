@@ -4,7 +4,8 @@ use Rattle.std.proofs.lemmas.Option.{slice_get-get_or}
 use Rattle.audit_deck.specs.Indexes.{HasKind, IsOnly}
 use Rattle.audit_deck.specs.Scans.{IsOnlyIn}
 use Rattle.audit_deck.proofs.Found.{only_found, only_in}
-use Rattle.link_reduce.proofs.Options.{none_weaker, some_weaker}
+use Rattle.link_reduce.proofs.Options.{none_weaker}
+use Rattle.dom_base.proofs.Options.{some_weaker}
 use Rattle.audit_deck.proofs.Scans.{IsOnlyBefore, scan_first, scan_none, scan_past, scan_second, scan_some}
 use Rattle.audit_deck.proofs.index.Index.only.Goals as goal
 use Rattle.audit_deck.proofs.index.Index.only.Goals.{then-has_kind+else-is_some, else-has_kind}
