@@ -14,9 +14,9 @@ use Rattle.blif_ast.specs.BlifModelData.{BlifModelData}
 use Rattle.blif_ast.specs.LogicalLines.{LogicalLine}
 use Rattle.blif_ast.specs.Cards.{card_of, is_card, is_form, last_letter, last_word, table_inputs}
 use Rattle.blif_ast.specs.Models.{instance_of, latch_of}
-use Rattle.blif_read.specs.Build.{Built, built_by, has_model, model_with_table, new_model, new_table, opened_by, table_with_row}
-use Rattle.blif_read.specs.Steps.{Context, card_fault, context_fault, formed_card_fault, row_fault}
-use Rattle.blif_read.proofs.LineContexts.{known_is_card}
+use Rattle.blif_numbers.specs.Build.{Built, built_by, has_model, model_with_table, new_model, new_table, opened_by, table_with_row}
+use Rattle.blif_numbers.specs.Steps.{Context, card_fault, context_fault, formed_card_fault, row_fault}
+use Rattle.blif_numbers.proofs.LineContexts.{known_is_card}
 use Rattle.blif_numbers.specs.declared.open_model.OpenModel.{OpenModel}
 use Rattle.blif_numbers.specs.declared.open_model.OpenTable.{OpenTable}
 use Rattle.blif_numbers.specs.declared.parts.PartKind.TheVariants as at
@@ -25,7 +25,8 @@ use Rattle.blif_numbers.specs.NameNumbers.{Grows}
 use Rattle.blif_numbers.specs.OpenLists.{OpenLists, open_lists, with_words, with_row, with_part, with_model}
 use Rattle.blif_numbers.specs.Pieces.{StandsAt}
 use Rattle.blif_numbers.specs.BuilderData.{BuilderData, built_in, built_of, card_lists, card_taken, is_on, latch_parts, model_closed, model_of, model_taken, open_table, opened_table, row_taken, table_closed, table_of_open, value_after, width_and_letter, with_parts, HasValue, IsBuilder, IsInner, InnerInputs, InnerOutputs, InnerNames, InnerLatch, InnerSubckt, InnerClock, IsOpenModel, IsOpenTable}
-use Rattle.blif_numbers.proofs.Builds.{built-grown, closed-model, closed-no_model, closed-no_table, closed-table, model-instance, model-latch, models-closed, opened-is, row-pushed, row_in_form}
+use Rattle.blif_numbers.proofs.ReaderInvariant.{clean_by, in_form}
+use Rattle.blif_numbers.proofs.Builds.{built-grown, closed-model, closed-no_model, closed-no_table, closed-table, model-instance, model-latch, models-closed, opened-is, row-pushed}
 
 -- the builder by its names, its lists and its open model
 module _ (b : BuilderData) {names : List (List ℕ)} {lists : OpenLists} {open_model : Option OpenModel} where
@@ -89,7 +90,7 @@ row_is : (names : List (List ℕ)) (lists : OpenLists) (m : OpenModel) (t : Open
     → built_of names (with_row lists place) (Some (record m { table = Some (record t { value = value_after t.value (last_letter words) }) }))
     ≡ row_taken (built_of names lists (Some m)) words
 row_is names lists m t place words is h clean stands =
-    let form = row_in_form (width_and_letter t) words (clean ∙ ap (λ o. row_fault (opened_by (option_map (open_table lists) o)) words) is ∙ ap (λ o. row_fault o words) (opened-is lists (Some t) h)) in
+    let form = in_form (width_and_letter t) words (clean ∙ ap (λ o. row_fault (opened_by (option_map (open_table lists) o)) words) is ∙ ap (λ o. row_fault o words) (opened-is lists (Some t) h)) in
     λ i. record {
       models = lists.models;
       model = Some (model_of names lists m);
@@ -300,15 +301,6 @@ pub known-end : (b : Built) (line : LogicalLine) → built_by b (Some End) line 
 known-end b line = λ i. record { models = models-closed b i; model = None; table = None }
 
 -- what a line without fault is: a row of the open table, or a card that is known
-
-clean_by : (context : Context) (line : LogicalLine) → None ≡ context_fault context line
-    → None ≡ cond (is_card line) (card_fault context.model (card_of line) line.words) (row_fault context.table line.words)
-clean_by context line clean = by (list_any (list_any is_control) line.words) clean
-  where
-    by : (control : Bool) → None ≡ cond control (Some ControlByte) (cond (is_card line) (card_fault context.model (card_of line) line.words) (row_fault context.table line.words))
-        → None ≡ cond (is_card line) (card_fault context.model (card_of line) line.words) (row_fault context.table line.words)
-    by true e = absurd (cc)
-    by false e = e
 
 pub clean_row : (context : Context) (line : LogicalLine) → card_of line ≡ None → None ≡ context_fault context line → None ≡ row_fault context.table line.words
 clean_row context line none clean = by (is_card line) (clean_by context line clean)

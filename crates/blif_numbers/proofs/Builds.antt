@@ -1,5 +1,5 @@
 -- What is appended to the lists of the file so far, and what was made of the lines by it.
-use Rattle.std.proofs.Common.{◌≡◌, ℕ, ◌-◌, Bool, true, false, cond, not, ◌==◌, List, [], ◌∷◌, ◌++◌, length, map, take, drop, refl, sym, ap, ◌∙◌, arith, append-nil, append_assoc, Some, None, eqb-true}
+use Rattle.std.proofs.Common.{◌≡◌, ℕ, ◌-◌, Bool, true, ◌==◌, List, [], ◌∷◌, ◌++◌, length, map, take, drop, refl, sym, ap, ◌∙◌, arith, append-nil, append_assoc, Some, None, eqb-true}
 use Rattle.std.specs.Prelude.{Option, ◌&&◌, nat_lt}
 use Rattle.std.specs.List.{filter_map, list_all}
 use Rattle.std.specs.Option.{option_map, option_to_list}
@@ -10,7 +10,6 @@ use Rattle.dom_base.proofs.Bools.{and_both}
 use Rattle.dom_base.proofs.Lists.{map-push}
 use Rattle.blif_ast.specs.declared.card.Card.{Card}
 use Rattle.blif_ast.specs.declared.card.Card.TheVariants.{Inputs, Outputs, Names, Latch, Subckt, Clock}
-use Rattle.blif_ast.specs.declared.kind.BlifKind.TheVariants.{BadRow, MixedCover}
 use Rattle.blif_ast.specs.declared.latch.Latch.{Latch as LatchValue}
 use Rattle.blif_ast.specs.declared.letter.Letter.{Letter}
 use Rattle.blif_ast.specs.TableData.{TableData}
@@ -19,8 +18,7 @@ use Rattle.blif_ast.specs.BlifModelData.{BlifModelData}
 use Rattle.blif_ast.specs.LogicalLines.{LogicalLine}
 use Rattle.blif_ast.specs.Cards.{formal_of, actual_of, is_letter, is_row_form, is_value, last_letter}
 use Rattle.blif_ast.specs.Models.{binding_of, row_letter, row_letters}
-use Rattle.blif_read.specs.Build.{Built, built_by, closed_models, first_letter_in, model_after_card, model_with_card, model_with_table, on_after, opened_by, table_after_card, table_with_row}
-use Rattle.blif_read.specs.Steps.{OpenTable as TableContext, differs, row_fault}
+use Rattle.blif_numbers.specs.Build.{Built, built_by, closed_models, first_letter_in, model_after_card, model_with_card, model_with_table, on_after, opened_by, table_after_card, table_with_row}
 use Rattle.blif_numbers.specs.declared.open_model.OpenModel.{OpenModel}
 use Rattle.blif_numbers.specs.declared.open_model.OpenTable.{OpenTable}
 use Rattle.blif_numbers.specs.declared.parts.PartKind.TheVariants as at
@@ -161,14 +159,6 @@ opened-is lists (Some t) h = λ i. Some (record { width = inputs_length i; lette
     letter_is None rows none = ap (λ rs. first_letter_in (map (row_at lists.text (length lists.words - 1)) rs) true) none
     letter_is (Some on) [] some = absurd (some refl)
     letter_is (Some on) (row ∷ rows) some = refl
-
--- a row that is in its form, by the open table
-pub row_in_form : (table : TableContext) (words : List (List ℕ)) → None ≡ row_fault (Some table) words → is_row_form table.width words ≡ true
-row_in_form table words clean = by (is_row_form table.width words) clean
-  where
-    by : (form : Bool) → None ≡ cond (not form) (Some BadRow) (cond (differs table.letter (last_letter words)) (Some MixedCover) None) → form ≡ true
-    by true e = refl
-    by false e = absurd (cc)
 
 on_is : (value : Option Bool) (rows : List ℕ) (read : ℕ → List Letter) (letter : ℕ) → HasValue value rows
     → is_on (value_after value letter) ≡ on_after (map read rows) (is_on value) letter

@@ -5,7 +5,7 @@ use Rattle.std.specs.Option.{option_to_list}
 use Rattle.std.proofs.lemmas.Grind.{flat_map-append}
 use Rattle.blif_ast.specs.Cards.{same, formal_of, actual_of}
 use Rattle.blif_ast.specs.Models.{init_of, instance_of, latch_of}
-use Rattle.blif_read.specs.Cuts.{numbered_line}
+use Rattle.blif_numbers.specs.Cuts.{numbered_line}
 use Rattle.blif_numbers.specs.declared.parts.PartKind.{PartKind}
 use Rattle.blif_numbers.specs.declared.parts.PartKind.TheVariants as at
 use Rattle.blif_numbers.specs.Numbered.{Part, InstancePart, LatchPart, latch_by, part_by}

@@ -4,7 +4,7 @@ use Rattle.std.specs.Prelude.{Some, slice_get}
 use Rattle.std.specs.List.{filter_map}
 use Rattle.std.proofs.lemmas.List.{drop-map, take-map, drop_all, drop_more, length-drop, take-append-drop, take_more}
 use Rattle.std.proofs.lemmas.Option.{get_or_from_slice_get, slice_get_within}
-use Rattle.dom_base.proofs.Lists.{head_same, tail_same}
+use Rattle.dom_base.proofs.Lists.{drop_next, head_same, tail_same}
 use Rattle.std.proofs.lemmas.List.Sums.{fold-append}
 use Rattle.blif_ast.specs.BlifModelData.{BlifModelData}
 use Rattle.blif_numbers.specs.declared.parts.PartAt.{PartAt}
@@ -84,9 +84,6 @@ all-of xs i none = sym (append-nil (take i xs)) ∙ ap (λ l. take i xs ++ l) (s
 pub take-get : {X : Type 0} (xs : List X) (i : ℕ) (x : X) → slice_get xs i ≡ Some x → take (i + 1) xs ≡ take i xs ++ x ∷ []
 take-get xs i x is = take_more xs i x (slice_get_within xs i x is) ∙ ap (λ y. take i xs ++ y ∷ []) (get_or_from_slice_get xs i x x is)
 
-pub drop-get : {X : Type 0} (xs : List X) (i : ℕ) (x : X) → slice_get xs i ≡ Some x → drop i xs ≡ x ∷ drop (i + 1) xs
-drop-get xs i x is = drop_more xs i x (slice_get_within xs i x is) ∙ ap (λ y. y ∷ drop (i + 1) xs) (get_or_from_slice_get xs i x x is)
-
 -- parts that are copied: those so far, and what is left of them
 pub record IsCopied (d : NumberedData) (parts : List PartAt) (whole : List Part) (old new : BlifModelData) (index words rows : ℕ) : Type 0 where
   pub model : new ≡ model_with_all old (take index whole)
@@ -103,7 +100,7 @@ pub copy-step : (d : NumberedData) (parts : List PartAt) (whole : List Part) (ol
 copy-step d parts whole old new after index words rows part c is pushed =
     let one = part_by d.text part.kind part.line (between words part.words_end (named d.names d.words)) (between rows part.rows_end d.rows) in
     let left = parts_from d.text (named d.names d.words) d.rows part.words_end part.rows_end (drop (index + 1) parts) in
-    let next = next-of whole index one left (sym c.rest ∙ ap (parts_from d.text (named d.names d.words) d.rows words rows) (drop-get parts index part is)) in
+    let next = next-of whole index one left (sym c.rest ∙ ap (parts_from d.text (named d.names d.words) d.rows words rows) (drop_next parts index part is)) in
     record {
       model = pushed ∙ ap (λ m. model_with_part m one) c.model ∙ sym (with_all-push old (take index whole) one) ∙ ap (model_with_all old) (sym next.0);
       rest = sym next.1;

@@ -13,7 +13,7 @@ use Rattle.dom_base.proofs.Bools.{or_false, or_none, or_true}
 use Rattle.dom_base.proofs.Decided.{lt_or_ge}
 use Rattle.dom_base.proofs.Lists.{AllByRecursion-weaker, before_first-all, list_any-none}
 use Rattle.blif_ast.specs.LogicalLines.{but_last, is_joined}
-use Rattle.blif_read.specs.Cuts.{own_part, IsPiece}
+use Rattle.blif_numbers.specs.Cuts.{own_part, IsPiece}
 use Rattle.blif_numbers.specs.Pieces.{behind_line, ends_word, has_blank_at, has_hash_at, is_special, line_joined, line_words, IsFrontOf, IsLast, IsRestOf, IsStep, StandsAt}
 use Rattle.blif_numbers.proofs.Pieces.{after-past, behind-blank, joined-blank, joined-comment, joined-feed, joined-last_line, lines-first, no_feed, words-blank, words-comment, words-feed, words-last}
 

@@ -9,10 +9,12 @@ use Rattle.std.proofs.lemmas.List.Sums.{fails_before_first}
 use Rattle.std.proofs.lemmas.List.Elements.{All-from_recursion}
 use Rattle.dom_base.specs.Lines.{lines, is_blank, is_line_feed, is_word, some_piece, words, without_comment, without_return, without_empty_last}
 use Rattle.dom_base.proofs.Bools.{or_none}
+use Rattle.dom_base.proofs.Texts.{without_empty_last-cons}
+use Rattle.dom_base.proofs.WordBytes.{without_return-each}
 use Rattle.dom_base.proofs.Lists.{AllByRecursion-weaker, AllByRecursion-take, before_first-none}
 use Rattle.blif_ast.specs.LogicalLines.{but_last, is_joined}
 use Rattle.blif_ast.proofs.LineWords.{joined-last, last-append}
-use Rattle.blif_read.specs.Cuts.{own_part}
+use Rattle.blif_numbers.specs.Cuts.{own_part}
 use Rattle.blif_numbers.specs.Pieces.{ends_word, first_line, line_words, line_joined, behind_line}
 
 -- a list with no such element in front
@@ -69,15 +71,6 @@ return-behind [] b [] is = ap (λ t. if t then [] else b ∷ []) is
 return-behind [] b (c ∷ rest) is = refl
 return-behind (a ∷ []) b rest is = ap (λ l. a ∷ l) (return-behind [] b rest is)
 return-behind (a ∷ c ∷ front) b rest is = ap (λ l. a ∷ l) (return-behind (c ∷ front) b rest is)
-
-return-keeps : (P : ℕ → Type 0) (w : List ℕ) → AllByRecursion P w → AllByRecursion P (without_return w)
-return-keeps P [] h = tt
-return-keeps P (b ∷ []) h = by (b == 13)
-  where
-    by : (t : Bool) → AllByRecursion P (if t then [] else b ∷ [])
-    by true = tt
-    by false = h
-return-keeps P (b ∷ c ∷ w) h = (h.0, return-keeps P (c ∷ w) h.1)
 
 pub joined-behind : (front : List ℕ) (b : ℕ) (rest : List ℕ) → (b == 92) ≡ false → is_joined (front ++ b ∷ rest) ≡ is_joined rest
 joined-behind front b [] is = joined-last (front ++ b ∷ []) ∙ ap (λ c. c == 92) (last-append front b []) ∙ is
@@ -189,11 +182,11 @@ module _ (w : List ℕ) (h : AllByRecursion (λ b. ends_word b ≡ false) w) whe
   -- the end of the line
   line-end : (text : List ℕ) → before_first is_line_feed text ≡ w → first_line text ≡ without_return w
   line-end text is = ap (λ l. without_comment (without_return l)) is
-      ∙ before_first-none (λ c. c == 35) (without_return w) (return-keeps (λ c. (c == 35) ≡ false) w (no_hash w h))
+      ∙ before_first-none (λ c. c == 35) (without_return w) (without_return-each (λ c. (c == 35) ≡ false) w (no_hash w h))
 
   words-end : (text : List ℕ) → before_first is_line_feed text ≡ w → line_words text ≡ some_piece (own_part (without_return w))
   words-end text is = ap (λ l. words (own_part l)) (line-end text is)
-      ∙ words-one (own_part (without_return w)) (own-keeps (λ b. is_blank b ≡ false) (without_return w) (return-keeps (λ b. is_blank b ≡ false) w (no_blank w h)))
+      ∙ words-one (own_part (without_return w)) (own-keeps (λ b. is_blank b ≡ false) (without_return w) (without_return-each (λ b. is_blank b ≡ false) w (no_blank w h)))
 
   feed-before : (rest : List ℕ) → before_first is_line_feed (w ++ 10 ∷ rest) ≡ w
   feed-before rest = before-past is_line_feed w (10 ∷ rest) (no_feed w h)
@@ -233,10 +226,6 @@ found_or_none p (x ∷ xs) = by (p x) refl (found_or_none p xs)
           | inr all ↦ inr (omega (arith, e, all))
         ]
 
-not_last : (piece : List ℕ) (pieces : List (List ℕ)) → 0 < length pieces → without_empty_last (piece ∷ pieces) ≡ piece ∷ without_empty_last pieces
-not_last piece [] some = absurd (omega (arith, some))
-not_last piece (next ∷ pieces) some = refl
-
 last_piece : (text : List ℕ) → text ≢ [] → map without_return (without_empty_last (text ∷ [])) ≡ without_return text ∷ []
 last_piece [] some = absurd (some refl)
 last_piece (b ∷ text) some = refl
@@ -245,7 +234,7 @@ pub lines-first : (text : List ℕ) → text ≢ [] → lines text ≡ without_r
 lines-first text some = elim (found_or_none is_line_feed text) as (λ _. lines text ≡ without_return (before_first is_line_feed text) ∷ lines (behind_line text)) [
   | inl lt ↦
       ap (λ ps. map without_return (without_empty_last ps)) (slice_split_first is_line_feed text 0 lt)
-      ∙ ap (map without_return) (not_last (before_first is_line_feed text) (slice_split is_line_feed (behind_line text))
+      ∙ ap (map without_return) (without_empty_last-cons (before_first is_line_feed text) (slice_split is_line_feed (behind_line text))
       (omega (arith, length-slice_split is_line_feed (behind_line text))))
   | inr all ↦
       ap (λ ps. map without_return (without_empty_last ps))

@@ -2,14 +2,14 @@
 use Rattle.std.proofs.Common.{◌≡◌, ℕ, zero, suc, ◌≤◌, ◌<◌, ◌+◌, ◌-◌, List, [], ◌∷◌, ◌++◌, length, take, drop, refl, sym, ap, ◌∙◌, arith, Some}
 use Rattle.std.specs.Prelude.{slice_get, slice_index_or}
 use Rattle.std.proofs.lemmas.List.{length-drop, length-take-le, take_all, take_more}
-use Rattle.dom_base.proofs.Lists.{AllByRecursion-drop, AllByRecursion-take, head_same}
+use Rattle.dom_base.proofs.Lists.{AllByRecursion-drop, AllByRecursion-take, drop_next, head_same}
 use Rattle.blif_numbers.specs.declared.parts.ModelAt.{ModelAt}
 use Rattle.blif_numbers.specs.declared.parts.PartAt.{PartAt}
 use Rattle.blif_numbers.specs.NumberedData.{NumberedData}
 use Rattle.blif_numbers.specs.Numbered.{between, name_of, named, Part, part_by, parts_from, parts_of, model_by, models_from, models_in, AreBelow, IsNumbered, PartsRise, ModelsRise}
 use Rattle.blif_numbers.specs.OpenLists.{words_end, rows_end, inputs_end, outputs_end, parts_end}
 use Rattle.blif_numbers.specs.Places.{first_word, first_row, first_input, first_output, first_part, words_at, rows_at, inputs_at, outputs_at, IsPartOf}
-use Rattle.blif_numbers.proofs.Copying.{drop-get, named-between, parts-drop, take-get}
+use Rattle.blif_numbers.proofs.Copying.{named-between, parts-drop, take-get}
 use Rattle.blif_numbers.proofs.Growth.{length-parts, PartsRise-starts, PartsRise-within, ModelsRise-starts, ModelsRise-within, words_end-push, rows_end-push, inputs_end-push, outputs_end-push, parts_end-push}
 
 -- what is left of a list begins with the item at that place
@@ -40,7 +40,7 @@ module _ (d : NumberedData) (k : ℕ) (part : PartAt) (is : slice_get d.parts k 
       get-of (parts_of d) k
       (part_by d.text part.kind part.line (between (first_word d k) part.words_end words) (between (first_row d k) part.rows_end d.rows))
       (parts_from d.text words d.rows part.words_end part.rows_end (drop (k + 1) d.parts))
-      (parts-drop d.text words d.rows 0 0 k d.parts ∙ ap (parts_from d.text words d.rows (first_word d k) (first_row d k)) (drop-get d.parts k part is))
+      (parts-drop d.text words d.rows 0 0 k d.parts ∙ ap (parts_from d.text words d.rows (first_word d k) (first_row d k)) (drop_next d.parts k part is))
       ∙ (λ i. Some (part_by d.text part.kind part.line (words_are i) (rows_are i)))
 
 pub length-parts_of : (d : NumberedData) → length (parts_of d) ≡ length d.parts
@@ -84,7 +84,7 @@ module _ (d : NumberedData) (m : ℕ) (at : ModelAt) (is : slice_get d.models m 
       (between (first_part d m) at.parts_end (parts_of d)))
       (models_from d.names inputs outputs (parts_of d) at.inputs_end at.outputs_end at.parts_end (drop (m + 1) d.models))
       (models-drop d.names inputs outputs (parts_of d) 0 0 0 m d.models
-      ∙ ap (models_from d.names inputs outputs (parts_of d) (first_input d m) (first_output d m) (first_part d m)) (drop-get d.models m at is))
+      ∙ ap (models_from d.names inputs outputs (parts_of d) (first_input d m) (first_output d m) (first_part d m)) (drop_next d.models m at is))
       ∙ (λ i. Some (model_by (name_of d.names at.name) at.line (inputs_are i) (outputs_are i)
       (between (first_part d m) (sym parts_end-there i) (parts_of d))))
 

@@ -11,8 +11,8 @@ use Rattle.blif_ast.specs.TableData.{TableData}
 use Rattle.blif_ast.specs.LogicalLines.{LogicalLine}
 use Rattle.blif_ast.specs.Cards.{formal_of, actual_of}
 use Rattle.blif_ast.specs.Models.{instance_of, latch_of}
-use Rattle.blif_read.specs.Build.{Built, model_with_card, model_with_table, new_model, table_after_card, table_with_row}
-use Rattle.blif_read.specs.Steps.{OpenTable as TableContext}
+use Rattle.blif_numbers.specs.Build.{Built, model_with_card, model_with_table, new_model, table_after_card, table_with_row}
+use Rattle.blif_numbers.specs.Steps.{OpenTable as TableContext}
 use Rattle.blif_numbers.specs.declared.open_model.OpenModel.{OpenModel}
 use Rattle.blif_numbers.specs.declared.open_model.OpenTable.{OpenTable}
 use Rattle.blif_numbers.specs.NumberedData.{NumberedData}

@@ -1,5 +1,8 @@
+pub mod Build
 pub mod BuilderData
 pub mod Copied
+pub mod Cuts
+pub mod FileLetters
 pub mod LatchWords
 pub mod NameNumbers
 pub mod Numbered
@@ -7,3 +10,5 @@ pub mod NumberedData
 pub mod OpenLists
 pub mod Pieces
 pub mod Places
+pub mod Pushing
+pub mod Steps

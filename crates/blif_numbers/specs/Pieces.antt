@@ -3,7 +3,7 @@ use Rattle.std.specs.Prelude.{ℕ, ◌≡◌, ◌<◌, Bool, ◌==◌, ◌||◌,
 use Rattle.std.specs.List.{list_any, before_first, after_first, position_or_len}
 use Rattle.dom_base.specs.Lines.{is_blank, is_control, is_line_feed, first_word, without_comment, without_return, some_piece, words}
 use Rattle.blif_ast.specs.LogicalLines.{is_joined}
-use Rattle.blif_read.specs.Cuts.{own_part}
+use Rattle.blif_numbers.specs.Cuts.{own_part}
 
 -- a byte that ends a word: a blank, a tab, LF, or the `#` of a comment
 abbrev pub ends_word : ℕ → Bool

@@ -3,9 +3,9 @@ ghost use Rattle.std.specs.Prelude.{◌≡◌, ◌≢◌, [], ℕ, IfOk, OnOk, I
 ghost use Rattle.dom_base.specs.Lines.{first_word};
 ghost use Rattle.blif_ast.specs.Cards.{card_of};
 ghost use Rattle.blif_ast.specs.declared.kind.BlifKind.TheVariants.{NoModel};
-ghost use Rattle.blif_read.specs.Build.{built_after, built_by, context_in, has_model, opened_by};
-ghost use Rattle.blif_read.specs.Cuts.{numbered_line};
-ghost use Rattle.blif_read.specs.Steps.{card_fault, context_fault, row_fault};
+ghost use Rattle.blif_numbers.specs.Build.{built_after, built_by, context_in, has_model, opened_by};
+ghost use Rattle.blif_numbers.specs.Cuts.{numbered_line};
+ghost use Rattle.blif_numbers.specs.Steps.{card_fault, context_fault, row_fault};
 ghost use Rattle.blif_numbers.specs.BuilderData.{
   built_in,
   card_taken,
@@ -22,13 +22,13 @@ ghost use Rattle.blif_numbers.specs.OpenLists.{no_lists, open_lists};
 ghost use Rattle.blif_numbers.specs.Pieces.{StandsAt};
 
 use crate::cards::{push_part, word_at};
+use crate::fault::BlifFault;
 use crate::file::NumberedFile;
 use crate::line::{Line, last_letter};
 use crate::line_fault::{card_fault, row_fault};
 use crate::names::as_u32;
 use crate::open_model::{OpenModel, OpenTable, opened_table};
 use blif_ast::{BlifKind, Card};
-use blif_read::BlifFault;
 use dom_base::{NameHash, OutOfMemory};
 use std::alloc::Global;
 use std::marker::Model;

@@ -9,7 +9,7 @@ ghost use Rattle.blif_numbers.specs.BuilderData.{binding_words, card_lists, latc
 ghost use Rattle.blif_numbers.specs.NameNumbers.{Grows};
 ghost use Rattle.blif_numbers.specs.Numbered.{InstancePart};
 ghost use Rattle.blif_numbers.specs.OpenLists.{open_lists, with_inputs, with_outputs, with_words};
-ghost use Rattle.blif_read.specs.Cuts.{numbered_line};
+ghost use Rattle.blif_numbers.specs.Cuts.{numbered_line};
 
 use crate::file::NumberedFile;
 use crate::forms::sides;

@@ -4,7 +4,7 @@ ghost use Rattle.std.specs.List.{list_any, position, position_or_len};
 ghost use Rattle.dom_base.specs.Lines.{is_control, without_return};
 ghost use Rattle.blif_ast.specs.LogicalLines.{but_last, is_joined};
 ghost use Rattle.blif_numbers.specs.Pieces.{behind_line, ends_word, has_blank_at, has_hash_at, is_special, IsFrontOf, IsLast, IsWordEnd};
-ghost use Rattle.blif_read.specs.Cuts.{own_part};
+ghost use Rattle.blif_numbers.specs.Cuts.{own_part};
 
 use dom_base::{has_control, strip_last};
 use memchr::memchr;
@@ -62,15 +62,22 @@ fn ends_word(b: u8) -> bool
     b == b' ' || b == b'\t' || b == b'\n' || b == b'#'
 }
 
-/// A byte that ends a word or is a control byte. All others are above `#`, but for `!` and `"`.
+/// An `x` at the place of each byte that ends a word or is a control byte, and a `-` at that of any other.
+static SPECIAL: [u8; 256] = *b"\
+    xxxxxxxxxxxxxxxxxxxxxxxxxxxxxxxx\
+    x--x----------------------------\
+    --------------------------------\
+    -------------------------------x\
+    --------------------------------\
+    --------------------------------\
+    --------------------------------\
+    --------------------------------";
+
+/// A byte that ends a word or is a control byte.
 fn is_special(b: u8) -> bool
     ensures { result ≡ is_special b }
 {
-    if b'#' < b {
-        b == 0x7f
-    } else {
-        b != b'!' && b != b'"'
-    }
+    SPECIAL[b as usize] != b'-'
 }
 
 /// The place of the first byte that ends a word or is a control byte.

@@ -70,7 +70,7 @@ impl<'t> NumberedFile<'t> {
     {
         NumberedFile {
             text,
-            names: Names::new(alloc, hash),
+            names: Names::new(alloc, hash, text.len()),
             inputs: Vec::new(alloc),
             outputs: Vec::new(alloc),
             words: Vec::new(alloc),

@@ -1,8 +1,10 @@
 //! Guesses of the numbers of names.
-use dom_base::{OutOfMemory, mark_of};
+use dom_base::OutOfMemory;
 use std::alloc::Global;
 
-/// How many places there are at first, a power of two.
+/// How many places there are at first: one for so many bytes of the text, or this many, a power of two.
+const BYTES: usize = 16;
+
 const FEW: usize = 1024;
 
 /// How many there are at most, a power of two.
@@ -13,13 +15,15 @@ const MOST: usize = 1 << 22;
 #[derive(Drop)]
 pub struct Guesses {
     numbers: Vec<u32>,
+    bytes: usize,
 }
 
 impl Guesses {
-    /// No guesses yet.
-    pub fn new(alloc: Global) -> Guesses {
+    /// No guesses yet, for the names of a text of so many bytes.
+    pub fn new(alloc: Global, bytes: usize) -> Guesses {
         Guesses {
             numbers: Vec::new(alloc),
+            bytes,
         }
     }
 
@@ -31,8 +35,8 @@ impl Guesses {
     /// Notes the number of a name, of so many that there are. The one error is out of memory.
     pub fn note(&mut self, name: &[u8], number: u32, names: usize) -> Result<(), OutOfMemory> {
         let room = self.numbers.len();
-        if room / 2 <= names && room < MOST {
-            self.numbers.resize(room.saturating_mul(2).max(FEW), 0)?;
+        if room < names && room < MOST {
+            self.make_room(names)?;
         }
         let place = self.place(name);
         if let Some(guess) = self.numbers.get_mut(place) {
@@ -41,7 +45,26 @@ impl Guesses {
         Ok(())
     }
 
-    fn place(&self, name: &[u8]) -> usize {
-        mark_of(name) as usize & self.numbers.len().saturating_sub(1)
+    /// Makes places for so many names, or for as many as a text of this length has. Half of the guesses stay where they are.
+    fn make_room(&mut self, names: usize) -> Result<(), OutOfMemory> {
+        let room = (self.bytes / BYTES)
+            .max(names)
+            .checked_next_power_of_two()
+            .unwrap_or(MOST);
+        self.numbers.resize(room.max(FEW).min(MOST), 0)?;
+        Ok(())
     }
+
+    fn place(&self, name: &[u8]) -> usize {
+        letters_mark(name) & self.numbers.len().saturating_sub(1)
+    }
+}
+
+/// A number out of all letters, as digits of 75: names that differ in their last letters alone have places side by side.
+fn letters_mark(name: &[u8]) -> usize {
+    let mut mark: usize = 0;
+    for letter in name {
+        mark = mark.wrapping_mul(75).wrapping_add(*letter as usize);
+    }
+    mark
 }

@@ -1,7 +1,7 @@
 //! The fault of a line, by the open model and the open table.
 ghost use Rattle.std.specs.Prelude.{◌≡◌, map};
 ghost use Rattle.std.specs.Option.{option_map};
-ghost use Rattle.blif_read.specs.Steps.{card_fault, row_fault, differs};
+ghost use Rattle.blif_numbers.specs.Steps.{card_fault, row_fault, differs};
 ghost use Rattle.blif_numbers.specs.BuilderData.{value_letter, width_and_letter};
 
 use crate::forms::{is_form, is_level_form, is_row_form};

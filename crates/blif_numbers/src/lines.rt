@@ -24,7 +24,7 @@ ghost use Rattle.std.specs.List.{list_any};
 ghost use Rattle.dom_base.specs.Cuts.{NumbersFit};
 ghost use Rattle.dom_base.specs.Lines.{is_control, lines, some_piece};
 ghost use Rattle.blif_ast.specs.LogicalLines.{logical_lines_from};
-ghost use Rattle.blif_read.specs.Cuts.{numbered_line, worded_lines, IsPiece};
+ghost use Rattle.blif_numbers.specs.Cuts.{numbered_line, worded_lines, IsPiece};
 ghost use Rattle.blif_numbers.specs.Pieces.{
   line_words,
   line_joined,

@@ -6,7 +6,7 @@ ghost use Rattle.blif_numbers.specs.Numbered.{name_of};
 ghost use Rattle.blif_numbers.specs.NameNumbers.{Grows};
 
 use crate::guesses::Guesses;
-use crate::word::Word;
+use crate::word::{Word, is_same};
 use dom_base::{Crowd, NameHash, OutOfMemory};
 use indexmap::IndexSet;
 use std::alloc::Global;
@@ -35,13 +35,13 @@ impl<'t> Model for Names<'t> {
 }
 
 impl<'t> Names<'t> {
-    /// No names yet, which are to be hashed so.
-    pub fn new(alloc: Global, hash: NameHash) -> Names<'t>
+    /// No names yet, of a text of so many bytes, which are to be hashed so.
+    pub fn new(alloc: Global, hash: NameHash, bytes: usize) -> Names<'t>
         ensures { result ≡ [] }
     {
         Names {
             set: IndexSet::with_hasher(alloc, hash),
-            guesses: Guesses::new(alloc),
+            guesses: Guesses::new(alloc, bytes),
             crowd: Crowd::new(alloc, hash),
         }
     }
@@ -70,7 +70,7 @@ impl<'t> Names<'t> {
     {
         let number = self.guesses.number(name)?;
         let known = self.set.get_index(number as usize)?;
-        if *known.0 == *name {
+        if is_same(known.0, name) {
             Some(number)
         } else {
             None

@@ -2,17 +2,17 @@
 ghost use Rattle.std.specs.Prelude.{ℕ, ◌≡◌, IfOk, IsErrOf, None, OnOk};
 ghost use Rattle.dom_base.specs.Lines.{first_word};
 ghost use Rattle.blif_ast.specs.Reading.{IsBlifFaultAt, IsFileOf};
-ghost use Rattle.blif_read.specs.Build.{built_after, context_in};
-ghost use Rattle.blif_read.specs.Steps.{context_fault};
+ghost use Rattle.blif_numbers.specs.Build.{built_after, context_in};
+ghost use Rattle.blif_numbers.specs.Steps.{context_fault};
 ghost use Rattle.blif_numbers.specs.BuilderData.{built_in, IsBuilder};
 ghost use Rattle.blif_numbers.specs.Numbered.{file_of};
 ghost use Rattle.blif_numbers.specs.Pieces.{StandsAt};
 
 use crate::builder::Builder;
+use crate::fault::BlifFault;
 use crate::file::NumberedFile;
 use crate::line::Line;
 use crate::lines::{Lines, Notes};
-use blif_read::BlifFault;
 use dom_base::{NameHash, OutOfMemory};
 use std::alloc::Global;
 

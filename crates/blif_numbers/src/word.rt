@@ -1,5 +1,5 @@
 //! Words of a text, as keys.
-ghost use Rattle.std.specs.Prelude.{◌==◌, ◌∷◌, []};
+ghost use Rattle.std.specs.Prelude.{◌≡◌, ◌==◌, ◌∷◌, [], IsTrue};
 ghost use Rattle.std.specs.Cmp.Lexicographic.{pointwise};
 ghost use Rattle.std.specs.Cmp.Rules.{comparing, hashing};
 ghost use Rattle.std.proofs.Common.{rules};
@@ -41,4 +41,19 @@ impl<'t> Hash for Word<'t> {
     fn hash<H: Hasher>(&self, state: &mut H) {
         state.write(self.0);
     }
+}
+
+/// Whether two words have the same bytes, which are compared one by one: most words are short.
+pub fn is_same(word: &[u8], other: &[u8]) -> bool
+    ensures { IsTrue result → word.now ≡ other.now }
+{
+    if word.len() != other.len() {
+        return false;
+    }
+    for index in 0..word.len() {
+        if word[index] != other[index] {
+            return false;
+        }
+    }
+    true
 }

@@ -4,7 +4,7 @@ use Rattle.std.specs.List.{AllByRecursion, IsDistinct}
 use Rattle.std.proofs.lemmas.Bool.{false_from_ne_true}
 use Rattle.dom_base.proofs.Lists.{AllByRecursion-append, AllByRecursion-weaker}
 use Rattle.blif_ast.specs.LogicalLines.{LogicalLine}
-use Rattle.blif_read.proofs.LineNumbers.{Rises, Rises-lower}
+use Rattle.blif_numbers.proofs.LineNumbers.{Rises, Rises-lower}
 
 abbrev pub numbers_of : (LogicalLine → Bool) → List LogicalLine → List ℕ
 numbers_of test all = map (λ line. line.number) (filter test all)

@@ -1,7 +1,6 @@
 -- Lines without faults: their words are good names, and their cards are in their forms.
 use Rattle.std.proofs.Common.{◌≡◌, ℕ, zero, suc, ◌<◌, Bool, true, false, not, List, [], ◌∷◌, length, filter, take, slice_index_or, refl, ap, sym, ◌∙◌, arith, inl, inr, Some}
 use Rattle.std.specs.List.{AllByRecursion, list_any}
-use Rattle.std.specs.Cmp.Lexicographic.{same_text}
 use Rattle.std.proofs.lemmas.Bool.{false_from_ne_true}
 use Rattle.std.proofs.lemmas.Bool.Decides.{nat_tests}
 use Rattle.std.proofs.lemmas.List.Elements.{All-from_recursion}
@@ -13,10 +12,11 @@ use Rattle.blif_ast.specs.declared.kind.BlifKind.TheVariants.{ControlByte, BadCa
 use Rattle.blif_ast.specs.LogicalLines.{LogicalLine}
 use Rattle.blif_ast.specs.declared.card.Card.{Card}
 use Rattle.blif_ast.specs.declared.card.Card.TheVariants.{Model, Inputs, Outputs, Names, Latch, Subckt, Clock, End}
-use Rattle.blif_ast.specs.Cards.{same, begins, card_named, card_of, card_word, is_form, is_out_of_form}
+use Rattle.blif_ast.specs.Cards.{begins, card_named, card_of, card_word, is_form, is_out_of_form}
 use Rattle.blif_ast.specs.Faults.{has_blif_fault}
+use Rattle.blif_numbers.proofs.KnownWords.{same-true}
 use Rattle.blif_read.proofs.AcceptedIsGoodWords.{IsNoMark, IsPlainWord, IsPlainLine}
-use Rattle.blif_read.proofs.LineFaults.{FaultIn}
+use Rattle.blif_numbers.proofs.LineFaults.{FaultIn}
 
 -- lines without faults, where these lines stand before them, the nearest first
 abbrev pub Free : List LogicalLine → List LogicalLine → Type 0
@@ -66,9 +66,6 @@ good_lines-filter test all h =
 -- a word of a line
 pub good_word-at : (words : List (List ℕ)) (k : ℕ) → AllByRecursion IsGoodName words → k < length words → IsGoodName (slice_index_or words k [])
 good_word-at words k h lt = All-from_recursion IsGoodName words h k [] lt
-
-pub same-true : (a b : List ℕ) → same a b ≡ true → a ≡ b
-same-true a b e = same_text a b (sym e)
 
 -- the word of a card names it
 named : (card : Card) → card_named (card_word card) ≡ Some card

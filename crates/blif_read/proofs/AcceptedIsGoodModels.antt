@@ -13,13 +13,14 @@ use Rattle.blif_ast.specs.Cards.{begins, is_card, model_card, inputs_card, outpu
 use Rattle.blif_ast.specs.Faults.{has_blif_fault}
 use Rattle.blif_ast.specs.Models.{names_on, tables_of, latches_of, instance_of, instances_of, blif_model, is_inside, models_of}
 use Rattle.blif_read.specs.Laws.{AcceptedFileIsGood}
-use Rattle.blif_read.proofs.LineNumbers.{Rises, Rises-take, logical_lines-rise}
+use Rattle.blif_numbers.proofs.LineNumbers.{Rises, Rises-take, logical_lines-rise}
+use Rattle.blif_numbers.proofs.KnownWords.{same-true}
 use Rattle.blif_read.proofs.AcceptedIsGoodWords.{logical_lines-plain}
-use Rattle.blif_read.proofs.AcceptedIsGoodLines.{Free, Free-from, Free-take, IsGoodLine, good_lines, good_lines-filter, good_word-at, card_form, same-true}
+use Rattle.blif_read.proofs.AcceptedIsGoodLines.{Free, Free-from, Free-take, IsGoodLine, good_lines, good_lines-filter, good_word-at, card_form}
 use Rattle.blif_read.proofs.AcceptedIsGoodRows.{good_tables}
 use Rattle.blif_read.proofs.AcceptedIsGoodParts.{good_latches, good_instances}
 use Rattle.blif_read.proofs.AcceptedIsGoodCardLines.{numbers_of, distinct_numbers, apart_numbers, distinct_append}
-use Rattle.blif_read.proofs.LineFaults.{IsFaultOfLine-from}
+use Rattle.blif_numbers.proofs.LineFaults.{IsFaultOfLine-from}
 
 -- the words of some lines behind their first words
 names_good : (all : List LogicalLine) → AllByRecursion IsGoodLine all → AllByRecursion IsGoodName (flat_map (λ line. drop 1 line.words) all)

@@ -1,5 +1,5 @@
 -- Latches and instances of lines without faults.
-use Rattle.std.proofs.Common.{◌≡◌, ◌≢◌, ℕ, ◌≤◌, ◌+◌, Bool, true, false, ◌==◌, ◌||◌, nat_lt, if◌then◌else◌, List, [], ◌∷◌, length, map, filter, drop, slice_index_or, Some, None, IfSome, codes, refl, ap, sym, ◌∙◌, subst, arith}
+use Rattle.std.proofs.Common.{◌≡◌, ◌≢◌, ℕ, ◌≤◌, ◌+◌, Bool, true, false, ◌==◌, nat_lt, if◌then◌else◌, List, [], ◌∷◌, length, map, filter, drop, slice_index_or, Some, None, IfSome, codes, refl, ap, sym, ◌∙◌, subst, arith}
 use Rattle.std.specs.List.{AllByRecursion, filter_map, cons_option, list_all, position_or_len}
 use Rattle.std.specs.Cmp.Lexicographic.{other_text}
 use Rattle.std.proofs.lemmas.Bool.{eqb-false}
@@ -9,18 +9,11 @@ use Rattle.blif_ast.specs.declared.latch.Latch.{Latch}
 use Rattle.blif_ast.specs.Good.{IsNameByte, IsGoodName, IsGoodSignal, IsGoodLatch, IsGoodBinding, IsGoodInstance}
 use Rattle.blif_ast.specs.declared.card.Card.TheVariants as card
 use Rattle.blif_ast.specs.LogicalLines.{LogicalLine}
-use Rattle.blif_ast.specs.Cards.{same, begins, is_one_of, is_init, is_type, is_latch_form, is_subckt_form, formal_of, actual_of, is_binding, latch_card, subckt_card}
+use Rattle.blif_ast.specs.Cards.{same, begins, is_init, is_type, is_latch_form, is_subckt_form, formal_of, actual_of, is_binding, latch_card, subckt_card}
 use Rattle.blif_ast.specs.Models.{control_of, init_of, latch_of, latches_of, binding_of, instance_of, instances_of}
+use Rattle.blif_numbers.proofs.KnownWords.{one_of-all}
 use Rattle.blif_read.proofs.AcceptedIsGoodRows.{and_first, and_second}
-use Rattle.blif_read.proofs.AcceptedIsGoodLines.{Free, IsGoodLine, card_form, same-true}
-
-pub one_of-all : (P : List ℕ → Type 0) (all : List (List ℕ)) (word : List ℕ) → AllByRecursion P all → is_one_of all word ≡ true → P word
-one_of-all P [] word h e = absurd (cc)
-one_of-all P (other ∷ all) word h e = by (same word other) refl (one_of-all P all word h.1)
-  where
-    by : (b : Bool) → same word other ≡ b → (is_one_of all word ≡ true → P word) → P word
-    by true is rest = subst P (sym (same-true word other is)) h.0
-    by false is rest = rest (sym (ap (λ b. b || is_one_of all word) is) ∙ e)
+use Rattle.blif_read.proofs.AcceptedIsGoodLines.{Free, IsGoodLine, card_form}
 
 init_small : (word : List ℕ) → is_init word ≡ true → init_of word ≤ 3
 init_small word h =

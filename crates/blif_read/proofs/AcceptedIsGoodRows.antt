@@ -15,7 +15,8 @@ use Rattle.blif_ast.specs.Cards.{same, begins, is_card, is_row, is_letter, is_va
 use Rattle.blif_ast.specs.Context.{words_of}
 use Rattle.blif_ast.specs.Faults.{has_blif_fault}
 use Rattle.blif_ast.specs.Models.{row_letter, row_letters, rows_are_on, table_of, tables_of}
-use Rattle.blif_read.proofs.AcceptedIsGoodLines.{Free, IsGoodLine, good_word-at, same-true}
+use Rattle.blif_numbers.proofs.KnownWords.{same-true}
+use Rattle.blif_read.proofs.AcceptedIsGoodLines.{Free, IsGoodLine, good_word-at}
 
 and_last : (a b c : Bool) → a ≡ true → b ≡ true → (a && b && not c) ≡ false → c ≡ true
 and_last true true true p q h = refl

@@ -4,15 +4,6 @@ pub mod AcceptedIsGoodModels
 pub mod AcceptedIsGoodParts
 pub mod AcceptedIsGoodRows
 pub mod AcceptedIsGoodWords
-pub mod BuiltModels
-pub mod CutWords
-pub mod FaultKinds
-pub mod JoinByte
-pub mod JoinedLines
-pub mod KeptTables
-pub mod LineContexts
-pub mod LineFaults
-pub mod LineNumbers
 pub mod OneAnswer
 pub mod PrintReadsBackCards
 pub mod PrintReadsBackData
@@ -25,6 +16,3 @@ pub mod PrintReadsBackParts
 pub mod PrintReadsBackRows
 pub mod PrintReadsBackUnlined
 pub mod PrintReadsBackWords
-pub mod ReaderInvariant
-pub mod SmallestFault
-pub mod WordParts

@@ -10,10 +10,10 @@ use Rattle.blif_ast.specs.Faults.{blif_kind_number}
 use Rattle.blif_ast.specs.Models.{models_of}
 use Rattle.blif_ast.specs.Reading.{IsBlifFault, IsFaultOfLine, IsBlifFaultAt, IsFileOf}
 use Rattle.blif_read.specs.Laws.{TextHasOneAnswer}
-use Rattle.blif_read.proofs.LineNumbers.{logical_lines-rise}
-use Rattle.blif_read.proofs.FaultKinds.{blif_kind_number-injective}
-use Rattle.blif_read.proofs.LineFaults.{IsFaultOfLine-from, IsFirstIn, first_in}
-use Rattle.blif_read.proofs.LineFaults.{FaultIn, fault_in}
+use Rattle.blif_numbers.proofs.LineNumbers.{logical_lines-rise}
+use Rattle.blif_numbers.proofs.FaultKinds.{blif_kind_number-injective}
+use Rattle.blif_numbers.proofs.LineFaults.{IsFaultOfLine-from, IsFirstIn, first_in}
+use Rattle.blif_numbers.proofs.LineFaults.{FaultIn, fault_in}
 
 -- a text that is accepted with one file, or refused for one fault
 abbrev Once : List ℕ → Type 0

@@ -4,7 +4,6 @@ use Rattle.std.specs.List.{AllByRecursion, position_or_len}
 use Rattle.std.proofs.lemmas.Bool.Decides.{nat_tests}
 use Rattle.std.proofs.lemmas.List.Elements.{recursion_from_All}
 use Rattle.blif_ast.specs.declared.letter.Letter.{Letter}
-use Rattle.blif_ast.specs.declared.letter.Letter.TheVariants.{Zero, One, Any}
 use Rattle.blif_ast.specs.declared.latch.Latch.{Latch}
 use Rattle.blif_ast.specs.declared.latch.Control.{Control}
 use Rattle.blif_ast.specs.declared.latch.Edge2.{Edge2}
@@ -13,28 +12,20 @@ use Rattle.blif_ast.specs.declared.instance.Binding.{Binding}
 use Rattle.blif_ast.specs.TableData.{TableData}
 use Rattle.blif_ast.specs.InstanceData.{InstanceData}
 use Rattle.blif_ast.specs.Good.{IsGoodTable, IsGoodSignal, IsGoodLatch, IsGoodBinding, IsGoodInstance}
-use Rattle.blif_ast.specs.Printed.{names_words, row_words, letter_byte, edge_word, signal_word, control_words, latch_words, instance_words, binding_word}
+use Rattle.blif_ast.specs.Printed.{names_words, row_words, edge_word, signal_word, control_words, latch_words, instance_words, binding_word}
 use Rattle.blif_ast.specs.LogicalLines.{LogicalLine}
 use Rattle.blif_ast.specs.Cards.{same, last_letter, table_inputs, formal_of, actual_of}
-use Rattle.blif_ast.specs.Models.{row_letter, row_letters, rows_are_on, table_of, binding_of, instance_of, latch_of, control_of, init_of}
+use Rattle.blif_ast.specs.Models.{row_letters, rows_are_on, table_of, binding_of, instance_of, latch_of, control_of, init_of}
 use Rattle.blif_ast.proofs.LineWords.{last_word-end}
 use Rattle.blif_read.specs.ReadsBack.{table_unlined, latch_unlined, instance_unlined}
-use Rattle.blif_read.proofs.AcceptedIsGoodLines.{same-true}
+use Rattle.blif_numbers.proofs.KnownWords.{same-true}
+use Rattle.blif_numbers.proofs.RowPlaces.{row-back}
 use Rattle.blif_read.proofs.PrintReadsBackLines.{line_at}
 use Rattle.blif_read.proofs.PrintReadsBackData.{zeros}
 
-letter_back : (l : Letter) → row_letter (letter_byte l) ≡ l
-letter_back Zero = refl
-letter_back One = refl
-letter_back Any = refl
-
-letters_back : (row : List Letter) → map row_letter (map letter_byte row) ≡ row
-letters_back [] = refl
-letters_back (l ∷ row) = ap (λ x. x ∷ map row_letter (map letter_byte row)) (letter_back l) ∙ ap (λ ls. l ∷ ls) (letters_back row)
-
 pub row_back : (on : Bool) (row : List Letter) → row_letters (row_words on row) ≡ row
 row_back on [] = refl
-row_back on (l ∷ row) = letters_back (l ∷ row)
+row_back on (l ∷ row) = row-back (l ∷ row)
 
 rows_back : (on : Bool) (rows : List (List Letter)) → map (λ (line : LogicalLine). row_letters line.words) (zeros (map (row_words on) rows)) ≡ rows
 rows_back on [] = refl

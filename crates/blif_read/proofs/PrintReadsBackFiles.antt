@@ -11,7 +11,7 @@ use Rattle.blif_ast.specs.Models.{models_of}
 use Rattle.blif_ast.specs.Reading.{IsBlifFault}
 use Rattle.blif_read.specs.ReadsBack.{model_unlined, PrintedReadsBack}
 use Rattle.blif_read.proofs.AcceptedIsGoodLines.{Free}
-use Rattle.blif_read.proofs.LineFaults.{FaultIn, fault_in}
+use Rattle.blif_numbers.proofs.LineFaults.{FaultIn, fault_in}
 use Rattle.blif_read.proofs.PrintReadsBackLines.{numbered, printed_lines}
 use Rattle.blif_read.proofs.PrintReadsBackNames.{models_names}
 use Rattle.blif_read.proofs.PrintReadsBackModels.{models_back}

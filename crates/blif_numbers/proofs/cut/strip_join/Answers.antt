@@ -1,5 +1,5 @@
 use Rattle.dom_base.proofs.Options.{match_weaker}
-use Rattle.blif_read.proofs.JoinByte.{joined-at, not_joined}
+use Rattle.blif_numbers.proofs.JoinByte.{joined-at, not_joined}
 use Rattle.blif_numbers.proofs.cut.strip_join.Goals as goal
 
 pub returns : goal.returns

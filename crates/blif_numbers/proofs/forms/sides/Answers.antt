@@ -1,4 +1,4 @@
-use Rattle.blif_read.proofs.WordParts.{formal_at, actual_at, formal_none, actual_none}
+use Rattle.blif_numbers.proofs.WordParts.{formal_at, actual_at, formal_none, actual_none}
 use Rattle.blif_numbers.proofs.forms.sides.Goals as goal
 
 pub returns-in-Some-clause-formal : goal.returns-in-Some-clause-formal

@@ -1,6 +1,6 @@
 use Rattle.std.proofs.Common.{ap, ◌∙◌}
 use Rattle.std.proofs.lemmas.Result.{on_ok_weaker}
-use Rattle.blif_read.specs.Build.{Built}
+use Rattle.blif_numbers.specs.Build.{Built}
 use Rattle.blif_numbers.specs.BuilderData.{model_closed}
 use Rattle.blif_numbers.proofs.builder.Builder.close_all.Goals as goal
 

@@ -1,8 +1,8 @@
 use Rattle.std.proofs.Common.{ap, sym, ◌∙◌}
 use Rattle.std.specs.Option.{option_map}
 use Rattle.blif_ast.specs.LogicalLines.{LogicalLine}
-use Rattle.blif_read.specs.Build.{context_in}
-use Rattle.blif_read.specs.Steps.{card_fault, row_fault}
+use Rattle.blif_numbers.specs.Build.{context_in}
+use Rattle.blif_numbers.specs.Steps.{card_fault, row_fault}
 use Rattle.blif_numbers.specs.BuilderData.{built_in, width_and_letter}
 use Rattle.blif_numbers.proofs.BuilderSteps.{fault_card, fault_control, fault_row, opened_row}
 use Rattle.blif_numbers.proofs.builder.Builder.fault.Goals as goal

@@ -1,6 +1,6 @@
 use Rattle.std.proofs.Common.{ap, sym, ◌∙◌}
-use Rattle.blif_read.specs.Build.{Built}
-use Rattle.blif_read.proofs.ReaderInvariant.{kind_of_fault, line_of_fault}
+use Rattle.blif_numbers.specs.Build.{Built}
+use Rattle.blif_numbers.proofs.ReaderInvariant.{kind_of_fault, line_of_fault}
 use Rattle.blif_numbers.specs.BuilderData.{BuilderData, built_in}
 use Rattle.blif_numbers.proofs.builder.Builder.finish.Goals as goal
 

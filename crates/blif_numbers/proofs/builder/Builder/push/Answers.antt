@@ -2,8 +2,8 @@ use Rattle.std.proofs.Common.{ap, subst, sym, ◌∙◌}
 use Rattle.std.proofs.lemmas.Result.{on_ok_weaker}
 use Rattle.dom_base.specs.Lines.{first_word}
 use Rattle.blif_ast.specs.LogicalLines.{LogicalLine}
-use Rattle.blif_read.specs.Build.{built_by, context_in, opened_by}
-use Rattle.blif_read.specs.Steps.{row_fault}
+use Rattle.blif_numbers.specs.Build.{built_by, context_in, opened_by}
+use Rattle.blif_numbers.specs.Steps.{row_fault}
 use Rattle.blif_numbers.specs.BuilderData.{built_in, row_taken}
 use Rattle.blif_numbers.specs.Pieces.{StandsAt}
 use Rattle.blif_numbers.proofs.BuilderSteps.{clean_row}

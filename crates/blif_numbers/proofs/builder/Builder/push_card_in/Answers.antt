@@ -1,6 +1,6 @@
 use Rattle.std.proofs.Common.{ap, map, subst, sym, Some, ◌∙◌}
 use Rattle.std.proofs.lemmas.List.{length-map}
-use Rattle.blif_read.specs.Cuts.{numbered_line}
+use Rattle.blif_numbers.specs.Cuts.{numbered_line}
 use Rattle.blif_numbers.specs.BuilderData.{BuilderData, card_lists, opened_table, table_of_open}
 use Rattle.blif_numbers.specs.NameNumbers.{Grows}
 use Rattle.blif_numbers.specs.NumberedData.{NumberedData}

@@ -1,6 +1,6 @@
 use Rattle.std.proofs.Common.{ap, subst, sym, take, ◌∙◌}
 use Rattle.std.proofs.lemmas.List.{take_rest}
-use Rattle.blif_read.specs.Cuts.{own_part}
+use Rattle.blif_numbers.specs.Cuts.{own_part}
 use Rattle.blif_numbers.specs.Pieces.{behind_line, IsRestOf, StandsAt}
 use Rattle.blif_numbers.proofs.PieceEnds.{behind-last_word, behind-rest, front-take, front-whole, stands}
 use Rattle.blif_numbers.proofs.lines.Lines.last_piece.Goals as goal

@@ -1,5 +1,5 @@
 use Rattle.std.proofs.Common.{ap, map, refl, arith, subst, ◌∙◌}
-use Rattle.blif_read.proofs.JoinedLines.{first_piece_of, more_pieces, count_piece}
+use Rattle.blif_numbers.proofs.JoinedLines.{first_piece_of, more_pieces, count_piece}
 use Rattle.blif_numbers.specs.Pieces.{IsNoted}
 use Rattle.blif_numbers.proofs.lines.Lines.next_joined.Goals as goal
 

@@ -1,7 +1,7 @@
 use Rattle.std.proofs.Common.{◌≡◌, ◌<◌, ◌+◌, map, length}
 use Rattle.dom_base.specs.Lines.{lines}
 use Rattle.dom_base.specs.Cuts.{NumbersFit}
-use Rattle.blif_read.specs.Cuts.{worded_lines, with_words}
+use Rattle.blif_numbers.specs.Cuts.{worded_lines, with_words}
 use Rattle.blif_numbers.specs.Pieces.{IsNoted, IsRestOf}
 use Rattle.blif_numbers.proofs.lines.Lines.next_joined.Given as goal
 
