@@ -34,7 +34,7 @@ pub between-get : {X : Type 0} (start end : ℕ) (xs : List X) (i : ℕ) (x : X)
 between-get start end xs i x at = let h = take_get (drop start xs) (end - start) i x at in
     (omega (arith, h.0), sym (get-drop start xs i) ∙ h.1)
 
-get-between : {X : Type 0} (start end : ℕ) (xs : List X) (i : ℕ) (x : X) → start + i < end → slice_get xs (start + i) ≡ Some x
+pub get-between : {X : Type 0} (start end : ℕ) (xs : List X) (i : ℕ) (x : X) → start + i < end → slice_get xs (start + i) ≡ Some x
     → slice_get (between start end xs) i ≡ Some x
 get-between start end xs i x within at = in_front (drop start xs) (end - start) i x (omega (arith, within)) (get-drop start xs i ∙ at)
 

@@ -5,7 +5,7 @@ use Rattle.std.proofs.lemmas.List.{drop_all, drop-append-le, length-append}
 use Rattle.graph_order.proofs.Lists.{take_next}
 use Rattle.blif_numbers.specs.Numbered.{between}
 use Rattle.blif_numbers.proofs.Growth.{between-grows, between-last}
-use Rattle.card_places.specs.NumberLists.{closed, last_end, lists_by, lists_from, EndsRise, NumberListsData, with_number}
+use Rattle.card_places.specs.NumberLists.{closed, last_end, lists_by, lists_from, EndsRise, NumberListsData, with_number, with_numbers}
 
 EndsRise-last : (start : ℕ) (ends : List ℕ) (count : ℕ) → EndsRise start ends count → last_end start ends ≤ count
 EndsRise-last start [] count h = h
@@ -58,18 +58,24 @@ last-before ends k end at = ap (last_end 0) (take_next ends k end at) ∙ last_e
 
 -- the lists before and after; what is seen of them before is this
 module _ (items ends : List ℕ) (before : NumberListsData) (h : EndsRise 0 ends (length items)) (seen : lists_by items ends ≡ before) where
+  module _ (numbers after : List ℕ) (extended : after ≡ items ++ numbers) where
+    pub extend-rise : EndsRise 0 ends (length after)
+    extend-rise = EndsRise-grows 0 ends (length items) (length after) (omega (arith, ap length extended, length-append items numbers)) h
+
+    pub extend-lists : lists_by after ends ≡ with_numbers before numbers
+    extend-lists = ap (λ l. lists_by l ends) extended
+        ∙ (λ i. record {
+          lists = lists-grow items numbers 0 ends h i;
+          next = drop-append-le (last_end 0 ends) items numbers (EndsRise-last 0 ends (length items) h) i;
+        })
+        ∙ ap (λ b. with_numbers b numbers) seen
+
   module _ (number : ℕ) (after : List ℕ) (pushed : after ≡ items ++ number ∷ []) where
     pub push-rise : EndsRise 0 ends (length after)
-    push-rise = EndsRise-grows 0 ends (length items) (length after) (omega (arith, ap length pushed, length-append items (number ∷ []))) h
+    push-rise = extend-rise (number ∷ []) after pushed
 
     pub push-lists : lists_by after ends ≡ with_number before number
-    push-lists = ap (λ l. lists_by l ends) pushed
-        ∙ (λ i. record {
-          lists = lists-grow items (number ∷ []) 0 ends h i;
-          next = drop-append-le (last_end 0 ends) items (number ∷ [])
-              (EndsRise-last 0 ends (length items) h) i;
-        })
-        ∙ ap (λ b. with_number b number) seen
+    push-lists = extend-lists (number ∷ []) after pushed
 
   module _ (end : ℕ) (after : List ℕ) (is : end ≡ length items) (pushed : after ≡ ends ++ end ∷ []) where
     pub close-rise : EndsRise 0 after (length items)

@@ -5,7 +5,7 @@ use Rattle.std.specs.List.{cons_option, filter_map}
 use Rattle.std.proofs.lemmas.List.{drop-map, length-append, take-map}
 use Rattle.std.proofs.lemmas.List.Elements.{filter_map-append}
 use Rattle.std.proofs.lemmas.Option.{slice_get-get_or, slice_get_within}
-use Rattle.dom_base.proofs.Lists.{map-push}
+use Rattle.dom_base.proofs.Lists.{map-push, drop_next}
 use Rattle.graph_order.proofs.Lists.{take_next}
 use Rattle.blif_ast.specs.BlifModelData.{BlifModelData}
 use Rattle.blif_numbers.specs.declared.parts.ModelAt.{ModelAt}
@@ -15,7 +15,6 @@ use Rattle.blif_numbers.specs.declared.parts.PartKind.TheVariants as at
 use Rattle.blif_numbers.specs.NumberedData.{NumberedData}
 use Rattle.blif_numbers.specs.Numbered.{Part, between, instance_in, latch_in, model_by, name_of, named, part_by, parts_from, parts_of, table_in}
 use Rattle.blif_numbers.specs.Places.{first_part, inputs_at, outputs_at}
-use Rattle.network.proofs.Lists.{drop_next}
 use Rattle.card_places.specs.declared.model_plans.Counts.{Counts}
 use Rattle.card_places.specs.PartCards.{HasModelParts, RisesFrom, card_by, part_card, counted, part_line}
 use Rattle.card_places.proofs.PartOrder.{parts-ordered}
@@ -25,7 +24,7 @@ use Rattle.model_calls.specs.LinedCards.{AreNumberedCards, IsNumberedCard}
 
 -- a part of a kind stands among those of its kind behind as many as stand before it
 module _ {Card : Type 0} (card_in : Part → Option Card) where
-  place-of : (parts : List Part) (i : ℕ) (p : Part) (card : Card) → slice_get parts i ≡ Some p → card_in p ≡ Some card
+  pub place-of : (parts : List Part) (i : ℕ) (p : Part) (card : Card) → slice_get parts i ≡ Some p → card_in p ≡ Some card
       → slice_get (filter_map card_in parts) (length (filter_map card_in (take i parts))) ≡ Some card
   place-of [] i p card there some = absurd cc
   place-of (q ∷ parts) zero p card there some =

@@ -33,6 +33,10 @@ no_number_lists = record { lists = []; next = [] }
 abbrev pub with_number : NumberListsData → ℕ → NumberListsData
 with_number l number = record { lists = l.lists; next = l.next ++ number ∷ [] }
 
+-- numbers more in the list that comes
+abbrev pub with_numbers : NumberListsData → List ℕ → NumberListsData
+with_numbers l numbers = record { lists = l.lists; next = l.next ++ numbers }
+
 -- the list that comes is there, and a new one comes
 abbrev pub closed : NumberListsData → NumberListsData
 closed l = record { lists = l.lists ++ l.next ∷ []; next = [] }

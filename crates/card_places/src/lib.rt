@@ -7,4 +7,5 @@ mod number_lists;
 mod places;
 
 pub use model_plans::plans;
+pub use number_lists::NumberLists;
 pub use places::{CardPlaces, card_places};

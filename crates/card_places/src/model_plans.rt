@@ -8,15 +8,43 @@ ghost use Rattle.model_calls.specs.LinedCards.{AreNumberedCards};
 ghost use Rattle.model_calls.specs.ModelCalls.{HavePlans};
 
 use crate::places::{model_at, part_at};
-use blif_numbers::{NumberedFile, PartAt, PartKind, between};
+use blif_numbers::{NumberedFile, PartAt, PartKind, between, to_file};
 use dom_base::OutOfMemory;
 use graph_order::Node;
-use model_calls::{CardAt, Plan};
+use model_calls::{CardAt, Plan, plan_all};
 use std::alloc::Global;
 
-/// The plans of the models of a file by their calls; `None` where the lines of a model's parts don't rise, which they do
-/// where the parts were read. The one error is out of memory.
+/// The plans of the models of a file by their calls. The one error is out of memory. Where the lines of a model's parts don't
+/// rise, which they do where the parts were read, the file is copied and its cards are sorted by their lines.
 pub fn plans(
+    alloc: Global,
+    file: &NumberedFile<'_>,
+    nodes: &[Node<'_>],
+) -> Result<Vec<Plan>, OutOfMemory>
+    requires calls { AreCalls (names_of_models (models_in file.now)) (models_in file.now) nodes.now }
+    ensures { IfOk result (λ plans. HavePlans (models_in file.now) nodes.now plans.items) }
+{
+    match plans_by_parts(alloc, file, nodes)? {
+        Some(plans) => Ok(plans),
+        None => plans_by_lines(alloc, file, nodes),
+    }
+}
+
+/// The same by the lines of the cards.
+fn plans_by_lines(
+    alloc: Global,
+    file: &NumberedFile<'_>,
+    nodes: &[Node<'_>],
+) -> Result<Vec<Plan>, OutOfMemory>
+    requires calls { AreCalls (names_of_models (models_in file.now)) (models_in file.now) nodes.now }
+    ensures { IfOk result (λ plans. HavePlans (models_in file.now) nodes.now plans.items) }
+{
+    let copy = to_file(alloc, file)?;
+    plan_all(alloc, &copy.models, nodes)
+}
+
+/// The same in the order of the parts; `None` where the lines of a model's parts don't rise.
+fn plans_by_parts(
     alloc: Global,
     file: &NumberedFile<'_>,
     nodes: &[Node<'_>],

@@ -1,8 +1,8 @@
 //! Lists of numbers that stand one behind the other.
 ghost use Rattle.std.specs.Prelude.{◌≡◌, ◌<◌, [], IfOk, OnOk, IsSome, Some, length, slice_get, slice_index_or, take};
-ghost use Rattle.card_places.specs.NumberLists.{closed, last_end, lists_from, no_number_lists, with_number};
+ghost use Rattle.card_places.specs.NumberLists.{closed, last_end, lists_from, no_number_lists, with_number, with_numbers};
 
-use blif_numbers::between;
+use blif_numbers::{as_u32, between};
 use dom_base::OutOfMemory;
 use std::alloc::Global;
 use std::marker::Model;
@@ -44,6 +44,14 @@ impl NumberLists {
         Ok(())
     }
 
+    /// Appends numbers to the list that comes. The one error is out of memory.
+    pub fn extend(&mut self, numbers: &[u32]) -> Result<(), OutOfMemory>
+        ensures { OnOk result (self.new ≡ with_numbers self.old numbers.now) }
+    {
+        self.items.extend_from_slice(numbers)?;
+        Ok(())
+    }
+
     /// Closes the list that comes. The one error is out of memory: there is no room for more numbers.
     pub fn close(&mut self) -> Result<(), OutOfMemory>
         ensures { OnOk result (self.new ≡ closed self.old) }
@@ -57,7 +65,14 @@ impl NumberLists {
     pub fn list(&self, index: u32) -> &[u32]
         ensures { result.now ≡ slice_index_or self.now.lists index [] }
     {
-        list_at(self.items.as_slice(), self.ends.as_slice(), index as usize)
+        self.at(index as usize)
+    }
+
+    /// The same by an index of any size.
+    pub fn at(&self, index: usize) -> &[u32]
+        ensures { result.now ≡ slice_index_or self.now.lists index [] }
+    {
+        list_at(self.items.as_slice(), self.ends.as_slice(), index)
     }
 
     /// A number of a list, by the index of the list and its own there.
@@ -95,14 +110,4 @@ fn start_at(ends: &[u32], index: usize) -> u32
         return 0;
     }
     ends[index - 1]
-}
-
-/// A number in 32 bits. The one error is out of memory: there is no room for more.
-fn as_u32(number: usize) -> Result<u32, OutOfMemory>
-    ensures { IfOk result (λ n. n ≡ number) }
-{
-    match u32::try_from(number) {
-        Ok(number) => Ok(number),
-        Err(_) => Err(OutOfMemory),
-    }
 }

@@ -2,7 +2,7 @@
 use Rattle.std.proofs.Common.{◌≡◌, ℕ, ◌≤◌, ◌<◌, ◌+◌, ◌-◌, ◌⊎◌, inl, inr, Bool, true, false, List, [], ◌∷◌, ◌++◌, length, drop, reverse, set, Some, refl, ap, sym, ◌∙◌, subst, arith}
 use Rattle.std.specs.Prelude.{Contains, slice_get, if◌then◌else◌}
 use Rattle.std.specs.Cmp.Lexicographic.{same_text}
-use Rattle.std.specs.List.{IsDistinct, list_any}
+use Rattle.std.specs.List.{AllByRecursion, IsDistinct, list_any}
 use Rattle.std.specs.Set.{unique_keys}
 use Rattle.std.proofs.lemmas.Bool.{cases_lt, true≢false}
 use Rattle.std.proofs.lemmas.Cmp.{nat_list_eq_equiv}
@@ -10,7 +10,7 @@ use Rattle.std.proofs.lemmas.List.{length-map, length-set, reverse-reverse}
 use Rattle.std.proofs.lemmas.Map.Keys.{apart_from_distinct}
 use Rattle.std.proofs.lemmas.Map.Views.{list_any-from_Contains}
 use Rattle.std.proofs.lemmas.Option.{slice_get_within}
-use Rattle.dom_base.proofs.Lists.{AllByRecursion-from_places, AllByRecursion-map, Contains-slice_get, list_any-none, map-push, reverse-cons, slice_get-append, slice_get-contained, slice_get-push_cases, slice_get-set_other}
+use Rattle.dom_base.proofs.Lists.{AllByRecursion-from_places, AllByRecursion-map, AllByRecursion-reverse, Contains-slice_get, list_any-none, map-push, reverse-cons, slice_get-append, slice_get-contained, slice_get-push_cases, slice_get-set_other}
 use Rattle.dom_base.proofs.Names.{names_equal}
 use Rattle.blif_ast.specs.Cards.{same}
 use Rattle.blif_numbers.specs.Numbered.{name_of, named}
@@ -93,6 +93,13 @@ kept-all numbers kept found count index are is all names apart known =
     let none : length whole - index ≡ 0 = omega (arith, all, length-map numbers (name_of names)) in
     ap (named names) is ∙ named-reverse names kept ∙ ap reverse (are names apart known) ∙ reverse-reverse (unique_keys same (drop (length whole - index) whole))
     ∙ ap (λ n. unique_keys same (drop n whole)) none
+
+-- numbers with places are below the count of places
+pub kept-below : (kept found place : List ℕ) (count : ℕ) → length place ≡ count → IsIndexed kept place → found ≡ reverse kept
+    → AllByRecursion (λ n. n < count) found
+kept-below kept found place count same indexed is = subst (AllByRecursion (λ n. n < count)) (sym is)
+    (AllByRecursion-reverse (λ n. n < count) kept
+    (AllByRecursion-from_places (λ n. n < count) kept (λ i n at. omega (arith, same, slice_get_within place n i (indexed i n at)))))
 
 -- a number that isn't there goes in
 pub noted-new : (kept after old place : List ℕ) (number index : ℕ) → IsIndexed kept old → slice_get old number ≡ Some index

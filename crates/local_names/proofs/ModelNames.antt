@@ -1,23 +1,19 @@
 -- The names of each model, model by model.
-use Rattle.std.proofs.Common.{◌≡◌, ℕ, ◌<◌, ◌+◌, List, [], ◌∷◌, ◌++◌, length, map, take, Option, Some, None, ap, sym, ◌∙◌, arith}
-use Rattle.std.specs.Prelude.{IfSome, slice_get}
-use Rattle.std.specs.List.{IsDistinct}
+use Rattle.std.proofs.Common.{◌≡◌, ℕ, ◌<◌, ◌+◌, List, [], ◌∷◌, ◌++◌, length, map, take, Some, ap, sym, ◌∙◌, subst, arith}
+use Rattle.std.specs.Prelude.{slice_get}
+use Rattle.std.specs.List.{AllByRecursion, IsDistinct}
 use Rattle.std.specs.Set.{unique_keys}
-use Rattle.dom_base.proofs.Lists.{map-push, slice_get-there}
+use Rattle.dom_base.proofs.Lists.{AllByRecursion-append, map-push, slice_get-there}
 use Rattle.blif_ast.specs.BlifModelData.{BlifModelData}
 use Rattle.blif_ast.specs.Cards.{same}
 use Rattle.blif_numbers.specs.NumberedData.{NumberedData}
-use Rattle.blif_numbers.specs.Numbered.{IsNumbered, models_in, named}
+use Rattle.blif_numbers.specs.Numbered.{AreBelow, IsNumbered, models_in, named}
 use Rattle.blif_numbers.proofs.Copying.{take-get}
 use Rattle.blif_numbers.proofs.Places.{length-models_in}
+use Rattle.card_places.specs.NumberLists.{NumberListsData, closed, with_numbers}
 use Rattle.local_names.specs.PartNames.{all_names}
 use Rattle.local_names.proofs.Gathered.{names-of_model}
 use Rattle.part_numbers.specs.SignalNumbers.{model_names}
-
--- what there is meets more, where it is there
-pub some-weaker : {T : Type 0} (o : Option T) (P Q : T → Type 0) → ((x : T) → P x → Q x) → IfSome o P → IfSome o Q
-some-weaker None P Q more h = h
-some-weaker (Some x) P Q more h = more x h
 
 -- these numbers are those of the names of a model
 abbrev pub HasNamesOf : NumberedData → ℕ → List ℕ → Type 0
@@ -42,3 +38,15 @@ names-more d m numbers before after within has is so_far =
     ∙ (λ i. so_far i ++ has model.0 model.1 i ∷ [])
     ∙ sym (map-push model_names (take m (models_in d)) model.0)
     ∙ ap (map model_names) (sym (take-get (models_in d) m model.0 model.1))
+
+-- one list more
+pub list-more : (before : NumberListsData) (numbers : List ℕ) (middle after : NumberListsData) → before.next ≡ [] → middle ≡ with_numbers before numbers
+    → after ≡ closed middle → (after.next ≡ []) × (after.lists ≡ before.lists ++ numbers ∷ [])
+list-more before numbers middle after none extended is =
+    let whole = is ∙ ap closed extended in
+    (ap (λ (l : NumberListsData). l.next) whole, ap (λ (l : NumberListsData). l.lists) whole ∙ ap (λ l. before.lists ++ (l ++ numbers) ∷ []) none)
+
+pub below-more : (count : ℕ) (before after : List (List ℕ)) (numbers : List ℕ) → after ≡ before ++ numbers ∷ [] → AllByRecursion (AreBelow count) before
+    → AreBelow count numbers → AllByRecursion (AreBelow count) after
+below-more count before after numbers is all this =
+    subst (AllByRecursion (AreBelow count)) (sym is) (AllByRecursion-append (AreBelow count) before (numbers ∷ []) all (this, tt))

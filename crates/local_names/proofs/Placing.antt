@@ -1,9 +1,9 @@
 -- The places of words that are appended word by word, part by part and model by model.
 use Rattle.std.proofs.Common.{◌≡◌, ℕ, suc, ◌≤◌, ◌<◌, ◌+◌, ◌-◌, ◌⊎◌, inl, inr, List, [], ◌∷◌, ◌++◌, length, drop, take, map, Some, refl, ap, sym, ◌∙◌, subst, arith, append-nil, append_assoc}
-use Rattle.std.specs.Prelude.{slice_get, slice_index_or}
+use Rattle.std.specs.Prelude.{Contains, slice_get, slice_index_or}
 use Rattle.std.proofs.lemmas.Bool.{cases_lt}
 use Rattle.std.proofs.lemmas.List.{length-append, length-map, drop-append-le, drop_all, take_all}
-use Rattle.dom_base.proofs.Lists.{map-push}
+use Rattle.dom_base.proofs.Lists.{Contains-first, Contains-later, map-push}
 use Rattle.blif_numbers.specs.declared.parts.PartAt.{PartAt}
 use Rattle.blif_numbers.specs.declared.parts.PartKind.{PartKind}
 use Rattle.blif_numbers.specs.declared.parts.PartKind.TheVariants as at
@@ -13,6 +13,7 @@ use Rattle.blif_numbers.specs.Places.{IsPartOf, first_input, first_output, first
 use Rattle.blif_numbers.proofs.Growth.{between-grows}
 use Rattle.blif_numbers.proofs.Places.{first_input-more, first_output-more, first_part-more, first_word-more, length-inputs_at, length-outputs_at, length-words_at}
 use Rattle.local_names.specs.LocalNames.{AreLocals, IsInstance, IsUnitOf, firsts, own_words, seconds}
+use Rattle.local_names.specs.LostFormals.{HasLostFormal, IsFormalLost, IsPartLost}
 use Rattle.local_names.specs.Placed.{AreBindingsPlaced, AreInputsPlaced, AreOutputsPlaced, AreWordsPlaced, HasBindings, IsPartPlaced, IsPlaced}
 use Rattle.local_names.specs.Units.{AreUnits}
 use Rattle.model_calls.proofs.Recursions.{names_once}
@@ -85,6 +86,67 @@ goes-last unit_names names words before now after [] on few some is = absurd (om
 goes-last unit_names names words before now after (x ∷ []) on few some is =
     subst (HasBindings unit_names names words before) (sym is) (on (0 ∷ []) (bindings-one unit_names names x))
 goes-last unit_names names words before now after (x ∷ y ∷ rest) on few some is = absurd (omega (arith, few))
+
+-- the same, and where a formal of the rest is lost, one of all is
+pub record BindingsGoOn (unit_names names words before now rest : List ℕ) : Type 0 where
+  pub goes : GoesOn unit_names names words before now rest
+  pub lost : IsFormalLost unit_names rest → IsFormalLost unit_names words
+
+pub go-from : (unit_names names words before : List ℕ) → BindingsGoOn unit_names names words before before words
+go-from unit_names names words before = record { goes = goes-from unit_names names words before; lost = λ l. l }
+
+pub go-on : (unit_names names words before now then after rest : List ℕ) (formal actual f a : ℕ)
+    → slice_get unit_names f ≡ Some formal → slice_get names a ≡ Some actual → then ≡ now ++ f ∷ [] → after ≡ then ++ a ∷ []
+    → BindingsGoOn unit_names names words before now (formal ∷ actual ∷ rest) → BindingsGoOn unit_names names words before after rest
+go-on unit_names names words before now then after rest formal actual f a is_formal is_actual one two on = record {
+  goes = goes-on unit_names names words before now then after rest formal actual f a is_formal is_actual one two on.goes;
+  lost = λ l. on.lost (record { formal = l.formal; bound = Contains-later formal (firsts rest) l.formal l.bound; none = l.none });
+}
+
+pub go-lost : (unit_names names words before now rest : List ℕ) (formal actual : ℕ) → BindingsGoOn unit_names names words before now (formal ∷ actual ∷ rest)
+    → (Contains unit_names formal → ⊥) → IsFormalLost unit_names words
+go-lost unit_names names words before now rest formal actual on none =
+    on.lost (record { formal = formal; bound = Contains-first formal (firsts rest); none = none })
+
+-- the same where the formal and the actual are the first two words of the rest
+module _ (unit_names names words before now rest : List ℕ) (some : 2 ≤ length rest) (on : BindingsGoOn unit_names names words before now rest) where
+  pub go-on_from : (then after next : List ℕ) (f a : ℕ) → slice_get unit_names f ≡ Some (slice_index_or rest 0 0)
+      → slice_get names a ≡ Some (slice_index_or rest 1 0) → then ≡ now ++ f ∷ [] → after ≡ then ++ a ∷ []
+      → next ≡ take (length rest - 2) (drop 2 rest)
+      → BindingsGoOn unit_names names words before after next
+  go-on_from then after next f a is_formal is_actual one two is = by rest some on is_formal is_actual is
+    where
+      by : (rest : List ℕ) → 2 ≤ length rest → BindingsGoOn unit_names names words before now rest → slice_get unit_names f ≡ Some (slice_index_or rest 0 0)
+          → slice_get names a ≡ Some (slice_index_or rest 1 0) → next ≡ take (length rest - 2) (drop 2 rest) → BindingsGoOn unit_names names words before after next
+      by [] some on is_formal is_actual is = absurd (omega (arith, some))
+      by (x ∷ []) some on is_formal is_actual is = absurd (omega (arith, some))
+      by (x ∷ y ∷ rest) some on is_formal is_actual is = subst (BindingsGoOn unit_names names words before after) (sym (is ∙ take_all (length (x ∷ y ∷ rest) - 2) rest (omega arith)))
+          (go-on unit_names names words before now then after rest x y f a is_formal is_actual one two on)
+
+  pub go-lost_from : (Contains unit_names (slice_index_or rest 0 0) → ⊥) → IsFormalLost unit_names words
+  go-lost_from none = by rest some on none
+    where
+      by : (rest : List ℕ) → 2 ≤ length rest → BindingsGoOn unit_names names words before now rest → (Contains unit_names (slice_index_or rest 0 0) → ⊥)
+          → IsFormalLost unit_names words
+      by [] some on none = absurd (omega (arith, some))
+      by (x ∷ []) some on none = absurd (omega (arith, some))
+      by (x ∷ y ∷ rest) some on none = go-lost unit_names names words before now rest x y on none
+
+pub formal-lost : (d : NumberedData) (models : List (List ℕ)) (units : List ℕ) (m k : ℕ) (part : PartAt) → AreUnits d units → m < length d.models
+    → IsPartOf d m k → slice_get d.parts k ≡ Some part
+    → IsPartLost part.kind (slice_index_or models (slice_index_or units k 0) []) (words_at d k) → HasLostFormal d models
+formal-lost d models units m k part known within inside there lost =
+    let instance : IsInstance d k = record { part = part; there = there; kind_is = lost.instance } in
+    record {
+      model = m;
+      place = k;
+      unit = slice_index_or units k 0;
+      within = within;
+      of_model = inside;
+      instance = instance;
+      named = known.units_are k instance;
+      lost = lost.lost;
+    }
 
 pub placed-instance : (names unit_names words bindings before now after : List ℕ) → 0 < length words → bindings ≡ drop 1 words → now ≡ before ++ 0 ∷ []
     → HasBindings unit_names names bindings now after → IsPartPlaced at.Instance names unit_names words before after

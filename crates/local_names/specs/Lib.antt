@@ -1,5 +1,6 @@
 pub mod AllPlaced
 pub mod LocalNames
+pub mod LostFormals
 pub mod PartNames
 pub mod PartWeights
 pub mod Placed

@@ -1,33 +1,32 @@
-//! The numbers of a list, each once.
-ghost use Rattle.std.specs.Prelude.{◌≡◌, ◌≢◌, ◌<◌, ◌-◌, ◌++◌, ◌∷◌, [], ℕ, List, IfOk, IfSome, IsFalse, IsTrue, OnOk, Some, length, slice_get, slice_set, true};
+//! The numbers of a list, each once, and their places.
+ghost use Rattle.std.specs.Prelude.{◌≡◌, ◌≢◌, ◌<◌, ◌-◌, ◌++◌, ◌∷◌, [], ℕ, List, Contains, IfOk, IfSome, IsFalse, IsNone, IsTrue, OnOk, Some, length, slice_get, slice_set};
 ghost use Rattle.std.specs.List.{IsDistinct};
 ghost use Rattle.std.specs.Set.{unique_keys};
 ghost use Rattle.blif_ast.specs.Cards.{same};
-ghost use Rattle.blif_numbers.specs.Numbered.{named};
+ghost use Rattle.blif_numbers.specs.Numbered.{AreBelow, named};
 ghost use Rattle.local_names.specs.Places.{IsIndexed, IsNoted};
 
 use dom_base::OutOfMemory;
 use std::alloc::Global;
 
-/// The numbers of a list, each once, as the last of those that are equal; none where a number isn't below the length of
-/// `place`. That is for each number its place in a list, and it may be anything before.
+/// Makes `kept` the numbers of a list, each once, as the last of those that are equal. Each number is below the length of
+/// `place`, which is for each number its place in a list, and may be anything before. The one error is out of memory.
 pub fn last_of_each(
-    alloc: Global,
     numbers: &[u32],
+    kept: &mut Vec<u32>,
     place: &mut [u32],
-) -> Result<Option<Vec<u32>>, OutOfMemory>
+) -> Result<(), OutOfMemory>
     ensures length { length place.new ≡ length place.old }
-    ensures once { IfOk result (λ found. IfSome found (λ kept. (names : List (List ℕ)) → IsDistinct same names
-        → length names ≡ length place.old → named names kept.items ≡ unique_keys same (named names numbers.now))) }
+    ensures below { OnOk result (AreBelow (length place.old) kept.new.items) }
+    ensures once { OnOk result ((names : List (List ℕ)) → IsDistinct same names
+        → length names ≡ length place.old → named names kept.new.items ≡ unique_keys same (named names numbers.now)) }
 {
-    let mut kept = Vec::new(alloc);
+    kept.clear();
     for index in 0..numbers.len() {
-        if !note(place, &mut kept, from_last(numbers, index))? {
-            return Ok(None);
-        }
+        note(place, kept, from_last(numbers, index))?;
     }
     kept.reverse();
-    Ok(Some(kept))
+    Ok(())
 }
 
 /// The number at this index from the last one on.
@@ -38,19 +37,19 @@ fn from_last(numbers: &[u32], index: usize) -> u32
     numbers[numbers.len() - 1 - index]
 }
 
-/// Appends a number, unless it is there. It answers whether the number has a place.
-fn note(place: &mut [u32], kept: &mut Vec<u32>, number: u32) -> Result<bool, OutOfMemory>
+/// Appends a number, unless it is there.
+fn note(place: &mut [u32], kept: &mut Vec<u32>, number: u32) -> Result<(), OutOfMemory>
     requires { IsIndexed kept.old.items place.old }
     ensures length { length place.new ≡ length place.old }
-    ensures noted { IfOk result (λ good. good ≡ true → IsNoted kept.old.items kept.new.items place.new number) }
+    ensures noted { OnOk result (IsNoted kept.old.items kept.new.items place.new number) }
 {
     match item_at(place, number) {
-        Some(index) if is_at(kept, index, number) => Ok(true),
+        Some(index) if is_at(kept, index, number) => Ok(()),
         Some(_) => {
             append(place, kept, number)?;
-            Ok(true)
+            Ok(())
         }
-        None => Ok(false),
+        None => Err(OutOfMemory),
     }
 }
 
@@ -86,6 +85,27 @@ pub fn is_at(numbers: &[u32], index: u32, number: u32) -> bool
         Some(other) => *other == number,
         None => false,
     }
+}
+
+/// The first index at which a number stands, if it stands in the list.
+pub fn first_index(numbers: &[u32], number: u32) -> Option<usize>
+    ensures found { IfSome result (λ index. slice_get numbers.now index ≡ Some number) }
+    ensures none { IsNone result → Contains numbers.now number → ⊥ }
+{
+    for index in 0..numbers.len() {
+        if number_at(numbers, index) == number {
+            return Some(index);
+        }
+    }
+    None
+}
+
+/// The number at an index.
+fn number_at(numbers: &[u32], index: usize) -> u32
+    requires { index < length numbers.now }
+    ensures { slice_get numbers.now index ≡ Some result }
+{
+    numbers[index]
 }
 
 /// Writes for each of these numbers its place in the list.

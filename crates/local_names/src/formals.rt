@@ -3,28 +3,31 @@ ghost use Rattle.std.specs.Prelude.{◌≡◌, length};
 
 use crate::distinct::{index, item_at, zeros};
 use blif_numbers::{NumberedFile, PartAt, PartKind};
+use card_places::NumberLists;
 use dom_base::OutOfMemory;
 use std::alloc::Global;
 
-/// For each word of a file a place: that of a formal among the names of its instance's model, where it is one of them.
+/// For each word of a file a place: that of a formal among the names of its instance's model, where it is one of them. It is where a
+/// formal is looked for first, so no contract says that it is right.
 pub fn formal_hints(
     alloc: Global,
     file: &NumberedFile<'_>,
     units: &[u32],
-    models: &[Vec<u32>],
+    models: &NumberLists,
     place: &mut [u32],
 ) -> Result<Vec<u32>, OutOfMemory>
     ensures { length place.new ≡ length place.old }
 {
-    let chains = Chains::of_file(alloc, file.parts(), units, models.len())?;
+    let count = file.models().len();
+    let chains = Chains::of_file(alloc, file.parts(), units, count)?;
     if chains.is_empty {
         return Ok(Vec::new(alloc));
     }
     let mut hints = zeros(alloc, file.words().len())?;
-    for unit in 0..models.len() {
+    for unit in 0..count {
         let first = chains.first(unit);
         if first != NO_PART {
-            index(place, &models[unit]);
+            index(place, models.at(unit));
             chains.note_formals(file, first, place, &mut hints);
         }
     }
@@ -34,7 +37,7 @@ pub fn formal_hints(
 /// The end of a chain.
 const NO_PART: u32 = u32::MAX;
 
-/// The instances of each model, as chains: for each model its last instance, and for each instance the one before it.
+/// The instances of each model that bind formals, as chains: for each model its last instance, and for each instance the one before it.
 #[derive(Drop)]
 struct Chains {
     heads: Vec<u32>,
@@ -51,15 +54,21 @@ impl Chains {
     ) -> Result<Chains, OutOfMemory> {
         let mut chains = Chains {
             heads: vec![in alloc; NO_PART; models]?,
-            next: Vec::new(alloc),
+            next: Vec::with_capacity(alloc, parts.len())?,
             is_empty: true,
         };
+        let mut start = 0;
         for place in 0..parts.len() {
-            let before = match parts[place].kind {
-                PartKind::Instance => chains.put(place, units),
+            let part = parts[place];
+            let kind = part.kind;
+            let before = match kind {
+                PartKind::Instance if part.words_end.saturating_sub(start) > 1 => {
+                    chains.put(place, units)
+                }
                 _ => NO_PART,
             };
             chains.next.push(before)?;
+            start = part.words_end;
         }
         Ok(chains)
     }

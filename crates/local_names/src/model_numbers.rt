@@ -1,5 +1,5 @@
 //! All names on the cards of a model by their numbers, as often as they stand there.
-ghost use Rattle.std.specs.Prelude.{◌≡◌, ◌<◌, ◌+◌, ◌++◌, ℕ, List, IfOk, IfSome, IsTrue, drop, length, slice_get, true};
+ghost use Rattle.std.specs.Prelude.{◌≡◌, ◌<◌, ◌+◌, ◌++◌, ℕ, List, IsTrue, OnOk, drop, length, slice_get, true};
 ghost use Rattle.std.specs.List.{flat_map};
 ghost use Rattle.blif_numbers.specs.Numbered.{named, part_by};
 ghost use Rattle.blif_numbers.specs.Places.{first_part};
@@ -7,7 +7,6 @@ ghost use Rattle.local_names.specs.PartNames.{IsLatchForm, actuals_by, all_names
 
 use blif_numbers::{NumberedFile, PartAt, PartKind};
 use dom_base::OutOfMemory;
-use std::alloc::Global;
 
 /// A kind of card.
 #[derive(Clone, Copy, Debug)]
@@ -17,35 +16,31 @@ pub enum CardKind {
     Instance,
 }
 
-/// The numbers of all names that occur in a model, as often as they occur; none where a card is not in its form.
+/// Makes `all` the numbers of all names that occur in a model, as often as they occur. The one error is out of memory; a card that
+/// is not in its form, which no reader makes, is answered by it too.
 pub fn numbers_of_model(
-    alloc: Global,
+    all: &mut Vec<u32>,
     file: &NumberedFile<'_>,
     model: usize,
-) -> Result<Option<Vec<u32>>, OutOfMemory>
+) -> Result<(), OutOfMemory>
     requires { model < length file.now.models }
-    ensures { IfOk result (λ found. IfSome found (λ v. named file.now.names v.items ≡ all_names file.now model)) }
+    ensures { OnOk result (named file.now.names all.new.items ≡ all_names file.now model) }
 {
-    let mut all = Vec::new(alloc);
+    all.clear();
     all.extend_from_slice(file.inputs_of(model))?;
     all.extend_from_slice(file.outputs_of(model))?;
-    if !put_cards(&mut all, file, model)? {
-        return Ok(None);
-    }
-    Ok(Some(all))
+    put_cards(all, file, model)
 }
 
-/// Appends the numbers of the names on the cards of a model, by their kinds. It answers whether all cards are in their form.
-fn put_cards(all: &mut Vec<u32>, file: &NumberedFile<'_>, model: usize) -> Result<bool, OutOfMemory>
+/// Appends the numbers of the names on the cards of a model, by their kinds.
+fn put_cards(all: &mut Vec<u32>, file: &NumberedFile<'_>, model: usize) -> Result<(), OutOfMemory>
     requires { model < length file.now.models }
-    ensures { IfOk result (λ good. good ≡ true → named file.now.names all.new.items
+    ensures { OnOk result (named file.now.names all.new.items
         ≡ with_cards (named file.now.names all.old.items) (parts_at file.now model)) }
 {
-    Ok(
-        put_kind(all, file, model, CardKind::Table)?
-            && put_kind(all, file, model, CardKind::Latch)?
-            && put_kind(all, file, model, CardKind::Instance)?,
-    )
+    put_kind(all, file, model, CardKind::Table)?;
+    put_kind(all, file, model, CardKind::Latch)?;
+    put_kind(all, file, model, CardKind::Instance)
 }
 
 /// The same for the cards of one kind.
@@ -54,20 +49,20 @@ fn put_kind(
     file: &NumberedFile<'_>,
     model: usize,
     kind: CardKind,
-) -> Result<bool, OutOfMemory>
+) -> Result<(), OutOfMemory>
     requires { model < length file.now.models }
-    ensures { IfOk result (λ good. good ≡ true → named file.now.names all.new.items
+    ensures { OnOk result (named file.now.names all.new.items
         ≡ named file.now.names all.old.items ++ flat_map (names_by kind) (parts_at file.now model)) }
 {
     let first = file.first_part(model);
     let end = parts_end(file, model);
     for place in first..end {
         match part_at(file, place) {
-            Some(part) if put_part(all, part, file.words_of(place), kind)? => {}
-            _ => return Ok(false),
+            Some(part) => put_part(all, part, file.words_of(place), kind)?,
+            None => return Err(OutOfMemory),
         }
     }
-    Ok(true)
+    Ok(())
 }
 
 /// The part at a place, if there is one.
@@ -89,14 +84,14 @@ pub fn parts_end(file: &NumberedFile<'_>, model: usize) -> usize
     }
 }
 
-/// Appends the numbers of the names on a part's card, where it is of this kind. It answers whether the card is in its form.
+/// Appends the numbers of the names on a part's card, where it is of this kind.
 fn put_part(
     all: &mut Vec<u32>,
     part: PartAt,
     words: &[u32],
     kind: CardKind,
-) -> Result<bool, OutOfMemory>
-    ensures { IfOk result (λ good. good ≡ true → (text : List ℕ) (names : List (List ℕ)) (line : ℕ) (rows : List ℕ)
+) -> Result<(), OutOfMemory>
+    ensures { OnOk result ((text : List ℕ) (names : List (List ℕ)) (line : ℕ) (rows : List ℕ)
         → named names all.new.items
         ≡ named names all.old.items ++ names_by kind (part_by text part.kind line (named names words.now) rows)) }
 {
@@ -106,18 +101,19 @@ fn put_part(
             put_words(all, words, is_latch(words, edge.is_some()))
         }
         (CardKind::Instance, PartKind::Instance) => put_actuals(all, words),
-        _ => Ok(true),
+        _ => Ok(()),
     }
 }
 
-/// Appends the words of a card, where it is in its form.
-fn put_words(all: &mut Vec<u32>, words: &[u32], good: bool) -> Result<bool, OutOfMemory>
-    ensures { IfOk result (λ done. done ≡ true → (good ≡ true) × (all.new.items ≡ all.old.items ++ words.now)) }
+/// Appends the words of a card, which is in its form.
+fn put_words(all: &mut Vec<u32>, words: &[u32], good: bool) -> Result<(), OutOfMemory>
+    ensures { OnOk result ((good ≡ true) × (all.new.items ≡ all.old.items ++ words.now)) }
 {
-    if good {
-        all.extend_from_slice(words)?;
+    if !good {
+        return Err(OutOfMemory);
     }
-    Ok(good)
+    all.extend_from_slice(words)?;
+    Ok(())
 }
 
 /// Whether these are the words of a latch: two, and a third only where it has an edge.
@@ -128,8 +124,8 @@ fn is_latch(words: &[u32], has_edge: bool) -> bool
 }
 
 /// Appends the actuals of an instance.
-fn put_actuals(all: &mut Vec<u32>, words: &[u32]) -> Result<bool, OutOfMemory>
-    ensures { IfOk result (λ good. (names : List (List ℕ))
+fn put_actuals(all: &mut Vec<u32>, words: &[u32]) -> Result<(), OutOfMemory>
+    ensures { OnOk result ((names : List (List ℕ))
         → named names all.new.items ≡ named names all.old.items ++ actuals_by (named names (drop 1 words.now))) }
 {
     let mut rest = behind_first(words);
@@ -137,7 +133,7 @@ fn put_actuals(all: &mut Vec<u32>, words: &[u32]) -> Result<bool, OutOfMemory>
         all.push(*actual)?;
         rest = more;
     }
-    Ok(true)
+    Ok(())
 }
 
 /// All numbers but the first.

@@ -1,42 +1,46 @@
 //! The names of each model of a file, and the places of all words among them.
-ghost use Rattle.std.specs.Prelude.{◌≡◌, ◌<◌, IfOk, IfSome, Some, length, map, slice_get};
+ghost use Rattle.std.specs.Prelude.{◌≡◌, ◌<◌, IfNone, IfOk, IfSome, OnOk, Some, length, map, slice_get};
+ghost use Rattle.std.specs.List.{AllByRecursion};
 ghost use Rattle.blif_ast.specs.BlifModelData.{BlifModelData};
-ghost use Rattle.blif_numbers.specs.Numbered.{models_in, named};
+ghost use Rattle.blif_numbers.specs.Numbered.{AreBelow, file_of, models_in, named};
 ghost use Rattle.local_names.specs.LocalNames.{AreLocalNames};
 ghost use Rattle.local_names.specs.AllPlaced.{AreAllPlaced};
+ghost use Rattle.local_names.specs.LostFormals.{HasLostFormal};
 ghost use Rattle.local_names.specs.Units.{AreUnits};
+ghost use Rattle.model_calls.specs.ModelCalls.{NothingRefuses};
 ghost use Rattle.part_numbers.specs.SignalNumbers.{model_names};
 
 use crate::distinct::{index, last_of_each, zeros};
 use crate::formals::formal_hints;
 use crate::model_numbers::numbers_of_model;
-use crate::table::{LocalNames, names_at};
+use crate::table::LocalNames;
 use crate::word_places::{Lookup, put_parts, put_words};
 use blif_numbers::NumberedFile;
+use card_places::NumberLists;
 use dom_base::OutOfMemory;
 use std::alloc::Global;
 
-/// The names of each model of a file, where `units` has for each instance the number of its model; none where a card is not
-/// in its form or a formal is no name of its model. It takes a time that is linear in the file, and fails only for want of
-/// memory.
+/// The names of each model of a file, where `units` has for each instance the number of its model; none where a formal is no
+/// name of its model, for which the file is refused. It takes a time that is linear in the file. The one error is out of
+/// memory; a card that is not in its form or that stands behind the last model, which no reader makes, is answered by it too.
 pub fn local_names(
     alloc: Global,
     file: &NumberedFile<'_>,
     units: &[u32],
 ) -> Result<Option<LocalNames>, OutOfMemory>
     requires { AreUnits file.now units.now }
-    ensures { IfOk result (λ found. IfSome found (AreLocalNames file.now)) }
+    ensures names { IfOk result (λ found. IfSome found (AreLocalNames file.now)) }
+    ensures refused { IfOk result (λ found. IfNone found (NothingRefuses (file_of file.now) 5 → ⊥)) }
 {
     let mut place = zeros(alloc, file.names().len())?;
-    let Some(models) = names_of_models(alloc, file, &mut place)? else {
-        return Ok(None);
-    };
+    let models = names_of_models(alloc, file, &mut place)?;
     let hints = formal_hints(alloc, file, units, &models, &mut place)?;
     let lookup = Lookup {
         models: &models,
         units,
         hints: &hints,
     };
+    file.is_in_order();
     match place_all(alloc, file, lookup, &mut place)? {
         Some(placed) => Ok(Some(LocalNames {
             models,
@@ -56,48 +60,49 @@ pub struct Placed {
     pub words: Vec<u32>,
 }
 
-/// The names of each model, by their numbers; none where a card is not in its form.
+/// The names of each model, by their numbers.
 fn names_of_models(
     alloc: Global,
     file: &NumberedFile<'_>,
     place: &mut [u32],
-) -> Result<Option<Vec<Vec<u32>>>, OutOfMemory>
+) -> Result<NumberLists, OutOfMemory>
     requires { length place.old ≡ length file.now.names }
-    ensures names { IfOk result (λ found. IfSome found (λ models.
-        map (named file.now.names) (map (λ v. v.items) models.items) ≡ map model_names (models_in file.now))) }
+    ensures names { IfOk result (λ models. map (named file.now.names) models.lists ≡ map model_names (models_in file.now)) }
+    ensures below { IfOk result (λ models. AllByRecursion (AreBelow (length file.now.names)) models.lists) }
     ensures length { length place.new ≡ length place.old }
 {
-    let mut models = Vec::with_capacity(alloc, file.models().len())?;
+    let mut models = NumberLists::new(alloc);
+    let mut all = Vec::new(alloc);
+    let mut kept = Vec::new(alloc);
     for model in 0..file.models().len() {
-        match names_of_model(alloc, file, model, place)? {
-            Some(names) => models.push(names)?,
-            None => return Ok(None),
-        }
+        names_of_model(file, model, &mut all, &mut kept, place)?;
+        models.extend(&kept)?;
+        models.close()?;
     }
-    Ok(Some(models))
+    Ok(models)
 }
 
-/// The names of a model, by their numbers; none where a card is not in its form.
+/// Makes `kept` the names of a model, by their numbers, and `all` those of all words that are names of it.
 fn names_of_model(
-    alloc: Global,
     file: &NumberedFile<'_>,
     model: usize,
+    all: &mut Vec<u32>,
+    kept: &mut Vec<u32>,
     place: &mut [u32],
-) -> Result<Option<Vec<u32>>, OutOfMemory>
+) -> Result<(), OutOfMemory>
     requires within { model < length file.now.models }
     requires places { length place.old ≡ length file.now.names }
-    ensures names { IfOk result (λ found. IfSome found (λ names. (m : BlifModelData) → slice_get (models_in file.now) model ≡ Some m
-        → named file.now.names names.items ≡ model_names m)) }
+    ensures names { OnOk result ((m : BlifModelData) → slice_get (models_in file.now) model ≡ Some m
+        → named file.now.names kept.new.items ≡ model_names m) }
+    ensures below { OnOk result (AreBelow (length file.now.names) kept.new.items) }
     ensures length { length place.new ≡ length place.old }
 {
     file.is_in_order();
-    match numbers_of_model(alloc, file, model)? {
-        Some(all) => last_of_each(alloc, &all, place),
-        None => Ok(None),
-    }
+    numbers_of_model(all, file, model)?;
+    last_of_each(all, kept, place)
 }
 
-/// The places of all inputs, outputs and words among these names of all models; none where a word has none.
+/// The places of all inputs, outputs and words among these names of all models; none where a formal is no name of its model.
 fn place_all(
     alloc: Global,
     file: &NumberedFile<'_>,
@@ -105,7 +110,8 @@ fn place_all(
     place: &mut [u32],
 ) -> Result<Option<Placed>, OutOfMemory>
     requires units { AreUnits file.now lookup.units.now }
-    ensures { IfOk result (λ found. IfSome found (λ placed. AreAllPlaced file.now (map (λ v. v.items) lookup.entry.models.now) placed)) }
+    ensures placed { IfOk result (λ found. IfSome found (AreAllPlaced file.now lookup.entry.models.now.lists)) }
+    ensures lost { IfOk result (λ found. IfNone found (HasLostFormal file.now lookup.entry.models.now.lists)) }
 {
     let mut placed = Placed {
         inputs: Vec::with_capacity(alloc, file.inputs().len())?,
@@ -115,20 +121,16 @@ fn place_all(
     file.is_in_order();
     let count = file.models().len();
     for model in 0..count {
-        let names = names_at(lookup.models, model);
+        let names = lookup.models.at(model);
         index(place, names);
-        if !put_words(&mut placed.inputs, names, place, file.inputs_of(model))? {
-            return Ok(None);
-        }
-        if !put_words(&mut placed.outputs, names, place, file.outputs_of(model))? {
-            return Ok(None);
-        }
+        put_words(&mut placed.inputs, names, place, file.inputs_of(model))?;
+        put_words(&mut placed.outputs, names, place, file.outputs_of(model))?;
         if !put_parts(&mut placed.words, file, lookup, model, place)? {
             return Ok(None);
         }
     }
     if file.first_part(count) != file.parts().len() {
-        return Ok(None);
+        return Err(OutOfMemory);
     }
     Ok(Some(placed))
 }

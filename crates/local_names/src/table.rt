@@ -1,7 +1,8 @@
 //! The names of each model, and the places of all words among them.
-ghost use Rattle.std.specs.Prelude.{◌≡◌, [], length, map, slice_index_or};
+ghost use Rattle.std.specs.Prelude.{◌≡◌, [], length, slice_index_or};
 ghost use Rattle.local_names.specs.LocalNames.{names_in};
 
+use card_places::NumberLists;
 use std::marker::Model;
 
 /// The names of each model of a file by their numbers, each once; and for each input, output and word of the file its place
@@ -9,20 +10,19 @@ use std::marker::Model;
 /// that it stands in. A word that is no name of a model has the place 0.
 #[derive(Drop)]
 pub struct LocalNames {
-    pub(crate) models: Vec<Vec<u32>>,
+    pub(crate) models: NumberLists,
     pub(crate) inputs: Vec<u32>,
     pub(crate) outputs: Vec<u32>,
     pub(crate) words: Vec<u32>,
 }
 
 impl Model for LocalNames {
-    ghost use Rattle.std.specs.Prelude.{map};
     ghost use Rattle.local_names.specs.LocalNames.{LocalNamesData};
 
     ghost Value = { LocalNamesData };
 
     ghost view = { λ l. record {
-      models = map (λ v. v.items) l.models.items;
+      models = l.models.lists;
       inputs = l.inputs.items;
       outputs = l.outputs.items;
       words = l.words.items;
@@ -41,7 +41,7 @@ impl LocalNames {
     pub fn names(&self, model: usize) -> &[u32]
         ensures { result.now ≡ names_in self.now model }
     {
-        names_at(&self.models, model)
+        self.models.at(model)
     }
 
     /// The places of the inputs of all models.
@@ -63,15 +63,5 @@ impl LocalNames {
         ensures { result.now ≡ self.now.words }
     {
         self.words.as_slice()
-    }
-}
-
-/// The names of a model, where these are those of all models; none where there is no such model.
-pub(crate) fn names_at(models: &[Vec<u32>], model: usize) -> &[u32]
-    ensures { result.now ≡ slice_index_or (map (λ v. v.items) models.now) model [] }
-{
-    match models.get(model) {
-        Some(names) => names.as_slice(),
-        None => &[],
     }
 }

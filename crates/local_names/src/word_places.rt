@@ -1,26 +1,27 @@
 //! The places of the words of all parts among the names of their models.
-ghost use Rattle.std.specs.Prelude.{◌≡◌, ◌<◌, ◌+◌, [], ℕ, List, IfOk, Some, length, map, slice_get, slice_index_or, true};
+ghost use Rattle.std.specs.Prelude.{◌≡◌, ◌<◌, ◌+◌, [], Contains, IfOk, IfNone, IfSome, IsFalse, IsTrue, OnOk, Some, length, slice_get, slice_index_or};
 ghost use Rattle.blif_numbers.specs.Places.{first_part, words_at};
+ghost use Rattle.local_names.specs.LostFormals.{HasLostFormal, IsFormalLost, IsPartLost};
 ghost use Rattle.local_names.specs.Placed.{AreWordsPlaced, HasBindings, IsPartPlaced, IsPlaced};
 ghost use Rattle.local_names.specs.Units.{AreUnits};
 
-use crate::distinct::{is_at, item_at};
+use crate::distinct::{first_index, is_at, item_at};
 use crate::model_numbers::{behind_first, part_at, parts_end};
-use crate::table::names_at;
-use blif_numbers::{NumberedFile, PartAt, PartKind};
+use blif_numbers::{NumberedFile, PartAt, PartKind, as_u32};
+use card_places::NumberLists;
 use dom_base::OutOfMemory;
 
 /// What the words of a file are looked up in: the numbers of the names of all models, for each instance the number of its
-/// model, and for each word a place at which a formal is looked for, where there are instances.
+/// model, and for each word a place at which a formal is looked for first, where there are instances.
 #[derive(Clone, Copy)]
 pub struct Lookup<'a> {
-    pub models: &'a [Vec<u32>],
+    pub models: &'a NumberLists,
     pub units: &'a [u32],
     pub hints: &'a [u32],
 }
 
 /// Appends the places of the words of a model's parts, where `place` has at each of the model's names its place among them.
-/// It answers whether all words have places.
+/// It answers whether all formals have places.
 pub fn put_parts(
     words: &mut Vec<u32>,
     file: &NumberedFile<'_>,
@@ -30,9 +31,10 @@ pub fn put_parts(
 ) -> Result<bool, OutOfMemory>
     requires within { model < length file.now.models }
     requires units { AreUnits file.now lookup.units.now }
-    requires before { AreWordsPlaced file.now (map (λ v. v.items) lookup.models.now) (first_part file.now model) words.old.items }
-    ensures { IfOk result (λ good. good ≡ true
-        → AreWordsPlaced file.now (map (λ v. v.items) lookup.entry.models.now) (first_part file.now (model + 1)) words.new.items) }
+    requires before { AreWordsPlaced file.now lookup.models.now.lists (first_part file.now model) words.old.items }
+    ensures placed { IfOk result (λ good. IsTrue good
+        → AreWordsPlaced file.now lookup.entry.models.now.lists (first_part file.now (model + 1)) words.new.items) }
+    ensures lost { IfOk result (λ good. IsFalse good → HasLostFormal file.now lookup.entry.models.now.lists) }
 {
     file.is_in_order();
     let first = file.first_part(model);
@@ -54,14 +56,17 @@ fn put_part_of(
     part: usize,
     place: &[u32],
 ) -> Result<bool, OutOfMemory>
-    ensures { IfOk result (λ good. good ≡ true → (at : PartAt) × (slice_get file.now.parts part ≡ Some at)
-        × IsPartPlaced at.kind (slice_index_or (map (λ v. v.items) lookup.entry.models.now) model [])
-        (slice_index_or (map (λ v. v.items) lookup.entry.models.now) (slice_index_or lookup.entry.units.now part 0) [])
+    ensures placed { IfOk result (λ good. IsTrue good → (at : PartAt) × (slice_get file.now.parts part ≡ Some at)
+        × IsPartPlaced at.kind (slice_index_or lookup.entry.models.now.lists model [])
+        (slice_index_or lookup.entry.models.now.lists (slice_index_or lookup.entry.units.now part 0) [])
         (words_at file.now part) words.old.items words.new.items) }
+    ensures lost { IfOk result (λ good. IsFalse good → (at : PartAt) × (slice_get file.now.parts part ≡ Some at)
+        × IsPartLost at.kind (slice_index_or lookup.entry.models.now.lists (slice_index_or lookup.entry.units.now part 0) [])
+        (words_at file.now part)) }
 {
-    let names = names_at(lookup.models, model);
+    let names = lookup.models.at(model);
     let unit = lookup.units.get(part).copied().unwrap_or(0);
-    let unit_names = names_at(lookup.models, unit as usize);
+    let unit_names = lookup.models.list(unit);
     let hints = file.of_part(lookup.hints, part);
     match part_at(file, part) {
         Some(at) => put_part(
@@ -73,7 +78,7 @@ fn put_part_of(
             unit_names,
             place,
         ),
-        None => Ok(false),
+        None => Err(OutOfMemory),
     }
 }
 
@@ -87,32 +92,58 @@ fn put_part(
     unit_names: &[u32],
     place: &[u32],
 ) -> Result<bool, OutOfMemory>
-    ensures { IfOk result (λ good. good ≡ true
+    ensures placed { IfOk result (λ good. IsTrue good
         → IsPartPlaced kind names.now unit_names.now words.now all.old.items all.new.items) }
+    ensures lost { IfOk result (λ good. IsFalse good → IsPartLost kind unit_names.now words.now) }
 {
     match kind {
         PartKind::Instance => put_instance(all, words, hints, names, unit_names, place),
-        _ => put_words(all, names, place, words),
+        _ => {
+            put_words(all, names, place, words)?;
+            Ok(true)
+        }
     }
 }
 
-/// Appends the places of some numbers, which `place` has. It answers whether they have places.
+/// Appends the places of some numbers, which `place` has.
 pub fn put_words(
     all: &mut Vec<u32>,
     names: &[u32],
     place: &[u32],
     numbers: &[u32],
-) -> Result<bool, OutOfMemory>
-    ensures { IfOk result (λ good. good ≡ true → IsPlaced names.now numbers.now all.old.items all.new.items) }
+) -> Result<(), OutOfMemory>
+    ensures { OnOk result (IsPlaced names.now numbers.now all.old.items all.new.items) }
 {
     for number in numbers {
-        let index = item_at(place, *number).unwrap_or(0);
-        if !is_at(names, index, *number) {
-            return Ok(false);
-        }
+        let index = own_index(names, place, *number)?;
         all.push(index)?;
     }
-    Ok(true)
+    Ok(())
+}
+
+/// The index of a number among some names, which `place` has.
+fn own_index(names: &[u32], place: &[u32], number: u32) -> Result<u32, OutOfMemory>
+    ensures { IfOk result (λ index. slice_get names.now index ≡ Some number) }
+{
+    match item_at(place, number) {
+        Some(index) if is_at(names, index, number) => Ok(index),
+        _ => Err(OutOfMemory),
+    }
+}
+
+/// The index of a number among some names, if it is one of them: this one, if it stands there, and else the first at which it
+/// stands.
+fn index_from(names: &[u32], hint: u32, number: u32) -> Result<Option<u32>, OutOfMemory>
+    ensures found { IfOk result (λ found. IfSome found (λ index. slice_get names.now index ≡ Some number)) }
+    ensures none { IfOk result (λ found. IfNone found (Contains names.now number → ⊥)) }
+{
+    if is_at(names, hint, number) {
+        return Ok(Some(hint));
+    }
+    match first_index(names, number) {
+        Some(index) => Ok(Some(as_u32(index)?)),
+        None => Ok(None),
+    }
 }
 
 /// The same for the words of an instance.
@@ -124,8 +155,9 @@ fn put_instance(
     unit_names: &[u32],
     place: &[u32],
 ) -> Result<bool, OutOfMemory>
-    ensures { IfOk result (λ good. good ≡ true
+    ensures placed { IfOk result (λ good. IsTrue good
         → IsPartPlaced PartKind.Instance names.now unit_names.now words.now all.old.items all.new.items) }
+    ensures lost { IfOk result (λ good. IsFalse good → IsPartLost PartKind.Instance unit_names.now words.now) }
 {
     if words.is_empty() {
         return Ok(true);
@@ -143,18 +175,19 @@ fn put_bindings(
     unit_names: &[u32],
     place: &[u32],
 ) -> Result<bool, OutOfMemory>
-    ensures { IfOk result (λ good. good ≡ true
+    ensures placed { IfOk result (λ good. IsTrue good
         → HasBindings unit_names.now names.now words.now all.old.items all.new.items) }
+    ensures lost { IfOk result (λ good. IsFalse good → IsFormalLost unit_names.now words.now) }
 {
     let mut rest = words;
     let mut at: usize = 1;
     'bindings: while let [formal, actual, more @ ..] = rest {
         let hint = hints.get(at).copied().unwrap_or(0);
-        let index = item_at(place, *actual).unwrap_or(0);
-        if !is_at(unit_names, hint, *formal) || !is_at(names, index, *actual) {
+        let Some(unit_index) = index_from(unit_names, hint, *formal)? else {
             return Ok(false);
-        }
-        all.push(hint)?;
+        };
+        let index = own_index(names, place, *actual)?;
+        all.push(unit_index)?;
         all.push(index)?;
         at = at.saturating_add(2);
         rest = more;

@@ -19,8 +19,9 @@ use Rattle.card_places.specs.CardPlaces.{AreAtPlaces, AreCardPlaces, CardPlacesD
 use Rattle.dom_base.proofs.Lists.{Contains-slice_get, slice_get-contained, slice_get-there}
 use Rattle.network.proofs.IndexedLists.{same_at}
 use Rattle.network.proofs.Lists.{contains_map, get_map, get_of_map}
-use Rattle.local_names.specs.LocalNames.{AreLocalNames, IsInstance, LocalNamesData, firsts, names_in}
+use Rattle.local_names.specs.LocalNames.{AreLocalNames, IsInstance, IsUnitOf, LocalNamesData, firsts, names_in}
 use Rattle.local_names.specs.Units.{AreUnits}
+use Rattle.local_names.proofs.FormalNames.{formals_named}
 use Rattle.model_calls.proofs.Accepted.{none_reported, nothing_with, nothing_yet}
 use Rattle.model_calls.proofs.Apart.{Apart}
 use Rattle.model_calls.proofs.FormalFaults.{called_at}
@@ -38,12 +39,6 @@ use Rattle.numbered_calls.specs.BoundFormals.{AreBoundBelow, HavePortMarks, IsBo
 use Rattle.numbered_calls.specs.PortMarks.{ArePorts}
 use Rattle.numbered_calls.proofs.Marking.{only}
 use Rattle.numbered_calls.proofs.NamePlaces.{AreAt, at_append, item_among, named_at, not_twice}
-
--- the formals of an instance by its words
-formals_named : (names : List (List ℕ)) (words : List ℕ) → map (λ (b : Binding). b.formal) (bindings_by (named names words)) ≡ named names (firsts words)
-formals_named names [] = refl
-formals_named names (a ∷ []) = refl
-formals_named names (a ∷ b ∷ words) = ap (λ l. name_of names a ∷ l) (formals_named names words)
 
 -- the ports of a model, and the words of an instance, by numbers
 module _ (d : NumberedData) where
@@ -101,7 +96,7 @@ module _ (d : NumberedData) (c : CardPlacesData) (places : AreCardPlaces d c) (u
       (p.0, p.2)
 
   -- the model of an instance by its number
-  unit_there : (k : ℕ) (i : InstanceData) → IsInstanceOf d k i
+  pub unit_there : (k : ℕ) (i : InstanceData) → IsInstanceOf d k i
       → (n : BlifModelData) × (slice_get (models_in d) (slice_index_or units k 0) ≡ Some n) × (models_called (models_in d) i.unit ≡ n ∷ [])
   unit_there k i w =
       let u = slice_index_or units k 0 in
@@ -125,24 +120,31 @@ module _ (d : NumberedData) (c : CardPlacesData) (places : AreCardPlaces d c) (u
           (λ j. one j ∷ rest j)
 
 module _ (d : NumberedData) (l : LocalNamesData) (names : AreLocalNames d l) where
-  names_are : (m : ℕ) (model : BlifModelData) → slice_get (models_in d) m ≡ Some model → named d.names (names_in l m) ≡ model_names model
+  pub names_are : (m : ℕ) (model : BlifModelData) → slice_get (models_in d) m ≡ Some model → named d.names (names_in l m) ≡ model_names model
   names_are m model there =
       let h = same_at model_names (named d.names) (models_in d) l.models m model (sym names.models) there in
       ap (named d.names) (get_or_from_slice_get l.models m h.0 [] h.1) ∙ sym h.2
 
-  inputs_placed : (m : ℕ) (model : BlifModelData) → slice_get (models_in d) m ≡ Some model → AreAt (model_names model) (inputs_in d l m) model.inputs
+  pub inputs_placed : (m : ℕ) (model : BlifModelData) → slice_get (models_in d) m ≡ Some model → AreAt (model_names model) (inputs_in d l m) model.inputs
   inputs_placed m model there =
       let a = model_at d m model there in
       subst (λ n. AreAt n (inputs_in d l m) model.inputs) (names_are m model there)
       (subst (AreAt (named d.names (names_in l m)) (inputs_in d l m)) (sym a.1) (named_at d.names (names_in l m) (inputs_in d l m) (inputs_at d m) (names.inputs m a.0)))
 
-  outputs_placed : (m : ℕ) (model : BlifModelData) → slice_get (models_in d) m ≡ Some model → AreAt (model_names model) (outputs_in d l m) model.outputs
+  pub outputs_placed : (m : ℕ) (model : BlifModelData) → slice_get (models_in d) m ≡ Some model → AreAt (model_names model) (outputs_in d l m) model.outputs
   outputs_placed m model there =
       let a = model_at d m model there in
       subst (λ n. AreAt n (outputs_in d l m) model.outputs) (names_are m model there)
       (subst (AreAt (named d.names (names_in l m)) (outputs_in d l m)) (sym a.2) (named_at d.names (names_in l m) (outputs_in d l m) (outputs_at d m) (names.outputs m a.0)))
 
-  apart : (model : BlifModelData) → Apart (model_names model)
+  pub formals_placed : (k : ℕ) (i : InstanceData) → IsInstanceOf d k i → (u : ℕ) (n : BlifModelData) → slice_get (models_in d) u ≡ Some n → IsUnitOf d k u
+      → AreAt (model_names n) (formals_at d l k) (formals_of i)
+  formals_placed k i w u n there unit =
+      subst (λ m. AreAt m (formals_at d l k) (formals_of i)) (names_are u n there)
+      (subst (AreAt (named d.names (names_in l u)) (formals_at d l k)) (sym w.formals_are)
+      (named_at d.names (names_in l u) (formals_at d l k) (firsts (drop 1 (words_at d k))) (names.formals k u w.instance unit)))
+
+  pub apart : (model : BlifModelData) → Apart (model_names model)
   apart model = unique_apart (names_of model)
 
   module _ (bound : ℕ) (marks : List (List ℕ)) (ports : HavePortMarks d l bound marks) where
@@ -171,7 +173,7 @@ module _ (d : NumberedData) (l : LocalNamesData) (names : AreLocalNames d l) whe
     formal_good k i w n there e c wrong = elim (Contains-append_cases (map (BoundFormal i n) (formals_of i)) (map (InputFormal i) n.inputs) e c) [
       | inl h ↦ let x = contains_map (BoundFormal i n) (formals_of i) e h in bound_good x.0 x.1 (subst IsWrongFormal x.2 wrong)
       | inr h ↦ let x = contains_map (InputFormal i) n.inputs e h in
-          (subst IsWrongFormal x.2 wrong) (item_among (model_names n) (inputs_in d l u) (formals_at d l k) n.inputs (formals_of i) (inputs_placed u n there) formals_placed right.inputs_are x.0 x.1)
+          (subst IsWrongFormal x.2 wrong) (item_among (model_names n) (inputs_in d l u) (formals_at d l k) n.inputs (formals_of i) (inputs_placed u n there) placed right.inputs_are x.0 x.1)
     ]
       where
         u : ℕ
@@ -180,16 +182,13 @@ module _ (d : NumberedData) (l : LocalNamesData) (names : AreLocalNames d l) whe
         right : IsBoundAt d l u k
         right = all k u w.within (slice_get-get_or units k 0 (omega (arith, w.within, unit.count))) w.instance
 
-        formals_placed : AreAt (model_names n) (formals_at d l k) (formals_of i)
-        formals_placed =
-            subst (λ m. AreAt m (formals_at d l k) (formals_of i)) (names_are u n there)
-            (subst (AreAt (named d.names (names_in l u)) (formals_at d l k)) (sym w.formals_are)
-            (named_at d.names (names_in l u) (formals_at d l k) (firsts (drop 1 (words_at d k))) (names.formals k u w.instance (unit.units_are k w.instance))))
+        placed : AreAt (model_names n) (formals_at d l k) (formals_of i)
+        placed = formals_placed k i w u n there (unit.units_are k w.instance)
 
         bound_good : (name : List ℕ) → Contains (formals_of i) name → IsWrongFormal (BoundFormal i n name) → ⊥
-        bound_good name c (inl other) = other (item_among (model_names n) (formals_at d l k) (inputs_in d l u ++ outputs_in d l u) (formals_of i) (n.inputs ++ n.outputs) formals_placed
+        bound_good name c (inl other) = other (item_among (model_names n) (formals_at d l k) (inputs_in d l u ++ outputs_in d l u) (formals_of i) (n.inputs ++ n.outputs) placed
             (at_append (model_names n) (inputs_in d l u) (outputs_in d l u) n.inputs n.outputs (inputs_placed u n there) (outputs_placed u n there)) right.ports_are name c)
-        bound_good name c (inr twice) = not_twice (model_names n) (formals_at d l k) (formals_of i) (apart n) formals_placed right.differ name twice
+        bound_good name c (inr twice) = not_twice (model_names n) (formals_at d l k) (formals_of i) (apart n) placed right.differ name twice
 
     pub formals_good : NoneHolds IsBadFormal (formals (file_of d))
     formals_good j e at wrong =

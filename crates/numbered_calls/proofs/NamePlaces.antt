@@ -1,18 +1,21 @@
 -- Names by their places among some names that differ.
-use Rattle.std.proofs.Common.{◌≡◌, ℕ, suc, ◌≤◌, Bool, true, false, cond, List, [], ◌∷◌, ◌++◌, map, Some, refl, ap, sym, ◌∙◌, subst, arith}
+use Rattle.std.proofs.Common.{◌≡◌, ℕ, suc, ◌≤◌, Bool, true, false, cond, List, [], ◌∷◌, ◌++◌, length, map, take, Some, refl, ap, sym, ◌∙◌, subst, arith}
 use Rattle.std.specs.Prelude.{Contains, slice_get}
 use Rattle.std.specs.Cmp.Lexicographic.{bytes_decides}
 use Rattle.std.specs.List.{count_by}
+use Rattle.std.proofs.lemmas.Cmp.{nat_list_eq_equiv}
 use Rattle.std.proofs.lemmas.List.{map-append}
 use Rattle.std.proofs.lemmas.List.Sums.{sum_by-cons}
+use Rattle.std.proofs.lemmas.Option.{slice_get_within}
 use Rattle.blif_ast.specs.Cards.{same}
 use Rattle.blif_numbers.specs.Numbered.{named, name_of}
 use Rattle.dom_base.proofs.Lists.{Contains-slice_get, slice_get-contained}
-use Rattle.network.proofs.Lists.{get_map, get_of_map}
+use Rattle.network.proofs.IndexedLists.{take_get}
+use Rattle.network.proofs.Lists.{count_twice, get_map, get_of_map}
 use Rattle.local_names.specs.LocalNames.{AreLocals}
 use Rattle.model_calls.proofs.Apart.{Apart, place_once}
 use Rattle.model_calls.specs.ModelFaults.{IsTwiceIn}
-use Rattle.numbered_calls.specs.PortMarks.{AreDistinct}
+use Rattle.numbered_calls.specs.PortMarks.{AreDistinct, AreTwice}
 
 -- these places among some names are those of these items
 abbrev pub AreAt : List (List ℕ) → List ℕ → List (List ℕ) → Type 0
@@ -53,6 +56,27 @@ item_among names places others items more at also among x c =
     let y = item_of names others more also j.0 p.0 j.1 in
     let one : y.0 ≡ x = (let e : Some y.0 ≡ Some x = sym y.2 ∙ p.2 in cc) in
     subst (Contains more) one (Contains-slice_get more j.0 y.0 y.1)
+
+-- the place of a name is one of the places of names that it is among
+pub place_among : (names : List (List ℕ)) (others : List ℕ) (more : List (List ℕ)) → Apart names → AreAt names others more → (p : ℕ) (x : List ℕ) → slice_get names p ≡ Some x
+    → Contains more x → Contains others p
+place_among names others more apart also p x there c =
+    let j = slice_get-contained more x c in
+    let q = place_of names others more also j.0 x j.1 in
+    subst (Contains others) (place_once names q.0 p x apart q.2 there) (Contains-slice_get others j.0 q.0 q.1)
+
+-- the item of a place that is there twice is there twice
+pub item_twice : (names : List (List ℕ)) (places : List ℕ) (items : List (List ℕ)) → AreAt names places items → AreTwice (length names) places
+    → (x : List ℕ) × Contains items x × IsTwiceIn items x
+item_twice names places items are t =
+    let x = item_of names places items are t.at t.place t.there in
+    let c = slice_get-contained (take t.at places) t.place (t.twice (slice_get_within names t.place x.0 x.2)) in
+    let j = take_get places t.at c.0 t.place c.1 in
+    let y = item_of names places items are c.0 t.place j.1 in
+    let one : y.0 ≡ x.0 = (let e : Some y.0 ≡ Some x.0 = sym y.2 ∙ x.2 in cc) in
+    let here = y.1 ∙ ap Some one in
+    let itself = nat_list_eq_equiv.refl x.0 in
+    (x.0, Contains-slice_get items t.at x.0 x.1, count_twice (same x.0) items c.0 t.at x.0 x.0 j.0 here x.1 itself itself)
 
 -- what passes a test at no place, or at one, counts so often
 none_counted : (p : List ℕ → Bool) (xs : List (List ℕ)) → ((k : ℕ) (y : List ℕ) → slice_get xs k ≡ Some y → p y ≡ true → ⊥) → count_by p xs ≡ 0

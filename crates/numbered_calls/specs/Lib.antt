@@ -1,3 +1,4 @@
 pub mod BoundFormals
 pub mod Owners
 pub mod PortMarks
+pub mod Refused

@@ -1,5 +1,5 @@
 //! The calls of the models of a file, where nothing is wrong with the models.
-ghost use Rattle.std.specs.Prelude.{◌≡◌, ◌<◌, ◌^◌, IfOk, IfSome, length, map, slice_index_or};
+ghost use Rattle.std.specs.Prelude.{◌≡◌, ◌<◌, ◌^◌, IfNone, IfOk, IfSome, length, map, slice_index_or};
 ghost use Rattle.blif_ast.specs.Good.{IsGoodFile};
 ghost use Rattle.blif_numbers.specs.Numbered.{file_of, models_in};
 ghost use Rattle.card_places.specs.CardPlaces.{AreCardPlaces};
@@ -10,6 +10,7 @@ ghost use Rattle.model_calls.specs.CallNumbers.{AreCalls, names_of_models};
 ghost use Rattle.model_calls.specs.FirstFaults.{NoneHolds};
 ghost use Rattle.model_calls.specs.ModelCalls.{AreModelCalls, NothingRefuses};
 ghost use Rattle.model_calls.specs.ModelFaults.{IsDuplicateModel};
+ghost use Rattle.numbered_calls.specs.Refused.{IsRefusedForModels};
 
 use crate::formals::{are_bound, marks_of_ports};
 use blif_numbers::NumberedFile;
@@ -37,14 +38,17 @@ pub fn calls(
     requires places { AreCardPlaces file.now places.now }
     requires units { AreUnits file.now units.now }
     requires names { AreLocalNames file.now names.now }
-    ensures { IfOk result (λ found. IfSome found (λ calls. AreModelCalls (file_of file.now) calls)) }
+    ensures calls { IfOk result (λ found. IfSome found (λ calls. AreModelCalls (file_of file.now) calls)) }
+    ensures refused { IfOk result (λ found. IfNone found (IsRefusedForModels file.now)) }
 {
     let Some(mut marks) = marks_of_ports(alloc, file, names)? else {
         return Ok(None);
     };
-    if !are_bound(file, names, units, &mut marks) {
+    let all_bound = are_bound(file, names, units, &mut marks)?;
+    if !all_bound {
         return Ok(None);
     }
+    drop(marks);
     let nodes = call_graph(alloc, file, places, units)?;
     order_calls(alloc, file, nodes)
 }
@@ -98,17 +102,18 @@ fn order_calls(
     requires apart { NoneHolds IsDuplicateModel (models_in file.now) }
     requires calls { AreCalls (names_of_models (models_in file.now)) (models_in file.now) nodes.items }
     requires accepted { NothingRefuses (file_of file.now) 4 }
-    ensures { IfOk result (λ found. IfSome found (λ calls. AreModelCalls (file_of file.now) calls)) }
+    ensures calls { IfOk result (λ found. IfSome found (λ calls. AreModelCalls (file_of file.now) calls)) }
+    ensures refused { IfOk result (λ found. IfNone found (IsRefusedForModels file.now)) }
 {
     if MOST <= file.models().len() {
-        return Ok(None);
+        return Err(OutOfMemory);
     }
     let order = match put_in_order(alloc, &nodes)? {
         Order::Of(order) => order,
         Order::Circular => return Ok(None),
     };
     if MOST <= order.len() {
-        return Ok(None);
+        return Err(OutOfMemory);
     }
     Ok(Some(ModelCalls { nodes, order }))
 }

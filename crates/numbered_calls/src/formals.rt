@@ -1,7 +1,7 @@
 //! The ports of models, and the formals that instances bind.
-ghost use Rattle.std.specs.Prelude.{◌≡◌, ◌<◌, ◌+◌, ◌^◌, ℕ, IfOk, IfSome, IsTrue, Some, length, slice_get};
+ghost use Rattle.std.specs.Prelude.{◌≡◌, ◌<◌, ◌+◌, ◌^◌, ℕ, IfNone, IfOk, IfSome, IsFalse, IsTrue, Some, length, slice_get};
 ghost use Rattle.local_names.specs.LocalNames.{IsInstance};
-ghost use Rattle.numbered_calls.specs.BoundFormals.{AreBoundBelow, HavePortMarks, IsBoundAt};
+ghost use Rattle.numbered_calls.specs.BoundFormals.{AreBoundBelow, HaveBadBinding, HavePortMarks, HavePortTwice, IsBadlyBoundAt, IsBoundAt};
 
 use crate::port_marks::PortMarks;
 use crate::unit_numbers::is_instance;
@@ -22,14 +22,16 @@ pub fn marks_of_ports(
     file: &NumberedFile<'_>,
     names: &LocalNames,
 ) -> Result<Option<Vec<PortMarks>>, OutOfMemory>
-    ensures { IfOk result (λ found. IfSome found (λ marks. HavePortMarks file.now names.now 3 marks.items)) }
+    ensures marks { IfOk result (λ found. IfSome found (λ marks. HavePortMarks file.now names.now 3 marks.items)) }
+    ensures twice { IfOk result (λ found. IfNone found (HavePortTwice file.now names.now)) }
 {
     let count = file.models().len();
     let mut marks = Vec::with_capacity(alloc, count)?;
     for model in 0..count {
         let inputs = file.of_inputs(names.inputs(), model);
         let outputs = file.of_outputs(names.outputs(), model);
-        let Some(row) = PortMarks::new(alloc, names.count(model), inputs, outputs)? else {
+        let size = names.count(model);
+        let Some(row) = PortMarks::new(alloc, size, inputs, outputs)? else {
             return Ok(None);
         };
         marks.push(row)?;
@@ -38,27 +40,28 @@ pub fn marks_of_ports(
 }
 
 /// Whether all instances bind ports of their models alone, none twice, and each input. The marks are those of the ports. It takes a
-/// time that is linear in the parts of the file and the words of its instances.
+/// time that is linear in the parts of the file and the words of its instances. It fails only where there are more parts than marks.
 pub fn are_bound(
     file: &NumberedFile<'_>,
     names: &LocalNames,
     units: &[u32],
     marks: &mut Vec<PortMarks>,
-) -> bool
+) -> Result<bool, OutOfMemory>
     requires count { length units.now ≡ length file.now.parts }
     requires ports { HavePortMarks file.now names.now 3 marks.old.items }
-    ensures { IsTrue result → AreBoundBelow file.now names.now units.now (length file.now.parts) }
+    ensures bound { IfOk result (λ all. IsTrue all → AreBoundBelow file.now names.now units.now (length file.now.parts)) }
+    ensures bad { IfOk result (λ all. IsFalse all → HaveBadBinding file.now names.now units.now) }
 {
     let count = file.parts().len();
     if MOST < count {
-        return false;
+        return Err(OutOfMemory);
     }
     for index in 0..count {
         if !is_bound(file, names, units, marks, index) {
-            return false;
+            return Ok(false);
         }
     }
-    true
+    Ok(true)
 }
 
 /// The same of the part at a place, if it is an instance.
@@ -76,6 +79,7 @@ fn is_bound(
     ensures ports { IsTrue result → HavePortMarks file.now names.now (index + 4) marks.new.items }
     ensures bound { IsTrue result → (unit : ℕ) → slice_get units.now index ≡ Some unit → IsInstance file.now index
         → IsBoundAt file.now names.now unit index }
+    ensures bad { IsFalse result → HaveBadBinding file.now names.now units.now }
 {
     if !is_instance(file.parts(), index) {
         return true;
@@ -95,6 +99,7 @@ fn bind(
     requires ports { HavePortMarks file.now names.now (index + 3) marks.old.items }
     ensures ports { IsTrue result → HavePortMarks file.now names.now (index + 4) marks.new.items }
     ensures bound { IsTrue result → IsBoundAt file.now names.now unit index }
+    ensures bad { IsFalse result → IsBadlyBoundAt file.now names.now unit index }
 {
     let unit = unit as usize;
     if marks.len() <= unit {

@@ -1,5 +1,6 @@
 //! The models that instances name.
-ghost use Rattle.std.specs.Prelude.{◌≡◌, ◌<◌, ◌+◌, IfOk, IfSome, IsFalse, IsTrue, Some, length, slice_get, slice_set};
+ghost use Rattle.std.specs.Prelude.{◌≡◌, ◌<◌, ◌+◌, ◌^◌, ℕ, IfNone, IfOk, IfSome, IsFalse, IsTrue, None, Some, length, slice_get, slice_set};
+ghost use Rattle.std.specs.List.{AllByRecursion};
 ghost use Rattle.blif_numbers.specs.declared.parts.PartAt.{PartAt};
 ghost use Rattle.blif_numbers.specs.declared.parts.PartKind.TheVariants.{Instance};
 ghost use Rattle.blif_numbers.specs.Numbered.{models_in};
@@ -7,16 +8,21 @@ ghost use Rattle.local_names.specs.LocalNames.{IsInstance, IsUnitOf};
 ghost use Rattle.local_names.specs.Units.{AreUnits};
 ghost use Rattle.model_calls.specs.FirstFaults.{NoneHolds};
 ghost use Rattle.model_calls.specs.ModelFaults.{IsDuplicateModel};
-ghost use Rattle.numbered_calls.specs.Owners.{AreOwners};
+ghost use Rattle.numbered_calls.specs.Owners.{AreOwners, HaveNameTwice, NamesNoModel};
+ghost use Rattle.numbered_calls.specs.Refused.{IsRefusedForModels};
 
 use blif_numbers::{ModelAt, NumberedFile, PartAt, PartKind};
 use dom_base::OutOfMemory;
 use std::alloc::Global;
 
+/// More than the models of a file that are numbered.
+const MOST: usize = 4_294_967_295;
+
 /// A number for each part of a file: of an instance that of its model. `None` where two models have one name, or an instance
 /// names no model. It takes a time that is linear in the models and parts, and fails only for want of memory.
 pub fn units(alloc: Global, file: &NumberedFile<'_>) -> Result<Option<Vec<u32>>, OutOfMemory>
-    ensures { IfOk result (λ found. IfSome found (λ units. AreUnits file.now units.items)) }
+    ensures units { IfOk result (λ found. IfSome found (λ units. AreUnits file.now units.items)) }
+    ensures refused { IfOk result (λ found. IfNone found (IsRefusedForModels file.now)) }
 {
     file.is_in_order();
     let Some(owners) = name_models(alloc, file.names().len(), file.models())? else {
@@ -31,8 +37,13 @@ fn name_models(
     count: usize,
     models: &[ModelAt],
 ) -> Result<Option<Vec<u32>>, OutOfMemory>
-    ensures { IfOk result (λ found. IfSome found (λ owners. AreOwners models.now owners.items)) }
+    requires names { AllByRecursion (λ model. model.name < count) models.now }
+    ensures owners { IfOk result (λ found. IfSome found (λ owners. AreOwners models.now owners.items)) }
+    ensures twice { IfOk result (λ found. IfNone found (HaveNameTwice models.now)) }
 {
+    if MOST <= models.len() {
+        return Err(OutOfMemory);
+    }
     let mut owners = vec![in alloc; 0u32; count]?;
     for index in 0..models.len() {
         let name = model_at(models, index).name;
@@ -52,17 +63,17 @@ fn model_at(models: &[ModelAt], index: usize) -> ModelAt
 
 /// Gives a name to the model of this number, unless another has it.
 fn own(owners: &mut Vec<u32>, name: u32, model: usize) -> bool
+    requires within { name < length owners.old.items }
+    requires few { model + 1 < 2 ^ 32 }
     ensures free { IsTrue result → slice_get owners.old.items name ≡ Some 0 }
     ensures owned { IsTrue result → owners.new.items ≡ slice_set owners.old.items name (model + 1) }
+    ensures other { IsFalse result → (m : ℕ) × (slice_get owners.old.items name ≡ Some (m + 1)) }
 {
     let place = name as usize;
-    let Ok(number) = u32::try_from(model) else {
-        return false;
-    };
-    if owners.len() <= place || owners[place] != 0 || number == u32::MAX {
+    if owners[place] != 0 {
         return false;
     }
-    owners[place] = number + 1;
+    owners[place] = model as u32 + 1;
     true
 }
 
@@ -74,7 +85,8 @@ fn find_units(
 ) -> Result<Option<Vec<u32>>, OutOfMemory>
     requires owners { AreOwners file.now.models owners.now }
     requires apart { NoneHolds IsDuplicateModel (models_in file.now) }
-    ensures { IfOk result (λ found. IfSome found (λ units. AreUnits file.now units.items)) }
+    ensures units { IfOk result (λ found. IfSome found (λ units. AreUnits file.now units.items)) }
+    ensures unknown { IfOk result (λ found. IfNone found ((k : ℕ) × NamesNoModel file.now k)) }
 {
     let parts = file.parts();
     let mut units = Vec::with_capacity(alloc, parts.len())?;
@@ -91,18 +103,22 @@ fn find_units(
 fn unit_of(file: &NumberedFile<'_>, owners: &[u32], index: usize) -> Option<u32>
     requires owners { AreOwners file.now.models owners.now }
     requires within { index < length file.now.parts }
-    ensures { IfSome result (λ unit. IsInstance file.now index → IsUnitOf file.now index unit) }
+    ensures unit { IfSome result (λ unit. IsInstance file.now index → IsUnitOf file.now index unit) }
+    ensures unknown { IfNone result (NamesNoModel file.now index) }
 {
     if !is_instance(file.parts(), index) {
         return Some(0);
     }
-    let name = first(file.words_of(index))?;
+    let Some(name) = first(file.words_of(index)) else {
+        return None;
+    };
     model_called(owners, name)
 }
 
 /// Whether the part at a place is an instance.
 pub fn is_instance(parts: &[PartAt], index: usize) -> bool
     requires within { index < length parts.now }
+    ensures instance { IsTrue result → (part : PartAt) × (slice_get parts.now index ≡ Some part) × (part.kind ≡ Instance) }
     ensures other { IsFalse result → (part : PartAt) → slice_get parts.now index ≡ Some part → part.kind ≡ Instance → ⊥ }
 {
     match parts[index].kind {
@@ -112,14 +128,16 @@ pub fn is_instance(parts: &[PartAt], index: usize) -> bool
 }
 
 fn first(words: &[u32]) -> Option<u32>
-    ensures { IfSome result (λ word. slice_get words.now 0 ≡ Some word) }
+    ensures word { IfSome result (λ word. slice_get words.now 0 ≡ Some word) }
+    ensures none { IfNone result (slice_get words.now 0 ≡ None) }
 {
     words.first().copied()
 }
 
 /// The number of the model that has a name.
 fn model_called(owners: &[u32], name: u32) -> Option<u32>
-    ensures { IfSome result (λ model. slice_get owners.now name ≡ Some (model + 1)) }
+    ensures model { IfSome result (λ model. slice_get owners.now name ≡ Some (model + 1)) }
+    ensures none { IfNone result ((owner : ℕ) → slice_get owners.now name ≡ Some owner → owner ≡ 0) }
 {
     let owner = owners.get(name as usize).copied()?;
     owner.checked_sub(1)

@@ -20,6 +20,7 @@ use Rattle.blif_numbers.specs.Places.{IsPartOf, of_part, rows_at, words_at}
 use Rattle.card_places.specs.CardPlaces.{AreCardPlaces, CardPlacesData, places_at}
 use Rattle.card_places.proofs.CardsAt.{instance_there, part_at_place}
 use Rattle.local_names.specs.LocalNames.{AreLocalNames, AreLocals, LocalNamesData, firsts, names_in, own_words, seconds}
+use Rattle.local_names.proofs.FormalNames.{formals_named}
 use Rattle.part_numbers.specs.NumberedFiles.{model_at}
 use Rattle.numbered_signals.specs.ScopeBlocks.{ArePairs}
 use Rattle.numbered_signals.specs.ScopeRoots.{names_of_model}
@@ -83,11 +84,6 @@ instance_kind text at.Instance line words rows i e = record { kind_is = refl; is
 
 -- the words of an instance
 
-bound_formals : (names : List (List ℕ)) (words : List ℕ) → map (λ (b : Binding). b.formal) (bindings_by (named names words)) ≡ named names (firsts words)
-bound_formals names [] = refl
-bound_formals names (a ∷ []) = refl
-bound_formals names (a ∷ b ∷ words) = ap (λ l. slice_index_or names a [] ∷ l) (bound_formals names words)
-
 bound_actuals : (names : List (List ℕ)) (words : List ℕ) → map (λ (b : Binding). b.actual) (bindings_by (named names words)) ≡ named names (seconds words)
 bound_actuals names [] = refl
 bound_actuals names (a ∷ []) = refl
@@ -135,7 +131,7 @@ module _ (d : NumberedData) (c : CardPlacesData) (l : LocalNamesData) (places : 
         here = record {
           formals = locals_stand d l names unit (firsts (drop 1 (words_at d p.place))) (firsts (drop 1 (of_part d p.place l.words))) unit_in
               (names.formals p.place unit (record { part = p.at; there = p.there; kind_is = by.kind_is }) unit_is)
-              ∙ ap (map Some) (sym (bound_formals d.names (drop 1 (words_at d p.place))) ∙ ap (map (λ (b : Binding). b.formal)) bindings_are);
+              ∙ ap (map Some) (sym (formals_named d.names (drop 1 (words_at d p.place))) ∙ ap (map (λ (b : Binding). b.formal)) bindings_are);
           actuals = locals_stand d l names m (seconds (drop 1 (words_at d p.place))) (seconds (drop 1 (of_part d p.place l.words))) m_in
               (subst (λ k. AreLocals (names_in l m) (own_words k (words_at d p.place)) (own_words k (of_part d p.place l.words))) by.kind_is (names.words m p.place p.at p.inside p.there))
               ∙ ap (map Some) (sym (bound_actuals d.names (drop 1 (words_at d p.place))) ∙ ap (map (λ (b : Binding). b.actual)) bindings_are);

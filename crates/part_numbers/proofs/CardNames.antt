@@ -1,6 +1,6 @@
 -- The names of a model: those of its ports and of its cards.
 use Rattle.std.proofs.Common.{◌≡◌, ℕ, ◌<◌, List, [], ◌∷◌, ◌++◌, length, Option, Some, None, refl, ◌∙◌}
-use Rattle.std.specs.Prelude.{Contains, IfSome, option_and_then, slice_get}
+use Rattle.std.specs.Prelude.{Contains, option_and_then, slice_get}
 use Rattle.std.specs.List.{AllByRecursion, flat_map}
 use Rattle.std.specs.Option.{option_map}
 use Rattle.std.proofs.lemmas.List.Elements.{Contains-append_left, Contains-append_right}
@@ -78,7 +78,3 @@ mapped_within {X} {Y} g xs k y e = by (slice_get xs k) refl e
     by : (found : Option X) → slice_get xs k ≡ found → option_map g found ≡ Some y → k < length xs
     by None there d = absurd cc
     by (Some x) there d = slice_get_within xs k x there
-
-pub if_some : {X : Type 0} (P : X → Type 0) (found : Option X) → ((x : X) → found ≡ Some x → P x) → IfSome found P
-if_some P None h = tt
-if_some P (Some x) h = h x refl

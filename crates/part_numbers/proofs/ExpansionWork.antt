@@ -4,10 +4,9 @@ use Rattle.std.specs.Prelude.{slice_get}
 use Rattle.std.specs.List.{AllByRecursion, sum_by}
 use Rattle.std.proofs.lemmas.List.{reverse-append}
 use Rattle.std.proofs.lemmas.List.Sums.{sum_by-append, sum_by-cons}
-use Rattle.dom_base.proofs.Lists.{AllByRecursion-append, AllByRecursion-left, AllByRecursion-right, Contains-slice_get}
+use Rattle.dom_base.proofs.Lists.{AllByRecursion-append, AllByRecursion-left, AllByRecursion-right, Contains-slice_get, drop_next}
 use Rattle.blif_ast.specs.BlifFileData.{BlifFileData}
 use Rattle.blif_ast.specs.BlifModelData.{BlifModelData}
-use Rattle.network.proofs.Lists.{drop_next}
 use Rattle.model_calls.specs.Expanded.{BodyCard}
 use Rattle.model_calls.specs.declared.plan.CardAt.{CardAt}
 use Rattle.model_calls.specs.declared.plan.CardAt.TheVariants.{Table, Latch as LatchAt, Instance}

@@ -5,7 +5,6 @@ pub mod DeepEnough
 pub mod Depth
 pub mod ExpansionSteps
 pub mod ExpansionWork
-pub mod FirstNames
 pub mod GoodParts
 pub mod LentCards
 pub mod LineOccurrences

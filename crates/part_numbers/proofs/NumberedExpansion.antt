@@ -40,7 +40,7 @@ use Rattle.part_numbers.proofs.OccurrencesApart.{path_of, paths_apart}
 use Rattle.model_calls.proofs.Pairs.{count_pairs}
 use Rattle.part_numbers.proofs.PairsApart.{all_pairs_apart}
 use Rattle.part_numbers.proofs.Permuted.{Permuted, permuted_apart, permuted_flat, permuted_length}
-use Rattle.part_numbers.proofs.SignalNumbers.{in_file, models_count, names_are, number_is}
+use Rattle.part_numbers.proofs.SignalNumbers.{in_file, names_are, number_is}
 use Rattle.part_numbers.proofs.CardNames.{control_of_latch, input_named, input_of_latch, inputs_of_table, latch_named, output_named, output_of_latch, output_of_table, table_named}
 
 drop_front : {X : Type 0} (xs ys : List X) (n : ℕ) → length xs ≡ n → drop n (xs ++ ys) ≡ ys
@@ -243,9 +243,6 @@ module _ (f : BlifFileData) (depth : ℕ) (good : IsGoodFile f) (deep : length f
 
         pub main_names : names_at n 0 ≡ model_names (main_model f)
         main_names = names_are f e.scopes x.paths x.are_paths (length e.scopes) n numbers 0 (slice_get_within f.models 0 (main_model f) main) ∙ ap model_names (main_is main)
-
-        pub first_named : 0 < length n.names
-        first_named = omega (arith, slice_get_within f.models 0 (main_model f) main, models_count f e.scopes x.paths x.are_paths (length e.scopes) n numbers)
 
       -- parts
 

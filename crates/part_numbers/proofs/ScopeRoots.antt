@@ -6,7 +6,7 @@ use Rattle.std.specs.Option.{option_map, option_map_or}
 use Rattle.std.specs.Cmp.Lexicographic.{same_text}
 use Rattle.std.proofs.lemmas.List.{length-map}
 use Rattle.std.proofs.lemmas.List.FromFn.{length-enumerate_from}
-use Rattle.dom_base.proofs.Lists.{AllByRecursion-from_places}
+use Rattle.dom_base.proofs.Lists.{AllByRecursion-from_places, drop_next}
 use Rattle.blif_ast.specs.Cards.{same}
 use Rattle.blif_ast.specs.declared.instance.Binding.{Binding}
 use Rattle.blif_ast.specs.BlifFileData.{BlifFileData}
@@ -15,7 +15,6 @@ use Rattle.part_numbers.specs.NumberedFiles.{model_at}
 use Rattle.part_numbers.specs.SignalNumbers.{AreDistinctNames, HasSignalNumber, IsBelowNumbered, IsInstanceAt, SignalNumbersData, actual_in, scope_roots, with_binding}
 use Rattle.part_numbers.specs.declared.walk.Scope.{Scope}
 use Rattle.model_calls.proofs.UniqueNames.{position_cons}
-use Rattle.network.proofs.Lists.{drop_next}
 
 pub own_push : (g : List ℕ → ℕ) (start : ℕ) (names : List (List ℕ)) (index : ℕ) → index < length names
     → scope_roots g [] start (take (index + 1) names) ≡ scope_roots g [] start (take index names) ++ (start + index) ∷ []

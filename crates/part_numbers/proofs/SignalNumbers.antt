@@ -244,13 +244,3 @@ module _ (f : BlifFileData) (scopes : List Scope) (paths : List (List InstanceDa
                   ap (λ rs. slice_get rs (first_pair f paths scopes done + k)) adds.roots ∙ ap (λ m. slice_get (n.roots ++ adds.block) (m + k)) (sym numbers.all) ∙ slice_get-behind n.roots adds.block k ∙ r.1,
                   r.2,
                 )
-
-pub first_numbers : (f : BlifFileData) (scopes : List Scope) (paths : List (List InstanceData)) (n : SignalNumbersData) → n.names ≡ map model_names f.models → n.starts ≡ [] → n.roots ≡ []
-    → AreNumbers f scopes paths 0 n
-first_numbers f scopes paths n names starts roots = record {
-  names = names;
-  count = ap length starts;
-  all = ap length roots;
-  starts = λ scope l. absurd (omega (arith, l));
-  roots = λ scope k s name l. absurd (omega (arith, l));
-}

@@ -31,11 +31,6 @@ model_names m = unique_keys same (names_of m)
 abbrev pub names_at : SignalNumbersData → ℕ → List (List ℕ)
 names_at n model = slice_index_or n.names model []
 
--- the names of each of the first models
-pub record AreFirstNames (models : List BlifModelData) (tables : List (List (List ℕ))) : Type 0 where
-  pub few : length tables ≤ length models
-  pub names : tables ≡ map model_names (take (length tables) models)
-
 -- the number of a name in a scope of a model, and that of the signal that it is
 abbrev pub pair_number : SignalNumbersData → ℕ → ℕ → List ℕ → ℕ
 pair_number n scope model name = slice_index_or n.starts scope 0 + unwrap_or (position (same name) (names_at n model)) 0

@@ -1,12 +1,12 @@
 //! How large the network of a file is, counted by model and not by path.
-ghost use Rattle.std.specs.Prelude.{◌≡◌, ◌<◌, IfOk, IfSome, length, min};
+ghost use Rattle.std.specs.Prelude.{◌≡◌, ◌<◌, IfOk, length, min};
 ghost use Rattle.std.specs.List.{sum_by};
 ghost use Rattle.blif_ast.specs.Good.{IsGoodFile};
 ghost use Rattle.graph_order.specs.WalkSums.{largest_u64};
 ghost use Rattle.model_calls.specs.ModelCalls.{AreModelCalls};
 ghost use Rattle.part_numbers.specs.NetworkSizes.{AreSizes, letters_of_table, model_weight, model_weights, path_weights};
 ghost use Rattle.model_calls.specs.Occurrences.{main_model};
-ghost use Rattle.part_numbers.specs.SignalNumbers.{AreFirstNames, model_names};
+ghost use Rattle.part_numbers.specs.SignalNumbers.{model_names};
 
 use blif_ast::{BlifFile, BlifModel, Table};
 use dom_base::OutOfMemory;
@@ -25,24 +25,21 @@ pub struct Sizes {
     pub sinks: u64,
 }
 
-/// How large the network of a file of these calls is, where `first` has the names of its first models. It
-/// takes a time that is linear in the file, and fails only for want of memory.
+/// How large the network of a file of these calls is. It takes a time that is linear in the file, and fails only for want of memory.
 pub fn count_network(
     alloc: Global,
     file: &BlifFile,
     calls: &ModelCalls,
-    first: &[NameTable<'_>],
 ) -> Result<Sizes, OutOfMemory>
     requires good { IsGoodFile file.now }
-    requires first { AreFirstNames file.now.models first.now }
     requires planned { AreModelCalls file.now calls.now }
     ensures { IfOk result (AreSizes file.now) }
 {
-    let latches = count_over_paths(alloc, file, calls, first, Limit::Sinks)?;
+    let latches = count_over_paths(alloc, file, calls, Limit::Sinks)?;
     Ok(Sizes {
-        signals: count_over_paths(alloc, file, calls, first, Limit::Signals)?,
-        instances: count_over_paths(alloc, file, calls, first, Limit::Instances)?,
-        letters: count_over_paths(alloc, file, calls, first, Limit::Letters)?,
+        signals: count_over_paths(alloc, file, calls, Limit::Signals)?,
+        instances: count_over_paths(alloc, file, calls, Limit::Instances)?,
+        letters: count_over_paths(alloc, file, calls, Limit::Letters)?,
         sinks: latches.saturating_add(main_outputs(file)),
     })
 }
@@ -60,49 +57,34 @@ fn count_over_paths(
     alloc: Global,
     file: &BlifFile,
     calls: &ModelCalls,
-    first: &[NameTable<'_>],
     limit: Limit,
 ) -> Result<u64, OutOfMemory>
     requires good { IsGoodFile file.now }
-    requires first { AreFirstNames file.now.models first.now }
     requires planned { AreModelCalls file.now calls.now }
     ensures { IfOk result (λ count. count ≡ min (path_weights limit file.now) largest_u64) }
 {
-    let weights = weigh_models(alloc, &file.models, first, limit)?;
+    let weights = weigh_models(alloc, &file.models, limit)?;
     let sums = walk_sums(alloc, &calls.nodes, &calls.order, &weights)?;
     Ok(sums[0])
 }
 
 /// What each model counts for a limit; or 2^64 - 1 where that is larger.
-fn weigh_models(
-    alloc: Global,
-    models: &[BlifModel],
-    first: &[NameTable<'_>],
-    limit: Limit,
-) -> Result<Vec<u64>, OutOfMemory>
-    requires first { AreFirstNames models.now first.now }
+fn weigh_models(alloc: Global, models: &[BlifModel], limit: Limit) -> Result<Vec<u64>, OutOfMemory>
     ensures { IfOk result (λ weights. weights.items ≡ model_weights limit models.now) }
 {
     let mut weights = Vec::with_capacity(alloc, models.len())?;
     for index in 0..models.len() {
-        weights.push(weigh(alloc, &models[index], first.get(index), limit)?)?;
+        weights.push(weigh(alloc, &models[index], limit)?)?;
     }
     Ok(weights)
 }
 
-/// What a path to a model counts for a limit, where its names are known or not; or 2^64 - 1 where that is
-/// larger.
-fn weigh(
-    alloc: Global,
-    model: &BlifModel,
-    names: Option<&NameTable<'_>>,
-    limit: Limit,
-) -> Result<u64, OutOfMemory>
-    requires { IfSome names (λ table. table.now ≡ model_names model.now) }
+/// What a path to a model counts for a limit; or 2^64 - 1 where that is larger.
+fn weigh(alloc: Global, model: &BlifModel, limit: Limit) -> Result<u64, OutOfMemory>
     ensures { IfOk result (λ weight. weight ≡ min (model_weight limit model.now) largest_u64) }
 {
     match limit {
-        Limit::Signals => count_names(alloc, model, names),
+        Limit::Signals => count_names(alloc, model),
         Limit::Instances => Ok(1),
         Limit::Letters => Ok(count_letters(&model.tables)),
         Limit::Sinks => Ok(model.latches.len() as u64),
@@ -110,18 +92,10 @@ fn weigh(
 }
 
 /// How many names a model has.
-fn count_names(
-    alloc: Global,
-    model: &BlifModel,
-    names: Option<&NameTable<'_>>,
-) -> Result<u64, OutOfMemory>
-    requires { IfSome names (λ table. table.now ≡ model_names model.now) }
+fn count_names(alloc: Global, model: &BlifModel) -> Result<u64, OutOfMemory>
     ensures { IfOk result (λ count. count ≡ min (length (model_names model.now)) largest_u64) }
 {
-    match names {
-        Some(names) => Ok(names.len() as u64),
-        None => Ok(NameTable::count(alloc, model)? as u64),
-    }
+    Ok(NameTable::count(alloc, model)? as u64)
 }
 
 /// The letters of some tables; or 2^64 - 1 where they are more.

@@ -18,7 +18,7 @@ pub fn sizes(alloc: Global, file: &BlifFile) -> Result<Sizes, OutOfMemory>
     ensures { IfOk result (AreSizes file.now) }
 {
     match find_calls(alloc, &file.models)? {
-        FoundCalls::Known(calls) => count_network(alloc, file, &calls, &[]),
+        FoundCalls::Known(calls) => count_network(alloc, file, &calls),
         FoundCalls::Refused(_, _) => unreachable!(),
     }
 }

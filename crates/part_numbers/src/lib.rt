@@ -4,20 +4,16 @@
 
 mod card_file;
 mod counting;
-mod expansion;
 mod file_sizes;
 mod lent_card;
-mod name_bytes;
 mod numbered;
 mod part_cards;
-mod signals;
 mod size_checks;
 mod walk;
 mod word_card;
 
 pub use card_file::CardFile;
 pub use counting::Sizes;
-pub use expansion::number_planned_file;
 pub use file_sizes::sizes;
 pub use lent_card::LentCard;
 pub use numbered::{NumberedFile, NumberedPart, PartCard};
@@ -25,7 +21,6 @@ pub use part_cards::{
     card_of, edge_of, fault_at_control, fault_at_input, fault_at_main_control,
     fault_at_main_output, fault_at_output,
 };
-pub use signals::first_tables;
-pub use size_checks::{check_counts, check_sizes};
+pub use size_checks::check_counts;
 pub use walk::{Expansion, Frame, Scope, ScopedPart, expand};
 pub use word_card::WordCard;

@@ -1,18 +1,13 @@
 //! Whether the network of a file is within the limits.
 ghost use Rattle.std.specs.Prelude.{◌≡◌, ◌≤◌, OnOk};
 ghost use Rattle.blif_ast.specs.BlifFileData.{BlifFileData};
-ghost use Rattle.blif_ast.specs.Good.{IsGoodFile};
 ghost use Rattle.model_calls.specs.Counts.{signal_count};
 ghost use Rattle.model_calls.specs.declared.fault.FlatFault.TheVariants.{TooMany};
 ghost use Rattle.network.specs.Limits.{most_signals};
-ghost use Rattle.model_calls.specs.ModelCalls.{AreModelCalls};
 ghost use Rattle.part_numbers.specs.NetworkSizes.{AreSizes, IsSizeCheck};
-ghost use Rattle.part_numbers.specs.SignalNumbers.{AreFirstNames};
 
-use crate::counting::{Sizes, count_network};
-use blif_ast::BlifFile;
-use model_calls::{FlatFault, Limit, ModelCalls, NameTable};
-use std::alloc::Global;
+use crate::counting::Sizes;
+use model_calls::{FlatFault, Limit};
 
 const MOST_SIGNALS: u64 = 200_000;
 
@@ -21,24 +16,6 @@ const MOST_INSTANCES: u64 = 200_000;
 const MOST_LETTERS: u64 = 400_000;
 
 const MOST_SINKS: u64 = 8_192;
-
-/// Looks for the first count of a file's network that is above its limit: signals, instances, letters
-/// and sinks, in this order. `first` has the names of the first models.
-pub fn check_sizes(
-    alloc: Global,
-    file: &BlifFile,
-    calls: &ModelCalls,
-    first: &[NameTable<'_>],
-) -> Result<(), FlatFault>
-    requires good { IsGoodFile file.now }
-    requires first { AreFirstNames file.now.models first.now }
-    requires planned { AreModelCalls file.now calls.now }
-    ensures check { IsSizeCheck file.now result }
-    ensures few { OnOk result (signal_count file.now ≤ most_signals) }
-{
-    let sizes = count_network(alloc, file, calls, first)?;
-    check_counts(sizes)
-}
 
 /// Looks for the first of a file's counts that is above its limit: signals, instances, letters and sinks, in this order.
 pub fn check_counts(sizes: Sizes) -> Result<(), FlatFault>

@@ -1,4 +1,4 @@
-use Rattle.std.proofs.Common.{◌≡◌, ◌++◌, ap, sym, ◌∙◌, Some, rules}
+use Rattle.std.proofs.Common.{◌≡◌, ◌++◌, ap, sym, ◌∙◌, Some}
 use Rattle.std.specs.Prelude.{slice_get}
 use Rattle.blif_numbers.specs.Numbered.{named, part_by}
 use Rattle.local_names.specs.PartNames.{names_by}
@@ -11,5 +11,5 @@ loop-place-preserved c =
     let there : slice_get c.args.file.now.parts l.place ≡ Some c.in-Some.part = sym c.part_at.ensures ∙ c.in-Some.is in
     gathered-more c.args.file.now c.args.kind c.first_part-first.result c.parts_end-end.result l.place c.args.all.now.items l.all.items c.put_part.new.all.items c.in-Some.part
     l.invariant c.loop-place-test.true there
-    (λ text names line rows. c.in_ok-put_part.ensures (search rules) text names line rows
+    (λ text names line rows. c.in_ok-put_part-in-Some.ensures text names line rows
     ∙ ap (λ ws. named names l.all.items ++ names_by c.args.kind (part_by text c.in-Some.part.kind line (named names ws) rows)) c.words_of.ensures)

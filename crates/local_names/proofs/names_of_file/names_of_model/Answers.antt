@@ -1,17 +1,17 @@
-use Rattle.std.proofs.Common.{◌≡◌, length, ap, ◌∙◌, subst}
-use Rattle.std.specs.Prelude.{IfSome}
-use Rattle.std.proofs.lemmas.Result.{IfOk-weaker}
-use Rattle.blif_numbers.specs.Numbered.{named}
-use Rattle.local_names.specs.PartNames.{all_names}
-use Rattle.local_names.proofs.ModelNames.{names-kept, some-weaker}
+use Rattle.std.proofs.Common.{length, ap, ◌∙◌, subst}
+use Rattle.std.proofs.lemmas.Result.{on_ok_weaker}
+use Rattle.blif_numbers.specs.Numbered.{AreBelow, named}
+use Rattle.local_names.proofs.ModelNames.{names-kept}
 use Rattle.local_names.proofs.names_of_file.names_of_model.Goals as goal
 
-pub returns-in-Some-clause-names : goal.returns-in-Some-clause-names
-returns-in-Some-clause-names c =
+pub returns-clause-names : goal.returns-clause-names
+returns-clause-names c =
     let d = c.args.file.now in
-    let all = subst (λ o. IfSome o (λ v. named d.names v.items ≡ all_names d c.args.model)) c.in-Some.is c.in_ok-all.ensures in
-    IfOk-weaker c.last_of_each.result _ _
-    (λ found once. some-weaker found _ _
-    (λ kept each. names-kept d c.args.model (length c.args.place.now) c.deref.result.now kept.items c.is_in_order.ensures c.requires.within
-    c.requires.places (ap (named d.names) c.deref.ensures.value ∙ all) each) once)
+    on_ok_weaker c.last_of_each.result
+    (λ once. names-kept d c.args.model (length c.args.place.now) c.deref.result.now c.last_of_each.new.kept.items c.is_in_order.ensures c.requires.within
+    c.requires.places (ap (named d.names) c.deref.ensures.value ∙ c.in_ok-numbers_of_model.ensures) once)
     c.last_of_each.ensures.once
+
+pub returns-clause-below : goal.returns-clause-below
+returns-clause-below c =
+    on_ok_weaker c.last_of_each.result (λ h. subst (λ n. AreBelow n c.last_of_each.new.kept.items) c.requires.places h) c.last_of_each.ensures.below

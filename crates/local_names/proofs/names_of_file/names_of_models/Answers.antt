@@ -1,10 +1,9 @@
-use Rattle.std.proofs.Common.{◌≤◌, ◌<◌, length, map, ap, ◌∙◌, subst, arith}
-use Rattle.std.specs.Prelude.{IfSome}
+use Rattle.std.proofs.Common.{◌≤◌, ◌<◌, length, map, ap, ◌∙◌, arith}
 use Rattle.std.proofs.lemmas.List.{take_all}
-use Rattle.dom_base.proofs.Lists.{map-push}
 use Rattle.blif_numbers.specs.Numbered.{models_in}
 use Rattle.blif_numbers.proofs.Places.{length-models_in}
-use Rattle.local_names.proofs.ModelNames.{HasNamesOf, names-more}
+use Rattle.card_places.specs.NumberLists.{with_numbers}
+use Rattle.local_names.proofs.ModelNames.{below-more, list-more, names-more}
 use Rattle.part_numbers.specs.SignalNumbers.{model_names}
 use Rattle.local_names.proofs.names_of_file.names_of_models.Goals as goal
 
@@ -12,12 +11,15 @@ pub loop-model-preserved : goal.loop-model-preserved
 loop-model-preserved c =
     let l = c.loop-model in
     let d = c.args.file.now in
-    let has = subst (λ o. IfSome o (λ v. HasNamesOf d l.model v.items)) c.in-Some.is c.in_ok-names.ensures.names in
+    let kept = c.names_of_model.new.kept.items in
+    let extended = c.in_ok-extend.ensures ∙ ap (with_numbers l.models) c.deref.ensures.value in
+    let more = list-more l.models kept c.extend.new.self c.close.new.self l.invariant.next extended c.in_ok-close.ensures in
     let within : l.model < length d.models = omega (arith, ap length c.models-model-end.ensures, c.loop-model-test.true) in
     record {
       count = c.names_of_model.ensures.length ∙ l.invariant.count;
-      names = names-more d l.model c.in-Some.names.items (map (λ v. v.items) l.models.items) (map (λ v. v.items) c.push.new.self.items) within has
-          (ap (map (λ v. v.items)) c.in_ok-push-in-Some.ensures.items ∙ map-push (λ v. v.items) l.models.items c.in-Some.names) l.invariant.names;
+      next = more.0;
+      names = names-more d l.model kept l.models.lists c.close.new.self.lists within c.in_ok-names_of_model.ensures.names more.1 l.invariant.names;
+      below = below-more (length d.names) l.models.lists c.close.new.self.lists kept more.1 l.invariant.below c.in_ok-names_of_model.ensures.below;
     }
 
 pub returns-clause-names : goal.returns-clause-names

@@ -1,25 +1,34 @@
-use Rattle.std.proofs.Common.{◌≡◌, ◌≤◌, ◌+◌, map, subst, arith, rules}
+use Rattle.std.proofs.Common.{◌≡◌, ◌≤◌, ◌+◌, subst, arith, rules}
 use Rattle.blif_numbers.specs.Places.{IsPartOf, first_part}
 use Rattle.blif_numbers.proofs.Places.{first_part-more}
 use Rattle.local_names.specs.Placed.{AreWordsPlaced}
-use Rattle.local_names.proofs.Placing.{words-more}
+use Rattle.local_names.proofs.Placing.{formal-lost, words-more}
 use Rattle.local_names.proofs.word_places.put_parts.Goals as goal
 
 pub loop-part-preserved : goal.loop-part-preserved
 loop-part-preserved c =
     let l = c.loop-part in
     let d = c.args.file.now in
-    let added = c.in_ok-put_part_of.ensures (search rules) in
+    let added = c.in_ok-put_part_of.ensures.placed (search rules) in
     let inside : IsPartOf d c.args.model l.part =
     (omega (arith, c.first_part-first.ensures, l.auto.part), omega (arith, c.parts_end-end.ensures, c.loop-part-test.true)) in
-    words-more d c.is_in_order.ensures (map (λ v. v.items) c.args.lookup.models.now) c.args.lookup.units.now c.args.model l.part added.0 l.words.items
+    words-more d c.is_in_order.ensures c.args.lookup.models.now.lists c.args.lookup.units.now c.args.model l.part added.0 l.words.items
     c.put_part_of.new.words.items c.requires.units inside added.1 l.invariant added.2
 
-pub returns : goal.returns
-returns c = λ good.
+pub returns-then-not-branch-clause-lost : goal.returns-then-not-branch-clause-lost
+returns-then-not-branch-clause-lost c = λ bad.
+    let l = c.loop-part in
+    let d = c.args.file.now in
+    let lost = c.in_ok-put_part_of.ensures.lost (search rules) in
+    let inside : IsPartOf d c.args.model l.part =
+    (omega (arith, c.first_part-first.ensures, l.auto.part), omega (arith, c.parts_end-end.ensures, c.loop-part-test.true)) in
+    formal-lost d c.args.lookup.models.now.lists c.args.lookup.units.now c.args.model l.part lost.0 c.requires.units c.requires.within inside lost.1 lost.2
+
+pub returns-clause-placed : goal.returns-clause-placed
+returns-clause-placed c = λ good.
     let l = c.loop-part in
     let d = c.args.file.now in
     let rise = first_part-more d c.is_in_order.ensures c.args.model (c.args.model + 1) (omega arith) in
     let at_end : l.part ≤ c.parts_end-end.result = l.auto.part-end (omega (arith, rise, c.first_part-first.ensures, c.parts_end-end.ensures)) in
     let same : l.part ≡ first_part d (c.args.model + 1) = omega (arith, at_end, c.parts_end-end.ensures, c.loop-part-test.false) in
-    subst (λ n. AreWordsPlaced d (map (λ v. v.items) c.args.lookup.models.now) n l.words.items) same l.invariant
+    subst (λ n. AreWordsPlaced d c.args.lookup.models.now.lists n l.words.items) same l.invariant

@@ -9,6 +9,8 @@ use Rattle.model_calls.proofs.OrderedPlans.{first_there_of, is_graph, none_recur
 use Rattle.model_calls.specs.declared.fault.FlatKind.TheVariants.{Recursion}
 use Rattle.model_calls.specs.CallNumbers.{names_of_models}
 use Rattle.model_calls.specs.ModelFaults.{IsRecursion, uses_in}
+use Rattle.model_calls.specs.ModelCalls.{HasCircle}
+use Rattle.numbered_calls.proofs.Refusing.{circular}
 use Rattle.numbered_calls.proofs.accepted_calls.order_calls.Goals as goal
 
 pub put_in_order-requires : goal.put_in_order-requires
@@ -26,8 +28,8 @@ put_in_order-requires c =
       );
     }
 
-pub returns : goal.returns
-returns c =
+pub returns-clause-calls : goal.returns-clause-calls
+returns-clause-calls c =
     let f = file_of c.args.file.now in
     let models = models_in c.args.file.now in
     let nodes = c.args.nodes.items in
@@ -41,3 +43,8 @@ returns c =
       accepted = nothing_with f 4 Recursion refl c.requires.accepted
           (none_reported f (IsRecursion f) (flat_map uses_in models) (λ u. u.instance.line) (λ u. u.instance.unit) recurs);
     }
+
+pub returns-in-Circular-clause-refused : goal.returns-in-Circular-clause-refused
+returns-in-Circular-clause-refused c =
+    circular c.args.file.now c.args.nodes.items c.requires.calls
+    (subst HasCircle c.deref.ensures.value (subst (IsAnswer c.deref.result.now) c.in-Circular.is c.in_ok-order.ensures))

@@ -10,5 +10,8 @@ loop-index-preserved c = (
   next_bound c.args.file.now c.args.names.now c.args.units.now c.loop-index.index c.loop-index.invariant.1 (c.is_bound.ensures.bound c.if-not-is_bound.false),
 )
 
-pub returns : goal.returns
-returns c = λ t k unit less. c.loop-index.invariant.1 k unit (omega (arith, less, c.loop-index-test.false, ap length c.parts-count.ensures))
+pub returns-then-not-is_bound-clause-bad : goal.returns-then-not-is_bound-clause-bad
+returns-then-not-is_bound-clause-bad c = λ f. c.is_bound.ensures.bad c.if-not-is_bound.true
+
+pub returns-clause-bound : goal.returns-clause-bound
+returns-clause-bound c = λ t k unit less. c.loop-index.invariant.1 k unit (omega (arith, less, c.loop-index-test.false, ap length c.parts-count.ensures))
