@@ -3,7 +3,7 @@ use crate::stim_texts::{WORKED, of_letters, of_lines};
 use dom_base::OutOfMemory;
 use plain_texts::{Draws, StimReading, Tally};
 use std::alloc::Global;
-use stim_text::{Pins, StimFault, StimKind, read_stim};
+use stim_text::{StimFault, StimKind, Stimulus, read_stim};
 
 /// The word of a kind in the table of refusals.
 fn word_of(kind: StimKind) -> &'static str {
@@ -14,8 +14,7 @@ fn word_of(kind: StimKind) -> &'static str {
 }
 
 /// The bits of a cycle beside its letters, which are `-` where there are no pins.
-fn same_cycle(pins: &Pins, letters: &[u8]) -> bool {
-    let bits = pins.as_slice();
+fn same_cycle(bits: &[bool], letters: &[u8]) -> bool {
     match letters {
         [b'-'] => bits.is_empty(),
         _ => {
@@ -28,12 +27,16 @@ fn same_cycle(pins: &Pins, letters: &[u8]) -> bool {
     }
 }
 
-fn same_cycles(cycles: &[Pins], plain: &[Vec<u8>]) -> bool {
-    cycles.len() == plain.len()
-        && cycles
-            .iter()
-            .zip(plain.iter())
-            .all(|(pins, letters)| same_cycle(pins, letters.as_slice()))
+fn same_cycles(cycles: &Stimulus, plain: &[Vec<u8>]) -> bool {
+    if cycles.len() != plain.len() {
+        return false;
+    }
+    for index in 0..cycles.len() {
+        if !same_cycle(cycles.cycle(index), plain[index].as_slice()) {
+            return false;
+        }
+    }
+    true
 }
 
 /// Reads a text twice, for so many pins.

@@ -1,3 +1,4 @@
 pub mod OneAnswer
 pub mod PinLetters
 pub mod ReadLines
+pub mod Rows

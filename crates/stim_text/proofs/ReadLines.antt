@@ -1,6 +1,8 @@
 -- What is so after some lines of a stimulus.
-use Rattle.std.proofs.Common.{◌≡◌, ℕ, ◌+◌, Bool, true, List, [], ◌∷◌, ◌++◌, length, map, All, refl, sym, ap, ◌∙◌, subst, arith, append_assoc, append-nil}
+use Rattle.std.proofs.Common.{◌≡◌, ℕ, suc, ◌<◌, ◌+◌, ◌*◌, Bool, true, List, [], ◌∷◌, ◌++◌, length, map, All, refl, sym, ap, ◌∙◌, subst, arith, append_assoc, append-nil}
 use Rattle.std.proofs.lemmas.List.Elements.{All-nil, All-push}
+use Rattle.std.proofs.Math.Nat.{suc-mul, zero-mul}
+use Rattle.std.proofs.lemmas.List.{length-append}
 use Rattle.dom_base.specs.Cuts.{IsCut, NumbersFit}
 use Rattle.dom_base.specs.Lines.{lines, is_word}
 use Rattle.dom_base.proofs.Lists.{map-push}
@@ -9,6 +11,8 @@ use Rattle.stim_text.specs.CycleLines.{pin_letters}
 use Rattle.stim_text.specs.Stimuli.{letters_of, lettered_from, lettered_lines, IsStimulusOf, IsStimFaultAt}
 use Rattle.stim_text.proofs.OneAnswer.{none_from_good}
 use Rattle.stim_text.specs.LinesRead.{IsPinsOf, IsLineRead, IsLineFault, is_good}
+use Rattle.stim_text.specs.Rows.{rows}
+use Rattle.stim_text.proofs.Rows.{rows-push}
 
 -- the reader stands at these bytes and has these cycles
 pub record Reads (width : ℕ) (text : List ℕ) (number : ℕ) (rest : List ℕ) (cycles : List (List Bool)) : Type 0 where
@@ -64,16 +68,41 @@ skipped width text number rest line more cycles reads cut none = record {
   widths = reads.widths;
 }
 
+-- the reader has these bits of so many cycles
+pub record ReadsBits (width : ℕ) (text : List ℕ) (number : ℕ) (rest : List ℕ) (count : ℕ) (bits : List Bool) : Type 0 where
+  pub reads : Reads width text number rest (rows width count bits)
+  pub long : length bits ≡ count * width
+  pub few : count < number
+
+pub start_bits : (width : ℕ) (text : List ℕ) (bits : List Bool) → NumbersFit 1 text → bits ≡ [] → ReadsBits width text 1 text 0 bits
+start_bits width text bits fit none = record { reads = start width text fit; long = ap length none ∙ sym (zero-mul width); few = omega arith }
+
 -- one line more
-pub step : (width : ℕ) (text : List ℕ) (number : ℕ) (rest line more : List ℕ) (cycles next : List (List Bool))
-    → Reads width text number rest cycles → IsCut rest line more → IsLineRead width (letters_of line) cycles next → Reads width text (number + 1) more next
-step width text number rest line more cycles next reads cut read = by (letters_of line) refl read
+pub step : (width : ℕ) (text : List ℕ) (number : ℕ) (rest line more : List ℕ) (count : ℕ) (bits : List Bool) (cycles : ℕ) (after : List Bool)
+    → ReadsBits width text number rest count bits → IsCut rest line more → IsLineRead width (letters_of line) bits cycles after
+    → ReadsBits width text (number + 1) more (count + cycles) after
+step width text number rest line more count bits cycles after reads cut read = by (letters_of line) refl read
   where
-    by : (letters : List ℕ) → letters_of line ≡ letters → IsLineRead width letters cycles next → Reads width text (number + 1) more next
-    by [] is same = subst (Reads width text (number + 1) more) (sym same) (skipped width text number rest line more cycles reads cut is)
-    by (b ∷ bs) is (pins, good, are, pushes) =
-        subst (Reads width text (number + 1) more) (sym pushes)
-        (pushed width text number rest line more cycles pins reads cut (ap is_word is) (ap (is_good width) is ∙ good) (subst (λ l. IsPinsOf width l pins) (sym is) are))
+    by : (letters : List ℕ) → letters_of line ≡ letters → IsLineRead width letters bits cycles after → ReadsBits width text (number + 1) more (count + cycles) after
+    by [] is (none, same) =
+        let all : count ≡ count + cycles = omega (arith, none) in
+        subst (λ n. ReadsBits width text (number + 1) more n after) all (subst (ReadsBits width text (number + 1) more count) (sym same) (record {
+          reads = skipped width text number rest line more (rows width count bits) reads.reads cut is;
+          long = reads.long;
+          few = omega (arith, reads.few);
+        }))
+    by (b ∷ bs) is (good, one, pushed_pins) =
+        let pins = pushed_pins.0 in
+        let are = pushed_pins.1 in
+        let pushes = pushed_pins.2 in
+        let all : count + 1 ≡ count + cycles = omega (arith, one) in
+        let pins_are = subst (λ l. IsPinsOf width l pins) (sym is) are in
+        subst (λ n. ReadsBits width text (number + 1) more n after) all (subst (ReadsBits width text (number + 1) more (count + 1)) (sym pushes) (record {
+          reads = subst (Reads width text (number + 1) more) (sym (rows-push width count bits pins reads.long pins_are.width_is))
+              (pushed width text number rest line more (rows width count bits) pins reads.reads cut (ap is_word is) (ap (is_good width) is ∙ good) pins_are);
+          long = length-append bits pins ∙ let n : length bits + length pins ≡ (count + 1) * width = omega (arith, reads.long, pins_are.width_is, suc-mul count width, let s : count + 1 ≡ suc count = omega arith in ap (λ n. n * width) s) in n;
+          few = omega (arith, reads.few);
+        }))
 
 -- all lines are read
 pub accepted : (width : ℕ) (text : List ℕ) (number : ℕ) (rest : List ℕ) (cycles : List (List Bool)) → Reads width text number rest cycles → rest ≡ [] → IsStimulusOf width text cycles

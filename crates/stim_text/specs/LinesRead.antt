@@ -14,11 +14,14 @@ pub record IsPinsOf (width : ℕ) (letters : List ℕ) (pins : List Bool) : Type
   pub letters_are : pin_letters pins ≡ letters
   pub width_is : length pins ≡ width
 
--- a line with these letters was read: where it has letters they are good, and its cycle is appended
-abbrev pub IsLineRead : ℕ → List ℕ → List (List Bool) → List (List Bool) → Type 0
-IsLineRead width [] before after = after ≡ before
-IsLineRead width (b ∷ bs) before after =
-    (pins : List Bool) × (is_good width (b ∷ bs) ≡ true) × IsPinsOf width (b ∷ bs) pins × (after ≡ before ++ pins ∷ [])
+-- the bits of letters are appended
+abbrev pub ArePinsPushed : ℕ → List ℕ → List Bool → List Bool → Type 0
+ArePinsPushed width letters before after = (pins : List Bool) × IsPinsOf width letters pins × (after ≡ before ++ pins)
+
+-- a line with these letters was read: where it has letters they are good, it is one cycle, and its bits are appended
+abbrev pub IsLineRead : ℕ → List ℕ → List Bool → ℕ → List Bool → Type 0
+IsLineRead width [] before cycles after = (cycles ≡ 0) × (after ≡ before)
+IsLineRead width (b ∷ bs) before cycles after = (is_good width (b ∷ bs) ≡ true) × (cycles ≡ 1) × ArePinsPushed width (b ∷ bs) before after
 
 -- a line with these letters has letters, and a fault of this kind
 pub record IsLineFault (width : ℕ) (letters : List ℕ) (kind : StimKind) : Type 0 where

@@ -1,12 +1,11 @@
 //! The letters of a line.
-ghost use Rattle.std.specs.Prelude.{◌≡◌, ◌==◌, ◌++◌, IfOk, OnOk, MatchOption, true, map};
+ghost use Rattle.std.specs.Prelude.{◌≡◌, ◌==◌, ◌++◌, OnOk, MatchOption, true, map};
 ghost use Rattle.stim_text.specs.Stimuli.{letters_of, is_pin_letter, are_letters, has_width, has_stim_fault, is_dash};
-ghost use Rattle.stim_text.specs.LinesRead.{IsPinsOf, is_good};
+ghost use Rattle.stim_text.specs.LinesRead.{ArePinsPushed, is_good};
 
-use crate::{Pins, StimKind};
+use crate::StimKind;
 use dom_base::strip_comment;
-use smallvec::SmallVec;
-use std::alloc::{AllocError, Global};
+use std::alloc::AllocError;
 
 /// Makes a list that of the bytes of a line outside its comment, without blanks and tabs.
 pub fn take_letters(letters: &mut Vec<u8>, line: &[u8]) -> Result<(), AllocError>
@@ -68,21 +67,20 @@ fn is_dash(letters: &[u8]) -> bool
     letters.len() == 1 && letters[0] == b'-'
 }
 
-/// The bits of letters that have no fault.
-pub fn pins_of(alloc: Global, letters: &[u8], width: u32) -> Result<Pins, AllocError>
+/// Appends the bits of letters that have no fault.
+pub fn push_pins(bits: &mut Vec<bool>, letters: &[u8], width: u32) -> Result<(), AllocError>
     requires { is_good width letters.now ≡ true }
-    ensures { IfOk result (λ pins. IsPinsOf width letters.now pins) }
+    ensures { OnOk result (ArePinsPushed width letters.now bits.old.items bits.new.items) }
 {
-    let mut bits = SmallVec::new(alloc);
     if width == 0 {
-        return Ok(Pins(bits));
+        return Ok(());
     }
-    push_bits(&mut bits, letters)?;
-    Ok(Pins(bits))
+    push_bits(bits, letters)?;
+    Ok(())
 }
 
 /// Appends a bit for each letter.
-fn push_bits(bits: &mut SmallVec<bool, 16>, letters: &[u8]) -> Result<(), AllocError>
+fn push_bits(bits: &mut Vec<bool>, letters: &[u8]) -> Result<(), AllocError>
     ensures { OnOk result (bits.new.items ≡ bits.old.items ++ map (λ b. b == 49) letters.now) }
 {
     for letter in letters {

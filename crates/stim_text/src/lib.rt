@@ -4,14 +4,14 @@
 mod fault;
 mod laws;
 mod letters;
-mod pins;
 mod reader;
 mod row;
+mod stimulus;
 mod write;
 
 pub use fault::{StimFault, StimKind};
 pub use laws::text_has_one_answer;
-pub use pins::Pins;
 pub use reader::read_stim;
 pub use row::CycleRow;
+pub use stimulus::Stimulus;
 pub use write::write_cycle;
