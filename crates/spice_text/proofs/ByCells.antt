@@ -1,5 +1,5 @@
 -- The text by cells of a circuit, from what is numbered and appended.
-use Rattle.std.proofs.Common.{◌≡◌, ℕ, ◌≤◌, List, [], ◌∷◌, ◌++◌, codes, length, map, take, All, ap, sym, ◌∙◌, subst, arith, append_assoc}
+use Rattle.std.proofs.Common.{◌≡◌, ℕ, ◌≤◌, List, [], ◌∷◌, ◌++◌, codes, length, take, All, ap, sym, ◌∙◌, subst, arith, append_assoc}
 use Rattle.std.proofs.Common.{append-nil}
 use Rattle.std.specs.List.{AllByRecursion, flat_map, enumerate_from}
 use Rattle.std.proofs.lemmas.List.Elements.{recursion_from_All}
@@ -11,7 +11,7 @@ use Rattle.deck.specs.declared.device.Device.{Device}
 use Rattle.deck.specs.declared.phase.Phase.{Phase}
 use Rattle.deck.proofs.DeviceNumbers.{IsCircuit-in_range}
 use Rattle.spice_text.specs.Cells.{HasCells, IsWrittenByCells, PlacesRise, call_lines, cell_lines, groups_from, same_cell_shape, shapes_of}
-use Rattle.spice_text.specs.GroupNets.{placed_calls, placed_number, placed_shapes}
+use Rattle.spice_text.specs.GroupNets.{placed_calls, placed_shapes}
 use Rattle.spice_text.specs.Parts.{IsSubckt}
 use Rattle.spice_text.specs.Text.{deck_line, phase_line}
 use Rattle.spice_text.proofs.CellTexts.{cells-whole}
@@ -55,21 +55,23 @@ back_parts middle calls name a b d text ea eb ed et =
     ∙ five_texts middle calls (codes ".ends") (32 ∷ name) (10 ∷ [])
 
 pub written_by_cells : (c : CircuitData) (places : List ℕ) → IsCircuit c.ports c.nets c.devices → HasCells c places
-    → (keys : List (List Device)) (numbers before middle text : List ℕ)
-    → keys ≡ placed_shapes (groups_from 0 places c.devices) → numbers ≡ map (placed_number keys) (groups_from 0 places c.devices)
+    → (keys : List (List Device)) (before middle text : List ℕ) → keys ≡ placed_shapes (groups_from 0 places c.devices)
     → before ≡ codes "* domsyn deck 2" ++ 10 ∷ [] ++ flat_map phase_line c.phases ++ flat_map cell_lines (enumerate_from 0 keys)
     → IsSubckt before c.name (take c.ports c.nets) middle
-    → text ≡ middle ++ placed_calls c.nets 0 numbers (groups_from 0 places c.devices) ++ deck_line (codes ".ends") (c.name ∷ [])
+    → text
+    ≡ middle ++ placed_calls c.nets (placed_shapes (groups_from 0 places c.devices)) 0 (groups_from 0 places c.devices)
+    ++ deck_line (codes ".ends") (c.name ∷ [])
     → IsWrittenByCells c places text
-written_by_cells c places is has keys numbers before middle text ek en eb part et =
+written_by_cells c places is has keys before middle text ek eb part et =
     let groups : List (List Device) = groups_from 0 places c.devices in
     let within = recursion_from_All (IsInRange (length c.nets)) c.devices (IsCircuit-in_range c.ports c.nets c.devices is) in
     let low : AllByRecursion (AllByRecursion (IsInRange (length c.nets))) groups =
     groups_in_range (length c.nets) 0 places c.devices within in
-    let keys_are : keys ≡ shapes_of c.nets groups =
-    ek ∙ ap (insert_all same_cell_shape []) (sym (shapes_same c.nets is.distinct has.supplies_first groups low)) in
-    let calls : placed_calls c.nets 0 numbers groups ≡ call_lines c.nets groups =
-    ap (λ (l : List ℕ). placed_calls c.nets 0 l groups) (en ∙ ap (λ (k : List (List Device)). map (placed_number k) groups) keys_are)
+    let shapes_are : placed_shapes groups ≡ shapes_of c.nets groups =
+    ap (insert_all same_cell_shape []) (sym (shapes_same c.nets is.distinct has.supplies_first groups low)) in
+    let keys_are : keys ≡ shapes_of c.nets groups = ek ∙ shapes_are in
+    let calls : placed_calls c.nets (placed_shapes groups) 0 groups ≡ call_lines c.nets groups =
+    ap (λ (k : List (List Device)). placed_calls c.nets k 0 groups) shapes_are
     ∙ calls_same c.nets is.distinct has.supplies_first (shapes_of c.nets groups) 0 groups low in
     let head : List ℕ = codes "* domsyn deck 2" ++ 10 ∷ [] ++ flat_map phase_line c.phases in
     cells-whole c places before middle text

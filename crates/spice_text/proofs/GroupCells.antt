@@ -152,7 +152,7 @@ module _ (names : List (List ℕ)) (apart : IsDistinct (pointwise nat_eq) names)
     -- the calls of groups
     pub calls_same : (shapes : List (List Device)) (k : ℕ) (groups : List (List Device))
         → AllByRecursion (AllByRecursion (IsInRange (length names))) groups
-        → placed_calls names k (map (placed_number shapes) groups) groups ≡ flat_map (call_line names shapes) (enumerate_from k groups)
+        → placed_calls names shapes k groups ≡ flat_map (call_line names shapes) (enumerate_from k groups)
     calls_same shapes k [] is = refl
     calls_same shapes k (group ∷ groups) is =
         let same = group_same group is.0 in

@@ -65,10 +65,11 @@ pub groups-step : (start : ℕ) (rest : List Device) (all : List ℕ) (i place d
 groups-step start rest all i place default lt item =
     ap (λ l. groups_from start l rest) (drop_more all i default lt ∙ ap (λ p. p ∷ drop (i + 1) all) (sym item))
 
--- what the groups that are left add to the shapes and to the numbers
-pub record AreShapes (all left : List (List Device)) (shapes : List (List Device)) (numbers : List ℕ) : Type 0 where
+-- what the groups that are left add to the shapes, and to the calls, of which so many are made
+pub record ArePlaced (names : List (List ℕ)) (all left : List (List Device)) (made : ℕ) (shapes : List (List Device)) (calls : List ℕ)
+    : Type 0 where
   pub shapes_are : insert_all same_cell_shape shapes (map placed_group left) ≡ placed_shapes all
-  pub numbers_are : numbers ++ map (placed_number (placed_shapes all)) left ≡ map (placed_number (placed_shapes all)) all
+  pub calls_are : calls ++ placed_calls names (placed_shapes all) made left ≡ placed_calls names (placed_shapes all) 0 all
 
 module _ {X : Type 0} (eq : X → X → Bool) where
   position-append : (test : X → Bool) (ks ls : List X) → list_any test ks ≡ true → position_or_len test (ks ++ ls) ≡ position_or_len test ks
@@ -122,31 +123,20 @@ module _ {X : Type 0} (eq : X → X → Bool) where
           ap (λ l. position_or_len (eq x) (insert_all eq l xs)) key ∙ all_stay (eq x) (ks ++ x ∷ []) xs stands
           ∙ last_position (eq x) ks x e own ∙ sym (position_or_len-none (eq x) ks e)
 
-pub next_shape : (all left : List (List Device)) (group : List Device) (shapes shapes' : List (List Device)) (numbers numbers' : List ℕ)
-    (number : ℕ)
-    → AreShapes all (group ∷ left) shapes numbers → shapes' ≡ insert_key same_cell_shape shapes (placed_group group)
-    → number ≡ position_or_len (same_cell_shape (placed_group group)) shapes → numbers' ≡ numbers ++ number ∷ []
-    → AreShapes all left shapes' numbers'
-next_shape all left group shapes shapes' numbers numbers' number are inserted found pushed =
+pub next_placed : (names : List (List ℕ)) (all left : List (List Device)) (made : ℕ) (group : List Device)
+    (shapes shapes' : List (List Device)) (number : ℕ) (calls calls' : List ℕ)
+    → ArePlaced names all (group ∷ left) made shapes calls → shapes' ≡ insert_key same_cell_shape shapes (placed_group group)
+    → number ≡ position_or_len (same_cell_shape (placed_group group)) shapes → calls' ≡ calls ++ placed_call names made number group
+    → ArePlaced names all left (made + 1) shapes' calls'
+next_placed names all left made group shapes shapes' number calls calls' are inserted found put =
     let last : position_or_len (same_cell_shape (placed_group group)) (placed_shapes all) ≡ number =
     ap (position_or_len (same_cell_shape (placed_group group))) (sym are.shapes_are)
     ∙ keeps_place same_cell_shape shapes (map placed_group left) (placed_group group) (shape_own (placed_group group)) ∙ sym found in
+    let others : List ℕ = placed_calls names (placed_shapes all) (made + 1) left in
     record {
       shapes_are = ap (λ l. insert_all same_cell_shape l (map placed_group left)) inserted ∙ are.shapes_are;
-      numbers_are =
-          ap (λ l. l ++ map (placed_number (placed_shapes all)) left) (pushed ∙ ap (λ n. numbers ++ n ∷ []) (sym last))
-          ∙ append_assoc numbers (placed_number (placed_shapes all) group ∷ []) (map (placed_number (placed_shapes all)) left)
-          ∙ are.numbers_are;
+      calls_are =
+          ap (λ t. t ++ others) (put ∙ ap (λ n. calls ++ placed_call names made n group) (sym last))
+          ∙ append_assoc calls (placed_call names made (placed_number (placed_shapes all) group) group) others
+          ∙ are.calls_are;
     }
-
--- the calls of the groups that are left
-pub next_call : (names : List (List ℕ)) (i number default : ℕ) (numbers : List ℕ) (group : List Device) (groups : List (List Device))
-    (text text' all : List ℕ)
-    → i < length numbers → number ≡ get_or numbers i default → text ++ placed_calls names i (drop i numbers) (group ∷ groups) ≡ all
-    → text' ≡ text ++ placed_call names i number group → text' ++ placed_calls names (i + 1) (drop (i + 1) numbers) groups ≡ all
-next_call names i number default numbers group groups text text' all lt item are pushed =
-    let step : drop i numbers ≡ number ∷ drop (i + 1) numbers = drop_more numbers i default lt
-    ∙ ap (λ n. n ∷ drop (i + 1) numbers) (sym item) in
-    ap (λ t. t ++ placed_calls names (i + 1) (drop (i + 1) numbers) groups) pushed
-    ∙ append_assoc text (placed_call names i number group) (placed_calls names (i + 1) (drop (i + 1) numbers) groups)
-    ∙ sym (ap (λ l. text ++ placed_calls names i l (group ∷ groups)) step) ∙ are

@@ -1,11 +1,11 @@
 -- The nets of a group of devices by their numbers, and the devices by the numbers of these.
-use Rattle.std.specs.Prelude.{ℕ, ◌≡◌, ◌+◌, List, [], ◌∷◌, ◌++◌, nat_eq, Some, slice_get, map, codes}
-use Rattle.std.specs.List.{position_or_len}
+use Rattle.std.specs.Prelude.{ℕ, ◌≡◌, ◌-◌, List, [], ◌∷◌, ◌++◌, nat_eq, Some, slice_get, length, map, codes}
+use Rattle.std.specs.List.{enumerate_from, flat_map, position_or_len, range_with_len}
 use Rattle.std.specs.Fmt.{decimal}
 use Rattle.indexmap.specs.IndexSet.{insert_all, insert_key}
 use Rattle.deck.specs.declared.device.Device.{Device}
 use Rattle.deck.specs.Nets.{net_name}
-use Rattle.spice_text.specs.Cells.{cell_name, same_cell_shape}
+use Rattle.spice_text.specs.Cells.{cell_name, cell_port, same_cell_shape}
 use Rattle.spice_text.specs.Text.{deck_line}
 
 -- some nets of a circuit with so many nets
@@ -60,6 +60,13 @@ group_nets group = nets_after supply_numbers group
 abbrev pub placed_group : List Device → List Device
 placed_group group = placed_devices supply_numbers group
 
+-- the first ports of subcircuits, the supplies and so many others
+abbrev pub first_ports : ℕ → List (List ℕ)
+first_ports others = codes "vdd" ∷ codes "vss" ∷ map cell_port (range_with_len 0 others)
+
+abbrev pub ArePorts : List (List ℕ) → Type 0
+ArePorts ports = ports ≡ first_ports (length ports - 2)
+
 -- the shapes of groups, each once, in the order of their first groups
 abbrev pub placed_shapes : List (List Device) → List (List Device)
 placed_shapes groups = insert_all same_cell_shape [] (map placed_group groups)
@@ -73,8 +80,7 @@ abbrev pub placed_call : List (List ℕ) → ℕ → ℕ → List Device → Lis
 placed_call names index number group = deck_line (codes "x" ++ decimal index)
     (map (net_name names) (group_nets group) ++ cell_name number ∷ [])
 
--- the calls of groups, the first of which has this number, by the numbers of their shapes
-abbrev pub placed_calls : List (List ℕ) → ℕ → List ℕ → List (List Device) → List ℕ
-placed_calls names index (number ∷ numbers) (group ∷ groups) = placed_call names index number group ++ placed_calls names (index + 1)
-    numbers groups
-placed_calls names index _ _ = []
+-- the calls of groups, the first of which has this number, where these are the shapes
+abbrev pub placed_calls : List (List ℕ) → List (List Device) → ℕ → List (List Device) → List ℕ
+placed_calls names shapes index groups =
+    flat_map (λ (p : ℕ × List Device). placed_call names p.0 (placed_number shapes p.1) p.1) (enumerate_from index groups)

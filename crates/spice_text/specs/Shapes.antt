@@ -1,18 +1,22 @@
 -- Shapes of groups of devices as keys: which are the same, and how they are hashed.
-use Rattle.std.specs.Prelude.{ℕ, ◌≡◌, true, List, [], ◌∷◌, ◌++◌, drop}
+use Rattle.std.specs.Prelude.{ℕ, ◌≡◌, ◌+◌, ◌*◌, ◌&&◌, true, nat_eq, List, drop}
 use Rattle.std.proofs.Common.{ap}
 use Rattle.std.specs.List.{flat_map}
 use Rattle.std.specs.Cmp.{IsEquivalence, IsPartialEquivalence, and_equiv, on_equiv, nat_eq_equiv, partial_equiv_from_equiv}
-use Rattle.std.specs.Cmp.{unsigned_Decides}
-use Rattle.std.specs.Cmp.Lexicographic.{bytes_decides, lists_equiv, nat_list_eq_equiv}
-use Rattle.std.specs.Hash.{Alike, and-Alike, items_Alike, on_Alike, same_Alike, u32}
+use Rattle.std.specs.Cmp.{first_so, second_so, unsigned_Decides}
+use Rattle.std.specs.Cmp.Lexicographic.{lists_equiv, nat_list_eq_equiv, pointwise}
+use Rattle.std.specs.Hash.{Alike, items_Alike, u64}
 use Rattle.deck.specs.declared.device.Device.{Device}
 use Rattle.deck.specs.DeckText.{model_word}
 use Rattle.spice_text.specs.Cells.{same_cell_shape, same_device}
 
--- what is fed to a hash for a device: the word for its kind, and the numbers of its nets
+-- a number of a device by its nets
+abbrev pub device_number : Device → ℕ
+device_number d = d.drain * 2147483648 + d.source * 65536 + d.gate
+
+-- what is fed to a hash for a device
 abbrev pub device_writes : Device → List (List ℕ)
-device_writes d = model_word d.kind ∷ (u32 d.drain ++ u32 d.gate ++ u32 d.source)
+device_writes d = u64 (device_number d)
 
 abbrev pub shape_writes : List Device → List (List ℕ)
 shape_writes shape = flat_map device_writes shape
@@ -32,13 +36,18 @@ pub shape_per : IsPartialEquivalence same_cell_shape
 shape_per = partial_equiv_from_equiv shape_equiv
 
 device_alike : Alike same_device device_writes
-device_alike =
-    and-Alike
-    (and-Alike
-    (and-Alike (on_Alike (λ (d : Device). model_word d.kind) (same_Alike (λ (w : List ℕ). w ∷ []) bytes_decides))
-    (on_Alike (λ (d : Device). d.drain) (same_Alike u32 unsigned_Decides)))
-    (on_Alike (λ (d : Device). d.gate) (same_Alike u32 unsigned_Decides)))
-    (on_Alike (λ (d : Device). d.source) (same_Alike u32 unsigned_Decides))
+device_alike = record {
+  fed = λ x y same.
+      let word = pointwise nat_eq (model_word x.kind) (model_word y.kind) in
+      let drain = nat_eq x.drain y.drain in
+      let gate = nat_eq x.gate y.gate in
+      let source = nat_eq x.source y.source in
+      let three = first_so ((word && drain) && gate) source same in
+      let drains = (unsigned_Decides x.drain y.drain).0 (second_so word drain (first_so (word && drain) gate three)) in
+      let gates = (unsigned_Decides x.gate y.gate).0 (second_so (word && drain) gate three) in
+      let sources = (unsigned_Decides x.source y.source).0 (second_so ((word && drain) && gate) source same) in
+      λ i. u64 (drains i * 2147483648 + sources i * 65536 + gates i);
+}
 
 -- the same shapes are hashed alike
 pub shape_alike : (x y : List Device) → same_cell_shape x y ≡ true → shape_writes x ≡ shape_writes y

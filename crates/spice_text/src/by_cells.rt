@@ -3,7 +3,7 @@ ghost use Rattle.std.specs.Prelude.{IfOk};
 ghost use Rattle.spice_text.specs.Cells.{HasCells, IsWrittenByCells};
 
 use crate::cards::put_phases;
-use crate::cells::{number_shapes, put_calls, put_shapes};
+use crate::cells::{PlacedGroups, place_groups, put_shapes};
 use crate::group::GroupNets;
 use crate::ports::put_subckt;
 use deck::{Circuit, roles};
@@ -29,26 +29,25 @@ pub fn write_cells(alloc: Global, circuit: &Circuit, ends: &[u32]) -> Result<Vec
     let devices = circuit.devices.as_slice();
     let hasher = *circuit.nets.hasher();
     let mut group_nets = GroupNets::new(alloc, nets.len())?;
-    let numbered = number_shapes(alloc, hasher, &mut group_nets, devices, ends)?;
+    let PlacedGroups { shapes, calls } = place_groups(
+        alloc,
+        hasher,
+        nets,
+        &mut group_nets,
+        devices,
+        ends,
+    )?;
     let mut text = Vec::new(alloc);
     append(&mut text, b"* domsyn deck 2\n")?;
     put_phases(&mut text, circuit.phases.as_slice())?;
-    put_shapes(alloc, &mut text, &numbered.shapes)?;
+    put_shapes(alloc, &mut text, &shapes)?;
     put_subckt(
         &mut text,
         circuit.name.as_bytes(),
         &nets[..circuit.ports as usize],
         roles(circuit),
     )?;
-    put_calls(
-        alloc,
-        &mut text,
-        nets,
-        &mut group_nets,
-        devices,
-        ends,
-        numbered.numbers.as_slice(),
-    )?;
+    append(&mut text, calls.as_slice())?;
     append(&mut text, b".ends")?;
     append_word(&mut text, circuit.name.as_bytes())?;
     append(&mut text, b"\n")?;

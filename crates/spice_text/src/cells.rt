@@ -1,6 +1,6 @@
 //! The subcircuits of shapes, and the calls of groups.
-ghost use Rattle.std.specs.Prelude.{◌≡◌, ◌<◌, ◌≤◌, ◌-◌, ◌++◌, ◌∷◌, [], All, IfOk, OnOk, length, map, codes};
-ghost use Rattle.std.specs.List.{enumerate_from, flat_map, position_or_len, range_with_len};
+ghost use Rattle.std.specs.Prelude.{◌≡◌, ◌<◌, ◌≤◌, ◌++◌, ◌∷◌, [], All, IfOk, OnOk, length, map, codes};
+ghost use Rattle.std.specs.List.{enumerate_from, flat_map, position_or_len};
 ghost use Rattle.std.specs.Fmt.{decimal};
 ghost use Rattle.indexmap.specs.IndexSet.{insert_key};
 ghost use Rattle.dom_base.specs.Names.{IsNetName};
@@ -12,10 +12,11 @@ ghost use Rattle.spice_text.specs.Cells.{
   cell_lines,
   cell_name,
   cell_port,
+  cell_ports,
   groups_from,
   same_cell_shape,
 };
-ghost use Rattle.spice_text.specs.GroupNets.{placed_calls, placed_number, placed_shapes};
+ghost use Rattle.spice_text.specs.GroupNets.{ArePorts, placed_calls, placed_shapes};
 
 use crate::cards::{net_name, put_cards};
 use crate::group::GroupNets;
@@ -32,11 +33,11 @@ use std::alloc::Global;
 /// Shapes, each once, in the order of their first groups.
 pub type ShapeSet = IndexSet<Shape, NameHash>;
 
-/// The shapes of groups, and the number of each group's shape.
+/// The shapes of groups, and the calls of their cells.
 #[derive(Drop)]
-pub struct NumberedShapes {
+pub struct PlacedGroups {
     pub shapes: ShapeSet,
-    pub numbers: Vec<usize>,
+    pub calls: Vec<u8>,
 }
 
 /// The number of a shape, which is added at the end where it is new. The one error is out of memory.
@@ -49,38 +50,6 @@ fn number_shape(shapes: &mut ShapeSet, shape: &Shape) -> Result<usize, OutOfMemo
     }
     let (number, _) = shapes.insert_full(shape.clone()?)?;
     Ok(number)
-}
-
-/// The shapes of the groups that end at these places, and the number of each group's shape.
-pub fn number_shapes(
-    alloc: Global,
-    hasher: NameHash,
-    nets: &mut GroupNets,
-    devices: &[Device],
-    ends: &[u32],
-) -> Result<NumberedShapes, OutOfMemory>
-    requires supplies { 2 ≤ nets.old.count }
-    requires within { All (IsInRange nets.old.count) devices.now }
-    requires few { length devices.now ≤ most_devices }
-    requires rise { PlacesRise 0 ends.now (length devices.now) }
-    ensures count { OnOk result (nets.new.count ≡ nets.old.count) }
-    ensures shapes { IfOk result (λ n. n.shapes.keys ≡ placed_shapes (groups_from 0 ends.now devices.now)) }
-    ensures numbers { IfOk result (λ n. n.numbers.items ≡ map (placed_number n.shapes.keys) (groups_from 0 ends.now devices.now)) }
-{
-    let mut shapes = ShapeSet::with_hasher(alloc, hasher);
-    let mut numbers = Vec::new(alloc);
-    let mut shape = Shape::new(alloc);
-    let mut rest = devices;
-    let mut start = 0;
-    'groups: for end in ends {
-        let (group, more) = rest.split_at((*end - start) as usize);
-        nets.number_group(group, &mut shape)?;
-        let number = number_shape(&mut shapes, &shape)?;
-        numbers.push(number)?;
-        rest = more;
-        start = *end;
-    }
-    Ok(NumberedShapes { shapes, numbers })
 }
 
 /// How many nets a shape has.
@@ -119,19 +88,28 @@ fn supply_name(alloc: Global, bytes: &[u8]) -> Result<NetName, OutOfMemory>
     Ok(NetName(name))
 }
 
-/// The ports of the subcircuit of a shape with so many nets.
-fn port_names(alloc: Global, count: u64) -> Result<Vec<NetName>, OutOfMemory>
-    requires { 2 ≤ count }
-    ensures { IfOk result (λ names. names.items
-        ≡ codes "vdd" ∷ codes "vss" ∷ map cell_port (range_with_len 0 (count - 2))) }
+/// The supplies, as the first ports of subcircuits.
+fn supply_ports(alloc: Global) -> Result<Vec<NetName>, OutOfMemory>
+    ensures { IfOk result (λ ports. ArePorts ports.items) }
 {
-    let mut names = Vec::new(alloc);
-    names.push(supply_name(alloc, b"vdd")?)?;
-    names.push(supply_name(alloc, b"vss")?)?;
-    for number in 0..count - 2 {
-        names.push(port_name(alloc, number)?)?;
+    let mut ports = Vec::new(alloc);
+    ports.push(supply_name(alloc, b"vdd")?)?;
+    ports.push(supply_name(alloc, b"vss")?)?;
+    Ok(ports)
+}
+
+/// Adds ports of subcircuits behind those that stand, until there are so many.
+fn add_ports(alloc: Global, ports: &mut Vec<NetName>, count: u64) -> Result<(), OutOfMemory>
+    requires { ArePorts ports.old.items }
+    ensures ports { OnOk result (ArePorts ports.new.items) }
+    ensures enough { OnOk result (count ≤ length ports.new.items) }
+{
+    let stand = (ports.len() as u64).saturating_sub(2);
+    let others = count.saturating_sub(2);
+    'numbers: for number in stand..others {
+        ports.push(port_name(alloc, number)?)?;
     }
-    Ok(names)
+    Ok(())
 }
 
 /// Appends the name of a shape's subcircuit, after a blank.
@@ -143,17 +121,16 @@ fn put_cell_name(text: &mut Vec<u8>, number: usize) -> Result<(), OutOfMemory>
     Ok(())
 }
 
-/// Appends the subcircuit of a shape.
+/// Appends the subcircuit of a shape with these ports.
 fn put_cell(
-    alloc: Global,
     text: &mut Vec<u8>,
     number: usize,
     shape: &[Device],
+    ports: &[NetName],
 ) -> Result<(), OutOfMemory>
+    requires { ports.now ≡ cell_ports shape.now }
     ensures { OnOk result (text.new.items ≡ text.old.items ++ cell_lines (number, shape.now)) }
 {
-    let names = port_names(alloc, net_count(shape))?;
-    let ports = names.as_slice();
     append(text, b".subckt")?;
     put_cell_name(text, number)?;
     put_words(text, ports)?;
@@ -169,8 +146,13 @@ fn put_cell(
 pub fn put_shapes(alloc: Global, text: &mut Vec<u8>, shapes: &ShapeSet) -> Result<(), OutOfMemory>
     ensures { OnOk result (text.new.items ≡ text.old.items ++ flat_map cell_lines (enumerate_from 0 shapes.now.keys)) }
 {
+    let mut ports = supply_ports(alloc)?;
     for (number, shape) in shapes.as_slice().iter().enumerate() {
-        put_cell(alloc, text, number, shape.devices())?;
+        let listed = shape.devices();
+        let count = net_count(listed);
+        add_ports(alloc, &mut ports, count)?;
+        let all = ports.as_slice();
+        put_cell(text, number, listed, &all[..count as usize])?;
     }
     Ok(())
 }
@@ -206,35 +188,36 @@ fn put_call(
     Ok(())
 }
 
-/// Appends the call of each group's cell. The groups end at these places, and their shapes have these numbers.
-pub fn put_calls(
+/// The shapes of the groups that end at these places, and the call of each group's cell.
+pub fn place_groups(
     alloc: Global,
-    text: &mut Vec<u8>,
+    hasher: NameHash,
     names: &[NetName],
     nets: &mut GroupNets,
     devices: &[Device],
     ends: &[u32],
-    numbers: &[usize],
-) -> Result<(), OutOfMemory>
+) -> Result<PlacedGroups, OutOfMemory>
     requires count { nets.old.count ≡ length names.now }
     requires supplies { 2 ≤ length names.now }
     requires within { All (IsInRange (length names.now)) devices.now }
     requires few { length devices.now ≤ most_devices }
     requires rise { PlacesRise 0 ends.now (length devices.now) }
-    requires one_number { length numbers.now ≡ length ends.now }
-    ensures { OnOk result (text.new.items ≡ text.old.items
-        ++ placed_calls names.now 0 numbers.now (groups_from 0 ends.now devices.now)) }
+    ensures shapes { IfOk result (λ p. p.shapes.keys ≡ placed_shapes (groups_from 0 ends.now devices.now)) }
+    ensures calls { IfOk result (λ p. p.calls.items
+        ≡ placed_calls names.now (placed_shapes (groups_from 0 ends.now devices.now)) 0 (groups_from 0 ends.now devices.now)) }
 {
+    let mut shapes = ShapeSet::with_hasher(alloc, hasher);
+    let mut calls = Vec::new(alloc);
     let mut shape = Shape::new(alloc);
     let mut rest = devices;
     let mut start = 0;
     'groups: for (index, end) in ends.iter().enumerate() {
         let (group, more) = rest.split_at((*end - start) as usize);
         nets.number_group(group, &mut shape)?;
-        let number = numbers[index];
-        put_call(text, names, index, nets.nets(), number)?;
+        let number = number_shape(&mut shapes, &shape)?;
+        put_call(&mut calls, names, index, nets.nets(), number)?;
         rest = more;
         start = *end;
     }
-    Ok(())
+    Ok(PlacedGroups { shapes, calls })
 }

@@ -63,6 +63,7 @@ impl GroupNets {
     }
 
     /// The place of a net, if it stands.
+    #[inline(always)]
     fn find(&self, net: u32) -> Option<u32>
         requires { net < self.now.count }
         ensures { MatchOption result (list_any (nat_eq net) self.now.nets ≡ false)
@@ -80,6 +81,7 @@ impl GroupNets {
     }
 
     /// The place of a net, which is added at the end where it is new. The one error is out of memory.
+    #[inline(always)]
     fn number(&mut self, net: u32) -> Result<u32, OutOfMemory>
         requires within { net < self.old.count }
         requires few { length self.old.nets < 2 ^ 31 }

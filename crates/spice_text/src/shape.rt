@@ -1,11 +1,10 @@
 //! Shapes of groups of devices.
-ghost use Rattle.std.specs.Prelude.{◌≡◌, ◌++◌, ◌∷◌, [], OnErr, OnOk, fold};
+ghost use Rattle.std.specs.Prelude.{◌≡◌, ◌++◌, ◌∷◌, [], OnErr, OnOk};
 ghost use Rattle.spice_text.specs.Cells.{same_cell_shape};
-ghost use Rattle.spice_text.specs.Shapes.{device_writes, shape_alike, shape_equiv, shape_per, shape_writes};
-ghost use Rattle.deck.specs.DeckText.{model_word};
+ghost use Rattle.spice_text.specs.Shapes.{device_number, shape_alike, shape_equiv, shape_per, shape_writes};
 
 use deck::Device;
-use dom_base::{Kind, OutOfMemory};
+use dom_base::OutOfMemory;
 use std::alloc::{AllocError, Global};
 use std::hash::{Hash, Hasher};
 use std::marker::Model;
@@ -68,25 +67,13 @@ impl Eq for Shape {
     ghost laws = { shape_equiv };
 }
 
-/// The word for a kind of device.
-fn model(kind: Kind) -> &'static [u8]
-    ensures { result.now ≡ model_word kind }
+/// A number of a device by its nets, which differs for other nets where they are low.
+fn device_number(device: Device) -> u64
+    ensures { result ≡ device_number device }
 {
-    match kind {
-        Kind::N => b"nch",
-        Kind::P => b"pch",
-        Kind::Keep => b"pkeep",
-    }
-}
-
-/// Feeds a device to a hash.
-fn hash_device<H: Hasher>(device: Device, state: &mut H)
-    ensures { state.new ≡ fold H.write state.old (device_writes device) }
-{
-    state.write(model(device.kind));
-    state.write_u32(device.drain);
-    state.write_u32(device.gate);
-    state.write_u32(device.source);
+    u64::from(device.drain) * 0x8000_0000
+        + u64::from(device.source) * 0x1_0000
+        + u64::from(device.gate)
 }
 
 impl Hash for Shape {
@@ -96,7 +83,7 @@ impl Hash for Shape {
 
     fn hash<H: Hasher>(&self, state: &mut H) {
         for device in self.0.as_slice() {
-            hash_device(*device, state);
+            state.write_u64(device_number(*device));
         }
     }
 }
