@@ -1,4 +1,5 @@
 pub mod ArmGates
+pub mod CardMarks
 pub mod CardTexts
 pub mod CellLoops
 pub mod DeckTexts

@@ -4,3 +4,4 @@ pub mod Nets
 pub mod PlannedDecks
 pub mod PutCells
 pub mod PutGroups
+pub mod ShortTexts

@@ -2,19 +2,16 @@
 use Rattle.std.specs.Prelude.{ℕ, ◌-◌, cond, nat_lt, List, [], ◌++◌, codes, length, slice_index_or}
 use Rattle.std.specs.Fmt.{decimal}
 use Rattle.plan_text.specs.declared.net.Net.{Net}
-use Rattle.plan_text.specs.declared.net.NetEnd.{NetEnd}
-use Rattle.plan_text.specs.declared.net.NetEnd.TheVariants.{Nothing, Digits, Number, Inner}
-
--- a name with what stands behind it
-abbrev pub with_end : List ℕ → NetEnd → List ℕ
-with_end front Nothing = front
-with_end front (Digits digits) = front ++ digits.now
-with_end front (Number number) = front ++ decimal number
-with_end front (Inner digits number) = ((front ++ digits.now) ++ codes "_") ++ decimal number
+use Rattle.plan_text.specs.declared.net.Net.TheVariants.{Named, Numbered, OfCell, Inner, Short}
+use Rattle.plan_text.specs.ShortTexts.{short_bytes}
 
 -- the name of a net
 abbrev pub net_text : Net → List ℕ
-net_text net = with_end net.front.now net.end
+net_text (Named name) = name.now
+net_text (Numbered front number) = front.now ++ decimal number
+net_text (OfCell front digits) = front.now ++ digits.now
+net_text (Inner digits number) = ((codes "t" ++ digits.now) ++ codes "_") ++ decimal number
+net_text (Short name) = short_bytes name
 
 -- how the inner nets of a cell begin whose number has these digits
 abbrev pub tree_front : List ℕ → List ℕ

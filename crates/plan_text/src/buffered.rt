@@ -1,8 +1,10 @@
 //! A text that grows by short pieces.
 ghost use Rattle.std.specs.Prelude.{◌≡◌, ◌≤◌, ◌++◌, ◌∷◌, [], IfOk, OnErr, OnOk, length};
 ghost use Rattle.std.specs.Fmt.{decimal};
+ghost use Rattle.plan_text.specs.ShortTexts.{short_bytes};
 
 use crate::held::HeldBytes;
+use crate::short::{MOST_SHORT, ShortText};
 use dom_base::{OutOfMemory, append};
 use itoa::Buffer;
 use std::marker::Model;
@@ -75,6 +77,32 @@ impl BufferedText {
         }
         self.held.push(byte);
         Ok(())
+    }
+
+    /// Appends the bytes of a short text.
+    #[inline(always)]
+    pub fn put_short(&mut self, short: &ShortText) -> Result<(), OutOfMemory>
+        ensures bytes { OnOk result (self.new ≡ self.old ++ short_bytes short.now) }
+        ensures unchanged { OnErr result (self.new ≡ self.old) }
+    {
+        if short.count > MOST_SHORT {
+            return put_behind(&mut self.text, &mut self.held, &short.bytes);
+        }
+        if short.count > self.held.room() {
+            return put_behind(&mut self.text, &mut self.held, &short.bytes[..short.count]);
+        }
+        self.held.extend_short(short);
+        Ok(())
+    }
+
+    /// Appends a blank and a short word.
+    #[inline(always)]
+    pub fn put_short_word(&mut self, word: &ShortText) -> Result<(), OutOfMemory>
+        ensures word { OnOk result (self.new ≡ self.old ++ 32 ∷ short_bytes word.now) }
+        ensures longer { length self.old ≤ length self.new }
+    {
+        self.push(b' ')?;
+        self.put_short(word)
     }
 
     /// Appends a number in decimal digits.

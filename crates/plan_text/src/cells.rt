@@ -31,7 +31,7 @@ fn put_inner_precharges(
     ensures { OnOk result (cards.new ≡ with_named_cards cards.old (inner_precharges (digits_cell clock digits.now) 0 count)) }
 {
     let clock = Net::numbered(b"ck", clock as u32);
-    let vdd = Net::named(b"vdd");
+    let vdd = Net::fixed(b"vdd");
     'inners: for inner in 0..count {
         cards.put(Kind::P, Net::inner(digits, inner), clock, vdd)?;
     }
@@ -56,7 +56,7 @@ fn put_precharge(
         → cards.new ≡ with_named_cards cards.old (precharge_cards style (digits_cell clock digits.now) (inner_count tree))) }
 {
     let dynamic = Net::of_cell(b"d", digits);
-    let vdd = Net::named(b"vdd");
+    let vdd = Net::fixed(b"vdd");
     cards.put(Kind::P, dynamic, Net::numbered(b"ck", clock as u32), vdd)?;
     match style {
         Style::Keeper => {
@@ -91,11 +91,11 @@ fn put_cell(
 {
     let dynamic = Net::of_cell(b"d", digits);
     let foot = Net::of_cell(b"f", digits);
-    let vss = Net::named(b"vss");
+    let vss = Net::fixed(b"vss");
     put_precharge(cards, style, cover, place, clock, digits)?;
     put_pair(cards, cover, place, dynamic, foot, digits, 0)?;
     cards.put(Kind::N, foot, Net::numbered(b"ck", clock as u32), vss)?;
-    cards.put_inverter(Net::named(b"vdd"), vss, dynamic, Net::of_cell(b"z", digits))?;
+    cards.put_inverter(Net::fixed(b"vdd"), vss, dynamic, Net::of_cell(b"z", digits))?;
     Ok(())
 }
 

@@ -1,15 +1,20 @@
 //! Bytes that are held in an array.
 ghost use Rattle.std.specs.Prelude.{◌≡◌, ◌≤◌, ◌<◌, ◌+◌, ◌++◌, ◌∷◌, [], length};
+ghost use Rattle.plan_text.specs.ShortTexts.{short_bytes};
 
+use crate::short::{MOST_SHORT, ShortText};
 use std::marker::Model;
 
 /// How many bytes are held at most.
 pub const MOST_HELD: usize = 2048;
 
+/// How many bytes the array has: a short text is written into it as a whole array.
+const HELD_ROOM: usize = 2064;
+
 /// Bytes in an array.
 #[derive(Drop)]
 pub struct HeldBytes {
-    bytes: [u8; MOST_HELD],
+    bytes: [u8; HELD_ROOM],
     count: usize,
 }
 
@@ -29,7 +34,7 @@ impl HeldBytes {
         ensures { result ≡ [] }
     {
         HeldBytes {
-            bytes: [0; MOST_HELD],
+            bytes: [0; HELD_ROOM],
             count: 0,
         }
     }
@@ -79,5 +84,16 @@ impl HeldBytes {
             count += 1;
         }
         self.count = count;
+    }
+    /// Holds the bytes of a short text.
+    #[inline(always)]
+    pub fn extend_short(&mut self, short: &ShortText)
+        requires few { short.now.count ≤ 16 }
+        requires room { length self.old + short.now.count ≤ 2048 }
+        ensures { self.new ≡ self.old ++ short_bytes short.now }
+    {
+        let count = self.count;
+        self.bytes[count..count + MOST_SHORT].copy_from_slice(&short.bytes);
+        self.count = count + short.count;
     }
 }

@@ -7,9 +7,11 @@ mod cells;
 mod groups;
 mod head;
 mod held;
+mod marks;
 mod net;
 mod plan;
 mod planned;
+mod short;
 mod trees;
 
 pub use plan::text_of_plan;

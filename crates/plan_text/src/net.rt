@@ -1,64 +1,87 @@
 //! Nets of a deck by the parts of their names.
-ghost use Rattle.std.specs.Prelude.{◌≡◌, ◌≤◌, ◌++◌, ◌∷◌, OnOk, codes, length};
+ghost use Rattle.std.specs.Prelude.{◌≡◌, ◌≤◌, ◌++◌, ◌∷◌, IfSome, OnOk, codes, length};
 ghost use Rattle.std.specs.Fmt.{decimal};
 ghost use Rattle.deck_form.specs.DeckNets.{own_net, rail_net};
 ghost use Rattle.domino_cell.specs.NamedTrees.{inner_net};
 ghost use Rattle.plan_text.specs.Nets.{listed_net, net_text, tree_front};
+ghost use Rattle.plan_text.specs.ShortTexts.{short_bytes};
 
 use crate::buffered::BufferedText;
+use crate::short::ShortText;
 use dom_base::{NetName, OutOfMemory};
 use dual_rail::Rail;
+use itoa::Buffer;
 
-/// A net, by how its name begins, and what stands behind it.
+/// A net by its name: these bytes; bytes with a number behind them; bytes with the digits of the number of a cell behind them;
+/// the inner net of the cell whose number has these digits, by its own number; or few bytes.
 #[derive(Clone, Copy)]
-pub struct Net<'a> {
-    pub front: &'a [u8],
-    pub end: NetEnd<'a>,
-}
-
-/// What stands behind the beginning of a net's name: nothing, the digits of the number of a cell, a number, or the digits of the
-/// number of a cell, `_`, and the number of an inner net.
-#[derive(Clone, Copy)]
-pub enum NetEnd<'a> {
-    Nothing,
-    Digits(&'a [u8]),
-    Number(u32),
+pub enum Net<'a> {
+    Named(&'a [u8]),
+    Numbered(&'a [u8], u32),
+    OfCell(&'a [u8], &'a [u8]),
     Inner(&'a [u8], u32),
+    Short(ShortText),
 }
 
 impl<'a> Net<'a> {
     /// The net of this name.
-    pub fn named(front: &'a [u8]) -> Net<'a>
-        ensures { net_text result ≡ front.now }
+    pub fn named(name: &'a [u8]) -> Net<'a>
+        ensures { net_text result ≡ name.now }
     {
-        let end = NetEnd::Nothing;
-        Net { front, end }
+        Net::Named(name)
+    }
+
+    /// The net of this name, which is short.
+    #[inline(always)]
+    pub fn fixed(name: &'a [u8]) -> Net<'a>
+        requires { length name.now ≤ 16 }
+        ensures { net_text result ≡ name.now }
+    {
+        Net::Short(ShortText::of(name))
     }
 
     /// The net whose name is this with a number behind.
     pub fn numbered(front: &'a [u8], number: u32) -> Net<'a>
         ensures { net_text result ≡ front.now ++ decimal number }
     {
-        let end = NetEnd::Number(number);
-        Net { front, end }
+        Net::Numbered(front, number)
     }
 
     /// The net whose name is this with the digits of a cell's number behind.
     pub fn of_cell(front: &'a [u8], digits: &'a [u8]) -> Net<'a>
         ensures { net_text result ≡ front.now ++ digits.now }
     {
-        let end = NetEnd::Digits(digits);
-        Net { front, end }
+        match ShortText::joined(front, digits) {
+            Some(short) => Net::Short(short),
+            None => Net::OfCell(front, digits),
+        }
     }
 
     /// The inner net of this number of the cell whose number has these digits.
     pub fn inner(digits: &'a [u8], number: u32) -> Net<'a>
         ensures { net_text result ≡ inner_net (tree_front digits.now) number }
     {
-        let front = b"t";
-        let end = NetEnd::Inner(digits, number);
-        Net { front, end }
+        match short_inner(digits, number) {
+            Some(short) => Net::Short(short),
+            None => Net::Inner(digits, number),
+        }
     }
+}
+
+/// The name of the inner net of this number of the cell whose number has these digits, where it is short.
+fn short_inner(digits: &[u8], number: u32) -> Option<ShortText>
+    ensures { IfSome result (λ short. short_bytes short ≡ inner_net (tree_front digits.now) number) }
+{
+    let mut buffer = Buffer::new();
+    let last = buffer.format(number).as_bytes();
+    if digits.len() > 8 || last.len() > 6 {
+        return None;
+    }
+    let mut short = ShortText::of(b"t");
+    short.extend(digits);
+    short.push(b'_');
+    short.extend(last);
+    Some(short)
 }
 
 /// Appends a blank and the name of a net.
@@ -67,12 +90,21 @@ pub fn put_net(text: &mut BufferedText, net: Net<'_>) -> Result<(), OutOfMemory>
     ensures name { OnOk result (text.new ≡ text.old ++ 32 ∷ net_text net.entry) }
     ensures longer { length text.old ≤ length text.new }
 {
-    text.put_word(net.front)?;
-    match net.end {
-        NetEnd::Nothing => Ok(()),
-        NetEnd::Digits(digits) => text.put(digits),
-        NetEnd::Number(number) => text.put_number(u64::from(number)),
-        NetEnd::Inner(digits, number) => put_inner(text, digits, number),
+    match net {
+        Net::Short(name) => text.put_short_word(&name),
+        Net::Named(name) => text.put_word(name),
+        Net::Numbered(front, number) => {
+            text.put_word(front)?;
+            text.put_number(u64::from(number))
+        }
+        Net::OfCell(front, digits) => {
+            text.put_word(front)?;
+            text.put(digits)
+        }
+        Net::Inner(digits, number) => {
+            text.put_word(b"t")?;
+            put_inner(text, digits, number)
+        }
     }
 }
 

@@ -18,9 +18,9 @@ returns c = λ tree is.
     let old = c.args.cards.now in
     let dynamic = c.of_cell-dynamic.ensures in
     let foot = c.of_cell-foot.ensures in
-    let vss = c.named-vss.ensures in
+    let vss = c.fixed-vss.ensures in
     let clock = c.numbered.ensures in
-    let vdd = c.named.ensures in
+    let vdd = c.fixed.ensures in
     let output = c.of_cell.ensures in
     cell_cards c.args.style nets over old c.put_precharge.new.cards c.put_pair.new.cards c.put.new.self c.put_inverter.new.self
     (c.in_ok-put_precharge.ensures tree is

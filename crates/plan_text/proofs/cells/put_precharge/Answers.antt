@@ -14,7 +14,7 @@ returns-in_ok-put-in-Keeper c = λ tree is.
     let nets = digits_cell c.args.clock c.args.digits.now in
     let dynamic = c.of_cell-dynamic.ensures in
     let clock = c.numbered.ensures in
-    let vdd = c.named-vdd.ensures in
+    let vdd = c.fixed-vdd.ensures in
     let output = c.of_cell.ensures in
     let first : NamedDevice (List ℕ) = record { kind = pch; drain = nets.dynamic; gate = nets.clock; source = nets.vdd } in
     let keeper : NamedDevice (List ℕ) = record { kind = Keep; drain = nets.dynamic; gate = nets.output; source = nets.vdd } in
@@ -28,7 +28,7 @@ returns-in_ok-put_inner_precharges-in-Precharge c = λ tree is.
     let nets = digits_cell c.args.clock c.args.digits.now in
     let dynamic = c.of_cell-dynamic.ensures in
     let clock = c.numbered.ensures in
-    let vdd = c.named-vdd.ensures in
+    let vdd = c.fixed-vdd.ensures in
     let first : NamedDevice (List ℕ) = record { kind = pch; drain = nets.dynamic; gate = nets.clock; source = nets.vdd } in
     then_cards c.args.cards.now c.put.new.self c.put_inner_precharges.new.cards (first ∷ []) (inner_precharges nets 0 (inner_count tree))
     (c.in_ok-put.ensures ∙ (λ i. with_named_cards c.args.cards.now (record { kind = pch; drain = dynamic i; gate = clock i; source = vdd i } ∷ [])))
