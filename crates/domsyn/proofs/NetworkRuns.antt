@@ -1,7 +1,8 @@
 -- A run that is printed cycle by cycle.
-use Rattle.std.proofs.Common.{◌≡◌, ℕ, ◌<◌, ◌≤◌, ◌+◌, suc, Bool, List, [], ◌∷◌, ◌++◌, length, drop, get_or, refl, sym, ap, ◌∙◌, subst, arith, append_assoc, append-nil}
-use Rattle.std.proofs.Math.Seq.{drop-cons}
+use Rattle.std.proofs.Common.{◌≡◌, ℕ, ◌≤◌, ◌+◌, Bool, List, [], ◌∷◌, ◌++◌, length, drop, refl, sym, ap, ◌∙◌, subst, append_assoc, append-nil}
+use Rattle.std.specs.Prelude.{Some, slice_get}
 use Rattle.std.proofs.Math.ListN.{drop_of_length-le}
+use Rattle.dom_base.proofs.Lists.{drop_next}
 use Rattle.network.specs.NetworkData.{NetworkData}
 use Rattle.net_run.specs.RunnerData.{RunnerData, RunsNetwork}
 use Rattle.net_run.specs.Runs.{Cycle, IsNetworkRun, IsNetworkRunFrom, start}
@@ -27,13 +28,12 @@ module _ (n : NetworkData) (stream : List (List Bool)) where
     goes_on = λ rest run. record { all = rest; run = subst (λ s. IsNetworkRunFrom n s stream rest) at_start run; text_is = refl };
   }
 
-  pub cycle_run : (k : ℕ) (d pins : List Bool) (old new : RunnerData) (before after : List ℕ) → k < length stream → pins ≡ get_or stream k d → HasRunTo k old before
+  pub cycle_run : (k : ℕ) (pins : List Bool) (old new : RunnerData) (before after : List ℕ) → slice_get stream k ≡ Some pins → HasRunTo k old before
       → PutsCycle k pins old new before after → HasRunTo (k + 1) new after
-  cycle_run k d pins old new before after l is has puts =
+  cycle_run k pins old new before after there has puts =
       let made = puts.cycle n has.runs in
       let c : Cycle = record { outputs = puts.outputs; next = new.state } in
-      let split : drop k stream ≡ pins ∷ drop (k + 1) stream = drop-cons stream k d l ∙ ap (λ m. get_or stream k d ∷ drop m stream) (let z : suc k ≡ k + 1 = omega arith in z)
-      ∙ ap (λ p. p ∷ drop (k + 1) stream) (sym is) in
+      let split = drop_next stream k pins there in
       record {
         runs = made.1;
         goes_on = λ rest run.

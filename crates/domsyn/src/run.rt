@@ -12,7 +12,7 @@ use dom_base::{OutOfMemory, Tri};
 use net_flatten::Network;
 use net_run::Runner;
 use std::alloc::Global;
-use stim_text::{CycleRow, Pins, read_stim, write_cycle};
+use stim_text::{CycleRow, Stimulus, read_stim, write_cycle};
 use trace_tool::{TraceFault, network_of_text};
 
 /// The most bytes of the line of a cycle besides those of its values.
@@ -32,7 +32,7 @@ pub fn run(alloc: Global, bytes: &[u8], stim: &[u8]) -> Result<Answer, TraceFaul
 }
 
 /// The lines of the run of a network over these cycles.
-fn run_text(alloc: Global, network: &Network, cycles: &[Pins]) -> Result<Vec<u8>, OutOfMemory>
+fn run_text(alloc: Global, network: &Network, cycles: &Stimulus) -> Result<Vec<u8>, OutOfMemory>
     requires { All (λ pins. length pins ≡ network.now.inputs) cycles.now }
     ensures { IfOk result (λ text. IsRunText network.now cycles.now text.items) }
 {
@@ -46,13 +46,7 @@ fn run_text(alloc: Global, network: &Network, cycles: &[Pins]) -> Result<Vec<u8>
         events: None,
     };
     for k in 0..cycles.len() {
-        put_cycle(
-            &mut text,
-            &mut row,
-            &mut runner,
-            k as u64,
-            cycles[k].as_slice(),
-        )?;
+        put_cycle(&mut text, &mut row, &mut runner, k as u64, cycles.cycle(k))?;
     }
     Ok(text)
 }

@@ -130,8 +130,3 @@ module _ {F : Type 0} (P : F → ℕ → ℕ → ℕ → Type 0) where
       → IsErrAnd result (λ e. e ≡ halt) → HaltsCycle P pins s halt t → EndsCycle {T = T} P cycle pins s result t
   ended-by s t cycle pins halt (Ok x) is h = absurd is
   ended-by s t cycle pins halt (Err e) is h = subst (λ (x : Halt). HaltsCycle P pins s x t) (sym is) h
-
-  -- a cycle up to its reading, with these pins
-  pub with-pins : (s t : RunData F) (bits pins : List Bool) (result : Result ℕ Halt) → bits ≡ pins
-      → Runs P (evaluation_by s.setup.clocking s.setup.roles bits) s result t → Runs P (evaluation_by s.setup.clocking s.setup.roles pins) s result t
-  with-pins s t bits pins result same h = subst (λ (l : List Bool). Runs P (evaluation_by s.setup.clocking s.setup.roles l) s result t) same h

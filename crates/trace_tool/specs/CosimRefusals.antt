@@ -2,8 +2,8 @@
 use Rattle.std.specs.Prelude.{ℕ, List}
 use Rattle.blif_ast.specs.BlifFileData.{BlifFileData}
 use Rattle.blif_ast.specs.Reading.{IsBlifFaultAt, IsFileOf}
-use Rattle.blif_read.specs.declared.fault.BlifFault.{BlifFault}
-use Rattle.blif_read.specs.declared.fault.BlifFault.TheVariants as blif_faults
+use Rattle.blif_numbers.specs.declared.fault.BlifFault.{BlifFault}
+use Rattle.blif_numbers.specs.declared.fault.BlifFault.TheVariants as blif_faults
 use Rattle.model_calls.specs.declared.fault.FlatFault.{FlatFault}
 use Rattle.model_calls.specs.declared.fault.FlatFault.TheVariants as flat_faults
 use Rattle.net_flatten.specs.Flattening.{IsNetworkOf}

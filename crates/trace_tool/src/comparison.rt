@@ -21,14 +21,14 @@ use net_flatten::Network;
 use net_run::Runner;
 use std::alloc::Global;
 use std::sync::ledger::{Blank, Ledger};
-use stim_text::Pins;
+use stim_text::Stimulus;
 
 /// The verdict of power and of these cycles, beside those of a network with as many inputs and outputs.
 pub fn compared<F: Fn(u64, u64) -> u64, L: Ledger>(
     alloc: Global,
     setup: Setup<'_>,
     network: &Network,
-    cycles: &[Pins],
+    cycles: &Stimulus,
     chooser: Chooser<F>,
     blank: Blank,
 ) -> Result<Verdict, OutOfMemory>
@@ -66,7 +66,7 @@ impl<'a, F: Fn(u64, u64) -> u64, L: Ledger> Run<'a, F, L> {
     fn compare_cycles(
         &mut self,
         runner: &mut Runner,
-        cycles: &[Pins],
+        cycles: &Stimulus,
     ) -> Result<Verdict, OutOfMemory>
         requires chooses { Chooses (F.pre self.old.pick) (F.post self.old.pick) }
         requires beside { IsBeside self.old.setup.roles runner.old }
@@ -75,7 +75,7 @@ impl<'a, F: Fn(u64, u64) -> u64, L: Ledger> Run<'a, F, L> {
     {
         let mut number = 0;
         'cycles: while number < cycles.len() {
-            let pins = cycles[number].as_slice();
+            let pins = cycles.cycle(number);
             if let Some(verdict) = self.compare_cycle(runner, number as u64, pins)? {
                 return Ok(verdict);
             }

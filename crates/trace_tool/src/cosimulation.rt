@@ -7,8 +7,7 @@ ghost use Rattle.trace_tool.specs.declared.fault.TraceFault.{TraceFault as Fault
 use crate::circuit_verdict::verdict_of_circuit;
 use crate::{Order, TraceFault, Verdict};
 use blif_numbers::read_numbers;
-use flat_numbers::flatten_numbers;
-use net_flatten::Network;
+use net_flatten::{Network, flatten_numbers};
 use std::alloc::Global;
 
 /// The verdict of a deck beside the network of a text of BLIF over a stimulus for the network's inputs,

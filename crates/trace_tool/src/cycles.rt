@@ -14,13 +14,13 @@ use dom_base::OutOfMemory;
 use event_sim::Chooser;
 use std::alloc::Global;
 use std::sync::ledger::{Blank, Ledger};
-use stim_text::{CycleRow, Pins};
+use stim_text::{CycleRow, Stimulus};
 
 /// The trace of power and of these cycles.
 pub fn traced<F: Fn(u64, u64) -> u64, L: Ledger>(
     alloc: Global,
     setup: Setup<'_>,
-    cycles: &[Pins],
+    cycles: &Stimulus,
     chooser: Chooser<F>,
     blank: Blank,
 ) -> Result<Trace, OutOfMemory>
@@ -58,14 +58,15 @@ impl<'a, F: Fn(u64, u64) -> u64, L: Ledger> Run<'a, F, L> {
     }
 
     /// The cycles in turn, up to one that ends unsettled. It answers whether there is none.
-    fn cycles(&mut self, alloc: Global, cycles: &[Pins]) -> Result<bool, OutOfMemory>
+    fn cycles(&mut self, alloc: Global, cycles: &Stimulus) -> Result<bool, OutOfMemory>
         requires chooses { Chooses (F.pre self.old.pick) (F.post self.old.pick) }
         requires widths { All (λ pins. length pins ≡ self.old.setup.roles.pins) cycles.now }
         ensures { IfOk result (λ settled. HasCycles F.post self.old cycles.now settled self.new) }
     {
         let mut number = 0;
         'cycles: while number < cycles.len() {
-            if self.cycle(alloc, number as u64, &cycles[number])? {
+            let pins = cycles.cycle(number);
+            if self.cycle(alloc, number as u64, pins)? {
                 number += 1;
             } else {
                 return Ok(false);
@@ -75,7 +76,7 @@ impl<'a, F: Fn(u64, u64) -> u64, L: Ledger> Run<'a, F, L> {
     }
 
     /// A cycle with these pins, with its lines. It answers whether it settled.
-    fn cycle(&mut self, alloc: Global, number: u64, pins: &Pins) -> Result<bool, OutOfMemory>
+    fn cycle(&mut self, alloc: Global, number: u64, pins: &[bool]) -> Result<bool, OutOfMemory>
         requires chooses { Chooses (F.pre self.old.pick) (F.post self.old.pick) }
         requires width { length pins.now ≡ self.old.setup.roles.pins }
         ensures { IfOk result (λ settled. RunsCycle F.post number pins.now self.old settled self.new) }
@@ -88,17 +89,17 @@ impl<'a, F: Fn(u64, u64) -> u64, L: Ledger> Run<'a, F, L> {
 
     /// A cycle with these pins, up to a settling that ends without rest, and its line where there is
     /// none.
-    fn settled_cycle(&mut self, alloc: Global, number: u64, pins: &Pins) -> Result<(), Halt>
+    fn settled_cycle(&mut self, alloc: Global, number: u64, pins: &[bool]) -> Result<(), Halt>
         requires chooses { Chooses (F.pre self.old.pick) (F.post self.old.pick) }
         requires width { length pins.now ≡ self.old.setup.roles.pins }
         ensures { EndsCycle F.post number pins.now self.old result self.new }
     {
-        let evaluated = self.evaluate(pins.as_slice())?;
+        let evaluated = self.evaluate(pins)?;
         let outs = self.outputs(alloc)?;
         let latched = self.latch()?;
         let row = CycleRow {
             cycle: number,
-            pins: pins.as_slice().to_vec(alloc)?,
+            pins: pins.to_vec(alloc)?,
             outs,
             events: Some(evaluated + latched),
         };

@@ -16,13 +16,13 @@ use net_flatten::Network;
 use std::alloc::Global;
 use std::marker::Brand;
 use std::sync::ledger::Blank;
-use stim_text::Pins;
+use stim_text::Stimulus;
 
 /// The trace over these cycles, in an order with a seed.
 pub fn traced_by(
     alloc: Global,
     setup: Setup<'_>,
-    cycles: &[Pins],
+    cycles: &Stimulus,
     order: Order,
     seed: u64,
 ) -> Result<Trace, OutOfMemory>
@@ -45,7 +45,7 @@ pub fn compared_by(
     alloc: Global,
     setup: Setup<'_>,
     network: &Network,
-    cycles: &[Pins],
+    cycles: &Stimulus,
     order: Order,
     seed: u64,
 ) -> Result<Verdict, OutOfMemory>

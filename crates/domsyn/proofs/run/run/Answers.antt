@@ -3,7 +3,6 @@ use Rattle.std.proofs.lemmas.Result.{err_from_is_err_and}
 use Rattle.network.specs.NetworkData.{NetworkData}
 use Rattle.stim_text.specs.Stimuli.{IsStimFaultAt, IsStimulusOf}
 use Rattle.trace_tool.specs.Refusals.{of_stim}
-use Rattle.domsyn.specs.Networks.{IsRunText}
 use Rattle.domsyn.proofs.CommandAnswers.{text_network}
 use Rattle.domsyn.proofs.CommandFaults.{network_unrun, stimulus_unrun}
 use Rattle.domsyn.proofs.run.run.Goals as goal
@@ -29,7 +28,6 @@ returns-in_err-cycles-clause-refused c why is =
 
 pub returns-clause-text : goal.returns-clause-text
 returns-clause-text c =
-    let stimulus = subst (λ (width : ℕ). IsStimulusOf width c.args.stim.now c.in_ok-cycles.cycles.items) (ap (λ (n : NetworkData). n.inputs) c.network.view_is) c.in_ok-cycles.ensures.stimulus in
-    let text = subst (λ stream. IsRunText c.in_ok-network.network stream c.in_ok-text.text.items) c.deref.ensures.value c.in_ok-text.ensures in
+    let stimulus = subst (λ (width : ℕ). IsStimulusOf width c.args.stim.now c.in_ok-cycles.cycles) (ap (λ (n : NetworkData). n.inputs) c.network.view_is) c.in_ok-cycles.ensures.stimulus in
     let has = text_network c.args.bytes.now c.in_ok-network.network c.requires.within c.in_ok-network.ensures.network in
-    (record { network = c.in_ok-network.network; has = has; stream = c.in_ok-cycles.cycles.items; stimulus = stimulus; text_is = text }, refl)
+    (record { network = c.in_ok-network.network; has = has; stream = c.in_ok-cycles.cycles; stimulus = stimulus; text_is = c.in_ok-text.ensures }, refl)

@@ -1,15 +1,10 @@
-use Rattle.std.proofs.Common.{◌≡◌, ℕ, All, Bool, List, length, ap, sym, subst}
+use Rattle.std.proofs.Common.{◌≡◌, ℕ, All, Bool, List, length, ap, subst}
 use Rattle.std.proofs.lemmas.Result.{err_from_is_err_and}
 use Rattle.network.specs.NetworkData.{NetworkData}
 use Rattle.network.specs.Networks.{IsNetwork}
-use Rattle.net_run.specs.Runs.{Cycle, IsNetworkRun}
-use Rattle.event_sim.specs.Orders.{By}
 use Rattle.stim_text.specs.Stimuli.{IsStimFaultAt, IsStimulusOf}
 use Rattle.trace_tool.specs.PortDifferences.{ComparesPorts}
 use Rattle.trace_tool.specs.Refusals.{of_stim}
-use Rattle.trace_tool.specs.SetupData.{silent}
-use Rattle.trace_tool.specs.Traces.{picked_place}
-use Rattle.trace_tool.specs.Verdicts.{IsRunVerdict}
 use Rattle.trace_tool.proofs.CircuitVerdicts.{stim_refused, verdict_of_ports, verdict_of_run}
 use Rattle.trace_tool.proofs.PortCounts.{counts_agree}
 use Rattle.trace_tool.proofs.circuit_verdict.verdict_of_circuit.Goals as goal
@@ -27,8 +22,8 @@ returns-in_err-cycles-clause-refused c why is =
 
 pub returns-in-Some-clause-verdict : goal.returns-in-Some-clause-verdict
 returns-in-Some-clause-verdict c =
-    let stimulus = subst (λ (width : ℕ). IsStimulusOf width c.args.stim.now c.in_ok-cycles.cycles.items) (ap (λ (n : NetworkData). n.inputs) c.network.view_is) c.in_ok-cycles.ensures.stimulus in
-    verdict_of_ports c.args.network.now c.args.circuit c.args.stim.now c.args.order c.args.seed c.in_ok-roles.roles c.in_ok-cycles.cycles.items
+    let stimulus = subst (λ (width : ℕ). IsStimulusOf width c.args.stim.now c.in_ok-cycles.cycles) (ap (λ (n : NetworkData). n.inputs) c.network.view_is) c.in_ok-cycles.ensures.stimulus in
+    verdict_of_ports c.args.network.now c.args.circuit c.args.stim.now c.args.order c.args.seed c.in_ok-roles.roles c.in_ok-cycles.cycles
     (subst IsNetwork c.network.view_is c.network.invariant) c.in_ok-roles.ensures.roles stimulus c.in-Some.place
     (subst (ComparesPorts c.args.network.now c.args.circuit c.in_ok-roles.roles) c.in-Some.is c.in_ok-place.ensures)
 
@@ -46,20 +41,16 @@ compared_by-requires-clause-outputs c =
 
 pub compared_by-requires-clause-widths : goal.compared_by-requires-clause-widths
 compared_by-requires-clause-widths c =
-    let stimulus = subst (λ (width : ℕ). IsStimulusOf width c.args.stim.now c.in_ok-cycles.cycles.items) (ap (λ (n : NetworkData). n.inputs) c.network.view_is) c.in_ok-cycles.ensures.stimulus in
+    let stimulus = subst (λ (width : ℕ). IsStimulusOf width c.args.stim.now c.in_ok-cycles.cycles) (ap (λ (n : NetworkData). n.inputs) c.network.view_is) c.in_ok-cycles.ensures.stimulus in
     let counts = counts_agree c.args.circuit c.in_ok-roles.roles c.args.network.now c.in_ok-roles.ensures.roles
     (subst IsNetwork c.network.view_is c.network.invariant)
     (subst (ComparesPorts c.args.network.now c.args.circuit c.in_ok-roles.roles) c.in_default.is c.in_ok-place.ensures) in
-    subst (λ (l : List (List Bool)). All (λ (pins : List Bool). length pins ≡ c.in_ok-roles.roles.pins) l) (sym c.deref.ensures.value)
-    (subst (λ (w : ℕ). All (λ (pins : List Bool). length pins ≡ w) c.in_ok-cycles.cycles.items) counts.0 stimulus.widths_are)
+    subst (λ (w : ℕ). All (λ (pins : List Bool). length pins ≡ w) c.in_ok-cycles.cycles) counts.0 stimulus.widths_are
 
 pub returns-clause-verdict : goal.returns-clause-verdict
 returns-clause-verdict c =
-    let stimulus = subst (λ (width : ℕ). IsStimulusOf width c.args.stim.now c.in_ok-cycles.cycles.items) (ap (λ (n : NetworkData). n.inputs) c.network.view_is) c.in_ok-cycles.ensures.stimulus in
-    verdict_of_run c.args.network.now c.args.circuit c.args.stim.now c.args.order c.args.seed c.in_ok-roles.roles c.in_ok-cycles.cycles.items
+    let stimulus = subst (λ (width : ℕ). IsStimulusOf width c.args.stim.now c.in_ok-cycles.cycles) (ap (λ (n : NetworkData). n.inputs) c.network.view_is) c.in_ok-cycles.ensures.stimulus in
+    verdict_of_run c.args.network.now c.args.circuit c.args.stim.now c.args.order c.args.seed c.in_ok-roles.roles c.in_ok-cycles.cycles
     (subst IsNetwork c.network.view_is c.network.invariant) c.in_ok-roles.ensures.roles stimulus c.in_ok-verdict.verdict
     (subst (ComparesPorts c.args.network.now c.args.circuit c.in_ok-roles.roles) c.in_default.is c.in_ok-place.ensures)
-    (subst
-    (λ (l : List (List Bool)). (cycles : List Cycle) → IsNetworkRun c.args.network.now l cycles
-    → IsRunVerdict (By (picked_place c.args.order c.args.seed)) (silent c.args.circuit c.in_ok-roles.roles) l cycles c.in_ok-verdict.verdict)
-    c.deref.ensures.value c.in_ok-verdict.ensures)
+    c.in_ok-verdict.ensures

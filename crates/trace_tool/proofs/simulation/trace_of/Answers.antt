@@ -1,4 +1,4 @@
-use Rattle.std.proofs.Common.{◌≡◌, List, subst}
+use Rattle.std.proofs.Common.{◌≡◌, List, refl, subst}
 use Rattle.std.proofs.lemmas.Result.{err_from_is_err_and}
 use Rattle.event_sim.specs.Orders.{By}
 use Rattle.trace_tool.specs.Probes.{AreNets}
@@ -36,16 +36,16 @@ returns-clause-trace c =
     record {
       circuit = c.in_ok-circuit.circuit;
       roles = c.in_ok-roles.roles;
-      cycles = c.in_ok-cycles.cycles.items;
+      cycles = c.in_ok-cycles.cycles;
       is_deck = c.in_ok-circuit.ensures.circuit;
       are_roles = c.in_ok-roles.ensures.roles;
       are_nets = subst (λ (o : TraceOptionsData). AreNets c.in_ok-circuit.circuit.nets o.probes) c.options.view_is
           (subst (AreNets c.in_ok-circuit.circuit.nets) c.deref.ensures.value c.in_ok-asked.ensures.nets);
       is_stimulus = c.in_ok-cycles.ensures.stimulus;
-      is_run = run_is c.args.clocking c.in_ok-circuit.circuit c.in_ok-roles.roles read c.args.options.now c.deref-2.result.now c.in_ok-cycles.cycles.items c.in_ok-trace.trace
-          c.options.view_is c.deref-2.ensures.value
+      is_run = run_is c.args.clocking c.in_ok-circuit.circuit c.in_ok-roles.roles read c.args.options.now c.in_ok-cycles.cycles c.in_ok-cycles.cycles c.in_ok-trace.trace
+          c.options.view_is refl
           (subst
           (λ (l : List ProbeWord). IsRun (By (picked_place c.options.inside.order c.options.inside.seed))
-          (record { circuit = c.in_ok-circuit.circuit; roles = c.in_ok-roles.roles; clocking = c.args.clocking; events = c.options.inside.events; probes = l }) c.deref-2.result.now c.in_ok-trace.trace)
+          (record { circuit = c.in_ok-circuit.circuit; roles = c.in_ok-roles.roles; clocking = c.args.clocking; events = c.options.inside.events; probes = l }) c.in_ok-cycles.cycles c.in_ok-trace.trace)
           c.as_slice.ensures.value c.in_ok-trace.ensures);
     }
