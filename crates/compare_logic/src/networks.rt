@@ -1,5 +1,5 @@
 //! Networks of generated ones, and their plain forms.
-use blif_ast::{Letter, Row};
+use blif_ast::Letter;
 use comparison::{Trouble, network_of};
 use net_flatten::{NetTable, Network};
 use plain_hierarchies::{one_model, written};
@@ -13,9 +13,9 @@ pub fn flattened(alloc: Global, drawn: &PlainNetwork) -> Result<Network, Trouble
     network_of(alloc, text.as_bytes())
 }
 
-fn letters(alloc: Global, row: &Row) -> Result<Vec<u8>, AllocError> {
+fn letters(alloc: Global, row: &[Letter]) -> Result<Vec<u8>, AllocError> {
     let mut letters = Vec::new(alloc);
-    for letter in row.letters.iter() {
+    for letter in row {
         letters.push(match letter {
             Letter::Zero => b'0',
             Letter::One => b'1',
@@ -34,13 +34,13 @@ fn indices(alloc: Global, numbers: &[u32]) -> Result<Vec<usize>, AllocError> {
     Ok(indices)
 }
 
-fn plain_table(alloc: Global, table: &NetTable) -> Result<PlainTable, AllocError> {
+fn plain_table(alloc: Global, table: &NetTable<'_>) -> Result<PlainTable, AllocError> {
     let mut rows = Vec::new(alloc);
-    for row in table.rows.iter() {
-        rows.push(letters(alloc, row)?)?;
+    for k in 0..table.rows.len() {
+        rows.push(letters(alloc, table.rows.list(k))?)?;
     }
     Ok(PlainTable {
-        inputs: indices(alloc, &table.inputs)?,
+        inputs: indices(alloc, table.inputs)?,
         on: table.on,
         rows,
     })
@@ -56,8 +56,8 @@ pub fn plain_network(alloc: Global, network: &Network) -> Result<PlainNetwork, A
         })?;
     }
     let mut tables = Vec::new(alloc);
-    for table in network.tables.iter() {
-        tables.push(plain_table(alloc, table)?)?;
+    for k in 0..network.tables.len() {
+        tables.push(plain_table(alloc, &network.tables.table(k))?)?;
     }
     Ok(PlainNetwork {
         name: String::from_str(alloc, "m")?,

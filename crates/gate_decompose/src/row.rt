@@ -9,7 +9,7 @@ ghost use Rattle.gate_decompose.specs.Terms.{row_term};
 use crate::expression::{Item, join_all};
 use crate::gates::{Node, Ref};
 use crate::operator::Operator;
-use blif_ast::{Letter, Row};
+use blif_ast::Letter;
 use dom_base::OutOfMemory;
 
 /// Puts the items of a row, in the order of its inputs, in place of these items, where `refs` has what
@@ -18,14 +18,14 @@ fn put_row_items(
     items: &mut Vec<Item>,
     refs: &[Ref],
     inputs: &[u32],
-    row: &Row,
+    row: &[Letter],
 ) -> Result<(), OutOfMemory>
     requires below { All (λ signal. signal < length refs.now) inputs.now }
     requires fits { length row.now ≡ length inputs.now }
     ensures { OnOk result (items.new.items ≡ map (signal_item refs.now) (row_signals inputs.now row.now)) }
 {
     items.clear();
-    for (place, letter) in row.letters.iter().enumerate() {
+    for (place, letter) in row.iter().enumerate() {
         let part = refs[inputs[place] as usize];
         match letter {
             Letter::One => items.push(Item { part, plus: true })?,
@@ -42,7 +42,7 @@ pub fn row_part(
     items: &mut Vec<Item>,
     refs: &[Ref],
     inputs: &[u32],
-    row: &Row,
+    row: &[Letter],
 ) -> Result<Ref, OutOfMemory>
     requires below { All (λ signal. signal < length refs.now) inputs.now }
     requires fits { length row.now ≡ length inputs.now }

@@ -23,7 +23,7 @@ fn put_row_parts(
     rows: &mut Vec<Item>,
     items: &mut Vec<Item>,
     refs: &[Ref],
-    table: &NetTable,
+    table: &NetTable<'_>,
 ) -> Result<(), OutOfMemory>
     requires below { All (λ signal. signal < length refs.now) table.now.inputs }
     requires fits { All (λ row. length row ≡ length table.now.inputs) table.now.rows }
@@ -36,8 +36,8 @@ fn put_row_parts(
         ≤ count_by is_operator nodes.old.items + length table.now.rows * length table.now.inputs) }
 {
     rows.clear();
-    for row in table.rows.iter() {
-        let part = row_part(nodes, items, refs, table.inputs.as_slice(), row)?;
+    for k in 0..table.rows.len() {
+        let part = row_part(nodes, items, refs, table.inputs, table.rows.list(k))?;
         rows.push(Item { part, plus: true })?;
     }
     Ok(())
@@ -50,7 +50,7 @@ fn table_part(
     rows: &mut Vec<Item>,
     items: &mut Vec<Item>,
     refs: &[Ref],
-    table: &NetTable,
+    table: &NetTable<'_>,
 ) -> Result<Ref, OutOfMemory>
     requires below { All (λ signal. signal < length refs.now) table.now.inputs }
     requires fits { All (λ row. length row ≡ length table.now.inputs) table.now.rows }
@@ -108,8 +108,9 @@ pub fn decompose(alloc: Global, network: &Network) -> Result<Gates, OutOfMemory>
     let mut nodes = Vec::with_capacity(alloc, network.tables.len().saturating_mul(2))?;
     let mut rows = Vec::new(alloc);
     let mut items = Vec::new(alloc);
-    for table in network.tables.iter() {
-        let part = table_part(&mut nodes, &mut rows, &mut items, refs.as_slice(), table)?;
+    for k in 0..network.tables.len() {
+        let table = network.tables.table(k);
+        let part = table_part(&mut nodes, &mut rows, &mut items, refs.as_slice(), &table)?;
         refs.push(part)?;
     }
     let sinks = sink_refs(alloc, network, refs.as_slice())?;

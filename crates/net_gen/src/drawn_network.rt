@@ -5,9 +5,9 @@ ghost use Rattle.net_gen.specs.Generated.{generated_latch, generated_network, ge
 
 use crate::draws::Draws;
 use crate::names::names_of;
-use crate::table::table_of;
+use crate::table::push_table;
 use dom_base::{Name, OutOfMemory};
-use net_flatten::{NetLatch, NetTable, Network};
+use net_flatten::{NetLatch, NetTables, Network};
 use std::alloc::Global;
 
 /// How many inputs there are, how many tables there are for each latch, and how many outputs at most.
@@ -43,15 +43,15 @@ fn latches_of(alloc: Global, tables: u32) -> Result<Vec<NetLatch>, OutOfMemory>
 }
 
 /// The tables, each by ten draws.
-fn tables_of(alloc: Global, seed: u64, tables: u32) -> Result<Vec<NetTable>, OutOfMemory>
+fn tables_of(alloc: Global, seed: u64, tables: u32) -> Result<NetTables, OutOfMemory>
     requires few { tables ≤ 30000 }
-    ensures { IfOk result (λ all. all.items ≡ map (generated_table seed tables) (range_with_len 0 tables)) }
+    ensures { IfOk result (λ all. all ≡ map (generated_table seed tables) (range_with_len 0 tables)) }
 {
     let first = EACH + tables / EACH;
     let mut draws = Draws::new(seed);
-    let mut all = Vec::new(alloc);
+    let mut all = NetTables::new(alloc);
     'tables: for table in 0..tables {
-        all.push(table_of(alloc, &mut draws, first + table)?)?;
+        push_table(&mut all, alloc, &mut draws, first + table)?;
     }
     Ok(all)
 }

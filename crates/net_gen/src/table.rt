@@ -1,12 +1,12 @@
 //! Tables of a network that is generated.
-ghost use Rattle.std.specs.Prelude.{◌≡◌, ◌≤◌, ◌%◌, IfOk, OnOk, map};
+ghost use Rattle.std.specs.Prelude.{◌≡◌, ◌≤◌, ◌%◌, ◌++◌, ◌∷◌, [], IfOk, OnOk, map};
 ghost use Rattle.net_gen.specs.Draws.{next_draw_state, draw_state_after};
 ghost use Rattle.net_gen.specs.Generated.{drawn_letter, input_behind, input_of, reach, row_at, table_behind, three_from};
 
 use crate::draws::Draws;
-use blif_ast::{Letter, Letters, Row, Rows};
+use blif_ast::{Letter, Letters, Row};
 use dom_base::OutOfMemory;
-use net_flatten::{NetTable, Reads};
+use net_flatten::NetTables;
 use std::alloc::Global;
 
 /// How many of the last signals an input is drawn from.
@@ -23,15 +23,15 @@ fn input(draws: &mut Draws, signals: u32, k: u32) -> u32
 }
 
 /// The inputs of a table behind so many signals, by three draws.
-fn inputs_behind(alloc: Global, draws: &mut Draws, signals: u32) -> Result<Reads, OutOfMemory>
+fn inputs_behind(draws: &mut Draws, signals: u32) -> [u32; 3]
     requires some { 16 ≤ signals }
-    ensures state { OnOk result (draws.new ≡ draw_state_after 3 draws.old) }
-    ensures inputs { IfOk result (λ inputs. inputs.items ≡ map (input_behind signals draws.old) (three_from 0)) }
+    ensures state { draws.new ≡ draw_state_after 3 draws.old }
+    ensures inputs { result ≡ map (input_behind signals draws.old) (three_from 0) }
 {
     let first = input(draws, signals, 0);
     let second = input(draws, signals, 1);
     let third = input(draws, signals, 2);
-    Ok(Reads::from_array(alloc, [first, second, third])?)
+    [first, second, third]
 }
 
 /// The letter of a draw.
@@ -59,17 +59,21 @@ fn row(alloc: Global, draws: &mut Draws) -> Result<Row, OutOfMemory>
     })
 }
 
-/// A table behind so many signals, by ten draws: three for its inputs, one for what its rows end in, and
+/// Appends a table behind so many signals, by ten draws: three for its inputs, one for what its rows end in, and
 /// three for the letters of each of its two rows.
-pub fn table_of(alloc: Global, draws: &mut Draws, signals: u32) -> Result<NetTable, OutOfMemory>
+pub fn push_table(
+    tables: &mut NetTables,
+    alloc: Global,
+    draws: &mut Draws,
+    signals: u32,
+) -> Result<(), OutOfMemory>
     requires some { 16 ≤ signals }
     ensures state { OnOk result (draws.new ≡ draw_state_after 10 draws.old) }
-    ensures table { IfOk result (λ table. table ≡ table_behind signals draws.old) }
+    ensures table { OnOk result (tables.new ≡ tables.old ++ table_behind signals draws.old ∷ []) }
 {
-    let inputs = inputs_behind(alloc, draws, signals)?;
+    let inputs = inputs_behind(draws, signals);
     let on = draws.draw(4) != 0;
     let first = row(alloc, draws)?;
     let second = row(alloc, draws)?;
-    let rows = Rows::from_array(alloc, [first, second])?;
-    Ok(NetTable { inputs, on, rows })
+    tables.push(&inputs, on, &[first, second])
 }

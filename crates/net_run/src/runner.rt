@@ -9,9 +9,8 @@ ghost use Rattle.net_run.specs.RunnerData.{RunsNetwork};
 ghost use Rattle.net_run.specs.Runs.{IsNetworkCycle, start};
 
 use crate::values::{evaluate, read};
-use blif_ast::Rows;
 use dom_base::OutOfMemory;
-use network::{NetLatch, NetTable, Network, Reads};
+use network::{NetLatch, NetTables, Network};
 use std::alloc::Global;
 use std::marker::Model;
 
@@ -21,7 +20,7 @@ pub struct Runner {
     inputs: usize,
     outputs: Vec<u32>,
     latches: Vec<u32>,
-    tables: Vec<NetTable>,
+    tables: NetTables,
     state: Vec<bool>,
     values: Vec<bool>,
     outs: Vec<bool>,
@@ -36,7 +35,7 @@ impl Model for Runner {
       inputs = r.inputs;
       outputs = r.outputs.items;
       latches = r.latches.items;
-      tables = r.tables.items;
+      tables = r.tables;
       state = r.state.items;
     } };
 
@@ -44,7 +43,7 @@ impl Model for Runner {
       inputs = r.inputs;
       outputs = r.outputs.items;
       latches = r.latches.items;
-      tables = r.tables.items;
+      tables = r.tables;
       state = r.state.items;
     })
         r.values.items r.outs.items };
@@ -61,7 +60,7 @@ impl Runner {
         let state = start_values(alloc, &network.latches)?;
         Ok(Runner {
             inputs: network.inputs as usize,
-            tables: copies(alloc, &network.tables)?,
+            tables: network.tables.copy(alloc)?,
             values: vec![in alloc; false; network.names.len()]?,
             outs: vec![in alloc; false; outputs.len()]?,
             outputs,
@@ -104,25 +103,4 @@ fn start_values(alloc: Global, latches: &[NetLatch]) -> Result<Vec<bool>, OutOfM
     ensures { IfOk result (λ values. values.items ≡ map (λ (l : Latch). l.init) latches.now) }
 {
     Ok(latches.iter().map(|l| l.init).collect::<Vec<bool>>(alloc)?)
-}
-
-/// Copies of tables.
-fn copies(alloc: Global, tables: &[NetTable]) -> Result<Vec<NetTable>, OutOfMemory>
-    ensures { IfOk result (λ copies. copies.items ≡ tables.now) }
-{
-    let mut copies = Vec::new(alloc);
-    for table in tables {
-        copies.push(copy(alloc, table)?)?;
-    }
-    Ok(copies)
-}
-
-fn copy(alloc: Global, table: &NetTable) -> Result<NetTable, OutOfMemory>
-    ensures { IfOk result (λ copy. copy ≡ table.now) }
-{
-    Ok(NetTable {
-        inputs: Reads::from_slice(alloc, table.inputs.as_slice())?,
-        on: table.on,
-        rows: Rows::from_clones(alloc, table.rows.as_slice())?,
-    })
 }

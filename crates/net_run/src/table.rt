@@ -4,29 +4,29 @@ ghost use Rattle.blif_ast.specs.TableValue.{IsOneAt, Matches};
 ghost use Rattle.net_run.specs.RunnerData.{StandBetween, StandsFor};
 ghost use Rattle.net_run.specs.Runs.{value_at};
 
-use blif_ast::{Letter, Row};
-use network::NetTable;
+use blif_ast::Letter;
+use network::{NetTable, TableRows};
 
 /// How many letters are compared at once.
 const BLOCK: usize = 8;
 
 /// The value of a table at these values of signals.
-pub fn is_one(table: &NetTable, values: &[bool]) -> bool
+pub fn is_one(table: &NetTable<'_>, values: &[bool]) -> bool
     requires inputs { All (λ signal. signal < length values.now) table.now.inputs }
     requires rows { All (λ row. length row ≡ length table.now.inputs) table.now.rows }
     ensures { (result ≡ true) ↔ IsOneAt table.now.on table.now.rows (map (value_at values.now) table.now.inputs) }
 {
-    any_matches(&table.rows, &table.inputs, values) == table.on
+    any_matches(&table.rows, table.inputs, values) == table.on
 }
 
 /// Whether some row matches the signals of these numbers.
-fn any_matches(rows: &[Row], inputs: &[u32], values: &[bool]) -> bool
+fn any_matches(rows: &TableRows<'_>, inputs: &[u32], values: &[bool]) -> bool
     requires inputs { All (λ signal. signal < length values.now) inputs.now }
     requires rows { All (λ row. length row ≡ length inputs.now) rows.now }
     ensures { (result ≡ true) ↔ IsOneAt true rows.now (map (value_at values.now) inputs.now) }
 {
-    for row in rows {
-        if matches(&row.letters, inputs, values) {
+    for k in 0..rows.len() {
+        if matches(rows.list(k), inputs, values) {
             return true;
         }
     }

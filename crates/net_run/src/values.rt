@@ -4,10 +4,10 @@ ghost use Rattle.net_run.specs.RunnerData.{AreTablesFrom, AreValuesOf};
 ghost use Rattle.net_run.specs.Runs.{value_at};
 
 use crate::table::is_one;
-use network::NetTable;
+use network::NetTables;
 
 /// Gives all signals their values: those of the inputs, of the latches and then of the tables.
-pub fn evaluate(values: &mut [bool], pins: &[bool], state: &[bool], tables: &[NetTable])
+pub fn evaluate(values: &mut [bool], pins: &[bool], state: &[bool], tables: &NetTables)
     requires count { length values.old ≡ length (pins.now ++ state.now) + length tables.now }
     requires tables { AreTablesFrom (length (pins.now ++ state.now)) tables.now }
     ensures { AreValuesOf (pins.now ++ state.now) tables.now values.new }
@@ -16,7 +16,7 @@ pub fn evaluate(values: &mut [bool], pins: &[bool], state: &[bool], tables: &[Ne
     put(values, pins.len(), state);
     let first = pins.len() + state.len();
     for k in 0..tables.len() {
-        values[first + k] = is_one(&tables[k], values);
+        values[first + k] = is_one(&tables.table(k), values);
     }
 }
 

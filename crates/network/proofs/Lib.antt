@@ -1,2 +1,4 @@
 pub mod IndexedLists
+pub mod ListPools
 pub mod Lists
+pub mod TablePools

@@ -1,5 +1,5 @@
 -- Facts of lists: elements at places, what holds of each element, and counts.
-use Rattle.std.proofs.Common.{◌≡◌, ℕ, zero, suc, ◌<◌, ◌≤◌, ◌+◌, max, cond, Bool, true, List, [], ◌∷◌, drop, map, take, Some, refl, ap, ◌∙◌, arith}
+use Rattle.std.proofs.Common.{◌≡◌, ℕ, zero, suc, ◌<◌, ◌≤◌, max, cond, Bool, true, List, [], ◌∷◌, map, take, Some, refl, ap, ◌∙◌, arith}
 use Rattle.std.specs.Prelude.{Contains, slice_get}
 use Rattle.std.specs.List.{AllByRecursion, count_by, flat_map, fold}
 use Rattle.std.proofs.Math.Nat.{le-max_left, le-max_right}

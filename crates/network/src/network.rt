@@ -1,5 +1,5 @@
 //! Networks.
-use blif_ast::Rows;
+use crate::net_tables::NetTables;
 use dom_base::Name;
 use smallvec::SmallVec;
 use std::marker::Model;
@@ -12,24 +12,6 @@ pub type Reads = SmallVec<u32, 4>;
 pub struct NetLatch {
     pub input: u32,
     pub init: bool,
-}
-
-/// A table of a network: the numbers of the signals at its inputs, and its rows, one letter per input
-/// in each. Where `on` is true its output is 1 exactly where some row matches the inputs; where it is
-/// false it is 0 exactly there. A table without rows has a true `on`, and its output is 0.
-#[derive(Drop)]
-pub struct NetTable {
-    pub inputs: Reads,
-    pub on: bool,
-    pub rows: Rows,
-}
-
-impl Model for NetTable {
-    ghost use Rattle.network.specs.NetworkData.{NetTableData};
-
-    ghost Value = { NetTableData };
-
-    ghost view = { λ t. record { inputs = t.inputs.items; on = t.on; rows = t.rows.items } };
 }
 
 /// The network of a file of BLIF: the tables and latches at all paths of its instances as one list.
@@ -47,7 +29,7 @@ pub struct Network {
     pub inputs: u32,
     pub outputs: Vec<u32>,
     pub latches: Vec<NetLatch>,
-    pub tables: Vec<NetTable>,
+    pub tables: NetTables,
 }
 
 impl Model for Network {
@@ -56,7 +38,7 @@ impl Model for Network {
 
     ghost Value = { NetworkData };
 
-    ghost view = { λ n. record { name = n.name; names = n.names.items; inputs = n.inputs; outputs = n.outputs.items; latches = n.latches.items; tables = n.tables.items } };
+    ghost view = { λ n. record { name = n.name; names = n.names.items; inputs = n.inputs; outputs = n.outputs.items; latches = n.latches.items; tables = n.tables } };
 
-    ghost invariant = { λ n. IsNetwork (record { name = n.name; names = n.names.items; inputs = n.inputs; outputs = n.outputs.items; latches = n.latches.items; tables = n.tables.items }) };
+    ghost invariant = { λ n. IsNetwork (record { name = n.name; names = n.names.items; inputs = n.inputs; outputs = n.outputs.items; latches = n.latches.items; tables = n.tables }) };
 }

@@ -1,10 +1,11 @@
 -- The leaves are known; a table more; and the gates of all tables are gates.
 use Rattle.std.proofs.Common.{◌≡◌, ◌<◌, ◌≤◌, ◌+◌, false, All, Some, length, map, get_or, sym, ap, subst, ◌∙◌, arith, add-zero, zero-add, rules, vec_len}
 use Rattle.std.specs.List.{range_with_len}
+use Rattle.std.specs.Prelude.{slice_get}
 use Rattle.std.proofs.lemmas.Grind.{common_steps}
 use Rattle.std.proofs.lemmas.List.FromFn.{get_or-map-range_with_len, length-map-range_with_len}
-use Rattle.std.proofs.lemmas.List.Sums.{sum_by_more}
-use Rattle.std.proofs.lemmas.Option.{slice_get-get_or}
+use Rattle.std.proofs.lemmas.List.Sums.{sum_by_more, sum_by_more_le}
+use Rattle.std.proofs.lemmas.Option.{get_or_from_slice_get, slice_get_within}
 use Rattle.network.specs.Limits.{letters}
 use Rattle.network.specs.Networks.{IsNetwork}
 use Rattle.network.specs.NetworkData.{NetTableData, NetworkData}
@@ -18,8 +19,8 @@ use Rattle.gate_decompose.proofs.NetworkOrder.{networks_are_ordered}
 use Rattle.gate_decompose.proofs.Operands.{operands_of}
 use Rattle.gate_decompose.proofs.tables.decompose.Goals as goal
 
-pub loop-table-init : goal.loop-table-init
-loop-table-init c =
+pub loop-k-init : goal.loop-k-init
+loop-k-init c =
     let is : IsNetwork c.args.network.now = subst IsNetwork c.network.view_is c.network.invariant in
     let long : vec_len c.network.inside.latches ≡ length c.network.inside.latches.items = search rules in
     let leaves : c.network.inside.inputs + c.len.result ≡ leaf_count c.args.network.now = ap (λ n. c.network.inside.inputs + n) (c.len.ensures ∙ long) ∙ ap leaf_count c.network.view_is in
@@ -37,42 +38,49 @@ loop-table-init c =
 pub table_part-requires-clause-below : goal.table_part-requires-clause-below
 table_part-requires-clause-below c =
     let is : IsNetwork c.args.network.now = subst IsNetwork c.network.view_is c.network.invariant in
-    let tables : c.deref-table-items.result.now ≡ c.args.network.now.tables = c.deref-table-items.ensures.value ∙ ap (λ (n : NetworkData). n.tables) c.network.view_is in
-    let lt : c.loop-table.table-index < length c.args.network.now.tables = subst (λ xs. c.loop-table.table-index < length xs) tables c.loop-table-test.true in
-    let at = slice_get-get_or c.args.network.now.tables c.loop-table.table-index c.table-item.result lt
-    ∙ ap (λ xs. Some (get_or xs c.loop-table.table-index c.table-item.result)) (sym tables) ∙ ap Some (sym c.table-item.is) in
-    subst (λ n. All (λ signal. signal < n) c.table-item.result.inputs) (sym (ap length c.as_slice.ensures.value ∙ c.loop-table.invariant.count))
-    (is.tables c.loop-table.table-index c.table-item.result at).inputs
+    let at : slice_get c.args.network.now.tables c.loop-k.k ≡ Some c.table-table.result =
+    ap (λ (n : NetworkData). slice_get n.tables c.loop-k.k) (sym c.network.view_is) ∙ c.table-table.ensures in
+    subst (λ n. All (λ signal. signal < n) c.table-table.result.inputs) (sym (ap length c.as_slice.ensures.value ∙ c.loop-k.invariant.count))
+    (is.tables c.loop-k.k c.table-table.result at).inputs
 
 pub table_part-requires-clause-fits : goal.table_part-requires-clause-fits
 table_part-requires-clause-fits c =
     let is : IsNetwork c.args.network.now = subst IsNetwork c.network.view_is c.network.invariant in
-    let tables : c.deref-table-items.result.now ≡ c.args.network.now.tables = c.deref-table-items.ensures.value ∙ ap (λ (n : NetworkData). n.tables) c.network.view_is in
-    let lt : c.loop-table.table-index < length c.args.network.now.tables = subst (λ xs. c.loop-table.table-index < length xs) tables c.loop-table-test.true in
-    let at = slice_get-get_or c.args.network.now.tables c.loop-table.table-index c.table-item.result lt
-    ∙ ap (λ xs. Some (get_or xs c.loop-table.table-index c.table-item.result)) (sym tables) ∙ ap Some (sym c.table-item.is) in
-    (is.tables c.loop-table.table-index c.table-item.result at).rows
+    let at : slice_get c.args.network.now.tables c.loop-k.k ≡ Some c.table-table.result =
+    ap (λ (n : NetworkData). slice_get n.tables c.loop-k.k) (sym c.network.view_is) ∙ c.table-table.ensures in
+    (is.tables c.loop-k.k c.table-table.result at).rows
 
-pub loop-table-preserved : goal.loop-table-preserved
-loop-table-preserved c =
+pub table_part-requires-clause-room : goal.table_part-requires-clause-room
+table_part-requires-clause-room c =
+    let is : IsNetwork c.args.network.now = subst IsNetwork c.network.view_is c.network.invariant in
+    let at : slice_get c.args.network.now.tables c.loop-k.k ≡ Some c.table-table.result =
+    ap (λ (n : NetworkData). slice_get n.tables c.loop-k.k) (sym c.network.view_is) ∙ c.table-table.ensures in
+    let lt : c.loop-k.k < length c.args.network.now.tables = slice_get_within c.args.network.now.tables c.loop-k.k c.table-table.result at in
+    let same = ap (λ (t : NetTableData). letters (length t.inputs) t.rows) (get_or_from_slice_get c.args.network.now.tables c.loop-k.k c.table-table.result c.table-table.result at) in
+    let more = sum_by_more_le (λ (t : NetTableData). letters (length t.inputs) t.rows) c.args.network.now.tables c.loop-k.k c.table-table.result lt in
+    omega (arith, same, more, c.loop-k.invariant.few, is.few_letters)
+
+pub loop-k-preserved : goal.loop-k-preserved
+loop-k-preserved c =
     let is : IsNetwork c.args.network.now = subst IsNetwork c.network.view_is c.network.invariant in
     let order : IsOrderedNetwork c.args.network.now = networks_are_ordered c.args.network.now is in
-    let tables : c.deref-table-items.result.now ≡ c.args.network.now.tables = c.deref-table-items.ensures.value ∙ ap (λ (n : NetworkData). n.tables) c.network.view_is in
-    let lt : c.loop-table.table-index < length c.args.network.now.tables = subst (λ xs. c.loop-table.table-index < length xs) tables c.loop-table-test.true in
-    let here : get_or c.args.network.now.tables c.loop-table.table-index c.table-item.result ≡ c.table-item.result =
-    ap (λ xs. get_or xs c.loop-table.table-index c.table-item.result) (sym tables) ∙ sym c.table-item.is in
-    let more = sum_by_more (λ (t : NetTableData). letters (length t.inputs) t.rows) c.args.network.now.tables c.loop-table.table-index c.table-item.result lt in
+    let at : slice_get c.args.network.now.tables c.loop-k.k ≡ Some c.table-table.result =
+    ap (λ (n : NetworkData). slice_get n.tables c.loop-k.k) (sym c.network.view_is) ∙ c.table-table.ensures in
+    let lt : c.loop-k.k < length c.args.network.now.tables = slice_get_within c.args.network.now.tables c.loop-k.k c.table-table.result at in
+    let here : get_or c.args.network.now.tables c.loop-k.k c.table-table.result ≡ c.table-table.result =
+    get_or_from_slice_get c.args.network.now.tables c.loop-k.k c.table-table.result c.table-table.result at in
+    let more = sum_by_more (λ (t : NetTableData). letters (length t.inputs) t.rows) c.args.network.now.tables c.loop-k.k c.table-table.result lt in
     let same = ap (λ (t : NetTableData). letters (length t.inputs) t.rows) here in
-    let next = table_next c.args.network.now order c.loop-table.table-index c.table-item.result c.loop-table.refs.items c.loop-table.nodes.items c.table_part.new.nodes.items c.in_ok-part.part lt here
-    c.loop-table.invariant.count c.loop-table.invariant.known c.loop-table.invariant.nodes
-    (c.in_ok-part.ensures.makes (node_names (operands_of c.args.network.now) c.args.network.now) (operands_of c.args.network.now) c.loop-table.table-index
-    (subst (AreRefs (node_names (operands_of c.args.network.now) c.args.network.now) (operands_of c.args.network.now)) (sym c.as_slice.ensures.value) c.loop-table.invariant.known)) in
+    let next = table_next c.args.network.now order c.loop-k.k c.table-table.result c.loop-k.refs.items c.loop-k.nodes.items c.table_part.new.nodes.items c.in_ok-part.part lt here
+    c.loop-k.invariant.count c.loop-k.invariant.known c.loop-k.invariant.nodes
+    (c.in_ok-part.ensures.makes (node_names (operands_of c.args.network.now) c.args.network.now) (operands_of c.args.network.now) c.loop-k.k
+    (subst (AreRefs (node_names (operands_of c.args.network.now) c.args.network.now) (operands_of c.args.network.now)) (sym c.as_slice.ensures.value) c.loop-k.invariant.known)) in
     record {
-      count = let so_far = c.loop-table.invariant.count in rw c.in_ok-push.ensures.items (grind (arith, common_steps));
+      count = let so_far = c.loop-k.invariant.count in rw c.in_ok-push.ensures.items (grind (arith, common_steps));
       known = subst (AreRefs (node_names (operands_of c.args.network.now) c.args.network.now) (operands_of c.args.network.now)) (sym c.in_ok-push.ensures.items) next.0;
       nodes = next.1;
-      few = omega (arith, more, same, c.loop-table.invariant.few, c.in_ok-part.ensures.few);
-      operators = omega (arith, more, same, c.loop-table.invariant.operators, c.in_ok-part.ensures.operators);
+      few = omega (arith, more, same, c.loop-k.invariant.few, c.in_ok-part.ensures.few);
+      operators = omega (arith, more, same, c.loop-k.invariant.operators, c.in_ok-part.ensures.operators);
     }
 
 pub invariant_of-result : goal.invariant_of-result
@@ -81,14 +89,14 @@ invariant_of-result c =
     let order : IsOrderedNetwork c.args.network.now = networks_are_ordered c.args.network.now is in
     let long : vec_len c.network.inside.latches ≡ length c.network.inside.latches.items = search rules in
     let leaves : c.network.inside.inputs + c.len.result ≡ leaf_count c.args.network.now = ap (λ n. c.network.inside.inputs + n) (c.len.ensures ∙ long) ∙ ap leaf_count c.network.view_is in
-    let tables : c.deref-table-items.result.now ≡ c.args.network.now.tables = c.deref-table-items.ensures.value ∙ ap (λ (n : NetworkData). n.tables) c.network.view_is in
-    let done : length c.args.network.now.tables ≤ c.loop-table.table-index = subst (λ xs. length xs ≤ c.loop-table.table-index) tables c.loop-table-test.false in
-    let most : c.loop-table.table-index ≤ length c.args.network.now.tables = subst (λ xs. c.loop-table.table-index ≤ length xs) tables c.loop-table.auto.table-index-end in
-    gates_within c.args.network.now _ c.loop-table.table-index is order
-    (are_gates c.args.network.now order c.loop-table.table-index (c.network.inside.inputs + c.len.result) c.loop-table.refs.items c.in_ok-sinks.sinks.items c.loop-table.nodes.items
-    leaves done c.loop-table.invariant.known (omega (arith, c.loop-table.invariant.count, done, most)) c.loop-table.invariant.nodes
+    let tables : c.len-k-end.result ≡ length c.args.network.now.tables = c.len-k-end.ensures ∙ ap (λ (n : NetworkData). length n.tables) c.network.view_is in
+    let done : length c.args.network.now.tables ≤ c.loop-k.k = omega (arith, tables, c.loop-k-test.false) in
+    let most : c.loop-k.k ≤ length c.args.network.now.tables = omega (arith, tables, c.loop-k.auto.k-end) in
+    gates_within c.args.network.now _ c.loop-k.k is order
+    (are_gates c.args.network.now order c.loop-k.k (c.network.inside.inputs + c.len.result) c.loop-k.refs.items c.in_ok-sinks.sinks.items c.loop-k.nodes.items
+    leaves done c.loop-k.invariant.known (omega (arith, c.loop-k.invariant.count, done, most)) c.loop-k.invariant.nodes
     (c.in_ok-sinks.ensures ∙ ap (λ xs. map (ref_at xs) (sink_signals c.args.network.now)) c.as_slice-2.ensures.value))
-    c.loop-table.invariant.few c.loop-table.invariant.operators
+    c.loop-k.invariant.few c.loop-k.invariant.operators
 
 pub returns : goal.returns
 returns c =
@@ -96,9 +104,9 @@ returns c =
     let order : IsOrderedNetwork c.args.network.now = networks_are_ordered c.args.network.now is in
     let long : vec_len c.network.inside.latches ≡ length c.network.inside.latches.items = search rules in
     let leaves : c.network.inside.inputs + c.len.result ≡ leaf_count c.args.network.now = ap (λ n. c.network.inside.inputs + n) (c.len.ensures ∙ long) ∙ ap leaf_count c.network.view_is in
-    let tables : c.deref-table-items.result.now ≡ c.args.network.now.tables = c.deref-table-items.ensures.value ∙ ap (λ (n : NetworkData). n.tables) c.network.view_is in
-    let done : length c.args.network.now.tables ≤ c.loop-table.table-index = subst (λ xs. length xs ≤ c.loop-table.table-index) tables c.loop-table-test.false in
-    let most : c.loop-table.table-index ≤ length c.args.network.now.tables = subst (λ xs. c.loop-table.table-index ≤ length xs) tables c.loop-table.auto.table-index-end in
-    are_gates c.args.network.now order c.loop-table.table-index (c.network.inside.inputs + c.len.result) c.loop-table.refs.items c.in_ok-sinks.sinks.items c.loop-table.nodes.items
-    leaves done c.loop-table.invariant.known (omega (arith, c.loop-table.invariant.count, done, most)) c.loop-table.invariant.nodes
+    let tables : c.len-k-end.result ≡ length c.args.network.now.tables = c.len-k-end.ensures ∙ ap (λ (n : NetworkData). length n.tables) c.network.view_is in
+    let done : length c.args.network.now.tables ≤ c.loop-k.k = omega (arith, tables, c.loop-k-test.false) in
+    let most : c.loop-k.k ≤ length c.args.network.now.tables = omega (arith, tables, c.loop-k.auto.k-end) in
+    are_gates c.args.network.now order c.loop-k.k (c.network.inside.inputs + c.len.result) c.loop-k.refs.items c.in_ok-sinks.sinks.items c.loop-k.nodes.items
+    leaves done c.loop-k.invariant.known (omega (arith, c.loop-k.invariant.count, done, most)) c.loop-k.invariant.nodes
     (c.in_ok-sinks.ensures ∙ ap (λ xs. map (ref_at xs) (sink_signals c.args.network.now)) c.as_slice-2.ensures.value)

@@ -9,13 +9,13 @@ use Rattle.gate_decompose.specs.Sinks.{leaf_count}
 use Rattle.gate_decompose.proofs.Operands.{operands_of}
 use Rattle.gate_decompose.proofs.tables.decompose.Given as goal
 
-abbrev pub invariant-loop-table : goal.invariant-loop-table
-invariant-loop-table l = record {
-  count : length l.refs.items ≡ leaf_count l.fn.network + l.table-index;
+abbrev pub invariant-loop-k : goal.invariant-loop-k
+invariant-loop-k l = record {
+  count : length l.refs.items ≡ leaf_count l.fn.network + l.k;
   known : AreRefs (node_names (operands_of l.fn.network) l.fn.network) (operands_of l.fn.network) l.refs.items;
   nodes : l.nodes.items
       ≡ map (λ (n : NamedNode). node_of (node_names (operands_of l.fn.network) l.fn.network) n.joint)
-      (flat_map (λ p. table_nodes (operands_of l.fn.network) p.0 p.1) (take l.table-index (enumerate_from 0 l.fn.network.tables)));
-  few : length l.nodes.items ≤ 2 * sum_by (λ (t : NetTableData). letters (length t.inputs) t.rows) (take l.table-index l.fn.network.tables);
-  operators : count_by is_operator l.nodes.items ≤ sum_by (λ (t : NetTableData). letters (length t.inputs) t.rows) (take l.table-index l.fn.network.tables);
+      (flat_map (λ p. table_nodes (operands_of l.fn.network) p.0 p.1) (take l.k (enumerate_from 0 l.fn.network.tables)));
+  few : length l.nodes.items ≤ 2 * sum_by (λ (t : NetTableData). letters (length t.inputs) t.rows) (take l.k l.fn.network.tables);
+  operators : count_by is_operator l.nodes.items ≤ sum_by (λ (t : NetTableData). letters (length t.inputs) t.rows) (take l.k l.fn.network.tables);
 }

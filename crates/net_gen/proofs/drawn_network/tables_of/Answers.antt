@@ -8,7 +8,7 @@ use Rattle.net_gen.proofs.drawn_network.tables_of.Goals as goal
 pub tables-preserved : goal.tables-preserved
 tables-preserved c =
     let k = c.tables.table in (
-      c.in_ok-table_of.ensures.state ∙ ap (draw_state_after 10) c.tables.invariant.0 ∙ next_ten k (seed_state c.args.seed),
-      pushed (generated_table c.args.seed c.args.tables) 0 k k (zero-add k) c.in_ok-push.ensures.items c.tables.invariant.1
-          (c.in_ok-table_of.ensures.table ∙ ap (table_behind (table_signal c.args.tables k)) c.tables.invariant.0),
+      c.in_ok-push_table.ensures.state ∙ ap (draw_state_after 10) c.tables.invariant.0 ∙ next_ten k (seed_state c.args.seed),
+      pushed (generated_table c.args.seed c.args.tables) 0 k k (zero-add k) c.in_ok-push_table.ensures.table c.tables.invariant.1
+          (ap (table_behind (table_signal c.args.tables k)) c.tables.invariant.0),
     )

@@ -16,4 +16,4 @@ returns-clause-inputs c =
     let first : c.input-first.result ≡ input_behind n s 0 = c.input-first.ensures.input ∙ ap (λ t. input_of n (t % reach n) 0) one in
     let second : c.input-second.result ≡ input_behind n s 1 = c.input-second.ensures.input ∙ ap (λ t. input_of n (t % reach n) 1) two in
     let third : c.input-third.result ≡ input_behind n s 2 = c.input-third.ensures.input ∙ ap (λ t. input_of n (t % reach n) 2) three in
-    c.in_ok-from_array.ensures.items ∙ λ i. first i ∷ second i ∷ third i ∷ []
+    λ i. first i ∷ second i ∷ third i ∷ []
