@@ -19,12 +19,12 @@ use Rattle.blif_numbers.specs.Steps.{Context, card_fault, context_fault, formed_
 use Rattle.blif_numbers.proofs.LineContexts.{known_is_card}
 use Rattle.blif_numbers.specs.declared.open_model.OpenModel.{OpenModel}
 use Rattle.blif_numbers.specs.declared.open_model.OpenTable.{OpenTable}
-use Rattle.blif_numbers.specs.declared.parts.PartKind.TheVariants as at
-use Rattle.blif_numbers.specs.Numbered.{latch_in, model_by, name_of, table_by}
-use Rattle.blif_numbers.specs.NameNumbers.{Grows}
-use Rattle.blif_numbers.specs.OpenLists.{OpenLists, open_lists, with_words, with_row, with_part, with_model}
-use Rattle.blif_numbers.specs.Pieces.{StandsAt}
-use Rattle.blif_numbers.specs.BuilderData.{BuilderData, built_in, built_of, card_lists, card_taken, is_on, latch_parts, model_closed, model_of, model_taken, open_table, opened_table, row_taken, table_closed, table_of_open, value_after, width_and_letter, with_parts, HasValue, IsBuilder, IsInner, InnerInputs, InnerOutputs, InnerNames, InnerLatch, InnerSubckt, InnerClock, IsOpenModel, IsOpenTable}
+use Rattle.numbered_file.specs.declared.parts.PartKind.TheVariants as at
+use Rattle.numbered_file.specs.Numbered.{latch_in, model_by, name_of, table_by}
+use Rattle.numbered_file.specs.NameNumbers.{Grows}
+use Rattle.numbered_file.specs.OpenLists.{OpenLists, open_lists, with_words, with_row, with_part, with_model, with_parts, IsClosed}
+use Rattle.blif_lines.specs.TextPlaces.{StandsAt}
+use Rattle.blif_numbers.specs.BuilderData.{BuilderData, built_in, built_of, card_lists, card_taken, is_on, latch_parts, model_closed, model_of, model_taken, open_table, opened_table, row_taken, table_closed, table_of_open, value_after, width_and_letter, HasValue, IsBuilder, IsInner, InnerInputs, InnerOutputs, InnerNames, InnerLatch, InnerSubckt, InnerClock, IsOpenModel, IsOpenTable}
 use Rattle.blif_numbers.proofs.ReaderInvariant.{clean_by, in_form}
 use Rattle.blif_numbers.proofs.Builds.{built-grown, closed-model, closed-no_model, closed-no_table, closed-table, model-instance, model-latch, models-closed, opened-is, row-pushed}
 
@@ -357,3 +357,11 @@ fault_row context line control card = sym (
 
 pub opened_row : (b : BuilderData) → IsBuilder b → opened_by (built_in b).table ≡ option_map width_and_letter (table_of_open b.open_model)
 opened_row b h = opened-is (open_lists b.file) (table_of_open b.open_model) h.table
+
+-- nothing stands behind the last model and the last part where no model is open
+pub closed-all : {b : BuilderData} → IsBuilder b → (built_in b).model ≡ None → IsClosed (open_lists b.file)
+closed-all {b} h none =
+    let no_open = no_model_open b none in
+    let model = subst (IsOpenModel (length b.file.names) (open_lists b.file)) no_open h.model in
+    let table = subst (λ o. IsOpenTable (open_lists b.file) (table_of_open o)) no_open h.table in
+    record { inputs = model.0; outputs = model.1; parts = model.2; words = table.0; rows = table.1 }

@@ -21,10 +21,10 @@ use Rattle.blif_ast.specs.Models.{binding_of, row_letter, row_letters}
 use Rattle.blif_numbers.specs.Build.{Built, built_by, closed_models, first_letter_in, model_after_card, model_with_card, model_with_table, on_after, opened_by, table_after_card, table_with_row}
 use Rattle.blif_numbers.specs.declared.open_model.OpenModel.{OpenModel}
 use Rattle.blif_numbers.specs.declared.open_model.OpenTable.{OpenTable}
-use Rattle.blif_numbers.specs.declared.parts.PartKind.TheVariants as at
-use Rattle.blif_numbers.specs.Numbered.{Part, TablePart, LatchPart, InstancePart, bindings_by, instance_in, latch_in, model_by, name_of, row_at, table_in}
-use Rattle.blif_numbers.specs.OpenLists.{OpenLists, with_words, with_row, with_part, with_model}
-use Rattle.blif_numbers.specs.Pieces.{StandsAt}
+use Rattle.numbered_file.specs.declared.parts.PartKind.TheVariants as at
+use Rattle.numbered_file.specs.Numbered.{Part, TablePart, LatchPart, InstancePart, bindings_by, instance_in, latch_in, model_by, name_of, row_at, table_in}
+use Rattle.numbered_file.specs.OpenLists.{OpenLists, with_words, with_row, with_part, with_model}
+use Rattle.blif_lines.specs.TextPlaces.{StandsAt}
 use Rattle.blif_numbers.specs.BuilderData.{binding_words, built_of, card_taken, is_on, model_closed, model_of, open_table, table_closed, table_of_open, value_after, value_letter, width_and_letter, HasValue, IsInner, InnerInputs, InnerOutputs, InnerNames, InnerLatch, InnerSubckt, InnerClock, IsOpenModel, IsOpenTable}
 
 -- a model with one more part

@@ -1,7 +1,6 @@
 -- What was made of some lines of a text, and the answer that follows from it.
-use Rattle.std.proofs.Common.{◌≡◌, ◌≢◌, ℕ, ◌≤◌, ◌+◌, Bool, true, false, cond, ◌==◌, not, if◌then◌else◌, List, [], ◌∷◌, ◌++◌, reverse, length, refl, sym, ap, ◌∙◌, subst, arith, append-nil, Some, None, inl, inr}
+use Rattle.std.proofs.Common.{◌≡◌, ◌≢◌, ℕ, ◌≤◌, ◌+◌, Bool, true, false, cond, ◌==◌, not, if◌then◌else◌, List, [], ◌∷◌, ◌++◌, reverse, length, refl, sym, ap, ◌∙◌, subst, arith, append-nil, Some, None, inl, inr, Result, Err}
 use Rattle.std.specs.Prelude.{Option, ◌&&◌, nat_lt, codes}
-use Rattle.std.proofs.Common.{Result, Err}
 use Rattle.std.specs.List.{list_any, list_all}
 use Rattle.dom_base.specs.Lines.{lines, is_control}
 use Rattle.dom_base.specs.Cuts.{NumbersFit}

@@ -8,12 +8,12 @@ use Rattle.blif_ast.specs.declared.kind.BlifKind.TheVariants.{NoModel}
 use Rattle.blif_ast.specs.LogicalLines.{LogicalLine, logical_lines_from}
 use Rattle.blif_ast.specs.Reading.{IsBlifFaultAt, IsFileOf}
 use Rattle.blif_numbers.specs.Build.{built_after, context_in}
-use Rattle.blif_numbers.specs.Cuts.{numbered_line}
+use Rattle.blif_lines.specs.Cuts.{numbered_line}
 use Rattle.blif_numbers.specs.Steps.{context_fault}
 use Rattle.blif_numbers.proofs.ReaderInvariant.{Cuts, Reads as ReadsBuilt, reads-fault, reads-file, reads-next, reads-nothing, starts}
 use Rattle.blif_numbers.specs.BuilderData.{BuilderData, built_in, built_of, model_closed, table_closed, IsBuilder}
-use Rattle.blif_numbers.specs.OpenLists.{OpenLists, no_lists, open_lists}
-use Rattle.blif_numbers.specs.Pieces.{IsRestOf, StandsAt}
+use Rattle.numbered_file.specs.OpenLists.{OpenLists, no_lists, open_lists}
+use Rattle.blif_lines.specs.TextPlaces.{IsRestOf, StandsAt}
 use Rattle.blif_numbers.proofs.Builds.{models-closed}
 
 -- what holds after some lines: the reader of the text has made this of them, and stands at these bytes

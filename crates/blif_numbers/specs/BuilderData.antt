@@ -1,6 +1,5 @@
 -- The file of a text so far, as the reader keeps it.
-use Rattle.std.specs.Prelude.{ℕ, ◌≡◌, ◌≢◌, ◌<◌, ◌+◌, ◌-◌, ◌==◌, Bool, true, if◌then◌else◌}
-use Rattle.std.specs.Prelude.{List, [], ◌∷◌, ◌++◌, length, drop, Option, Some, None}
+use Rattle.std.specs.Prelude.{ℕ, ◌≡◌, ◌≢◌, ◌<◌, ◌+◌, ◌-◌, ◌==◌, Bool, true, if◌then◌else◌, List, [], ◌∷◌, ◌++◌, length, drop, Option, Some, None}
 use Rattle.std.specs.List.{flat_map}
 use Rattle.std.specs.Option.{option_map, option_to_list}
 use Rattle.blif_ast.specs.declared.card.Card.{Card}
@@ -15,9 +14,9 @@ use Rattle.blif_numbers.specs.Build.{Built, model_with_card, model_with_table, n
 use Rattle.blif_numbers.specs.Steps.{OpenTable as TableContext}
 use Rattle.blif_numbers.specs.declared.open_model.OpenModel.{OpenModel}
 use Rattle.blif_numbers.specs.declared.open_model.OpenTable.{OpenTable}
-use Rattle.blif_numbers.specs.NumberedData.{NumberedData}
-use Rattle.blif_numbers.specs.Numbered.{Part, InstancePart, LatchPart, name_of, model_by, table_by}
-use Rattle.blif_numbers.specs.OpenLists.{OpenLists, open_lists, with_inputs, with_outputs, with_words}
+use Rattle.numbered_file.specs.NumberedData.{NumberedData}
+use Rattle.numbered_file.specs.Numbered.{Part, InstancePart, LatchPart, name_of, model_by, table_by}
+use Rattle.numbered_file.specs.OpenLists.{OpenLists, open_lists, with_inputs, with_outputs, with_words, with_parts}
 
 -- the lists of the file, and the open model
 pub record BuilderData : Type 0 where
@@ -94,10 +93,6 @@ IsOpenModel count lists (Some m) = m.name < count
 pub record IsBuilder (b : BuilderData) : Type 0 where
   pub model : IsOpenModel (length b.file.names) (open_lists b.file) b.open_model
   pub table : IsOpenTable (open_lists b.file) (table_of_open b.open_model)
-
--- the lists with these parts appended
-abbrev pub with_parts : OpenLists → List Part → OpenLists
-with_parts l parts = record l { parts = l.parts ++ parts }
 
 abbrev pub latch_parts : Option LatchValue → List Part
 latch_parts latch = option_to_list (option_map LatchPart latch)

@@ -1,14 +1,4 @@
 pub mod Build
 pub mod BuilderData
-pub mod Copied
-pub mod Cuts
-pub mod FileLetters
 pub mod LatchWords
-pub mod NameNumbers
-pub mod Numbered
-pub mod NumberedData
-pub mod OpenLists
-pub mod Pieces
-pub mod Places
-pub mod Pushing
 pub mod Steps

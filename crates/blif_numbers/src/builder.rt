@@ -4,7 +4,7 @@ ghost use Rattle.dom_base.specs.Lines.{first_word};
 ghost use Rattle.blif_ast.specs.Cards.{card_of};
 ghost use Rattle.blif_ast.specs.declared.kind.BlifKind.TheVariants.{NoModel};
 ghost use Rattle.blif_numbers.specs.Build.{built_after, built_by, context_in, has_model, opened_by};
-ghost use Rattle.blif_numbers.specs.Cuts.{numbered_line};
+ghost use Rattle.blif_lines.specs.Cuts.{numbered_line};
 ghost use Rattle.blif_numbers.specs.Steps.{card_fault, context_fault, row_fault};
 ghost use Rattle.blif_numbers.specs.BuilderData.{
   built_in,
@@ -17,19 +17,18 @@ ghost use Rattle.blif_numbers.specs.BuilderData.{
   IsBuilder,
   IsInner,
 };
-ghost use Rattle.blif_numbers.specs.Numbered.{file_of};
-ghost use Rattle.blif_numbers.specs.OpenLists.{no_lists, open_lists};
-ghost use Rattle.blif_numbers.specs.Pieces.{StandsAt};
+ghost use Rattle.numbered_file.specs.Numbered.{file_of};
+ghost use Rattle.numbered_file.specs.OpenLists.{no_lists, open_lists, IsClosed};
+ghost use Rattle.blif_lines.specs.TextPlaces.{StandsAt};
 
 use crate::cards::{push_part, word_at};
 use crate::fault::BlifFault;
-use crate::file::NumberedFile;
 use crate::line::{Line, last_letter};
 use crate::line_fault::{card_fault, row_fault};
-use crate::names::as_u32;
 use crate::open_model::{OpenModel, OpenTable, opened_table};
 use blif_ast::{BlifKind, Card};
 use dom_base::{NameHash, OutOfMemory};
+use numbered_file::{NumberedFile, as_u32};
 use std::alloc::Global;
 use std::marker::Model;
 
@@ -329,6 +328,7 @@ impl<'t> Builder<'t> {
         requires { IsBuilder self }
         ensures file { IfOk result (λ file. ((file_of file).models ≡ (model_closed (table_closed (built_in self.entry))).models)
             × ((file_of file).models ≢ [])) }
+        ensures closed { IfOk result (λ file. IsClosed (open_lists file)) }
         ensures fault { (number : ℕ) (kind : _) → IsErrOf result (BlifFault.At number kind)
             → ((model_closed (table_closed (built_in self.entry))).models ≡ []) × (number ≡ line) × (kind ≡ NoModel) }
     {
@@ -340,13 +340,14 @@ impl<'t> Builder<'t> {
                 kind: BlifKind::NoModel,
             });
         }
-        Ok(builder.file)
+        Ok(builder.file.without_guesses())
     }
 
     /// Closes the open table and the open model, if there are any.
     fn close_all(&mut self) -> Result<(), OutOfMemory>
         requires { IsBuilder self.old }
-        ensures { OnOk result (built_in self.new ≡ model_closed (table_closed (built_in self.old))) }
+        ensures built { OnOk result (built_in self.new ≡ model_closed (table_closed (built_in self.old))) }
+        ensures builder { OnOk result (IsBuilder self.new) }
     {
         self.close_table()?;
         self.close_model()

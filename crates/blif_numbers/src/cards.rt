@@ -3,19 +3,18 @@ ghost use Rattle.std.specs.Prelude.{◌≡◌, ◌∷◌, [], OnOk, drop, map, s
 ghost use Rattle.std.specs.Option.{option_map, option_to_list};
 ghost use Rattle.blif_ast.specs.Cards.{actual_of, formal_of};
 ghost use Rattle.blif_ast.specs.Models.{init_of, instance_of, latch_of};
-ghost use Rattle.blif_numbers.specs.declared.parts.PartKind.TheVariants as at;
+ghost use Rattle.numbered_file.specs.declared.parts.PartKind.TheVariants as at;
 ghost use Rattle.blif_numbers.specs.LatchWords.{edge_in, edge_of, init_in, latch_words, signal_in, signal_of};
-ghost use Rattle.blif_numbers.specs.BuilderData.{binding_words, card_lists, latch_parts, with_parts};
-ghost use Rattle.blif_numbers.specs.NameNumbers.{Grows};
-ghost use Rattle.blif_numbers.specs.Numbered.{InstancePart};
-ghost use Rattle.blif_numbers.specs.OpenLists.{open_lists, with_inputs, with_outputs, with_words};
-ghost use Rattle.blif_numbers.specs.Cuts.{numbered_line};
+ghost use Rattle.blif_numbers.specs.BuilderData.{binding_words, card_lists, latch_parts};
+ghost use Rattle.numbered_file.specs.OpenLists.{with_parts, open_lists, with_inputs, with_outputs, with_words};
+ghost use Rattle.numbered_file.specs.NameNumbers.{Grows};
+ghost use Rattle.numbered_file.specs.Numbered.{InstancePart};
+ghost use Rattle.blif_lines.specs.Cuts.{numbered_line};
 
-use crate::file::NumberedFile;
 use crate::forms::sides;
-use crate::parts::PartKind;
 use blif_ast::{Card, Edge2};
 use dom_base::OutOfMemory;
+use numbered_file::{NumberedFile, PartKind};
 
 /// Appends what a card that neither opens nor closes a model says of it. No words or rows wait for a part.
 pub fn push_part<'t>(

@@ -1,10 +1,10 @@
 //! The open model and its open table.
 ghost use Rattle.std.specs.Prelude.{◌≡◌, Some, None, length, map, nat_lt};
 ghost use Rattle.blif_numbers.specs.BuilderData.{is_on, opened_table, value_after};
-ghost use Rattle.blif_numbers.specs.declared.parts.PartKind.TheVariants as at;
+ghost use Rattle.numbered_file.specs.declared.parts.PartKind.TheVariants as at;
 
-use crate::parts::PartKind;
 use blif_ast::Card;
+use numbered_file::PartKind;
 
 /// The open table: how many inputs it has, whether its rows end in 1, if it has rows, and the line of its card.
 #[derive(Clone, Copy, Debug)]

@@ -5,21 +5,23 @@ ghost use Rattle.blif_ast.specs.Reading.{IsBlifFaultAt, IsFileOf};
 ghost use Rattle.blif_numbers.specs.Build.{built_after, context_in};
 ghost use Rattle.blif_numbers.specs.Steps.{context_fault};
 ghost use Rattle.blif_numbers.specs.BuilderData.{built_in, IsBuilder};
-ghost use Rattle.blif_numbers.specs.Numbered.{file_of};
-ghost use Rattle.blif_numbers.specs.Pieces.{StandsAt};
+ghost use Rattle.numbered_file.specs.Numbered.{file_of};
+ghost use Rattle.numbered_file.specs.OpenLists.{open_lists, IsClosed};
+ghost use Rattle.blif_lines.specs.TextPlaces.{StandsAt};
 
 use crate::builder::Builder;
 use crate::fault::BlifFault;
-use crate::file::NumberedFile;
 use crate::line::Line;
-use crate::lines::{Lines, Notes};
+use blif_lines::{Lines, Notes};
 use dom_base::{NameHash, OutOfMemory};
+use numbered_file::NumberedFile;
 use std::alloc::Global;
 
 /// The file of a BLIF text by numbers, as the public format has it (Berkeley Logic Interchange Format), or the first line
 /// with a fault and the fault of the smallest number there.
 pub fn read_numbers<'t>(alloc: Global, text: &'t [u8]) -> Result<NumberedFile<'t>, BlifFault>
     ensures file { IfOk result (λ file. IsFileOf text.now (file_of file)) }
+    ensures closed { IfOk result (λ file. IsClosed (open_lists file)) }
     ensures fault { (line : ℕ) (kind : _) → IsErrOf result (BlifFault.At line kind) → IsBlifFaultAt text.now line kind }
 {
     let mut are_crowded = false;
@@ -39,6 +41,7 @@ fn read_by<'t>(
     are_crowded: &mut bool,
 ) -> Result<NumberedFile<'t>, BlifFault>
     ensures file { IfOk result (λ file. IsFileOf text.now (file_of file)) }
+    ensures closed { IfOk result (λ file. IsClosed (open_lists file)) }
     ensures fault { (line : ℕ) (kind : _) → IsErrOf result (BlifFault.At line kind) → IsBlifFaultAt text.now line kind }
 {
     let mut lines = Lines {

@@ -19,7 +19,7 @@ use Rattle.blif_ast.specs.Models.{row_letters, rows_are_on, table_of, binding_of
 use Rattle.blif_ast.proofs.LineWords.{last_word-end}
 use Rattle.blif_read.specs.ReadsBack.{table_unlined, latch_unlined, instance_unlined}
 use Rattle.blif_numbers.proofs.KnownWords.{same-true}
-use Rattle.blif_numbers.proofs.RowPlaces.{row-back}
+use Rattle.file_copies.proofs.RowPlaces.{row-back}
 use Rattle.blif_read.proofs.PrintReadsBackLines.{line_at}
 use Rattle.blif_read.proofs.PrintReadsBackData.{zeros}
 

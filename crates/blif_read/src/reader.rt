@@ -4,7 +4,8 @@ ghost use Rattle.blif_ast.specs.Reading.{IsBlifFaultAt, IsFileOf};
 
 use crate::BlifFault;
 use blif_ast::BlifFile;
-use blif_numbers::{read_numbers, to_file};
+use blif_numbers::read_numbers;
+use file_copies::to_file;
 use std::alloc::Global;
 
 /// The file of a BLIF text, as the public format has it (Berkeley Logic Interchange Format), or the

@@ -1,8 +1,8 @@
 use Rattle.std.proofs.Common.{◌∷◌, [], ap, refl, ◌∙◌}
 use Rattle.std.proofs.lemmas.Result.{on_ok_weaker}
 use Rattle.blif_ast.specs.Cards.{actual_of, formal_of}
-use Rattle.blif_numbers.specs.OpenLists.{open_lists, with_words}
-use Rattle.blif_numbers.proofs.CardSteps.{grows-on, words-more}
+use Rattle.numbered_file.specs.OpenLists.{open_lists, with_words}
+use Rattle.numbered_file.proofs.ListSteps.{grows-on, words-more}
 use Rattle.blif_numbers.proofs.cards.push_binding.Goals as goal
 
 pub returns-clause-lists : goal.returns-clause-lists

@@ -2,8 +2,9 @@ use Rattle.std.proofs.Common.{◌<◌, ◌+◌, ◌∷◌, ◌++◌, [], ap, ari
 use Rattle.std.proofs.lemmas.List.{length-map, take_all, take_more}
 use Rattle.blif_ast.specs.Cards.{actual_of, formal_of}
 use Rattle.blif_numbers.specs.BuilderData.{binding_words}
-use Rattle.blif_numbers.specs.OpenLists.{open_lists, with_words}
-use Rattle.blif_numbers.proofs.CardSteps.{binding_words-push, grows-none, grows-on, words-more, words-none}
+use Rattle.numbered_file.specs.OpenLists.{open_lists, with_words}
+use Rattle.blif_numbers.proofs.CardSteps.{binding_words-push}
+use Rattle.numbered_file.proofs.ListSteps.{grows-none, grows-on, words-more, words-none}
 use Rattle.blif_numbers.proofs.cards.push_bindings.Goals as goal
 
 pub loop-index-init : goal.loop-index-init

@@ -1,7 +1,7 @@
 use Rattle.std.proofs.Common.{◌≡◌, map, take}
 use Rattle.blif_numbers.specs.BuilderData.{binding_words}
-use Rattle.blif_numbers.specs.NameNumbers.{Grows}
-use Rattle.blif_numbers.specs.OpenLists.{open_lists, with_words}
+use Rattle.numbered_file.specs.NameNumbers.{Grows}
+use Rattle.numbered_file.specs.OpenLists.{open_lists, with_words}
 use Rattle.blif_numbers.proofs.cards.push_bindings.Given as goal
 
 pub record Pushes (l : goal.Live-loop-index) : Type 0 where

@@ -2,10 +2,11 @@ use Rattle.std.proofs.Common.{◌∷◌, [], ap, drop, map, refl, sym, ◌∙◌
 use Rattle.std.specs.Prelude.{slice_index_or}
 use Rattle.std.proofs.lemmas.List.{drop-map}
 use Rattle.std.proofs.lemmas.Result.{on_ok_weaker}
-use Rattle.blif_numbers.specs.BuilderData.{binding_words, with_parts}
-use Rattle.blif_numbers.specs.OpenLists.{open_lists, with_words}
-use Rattle.blif_numbers.specs.declared.parts.PartKind.TheVariants as at
-use Rattle.blif_numbers.proofs.CardSteps.{grows-on, grows-same, instance-is, part-taken, words-more}
+use Rattle.blif_numbers.specs.BuilderData.{binding_words}
+use Rattle.numbered_file.specs.OpenLists.{with_parts, open_lists, with_words}
+use Rattle.numbered_file.specs.declared.parts.PartKind.TheVariants as at
+use Rattle.numbered_file.proofs.ListSteps.{grows-on, grows-same, part-taken, words-more}
+use Rattle.blif_numbers.proofs.CardSteps.{instance-is}
 use Rattle.blif_numbers.proofs.cards.push_instance.Goals as goal
 
 pub returns-clause-lists : goal.returns-clause-lists

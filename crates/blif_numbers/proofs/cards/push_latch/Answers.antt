@@ -1,11 +1,11 @@
 use Rattle.std.proofs.Common.{ap, arith, map, ◌∙◌}
 use Rattle.std.proofs.lemmas.List.{length-map}
 use Rattle.std.proofs.lemmas.Result.{on_ok_weaker}
-use Rattle.blif_numbers.specs.BuilderData.{with_parts}
+use Rattle.numbered_file.specs.OpenLists.{with_parts, open_lists, with_part}
 use Rattle.blif_numbers.specs.LatchWords.{edge_in, init_in, latch_words}
-use Rattle.blif_numbers.specs.OpenLists.{open_lists, with_part}
-use Rattle.blif_numbers.specs.declared.parts.PartKind.TheVariants as at
-use Rattle.blif_numbers.proofs.CardSteps.{grows-none, grows-on, grows-same, latch-is, no-latch, part-taken, parts-none}
+use Rattle.numbered_file.specs.declared.parts.PartKind.TheVariants as at
+use Rattle.numbered_file.proofs.ListSteps.{grows-none, grows-on, grows-same, part-taken, parts-none}
+use Rattle.blif_numbers.proofs.CardSteps.{latch-is, no-latch}
 use Rattle.blif_numbers.proofs.cards.push_latch.Goals as goal
 
 pub returns-then-words-lt3-clause-lists : goal.returns-then-words-lt3-clause-lists

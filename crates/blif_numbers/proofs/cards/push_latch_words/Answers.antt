@@ -3,8 +3,8 @@ use Rattle.std.specs.Prelude.{slice_index_or}
 use Rattle.std.specs.Option.{option_to_list}
 use Rattle.std.proofs.lemmas.Result.{on_ok_weaker}
 use Rattle.blif_numbers.specs.LatchWords.{latch_words, signal_in}
-use Rattle.blif_numbers.specs.OpenLists.{open_lists, with_words}
-use Rattle.blif_numbers.proofs.CardSteps.{grows-on, words-more}
+use Rattle.numbered_file.specs.OpenLists.{open_lists, with_words}
+use Rattle.numbered_file.proofs.ListSteps.{grows-on, words-more}
 use Rattle.blif_numbers.proofs.cards.push_latch_words.Goals as goal
 
 pub returns-clause-lists : goal.returns-clause-lists

@@ -1,7 +1,7 @@
 use Rattle.std.proofs.Common.{◌<◌, ◌+◌, ◌∷◌, ◌++◌, [], ap, arith, length, map, sym, take, ◌∙◌}
 use Rattle.std.proofs.lemmas.List.{length-map, take_all, take_more}
-use Rattle.blif_numbers.specs.OpenLists.{open_lists, with_outputs}
-use Rattle.blif_numbers.proofs.CardSteps.{grows-none, grows-on, outputs-more, outputs-none}
+use Rattle.numbered_file.specs.OpenLists.{open_lists, with_outputs}
+use Rattle.numbered_file.proofs.ListSteps.{grows-none, grows-on, outputs-more, outputs-none}
 use Rattle.blif_numbers.proofs.cards.push_outputs.Goals as goal
 
 pub loop-index-init : goal.loop-index-init

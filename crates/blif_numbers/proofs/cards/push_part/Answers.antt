@@ -1,9 +1,9 @@
 use Rattle.std.proofs.Common.{ap, map, sym, ◌∙◌}
 use Rattle.std.proofs.lemmas.List.{drop-map}
 use Rattle.std.proofs.lemmas.Result.{on_ok_weaker}
-use Rattle.blif_numbers.specs.Cuts.{numbered_line}
+use Rattle.blif_lines.specs.Cuts.{numbered_line}
 use Rattle.blif_numbers.specs.BuilderData.{card_lists}
-use Rattle.blif_numbers.specs.OpenLists.{open_lists, with_inputs, with_outputs, with_words}
+use Rattle.numbered_file.specs.OpenLists.{open_lists, with_inputs, with_outputs, with_words}
 use Rattle.blif_numbers.proofs.cards.push_part.Goals as goal
 
 pub returns-in-Inputs-clause-lists : goal.returns-in-Inputs-clause-lists

@@ -1,8 +1,8 @@
 use Rattle.std.proofs.Common.{ap, ◌∙◌}
 use Rattle.std.specs.Option.{option_to_list}
 use Rattle.std.proofs.lemmas.Result.{on_ok_weaker}
-use Rattle.blif_numbers.specs.OpenLists.{open_lists, with_words}
-use Rattle.blif_numbers.proofs.CardSteps.{grows-none, words-none}
+use Rattle.numbered_file.specs.OpenLists.{open_lists, with_words}
+use Rattle.numbered_file.proofs.ListSteps.{grows-none, words-none}
 use Rattle.blif_numbers.proofs.cards.push_signal.Goals as goal
 
 pub returns-in-Some-clause-lists : goal.returns-in-Some-clause-lists

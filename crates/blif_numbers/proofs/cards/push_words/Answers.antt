@@ -1,7 +1,7 @@
 use Rattle.std.proofs.Common.{◌<◌, ◌+◌, ◌∷◌, ◌++◌, [], ap, arith, length, map, sym, take, ◌∙◌}
 use Rattle.std.proofs.lemmas.List.{length-map, take_all, take_more}
-use Rattle.blif_numbers.specs.OpenLists.{open_lists, with_words}
-use Rattle.blif_numbers.proofs.CardSteps.{grows-none, grows-on, words-more, words-none}
+use Rattle.numbered_file.specs.OpenLists.{open_lists, with_words}
+use Rattle.numbered_file.proofs.ListSteps.{grows-none, grows-on, words-more, words-none}
 use Rattle.blif_numbers.proofs.cards.push_words.Goals as goal
 
 pub loop-index-init : goal.loop-index-init

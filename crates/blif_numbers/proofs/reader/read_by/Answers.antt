@@ -5,7 +5,7 @@ use Rattle.dom_base.specs.Lines.{is_control, lines}
 use Rattle.dom_base.proofs.Options.{none_case, some_case}
 use Rattle.blif_ast.specs.LogicalLines.{LogicalLine, logical_lines_from}
 use Rattle.blif_ast.specs.declared.kind.BlifKind.TheVariants.{NoModel}
-use Rattle.blif_numbers.specs.Cuts.{numbered_line}
+use Rattle.blif_lines.specs.Cuts.{numbered_line}
 use Rattle.blif_numbers.proofs.ReaderInvariant.{Cuts, same_fault, line_of_fault, kind_of_fault}
 use Rattle.blif_numbers.proofs.Reading.{begins, ends, has_nothing, refuses, stands, takes}
 use Rattle.blif_numbers.proofs.reader.read_by.Goals as goal

@@ -7,5 +7,5 @@ use Rattle.blif_numbers.proofs.builder.Builder.close_all.Goals as goal
 pub close_model-requires-clause-table : goal.close_model-requires-clause-table
 close_model-requires-clause-table c = ap (λ (b : Built). b.table) c.in_ok-close_table.ensures.built
 
-pub returns : goal.returns
-returns c = on_ok_weaker c.close_model.result (λ e. e ∙ ap model_closed c.in_ok-close_table.ensures.built) c.close_model.ensures.built
+pub returns-clause-built : goal.returns-clause-built
+returns-clause-built c = on_ok_weaker c.close_model.result (λ e. e ∙ ap model_closed c.in_ok-close_table.ensures.built) c.close_model.ensures.built

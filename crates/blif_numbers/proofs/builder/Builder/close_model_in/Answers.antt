@@ -1,8 +1,8 @@
 use Rattle.std.proofs.Common.{ap, refl, length, subst, sym, ◌∙◌, ◌<◌}
 use Rattle.blif_numbers.specs.BuilderData.{BuilderData}
-use Rattle.blif_numbers.specs.NumberedData.{NumberedData}
-use Rattle.blif_numbers.specs.Numbered.{name_of}
-use Rattle.blif_numbers.specs.OpenLists.{OpenLists, open_lists, with_model}
+use Rattle.numbered_file.specs.NumberedData.{NumberedData}
+use Rattle.numbered_file.specs.Numbered.{name_of}
+use Rattle.numbered_file.specs.OpenLists.{OpenLists, open_lists, with_model}
 use Rattle.blif_numbers.proofs.BuilderSteps.{close-model, open_model_of}
 use Rattle.blif_numbers.proofs.builder.Builder.close_model_in.Goals as goal
 

@@ -1,9 +1,9 @@
 use Rattle.std.proofs.Common.{ap, Some, ◌∙◌}
 use Rattle.blif_numbers.specs.BuilderData.{BuilderData, is_on}
-use Rattle.blif_numbers.specs.NumberedData.{NumberedData}
-use Rattle.blif_numbers.specs.OpenLists.{OpenLists, open_lists, with_part}
+use Rattle.numbered_file.specs.NumberedData.{NumberedData}
+use Rattle.numbered_file.specs.OpenLists.{OpenLists, open_lists, with_part}
 use Rattle.blif_numbers.specs.declared.open_model.OpenModel.{OpenModel}
-use Rattle.blif_numbers.specs.declared.parts.PartKind.TheVariants as at
+use Rattle.numbered_file.specs.declared.parts.PartKind.TheVariants as at
 use Rattle.blif_numbers.proofs.BuilderSteps.{close-table}
 use Rattle.blif_numbers.proofs.builder.Builder.close_table_in.Goals as goal
 

@@ -2,7 +2,7 @@ use Rattle.std.proofs.Common.{ap, sym, ◌∙◌}
 use Rattle.std.specs.Option.{option_map}
 use Rattle.blif_numbers.specs.Build.{has_model}
 use Rattle.blif_numbers.specs.BuilderData.{BuilderData, built_in, model_of}
-use Rattle.blif_numbers.specs.OpenLists.{open_lists}
+use Rattle.numbered_file.specs.OpenLists.{open_lists}
 use Rattle.blif_numbers.proofs.builder.Builder.has_open_model.Goals as goal
 
 pub returns-in-Some : goal.returns-in-Some

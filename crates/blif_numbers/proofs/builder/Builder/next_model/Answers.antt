@@ -1,7 +1,7 @@
 use Rattle.std.proofs.Common.{ap, map, ◌∙◌}
 use Rattle.std.proofs.lemmas.Result.{on_ok_weaker}
 use Rattle.blif_numbers.specs.Build.{Built}
-use Rattle.blif_numbers.specs.Cuts.{numbered_line}
+use Rattle.blif_lines.specs.Cuts.{numbered_line}
 use Rattle.blif_numbers.specs.BuilderData.{model_taken}
 use Rattle.blif_numbers.proofs.builder.Builder.next_model.Goals as goal
 

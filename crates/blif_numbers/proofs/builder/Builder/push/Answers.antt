@@ -5,7 +5,7 @@ use Rattle.blif_ast.specs.LogicalLines.{LogicalLine}
 use Rattle.blif_numbers.specs.Build.{built_by, context_in, opened_by}
 use Rattle.blif_numbers.specs.Steps.{row_fault}
 use Rattle.blif_numbers.specs.BuilderData.{built_in, row_taken}
-use Rattle.blif_numbers.specs.Pieces.{StandsAt}
+use Rattle.blif_lines.specs.TextPlaces.{StandsAt}
 use Rattle.blif_numbers.proofs.BuilderSteps.{clean_row}
 use Rattle.blif_numbers.proofs.builder.Builder.push.Goals as goal
 

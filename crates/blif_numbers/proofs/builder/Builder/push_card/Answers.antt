@@ -1,5 +1,5 @@
 use Rattle.std.proofs.Common.{ap, map, sym, ◌∙◌}
-use Rattle.blif_numbers.specs.Cuts.{numbered_line}
+use Rattle.blif_lines.specs.Cuts.{numbered_line}
 use Rattle.blif_numbers.specs.BuilderData.{BuilderData}
 use Rattle.blif_numbers.proofs.BuilderSteps.{card-none}
 use Rattle.blif_numbers.proofs.builder.Builder.push_card.Goals as goal

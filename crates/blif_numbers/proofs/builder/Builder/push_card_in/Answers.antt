@@ -1,10 +1,10 @@
 use Rattle.std.proofs.Common.{ap, map, subst, sym, Some, ◌∙◌}
 use Rattle.std.proofs.lemmas.List.{length-map}
-use Rattle.blif_numbers.specs.Cuts.{numbered_line}
+use Rattle.blif_lines.specs.Cuts.{numbered_line}
 use Rattle.blif_numbers.specs.BuilderData.{BuilderData, card_lists, opened_table, table_of_open}
-use Rattle.blif_numbers.specs.NameNumbers.{Grows}
-use Rattle.blif_numbers.specs.NumberedData.{NumberedData}
-use Rattle.blif_numbers.specs.OpenLists.{OpenLists, open_lists}
+use Rattle.numbered_file.specs.NameNumbers.{Grows}
+use Rattle.numbered_file.specs.NumberedData.{NumberedData}
+use Rattle.numbered_file.specs.OpenLists.{OpenLists, open_lists}
 use Rattle.blif_numbers.specs.declared.open_model.OpenModel.{OpenModel}
 use Rattle.blif_numbers.proofs.BuilderSteps.{card-step, card_text, no_table_open, table_where}
 use Rattle.blif_numbers.proofs.builder.Builder.push_card_in.Goals as goal

@@ -1,7 +1,7 @@
 use Rattle.std.proofs.Common.{Some, ap, map, sym, ◌∙◌}
 use Rattle.std.proofs.lemmas.Result.{on_ok_weaker}
 use Rattle.blif_numbers.specs.Build.{Built, built_by}
-use Rattle.blif_numbers.specs.Cuts.{numbered_line}
+use Rattle.blif_lines.specs.Cuts.{numbered_line}
 use Rattle.blif_numbers.specs.BuilderData.{built_in, card_taken, model_closed, model_taken}
 use Rattle.blif_numbers.proofs.Builds.{taken-is}
 use Rattle.blif_numbers.proofs.BuilderSteps.{clean_closed, inner_is, known-end, known-model}

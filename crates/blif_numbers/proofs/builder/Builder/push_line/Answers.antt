@@ -2,7 +2,7 @@ use Rattle.std.proofs.Common.{Some, ap, map, sym, ◌∙◌}
 use Rattle.std.proofs.lemmas.Result.{on_ok_weaker}
 use Rattle.blif_ast.specs.LogicalLines.{LogicalLine}
 use Rattle.blif_numbers.specs.Build.{built_by, context_in, has_model}
-use Rattle.blif_numbers.specs.Cuts.{numbered_line}
+use Rattle.blif_lines.specs.Cuts.{numbered_line}
 use Rattle.blif_numbers.specs.Steps.{card_fault}
 use Rattle.blif_numbers.specs.BuilderData.{built_in}
 use Rattle.blif_numbers.proofs.BuilderSteps.{clean_card}

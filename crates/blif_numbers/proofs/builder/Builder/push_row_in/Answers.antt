@@ -1,7 +1,7 @@
 use Rattle.std.proofs.Common.{ap, map, Some, ◌∙◌}
 use Rattle.blif_numbers.specs.BuilderData.{BuilderData, value_after}
-use Rattle.blif_numbers.specs.NumberedData.{NumberedData}
-use Rattle.blif_numbers.specs.OpenLists.{OpenLists, open_lists, with_row}
+use Rattle.numbered_file.specs.NumberedData.{NumberedData}
+use Rattle.numbered_file.specs.OpenLists.{OpenLists, open_lists, with_row}
 use Rattle.blif_numbers.specs.declared.open_model.OpenModel.{OpenModel}
 use Rattle.blif_numbers.specs.declared.open_model.OpenTable.{OpenTable}
 use Rattle.blif_numbers.proofs.BuilderSteps.{row-step}

@@ -1,7 +1,7 @@
 use Rattle.std.proofs.Common.{ap, refl, map, Some, ◌∙◌}
 use Rattle.blif_numbers.specs.BuilderData.{BuilderData}
-use Rattle.blif_numbers.specs.NumberedData.{NumberedData}
-use Rattle.blif_numbers.specs.OpenLists.{OpenLists, open_lists}
+use Rattle.numbered_file.specs.NumberedData.{NumberedData}
+use Rattle.numbered_file.specs.OpenLists.{OpenLists, open_lists}
 use Rattle.blif_numbers.proofs.BuilderSteps.{start-step}
 use Rattle.blif_numbers.proofs.builder.Builder.start_model.Goals as goal
 

@@ -1,0 +1,5 @@
+pub mod ByteTables
+pub mod JoinByte
+pub mod JoinedLines
+pub mod PieceEnds
+pub mod Pieces

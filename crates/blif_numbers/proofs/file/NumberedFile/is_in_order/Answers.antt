@@ -1,6 +1,0 @@
-use Rattle.std.proofs.Common.{subst}
-use Rattle.blif_numbers.specs.Numbered.{IsNumbered}
-use Rattle.blif_numbers.proofs.file.NumberedFile.is_in_order.Goals as goal
-
-pub returns : goal.returns
-returns c = subst IsNumbered c.self.view_is c.self.invariant

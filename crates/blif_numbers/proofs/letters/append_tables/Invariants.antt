@@ -1,6 +1,0 @@
-use Rattle.std.proofs.Common.{◌≡◌, ◌++◌, take}
-use Rattle.blif_numbers.specs.FileLetters.{tables_letters}
-use Rattle.blif_numbers.proofs.letters.append_tables.Given as goal
-
-abbrev pub invariant-loop-table : goal.invariant-loop-table
-invariant-loop-table l = l.bytes.items ≡ l.fn.bytes.items ++ tables_letters (take l.table-index l.tables)

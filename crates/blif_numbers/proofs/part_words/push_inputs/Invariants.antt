@@ -1,6 +1,0 @@
-use Rattle.std.proofs.Common.{◌≡◌, take}
-use Rattle.blif_numbers.specs.OpenLists.{open_lists, with_inputs}
-use Rattle.blif_numbers.proofs.part_words.push_inputs.Given as goal
-
-abbrev pub invariant-loop-index : goal.invariant-loop-index
-invariant-loop-index l = open_lists l.file ≡ with_inputs (open_lists l.fn.file) (take l.index l.names)

@@ -1,6 +1,0 @@
-use Rattle.blif_numbers.specs.OpenLists.{open_lists}
-use Rattle.blif_numbers.proofs.RowPlaces.{IsFilling}
-use Rattle.blif_numbers.proofs.part_words.push_rows.Given as goal
-
-abbrev pub invariant-loop-index : goal.invariant-loop-index
-invariant-loop-index l = IsFilling (open_lists l.fn.file) (open_lists l.file) l.width l.index l.rows l.letters l.left

@@ -1,0 +1,5 @@
+pub mod NameNumbers
+pub mod Numbered
+pub mod NumberedData
+pub mod OpenLists
+pub mod Places
