@@ -9,11 +9,11 @@ use Rattle.blif_ast.specs.declared.latch.Latch.{Latch}
 use Rattle.blif_ast.specs.BlifModelData.{BlifModelData}
 use Rattle.blif_ast.specs.InstanceData.{InstanceData}
 use Rattle.blif_ast.specs.TableData.{TableData}
-use Rattle.blif_numbers.specs.declared.parts.PartAt.{PartAt}
-use Rattle.blif_numbers.specs.NumberedData.{NumberedData}
-use Rattle.blif_numbers.specs.Numbered.{InstancePart, LatchPart, Part, TablePart, named, part_by, parts_of}
-use Rattle.blif_numbers.specs.Places.{IsPartOf, rows_at, words_at}
-use Rattle.blif_numbers.proofs.Places.{length-parts_of, part_there}
+use Rattle.numbered_file.specs.declared.parts.PartAt.{PartAt}
+use Rattle.numbered_file.specs.NumberedData.{NumberedData}
+use Rattle.numbered_file.specs.Numbered.{InstancePart, LatchPart, Part, TablePart, named, part_by, parts_of}
+use Rattle.numbered_file.specs.Places.{IsPartOf, rows_at, words_at}
+use Rattle.numbered_file.proofs.Places.{length-parts_of, part_there}
 use Rattle.card_places.specs.CardPlaces.{AreAtPlaces, AreModelPlaces}
 
 module _ (d : NumberedData) where

@@ -10,14 +10,14 @@ use Rattle.dom_base.proofs.Lists.{AllByRecursion-append, AllByRecursion-weaker, 
 use Rattle.graph_order.proofs.Lists.{take_get}
 use Rattle.graph_order.proofs.Placed.{in_front}
 use Rattle.blif_ast.specs.BlifModelData.{BlifModelData}
-use Rattle.blif_numbers.specs.declared.parts.ModelAt.{ModelAt}
-use Rattle.blif_numbers.specs.declared.parts.PartAt.{PartAt}
-use Rattle.blif_numbers.specs.declared.parts.PartKind.{PartKind}
-use Rattle.blif_numbers.specs.declared.parts.PartKind.TheVariants as at
-use Rattle.blif_numbers.specs.NumberedData.{NumberedData}
-use Rattle.blif_numbers.specs.Numbered.{InstancePart, LatchPart, Part, TablePart, between, instance_in, latch_in, model_by, models_in, name_of, named, part_by, parts_of, table_in}
-use Rattle.blif_numbers.specs.Places.{IsPartOf, first_part, inputs_at, outputs_at, rows_at, words_at}
-use Rattle.blif_numbers.proofs.Places.{length-models_in, length-parts_of, model_there, part_there}
+use Rattle.numbered_file.specs.declared.parts.ModelAt.{ModelAt}
+use Rattle.numbered_file.specs.declared.parts.PartAt.{PartAt}
+use Rattle.numbered_file.specs.declared.parts.PartKind.{PartKind}
+use Rattle.numbered_file.specs.declared.parts.PartKind.TheVariants as at
+use Rattle.numbered_file.specs.NumberedData.{NumberedData}
+use Rattle.numbered_file.specs.Numbered.{InstancePart, LatchPart, Part, TablePart, between, instance_in, latch_in, model_by, models_in, name_of, named, part_by, parts_of, table_in}
+use Rattle.numbered_file.specs.Places.{IsPartOf, first_part, inputs_at, outputs_at, rows_at, words_at}
+use Rattle.numbered_file.proofs.Places.{length-models_in, length-parts_of, model_there, part_there}
 use Rattle.card_places.specs.CardPlaces.{AreCardPlaces, AreModelPlaces}
 use Rattle.card_places.specs.KindPlaces.{AreKindPlaces, AreLists, AreModelKindPlaces, IsListAdded, parts_of_model, with_instance, with_latch, with_table}
 use Rattle.card_places.specs.NumberLists.{NumberListsData, closed, no_number_lists, with_number}

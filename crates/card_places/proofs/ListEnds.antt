@@ -3,8 +3,8 @@ use Rattle.std.proofs.Common.{◌≡◌, ℕ, zero, suc, ◌≤◌, ◌+◌, Lis
 use Rattle.std.specs.Prelude.{slice_get, slice_index_or}
 use Rattle.std.proofs.lemmas.List.{drop_all, drop-append-le, length-append}
 use Rattle.graph_order.proofs.Lists.{take_next}
-use Rattle.blif_numbers.specs.Numbered.{between}
-use Rattle.blif_numbers.proofs.Growth.{between-grows, between-last}
+use Rattle.numbered_file.specs.Numbered.{between}
+use Rattle.numbered_file.proofs.Growth.{between-grows, between-last}
 use Rattle.card_places.specs.NumberLists.{closed, last_end, lists_by, lists_from, EndsRise, NumberListsData, with_number, with_numbers}
 
 EndsRise-last : (start : ℕ) (ends : List ℕ) (count : ℕ) → EndsRise start ends count → last_end start ends ≤ count

@@ -5,7 +5,7 @@ use Rattle.std.specs.List.{AllByRecursion, filter_map}
 use Rattle.std.proofs.lemmas.Bool.{le-ltb, lt-ltb}
 use Rattle.dom_base.proofs.Lists.{AllByRecursion-append, AllByRecursion-unmap, AllByRecursion-weaker}
 use Rattle.blif_ast.specs.BlifModelData.{BlifModelData}
-use Rattle.blif_numbers.specs.Numbered.{InstancePart, LatchPart, Part, TablePart, instance_in, latch_in, table_in}
+use Rattle.numbered_file.specs.Numbered.{InstancePart, LatchPart, Part, TablePart, instance_in, latch_in, table_in}
 use Rattle.card_places.specs.PartCards.{HasModelParts, RisesFrom, part_card, part_line}
 use Rattle.model_calls.specs.Expanded.{BodyCard, InstanceCard, LatchCard, TableCard, card_line, ordered_cards}
 use Rattle.model_calls.specs.Ordered.{in_order, with_element}

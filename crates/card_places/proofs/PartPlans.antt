@@ -8,13 +8,13 @@ use Rattle.std.proofs.lemmas.Option.{slice_get-get_or, slice_get_within}
 use Rattle.dom_base.proofs.Lists.{map-push, drop_next}
 use Rattle.graph_order.proofs.Lists.{take_next}
 use Rattle.blif_ast.specs.BlifModelData.{BlifModelData}
-use Rattle.blif_numbers.specs.declared.parts.ModelAt.{ModelAt}
-use Rattle.blif_numbers.specs.declared.parts.PartAt.{PartAt}
-use Rattle.blif_numbers.specs.declared.parts.PartKind.{PartKind}
-use Rattle.blif_numbers.specs.declared.parts.PartKind.TheVariants as at
-use Rattle.blif_numbers.specs.NumberedData.{NumberedData}
-use Rattle.blif_numbers.specs.Numbered.{Part, between, instance_in, latch_in, model_by, name_of, named, part_by, parts_from, parts_of, table_in}
-use Rattle.blif_numbers.specs.Places.{first_part, inputs_at, outputs_at}
+use Rattle.numbered_file.specs.declared.parts.ModelAt.{ModelAt}
+use Rattle.numbered_file.specs.declared.parts.PartAt.{PartAt}
+use Rattle.numbered_file.specs.declared.parts.PartKind.{PartKind}
+use Rattle.numbered_file.specs.declared.parts.PartKind.TheVariants as at
+use Rattle.numbered_file.specs.NumberedData.{NumberedData}
+use Rattle.numbered_file.specs.Numbered.{Part, between, instance_in, latch_in, model_by, name_of, named, part_by, parts_from, parts_of, table_in}
+use Rattle.numbered_file.specs.Places.{first_part, inputs_at, outputs_at}
 use Rattle.card_places.specs.declared.model_plans.Counts.{Counts}
 use Rattle.card_places.specs.PartCards.{HasModelParts, RisesFrom, card_by, part_card, counted, part_line}
 use Rattle.card_places.proofs.PartOrder.{parts-ordered}

@@ -2,9 +2,9 @@
 -- among the parts of the file.
 use Rattle.std.specs.Prelude.{ℕ, ◌≡◌, List, [], map, All, Some, slice_get, slice_index_or}
 use Rattle.blif_ast.specs.BlifModelData.{BlifModelData}
-use Rattle.blif_numbers.specs.NumberedData.{NumberedData}
-use Rattle.blif_numbers.specs.Numbered.{Part, TablePart, LatchPart, InstancePart, models_in, parts_of}
-use Rattle.blif_numbers.specs.Places.{IsPartOf}
+use Rattle.numbered_file.specs.NumberedData.{NumberedData}
+use Rattle.numbered_file.specs.Numbered.{Part, TablePart, LatchPart, InstancePart, models_in, parts_of}
+use Rattle.numbered_file.specs.Places.{IsPartOf}
 
 -- of each model the places of its tables, of its latches and of its instances
 pub record CardPlacesData : Type 0 where

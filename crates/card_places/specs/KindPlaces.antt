@@ -1,11 +1,11 @@
 -- The places of the cards of one kind of a model, and lists that gather them.
 use Rattle.std.specs.Prelude.{ℕ, ◌≡◌, ◌≤◌, ◌<◌, ◌+◌, List, [], ◌∷◌, ◌++◌, length, map, slice_index_or, Option}
 use Rattle.std.specs.List.{filter_map, AllByRecursion}
-use Rattle.blif_numbers.specs.declared.parts.PartKind.{PartKind}
-use Rattle.blif_numbers.specs.declared.parts.PartKind.TheVariants as at
-use Rattle.blif_numbers.specs.NumberedData.{NumberedData}
-use Rattle.blif_numbers.specs.Numbered.{Part, between, parts_of}
-use Rattle.blif_numbers.specs.Places.{first_part}
+use Rattle.numbered_file.specs.declared.parts.PartKind.{PartKind}
+use Rattle.numbered_file.specs.declared.parts.PartKind.TheVariants as at
+use Rattle.numbered_file.specs.NumberedData.{NumberedData}
+use Rattle.numbered_file.specs.Numbered.{Part, between, parts_of}
+use Rattle.numbered_file.specs.Places.{first_part}
 use Rattle.card_places.specs.CardPlaces.{AreAtPlaces}
 use Rattle.card_places.specs.NumberLists.{NumberListsData, with_number}
 

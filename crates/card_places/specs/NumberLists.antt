@@ -1,6 +1,6 @@
 -- Lists of numbers that stand one behind the other in one list.
 use Rattle.std.specs.Prelude.{ℕ, ◌≤◌, List, [], ◌∷◌, ◌++◌, drop}
-use Rattle.blif_numbers.specs.Numbered.{between}
+use Rattle.numbered_file.specs.Numbered.{between}
 
 -- lists of numbers, and the numbers of the list that comes
 pub record NumberListsData : Type 0 where

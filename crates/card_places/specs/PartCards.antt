@@ -2,9 +2,9 @@
 use Rattle.std.specs.Prelude.{ℕ, ◌≡◌, ◌≤◌, ◌+◌, List, [], ◌∷◌, slice_index_or}
 use Rattle.std.specs.List.{filter_map}
 use Rattle.blif_ast.specs.BlifModelData.{BlifModelData}
-use Rattle.blif_numbers.specs.declared.parts.PartKind.{PartKind}
-use Rattle.blif_numbers.specs.declared.parts.PartKind.TheVariants as at
-use Rattle.blif_numbers.specs.Numbered.{InstancePart, LatchPart, Part, TablePart, instance_in, latch_in, table_in}
+use Rattle.numbered_file.specs.declared.parts.PartKind.{PartKind}
+use Rattle.numbered_file.specs.declared.parts.PartKind.TheVariants as at
+use Rattle.numbered_file.specs.Numbered.{InstancePart, LatchPart, Part, TablePart, instance_in, latch_in, table_in}
 use Rattle.card_places.specs.declared.model_plans.Counts.{Counts}
 use Rattle.model_calls.specs.declared.plan.CardAt.{CardAt}
 use Rattle.model_calls.specs.declared.plan.CardAt.TheVariants.{Table, Latch, Instance}

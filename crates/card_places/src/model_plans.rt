@@ -1,17 +1,18 @@
 //! The cards of models by numbers, in order of their lines.
 ghost use Rattle.std.specs.Prelude.{◌≡◌, ◌<◌, ◌+◌, ◌^◌, IfOk, IfSome, IsTrue, List, Some, length, map, slice_get, slice_index_or};
 ghost use Rattle.blif_ast.specs.BlifModelData.{BlifModelData};
-ghost use Rattle.blif_numbers.specs.Numbered.{between, models_in, parts_of};
+ghost use Rattle.numbered_file.specs.Numbered.{between, models_in, parts_of};
 ghost use Rattle.card_places.specs.PartCards.{HasModelParts, RisesFrom, card_by, part_card, counted, part_line};
 ghost use Rattle.model_calls.specs.CallNumbers.{AreCalls, names_of_models};
 ghost use Rattle.model_calls.specs.LinedCards.{AreNumberedCards};
 ghost use Rattle.model_calls.specs.ModelCalls.{HavePlans};
 
 use crate::places::{model_at, part_at};
-use blif_numbers::{NumberedFile, PartAt, PartKind, between, to_file};
 use dom_base::OutOfMemory;
+use file_copies::to_file;
 use graph_order::Node;
 use model_calls::{CardAt, Plan, plan_all};
+use numbered_file::{NumberedFile, PartAt, PartKind, between};
 use std::alloc::Global;
 
 /// The plans of the models of a file by their calls. The one error is out of memory. Where the lines of a model's parts don't

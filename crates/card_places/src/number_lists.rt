@@ -2,8 +2,8 @@
 ghost use Rattle.std.specs.Prelude.{◌≡◌, ◌<◌, [], IfOk, OnOk, IsSome, Some, length, slice_get, slice_index_or, take};
 ghost use Rattle.card_places.specs.NumberLists.{closed, last_end, lists_from, no_number_lists, with_number, with_numbers};
 
-use blif_numbers::{as_u32, between};
 use dom_base::OutOfMemory;
+use numbered_file::{as_u32, between};
 use std::alloc::Global;
 use std::marker::Model;
 

@@ -1,6 +1,6 @@
 //! The places of the cards of each model.
 ghost use Rattle.std.specs.Prelude.{◌≡◌, ◌<◌, ◌+◌, [], IfOk, IsSome, OnOk, Some, length, slice_get};
-ghost use Rattle.blif_numbers.specs.Numbered.{
+ghost use Rattle.numbered_file.specs.Numbered.{
   InstancePart,
   LatchPart,
   TablePart,
@@ -20,8 +20,8 @@ ghost use Rattle.card_places.specs.KindPlaces.{
 };
 
 use crate::number_lists::NumberLists;
-use blif_numbers::{ModelAt, NumberedFile, PartAt, PartKind, between};
 use dom_base::OutOfMemory;
+use numbered_file::{ModelAt, NumberedFile, PartAt, PartKind, between};
 use std::alloc::Global;
 use std::marker::Model;
 

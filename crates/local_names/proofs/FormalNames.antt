@@ -1,7 +1,7 @@
 -- The names of the formals of an instance.
 use Rattle.std.proofs.Common.{◌≡◌, ℕ, List, [], ◌∷◌, map, refl, ap}
 use Rattle.blif_ast.specs.declared.instance.Binding.{Binding}
-use Rattle.blif_numbers.specs.Numbered.{bindings_by, name_of, named}
+use Rattle.numbered_file.specs.Numbered.{bindings_by, name_of, named}
 use Rattle.local_names.specs.LocalNames.{firsts}
 
 -- the formals of an instance by its words

@@ -7,17 +7,17 @@ use Rattle.std.proofs.lemmas.Option.{slice_get_within}
 use Rattle.std.proofs.lemmas.List.Concat.{flat_map-append}
 use Rattle.blif_ast.specs.declared.latch.Edge2.{Edge2}
 use Rattle.blif_ast.specs.BlifModelData.{BlifModelData}
-use Rattle.blif_numbers.specs.declared.parts.ModelAt.{ModelAt}
-use Rattle.blif_numbers.specs.declared.parts.PartAt.{PartAt}
-use Rattle.blif_numbers.specs.declared.parts.PartKind.{PartKind}
-use Rattle.blif_numbers.specs.declared.parts.PartKind.TheVariants as at
-use Rattle.blif_numbers.specs.NumberedData.{NumberedData}
-use Rattle.blif_numbers.specs.Numbered.{Part, TablePart, LatchPart, InstancePart, between, instance_in, latch_by, latch_in, model_by, models_in, named, name_of, part_by, parts_of, table_by, table_in}
+use Rattle.numbered_file.specs.declared.parts.ModelAt.{ModelAt}
+use Rattle.numbered_file.specs.declared.parts.PartAt.{PartAt}
+use Rattle.numbered_file.specs.declared.parts.PartKind.{PartKind}
+use Rattle.numbered_file.specs.declared.parts.PartKind.TheVariants as at
+use Rattle.numbered_file.specs.NumberedData.{NumberedData}
+use Rattle.numbered_file.specs.Numbered.{Part, TablePart, LatchPart, InstancePart, between, instance_in, latch_by, latch_in, model_by, models_in, named, name_of, part_by, parts_of, table_by, table_in}
 use Rattle.blif_ast.specs.declared.instance.Binding.{Binding}
 use Rattle.dom_base.proofs.Lists.{map-push}
-use Rattle.blif_numbers.proofs.Copying.{bindings-short, take-get}
-use Rattle.blif_numbers.specs.Places.{inputs_at, outputs_at, rows_at, words_at}
-use Rattle.blif_numbers.proofs.Places.{last-of, model_there, part_there}
+use Rattle.numbered_file.proofs.PartLists.{bindings-short, take-get}
+use Rattle.numbered_file.specs.Places.{inputs_at, outputs_at, rows_at, words_at}
+use Rattle.numbered_file.proofs.Places.{last-of, model_there, part_there}
 use Rattle.local_names.specs.declared.model_numbers.CardKind.{CardKind}
 use Rattle.local_names.specs.declared.model_numbers.CardKind.TheVariants.{Table, Latch, Instance}
 use Rattle.local_names.specs.PartNames.{IsLatchForm, actuals_by, all_names, names_by, parts_at}

@@ -13,7 +13,7 @@ use Rattle.std.proofs.lemmas.Option.{slice_get_within}
 use Rattle.dom_base.proofs.Lists.{AllByRecursion-from_places, AllByRecursion-map, AllByRecursion-reverse, Contains-slice_get, list_any-none, map-push, reverse-cons, slice_get-append, slice_get-contained, slice_get-push_cases, slice_get-set_other}
 use Rattle.dom_base.proofs.Names.{names_equal}
 use Rattle.blif_ast.specs.Cards.{same}
-use Rattle.blif_numbers.specs.Numbered.{name_of, named}
+use Rattle.numbered_file.specs.Numbered.{name_of, named}
 use Rattle.graph_order.proofs.Placed.{set_here}
 use Rattle.network.proofs.Lists.{get_map}
 use Rattle.model_calls.proofs.UniqueNames.{insert_back}

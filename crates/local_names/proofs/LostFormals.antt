@@ -9,11 +9,11 @@ use Rattle.dom_base.proofs.Lists.{AllByRecursion-contains, AllByRecursion-drop, 
 use Rattle.blif_ast.specs.declared.instance.Binding.{Binding}
 use Rattle.blif_ast.specs.BlifModelData.{BlifModelData}
 use Rattle.blif_ast.specs.InstanceData.{InstanceData}
-use Rattle.blif_numbers.specs.declared.parts.ModelAt.{ModelAt}
-use Rattle.blif_numbers.specs.NumberedData.{NumberedData}
-use Rattle.blif_numbers.specs.Numbered.{AreBelow, InstancePart, IsNumbered, Part, between, bindings_by, file_of, instance_by, instance_in, model_by, models_in, name_of, named, part_by, parts_of}
-use Rattle.blif_numbers.specs.Places.{first_part, inputs_at, outputs_at, rows_at, words_at}
-use Rattle.blif_numbers.proofs.Places.{model_there, part_there, words_below}
+use Rattle.numbered_file.specs.declared.parts.ModelAt.{ModelAt}
+use Rattle.numbered_file.specs.NumberedData.{NumberedData}
+use Rattle.numbered_file.specs.Numbered.{AreBelow, InstancePart, IsNumbered, Part, between, bindings_by, file_of, instance_by, instance_in, model_by, models_in, name_of, named, part_by, parts_of}
+use Rattle.numbered_file.specs.Places.{first_part, inputs_at, outputs_at, rows_at, words_at}
+use Rattle.numbered_file.proofs.Places.{model_there, part_there, words_below}
 use Rattle.card_places.proofs.KindPlaces.{get-between}
 use Rattle.card_places.proofs.PartPlans.{place-of}
 use Rattle.network.proofs.IndexedLists.{same_at}

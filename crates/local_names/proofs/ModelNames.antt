@@ -6,10 +6,10 @@ use Rattle.std.specs.Set.{unique_keys}
 use Rattle.dom_base.proofs.Lists.{AllByRecursion-append, map-push, slice_get-there}
 use Rattle.blif_ast.specs.BlifModelData.{BlifModelData}
 use Rattle.blif_ast.specs.Cards.{same}
-use Rattle.blif_numbers.specs.NumberedData.{NumberedData}
-use Rattle.blif_numbers.specs.Numbered.{AreBelow, IsNumbered, models_in, named}
-use Rattle.blif_numbers.proofs.Copying.{take-get}
-use Rattle.blif_numbers.proofs.Places.{length-models_in}
+use Rattle.numbered_file.specs.NumberedData.{NumberedData}
+use Rattle.numbered_file.specs.Numbered.{AreBelow, IsNumbered, models_in, named}
+use Rattle.numbered_file.proofs.PartLists.{take-get}
+use Rattle.numbered_file.proofs.Places.{length-models_in}
 use Rattle.card_places.specs.NumberLists.{NumberListsData, closed, with_numbers}
 use Rattle.local_names.specs.PartNames.{all_names}
 use Rattle.local_names.proofs.Gathered.{names-of_model}

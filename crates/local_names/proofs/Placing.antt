@@ -4,14 +4,14 @@ use Rattle.std.specs.Prelude.{Contains, slice_get, slice_index_or}
 use Rattle.std.proofs.lemmas.Bool.{cases_lt}
 use Rattle.std.proofs.lemmas.List.{length-append, length-map, drop-append-le, drop_all, take_all}
 use Rattle.dom_base.proofs.Lists.{Contains-first, Contains-later, map-push}
-use Rattle.blif_numbers.specs.declared.parts.PartAt.{PartAt}
-use Rattle.blif_numbers.specs.declared.parts.PartKind.{PartKind}
-use Rattle.blif_numbers.specs.declared.parts.PartKind.TheVariants as at
-use Rattle.blif_numbers.specs.NumberedData.{NumberedData}
-use Rattle.blif_numbers.specs.Numbered.{IsNumbered, between, models_in}
-use Rattle.blif_numbers.specs.Places.{IsPartOf, first_input, first_output, first_word, inputs_at, outputs_at, words_at}
-use Rattle.blif_numbers.proofs.Growth.{between-grows}
-use Rattle.blif_numbers.proofs.Places.{first_input-more, first_output-more, first_part-more, first_word-more, length-inputs_at, length-outputs_at, length-words_at}
+use Rattle.numbered_file.specs.declared.parts.PartAt.{PartAt}
+use Rattle.numbered_file.specs.declared.parts.PartKind.{PartKind}
+use Rattle.numbered_file.specs.declared.parts.PartKind.TheVariants as at
+use Rattle.numbered_file.specs.NumberedData.{NumberedData}
+use Rattle.numbered_file.specs.Numbered.{IsNumbered, between, models_in}
+use Rattle.numbered_file.specs.Places.{IsPartOf, first_input, first_output, first_word, inputs_at, outputs_at, words_at}
+use Rattle.numbered_file.proofs.Growth.{between-grows}
+use Rattle.numbered_file.proofs.Places.{first_input-more, first_output-more, first_part-more, first_word-more, length-inputs_at, length-outputs_at, length-words_at}
 use Rattle.local_names.specs.LocalNames.{AreLocals, IsInstance, IsUnitOf, firsts, own_words, seconds}
 use Rattle.local_names.specs.LostFormals.{HasLostFormal, IsFormalLost, IsPartLost}
 use Rattle.local_names.specs.Placed.{AreBindingsPlaced, AreInputsPlaced, AreOutputsPlaced, AreWordsPlaced, HasBindings, IsPartPlaced, IsPlaced}

@@ -7,13 +7,13 @@ use Rattle.std.proofs.lemmas.List.Sums.{sum_by-append, sum_by-cons}
 use Rattle.std.proofs.lemmas.Option.{get_or_from_slice_get, slice_get_within}
 use Rattle.dom_base.proofs.Lists.{map-push, slice_get-there}
 use Rattle.blif_ast.specs.BlifModelData.{BlifModelData}
-use Rattle.blif_numbers.specs.declared.parts.ModelAt.{ModelAt}
-use Rattle.blif_numbers.specs.declared.parts.PartAt.{PartAt}
-use Rattle.blif_numbers.specs.NumberedData.{NumberedData}
-use Rattle.blif_numbers.specs.Numbered.{Part, TablePart, LatchPart, InstancePart, between, file_of, latch_in, model_by, models_in, name_of, named, part_by, parts_of, row_at, table_by, table_in}
-use Rattle.blif_numbers.specs.Places.{inputs_at, outputs_at, rows_at, words_at}
-use Rattle.blif_numbers.proofs.Places.{length-models_in, length-parts_of, model_there, part_there}
-use Rattle.blif_numbers.proofs.Copying.{take-get}
+use Rattle.numbered_file.specs.declared.parts.ModelAt.{ModelAt}
+use Rattle.numbered_file.specs.declared.parts.PartAt.{PartAt}
+use Rattle.numbered_file.specs.NumberedData.{NumberedData}
+use Rattle.numbered_file.specs.Numbered.{Part, TablePart, LatchPart, InstancePart, between, file_of, latch_in, model_by, models_in, name_of, named, part_by, parts_of, row_at, table_by, table_in}
+use Rattle.numbered_file.specs.Places.{inputs_at, outputs_at, rows_at, words_at}
+use Rattle.numbered_file.proofs.Places.{length-models_in, length-parts_of, model_there, part_there}
+use Rattle.numbered_file.proofs.PartLists.{take-get}
 use Rattle.graph_order.specs.WalkSums.{largest_u64}
 use Rattle.local_names.specs.LocalNames.{AreLocalNames, LocalNamesData, names_in}
 use Rattle.local_names.specs.PartNames.{parts_at}

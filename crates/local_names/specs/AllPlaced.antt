@@ -1,6 +1,6 @@
 -- The places of all inputs, outputs and words of a file of BLIF (Berkeley Logic Interchange Format) by numbers.
 use Rattle.std.specs.Prelude.{ℕ, List, length}
-use Rattle.blif_numbers.specs.NumberedData.{NumberedData}
+use Rattle.numbered_file.specs.NumberedData.{NumberedData}
 use Rattle.local_names.specs.declared.names_of_file.Placed.{Placed}
 use Rattle.local_names.specs.Placed.{AreInputsPlaced, AreOutputsPlaced, AreWordsPlaced}
 

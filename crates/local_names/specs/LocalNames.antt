@@ -1,17 +1,16 @@
--- The names of each model of a file of BLIF (Berkeley Logic Interchange Format) by numbers, and the place of each word of a card
--- among them.
+-- The names of each model of a file of BLIF (Berkeley Logic Interchange Format) by numbers, and the places of words of cards among
+-- them.
 use Rattle.std.specs.Prelude.{ℕ, ◌≡◌, ◌<◌, List, [], ◌∷◌, drop, length, map, Some, slice_get, slice_index_or}
-use Rattle.blif_numbers.specs.declared.parts.PartAt.{PartAt}
-use Rattle.blif_numbers.specs.declared.parts.PartKind.{PartKind}
-use Rattle.blif_numbers.specs.declared.parts.PartKind.TheVariants as at
-use Rattle.blif_numbers.specs.NumberedData.{NumberedData}
-use Rattle.blif_numbers.specs.Numbered.{models_in, named}
-use Rattle.blif_numbers.specs.Places.{IsPartOf, inputs_at, of_inputs, of_outputs, of_part, outputs_at, words_at}
+use Rattle.numbered_file.specs.declared.parts.PartAt.{PartAt}
+use Rattle.numbered_file.specs.declared.parts.PartKind.{PartKind}
+use Rattle.numbered_file.specs.declared.parts.PartKind.TheVariants as at
+use Rattle.numbered_file.specs.NumberedData.{NumberedData}
+use Rattle.numbered_file.specs.Numbered.{models_in, named}
+use Rattle.numbered_file.specs.Places.{IsPartOf, first_input, first_output, first_word, inputs_at, of_inputs, of_outputs, of_part, outputs_at, words_at}
 use Rattle.model_calls.specs.CallNumbers.{names_of_models}
 use Rattle.part_numbers.specs.SignalNumbers.{model_names}
 
--- of each model its names, each once, by their numbers; and for each input, output and word of the file its place among the names
--- of a model
+-- of each model its names, each once, by their numbers; and for each input, output and word of the file's models a place
 pub record LocalNamesData : Type 0 where
   pub models : List (List ℕ)
   pub inputs : List ℕ
@@ -53,10 +52,15 @@ pub record IsInstance (d : NumberedData) (k : ℕ) : Type 0 where
   pub there : slice_get d.parts k ≡ Some part
   pub kind_is : part.kind ≡ at.Instance
 
--- the names of each model, and the places of all names: of a formal among the names of the instance's model, of any other word
--- among those of the model that it stands in
+-- the names of each model, and the places of words among them. An input, an output, each word of a table and of a latch, and an
+-- actual of an instance have their places among the names of the model that they stand in, and a formal among those of the
+-- instance's model. The first word of an instance, which is the name of its model, and a word behind its last pair are no names of
+-- a model: they have a place too, of which nothing is said
 pub record AreLocalNames (d : NumberedData) (l : LocalNamesData) : Type 0 where
   pub models : map (named d.names) l.models ≡ map model_names (models_in d)
+  pub input_count : length l.inputs ≡ first_input d (length d.models)
+  pub output_count : length l.outputs ≡ first_output d (length d.models)
+  pub word_count : length l.words ≡ first_word d (length d.parts)
   pub inputs : (m : ℕ) → m < length d.models → AreLocals (names_in l m) (inputs_at d m) (of_inputs d m l.inputs)
   pub outputs : (m : ℕ) → m < length d.models → AreLocals (names_in l m) (outputs_at d m) (of_outputs d m l.outputs)
   pub words : (m k : ℕ) (part : PartAt) → IsPartOf d m k → slice_get d.parts k ≡ Some part

@@ -1,9 +1,9 @@
 -- Formals of instances of a file of BLIF (Berkeley Logic Interchange Format) by numbers that are no names of the instances' models.
 use Rattle.std.specs.Prelude.{ℕ, ◌≡◌, ◌<◌, List, [], drop, length, Contains, slice_index_or}
-use Rattle.blif_numbers.specs.declared.parts.PartKind.{PartKind}
-use Rattle.blif_numbers.specs.declared.parts.PartKind.TheVariants as at
-use Rattle.blif_numbers.specs.NumberedData.{NumberedData}
-use Rattle.blif_numbers.specs.Places.{IsPartOf, words_at}
+use Rattle.numbered_file.specs.declared.parts.PartKind.{PartKind}
+use Rattle.numbered_file.specs.declared.parts.PartKind.TheVariants as at
+use Rattle.numbered_file.specs.NumberedData.{NumberedData}
+use Rattle.numbered_file.specs.Places.{IsPartOf, words_at}
 use Rattle.local_names.specs.LocalNames.{IsInstance, IsUnitOf, firsts}
 
 -- of formals and actuals in turn, some formal is none of these names

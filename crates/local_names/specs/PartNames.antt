@@ -2,9 +2,9 @@
 use Rattle.std.specs.Prelude.{ℕ, ◌≡◌, ◌⊎◌, ◌+◌, Bool, true, List, [], ◌++◌, map}
 use Rattle.std.specs.List.{flat_map}
 use Rattle.blif_ast.specs.declared.instance.Binding.{Binding}
-use Rattle.blif_numbers.specs.NumberedData.{NumberedData}
-use Rattle.blif_numbers.specs.Numbered.{Part, TablePart, LatchPart, InstancePart, between, bindings_by, named, parts_of}
-use Rattle.blif_numbers.specs.Places.{first_part, inputs_at, outputs_at}
+use Rattle.numbered_file.specs.NumberedData.{NumberedData}
+use Rattle.numbered_file.specs.Numbered.{Part, TablePart, LatchPart, InstancePart, between, bindings_by, named, parts_of}
+use Rattle.numbered_file.specs.Places.{first_part, inputs_at, outputs_at}
 use Rattle.local_names.specs.declared.model_numbers.CardKind.{CardKind}
 use Rattle.local_names.specs.declared.model_numbers.CardKind.TheVariants.{Table, Latch, Instance}
 use Rattle.model_calls.specs.Occurrences.{actuals_of, names_of_latch, names_of_table}

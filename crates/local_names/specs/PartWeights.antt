@@ -1,8 +1,8 @@
 -- What the parts of a file of BLIF (Berkeley Logic Interchange Format) by numbers count for the limits of a network.
 use Rattle.std.specs.Prelude.{ℕ}
 use Rattle.std.specs.List.{sum_by}
-use Rattle.blif_numbers.specs.NumberedData.{NumberedData}
-use Rattle.blif_numbers.specs.Numbered.{Part, TablePart, LatchPart}
+use Rattle.numbered_file.specs.NumberedData.{NumberedData}
+use Rattle.numbered_file.specs.Numbered.{Part, TablePart, LatchPart}
 use Rattle.local_names.specs.PartNames.{parts_at}
 use Rattle.model_calls.specs.declared.fault.Limit.{Limit}
 use Rattle.model_calls.specs.declared.fault.Limit.TheVariants.{Letters, Sinks}

@@ -1,10 +1,10 @@
 -- The places of the words of a file of BLIF (Berkeley Logic Interchange Format) by numbers, up to one of its models or parts.
 use Rattle.std.specs.Prelude.{ℕ, ◌≡◌, ◌<◌, List, [], ◌++◌, drop, length, Some, slice_get, slice_index_or}
-use Rattle.blif_numbers.specs.declared.parts.PartAt.{PartAt}
-use Rattle.blif_numbers.specs.declared.parts.PartKind.{PartKind}
-use Rattle.blif_numbers.specs.declared.parts.PartKind.TheVariants as at
-use Rattle.blif_numbers.specs.NumberedData.{NumberedData}
-use Rattle.blif_numbers.specs.Places.{IsPartOf, first_input, first_output, first_word, inputs_at, of_inputs, of_outputs, of_part, outputs_at, words_at}
+use Rattle.numbered_file.specs.declared.parts.PartAt.{PartAt}
+use Rattle.numbered_file.specs.declared.parts.PartKind.{PartKind}
+use Rattle.numbered_file.specs.declared.parts.PartKind.TheVariants as at
+use Rattle.numbered_file.specs.NumberedData.{NumberedData}
+use Rattle.numbered_file.specs.Places.{IsPartOf, first_input, first_output, first_word, inputs_at, of_inputs, of_outputs, of_part, outputs_at, words_at}
 use Rattle.local_names.specs.LocalNames.{AreLocals, IsInstance, IsUnitOf, firsts, own_words, seconds}
 
 -- the places of these numbers among some names are appended

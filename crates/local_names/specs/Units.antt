@@ -1,8 +1,8 @@
 -- The models that the instances of a file of BLIF (Berkeley Logic Interchange Format) by numbers name, and that no two models have
 -- one name.
 use Rattle.std.specs.Prelude.{ℕ, ◌≡◌, List, length, slice_index_or}
-use Rattle.blif_numbers.specs.NumberedData.{NumberedData}
-use Rattle.blif_numbers.specs.Numbered.{models_in}
+use Rattle.numbered_file.specs.NumberedData.{NumberedData}
+use Rattle.numbered_file.specs.Numbered.{models_in}
 use Rattle.local_names.specs.LocalNames.{IsInstance, IsUnitOf}
 use Rattle.model_calls.specs.FirstFaults.{NoneHolds}
 use Rattle.model_calls.specs.ModelFaults.{IsDuplicateModel}

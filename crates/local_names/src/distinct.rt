@@ -3,7 +3,7 @@ ghost use Rattle.std.specs.Prelude.{◌≡◌, ◌≢◌, ◌<◌, ◌-◌, ◌+
 ghost use Rattle.std.specs.List.{IsDistinct};
 ghost use Rattle.std.specs.Set.{unique_keys};
 ghost use Rattle.blif_ast.specs.Cards.{same};
-ghost use Rattle.blif_numbers.specs.Numbered.{AreBelow, named};
+ghost use Rattle.numbered_file.specs.Numbered.{AreBelow, named};
 ghost use Rattle.local_names.specs.Places.{IsIndexed, IsNoted};
 
 use dom_base::OutOfMemory;

@@ -2,9 +2,9 @@
 ghost use Rattle.std.specs.Prelude.{◌≡◌, length};
 
 use crate::distinct::{index, item_at, zeros};
-use blif_numbers::{NumberedFile, PartAt, PartKind};
 use card_places::NumberLists;
 use dom_base::OutOfMemory;
+use numbered_file::{NumberedFile, PartAt, PartKind};
 use std::alloc::Global;
 
 /// For each word of a file a place: that of a formal among the names of its instance's model, where it is one of them. It is where a

@@ -1,4 +1,4 @@
-//! The names of each model of a file of BLIF by numbers, and the place of each word of a card among them.
+//! The names of each model of a file of BLIF by numbers, and the places of words of cards among them.
 #![tactic(auto)]
 
 mod distinct;

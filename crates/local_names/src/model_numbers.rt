@@ -1,12 +1,12 @@
 //! All names on the cards of a model by their numbers, as often as they stand there.
 ghost use Rattle.std.specs.Prelude.{◌≡◌, ◌<◌, ◌+◌, ◌++◌, ℕ, List, IsTrue, OnOk, drop, length, slice_get, true};
 ghost use Rattle.std.specs.List.{flat_map};
-ghost use Rattle.blif_numbers.specs.Numbered.{named, part_by};
-ghost use Rattle.blif_numbers.specs.Places.{first_part};
+ghost use Rattle.numbered_file.specs.Numbered.{named, part_by};
+ghost use Rattle.numbered_file.specs.Places.{first_part};
 ghost use Rattle.local_names.specs.PartNames.{IsLatchForm, actuals_by, all_names, names_by, parts_at, with_cards};
 
-use blif_numbers::{NumberedFile, PartAt, PartKind};
 use dom_base::OutOfMemory;
+use numbered_file::{NumberedFile, PartAt, PartKind};
 
 /// A kind of card.
 #[derive(Clone, Copy, Debug)]

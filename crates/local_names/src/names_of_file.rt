@@ -1,8 +1,8 @@
-//! The names of each model of a file, and the places of all words among them.
+//! The names of each model of a file, and a place for each input, output and word of its models.
 ghost use Rattle.std.specs.Prelude.{◌≡◌, ◌<◌, IfNone, IfOk, IfSome, OnOk, Some, length, map, slice_get};
 ghost use Rattle.std.specs.List.{AllByRecursion};
 ghost use Rattle.blif_ast.specs.BlifModelData.{BlifModelData};
-ghost use Rattle.blif_numbers.specs.Numbered.{AreBelow, file_of, models_in, named};
+ghost use Rattle.numbered_file.specs.Numbered.{AreBelow, file_of, models_in, named};
 ghost use Rattle.local_names.specs.LocalNames.{AreLocalNames};
 ghost use Rattle.local_names.specs.AllPlaced.{AreAllPlaced};
 ghost use Rattle.local_names.specs.LostFormals.{HasLostFormal};
@@ -15,9 +15,9 @@ use crate::formals::formal_hints;
 use crate::model_numbers::numbers_of_model;
 use crate::table::LocalNames;
 use crate::word_places::{Lookup, put_parts, put_words};
-use blif_numbers::NumberedFile;
 use card_places::NumberLists;
 use dom_base::OutOfMemory;
+use numbered_file::NumberedFile;
 use std::alloc::Global;
 
 /// The names of each model of a file, where `units` has for each instance the number of its model; none where a formal is no

@@ -2,7 +2,7 @@
 ghost use Rattle.std.specs.Prelude.{◌≡◌, ◌<◌, ◌+◌, ◌*◌, ◌-◌, ℕ, List, IfOk, Some, length, min, slice_get};
 ghost use Rattle.blif_ast.specs.BlifModelData.{BlifModelData};
 ghost use Rattle.blif_ast.specs.Good.{IsGoodFile};
-ghost use Rattle.blif_numbers.specs.Numbered.{Part, file_of, models_in, part_by, parts_of};
+ghost use Rattle.numbered_file.specs.Numbered.{Part, file_of, models_in, part_by, parts_of};
 ghost use Rattle.graph_order.specs.WalkSums.{largest_u64};
 ghost use Rattle.local_names.specs.LocalNames.{AreLocalNames};
 ghost use Rattle.local_names.specs.PartWeights.{model_part_weight, part_weight};
@@ -12,10 +12,10 @@ ghost use Rattle.part_numbers.specs.NetworkSizes.{AreSizes, model_weight, model_
 
 use crate::model_numbers::{part_at, parts_end};
 use crate::table::LocalNames;
-use blif_numbers::{NumberedFile, PartKind};
 use dom_base::OutOfMemory;
 use graph_order::walk_sums;
 use model_calls::{Limit, ModelCalls};
+use numbered_file::{NumberedFile, PartKind};
 use part_numbers::Sizes;
 use std::alloc::Global;
 

@@ -1,13 +1,14 @@
-//! The names of each model, and the places of all words among them.
+//! The names of each model, and a place for each input, output and word.
 ghost use Rattle.std.specs.Prelude.{◌≡◌, [], length, slice_index_or};
 ghost use Rattle.local_names.specs.LocalNames.{names_in};
 
 use card_places::NumberLists;
 use std::marker::Model;
 
-/// The names of each model of a file by their numbers, each once; and for each input, output and word of the file its place
-/// among the names of a model: of a formal among those of the instance's model, of any other word among those of the model
-/// that it stands in. A word that is no name of a model has the place 0.
+/// The names of each model of a file by their numbers, each once; and for each input, output and word of the file's models a
+/// place. An input, an output, each word of a table and of a latch, and an actual of an instance have their places among the names
+/// of the model that they stand in, a formal among those of the instance's model. The first word of an instance, which is the name
+/// of its model, has a place that says nothing.
 #[derive(Drop)]
 pub struct LocalNames {
     pub(crate) models: NumberLists,

@@ -1,15 +1,15 @@
 //! The places of the words of all parts among the names of their models.
 ghost use Rattle.std.specs.Prelude.{◌≡◌, ◌<◌, ◌+◌, [], Contains, IfOk, IfNone, IfSome, IsFalse, IsTrue, OnOk, Some, length, slice_get, slice_index_or};
-ghost use Rattle.blif_numbers.specs.Places.{first_part, words_at};
+ghost use Rattle.numbered_file.specs.Places.{first_part, words_at};
 ghost use Rattle.local_names.specs.LostFormals.{HasLostFormal, IsFormalLost, IsPartLost};
 ghost use Rattle.local_names.specs.Placed.{AreWordsPlaced, HasBindings, IsPartPlaced, IsPlaced};
 ghost use Rattle.local_names.specs.Units.{AreUnits};
 
 use crate::distinct::{first_index, is_at, item_at};
 use crate::model_numbers::{behind_first, part_at, parts_end};
-use blif_numbers::{NumberedFile, PartAt, PartKind, as_u32};
 use card_places::NumberLists;
 use dom_base::OutOfMemory;
+use numbered_file::{NumberedFile, PartAt, PartKind, as_u32};
 
 /// What the words of a file are looked up in: the numbers of the names of all models, for each instance the number of its
 /// model, and for each word a place at which a formal is looked for first, where there are instances.

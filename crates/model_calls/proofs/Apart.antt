@@ -1,8 +1,8 @@
 -- Lists whose elements all differ.
-use Rattle.std.proofs.Common.{◌≡◌, ℕ, zero, suc, ◌<◌, Bool, true, false, List, [], ◌∷◌, ◌++◌, take, Some, refl, ap, sym, ◌∙◌, arith}
-use Rattle.std.specs.Prelude.{◌≢◌, Contains, nat_lt, slice_get, if◌then◌else◌}
+use Rattle.std.proofs.Common.{◌≡◌, ℕ, zero, suc, ◌<◌, Bool, true, false, List, [], ◌∷◌, ◌++◌, Some, refl, ap, sym, ◌∙◌, arith}
+use Rattle.std.specs.Prelude.{◌≢◌, nat_lt, slice_get, if◌then◌else◌}
 use Rattle.std.specs.List.{AllByRecursion}
-use Rattle.dom_base.proofs.Lists.{AllByRecursion-append, AllByRecursion-contains, AllByRecursion-from_places, Contains-first, Contains-later, Contains-slice_get}
+use Rattle.dom_base.proofs.Lists.{AllByRecursion-append, AllByRecursion-contains, AllByRecursion-from_places, Contains-slice_get}
 use Rattle.model_calls.specs.Ordered.{in_order, with_element}
 
 module _ {X : Type 0} where
@@ -28,12 +28,6 @@ module _ {X : Type 0} where
   pub apart_from_places : (xs : List X) → ((j k : ℕ) (x y : X) → j < k → slice_get xs j ≡ Some x → slice_get xs k ≡ Some y → x ≢ y) → Apart xs
   apart_from_places [] h = tt
   apart_from_places (x ∷ xs) h = (AllByRecursion-from_places (λ y. x ≢ y) xs (λ k y. h 0 (suc k) x y (omega arith) refl), apart_from_places xs (λ j k a b l. h (suc j) (suc k) a b (omega (arith, l))))
-
-  pub Contains-take : (xs : List X) (j k : ℕ) (x : X) → j < k → slice_get xs j ≡ Some x → Contains (take k xs) x
-  Contains-take [] j k x l e = absurd cc
-  Contains-take (y ∷ ys) j zero x l e = absurd (omega (arith, l))
-  Contains-take (y ∷ ys) zero (suc k) x l e = let z : y ≡ x = cc in rw (← z) (Contains-first y (take k ys))
-  Contains-take (y ∷ ys) (suc j) (suc k) x l e = Contains-later y (take k ys) x (Contains-take ys j k x (omega (arith, l)) e)
 
   -- putting in order keeps what holds of each element
   pub each_with : (n : X → ℕ) (P : X → Type 0) (e : X) (xs : List X) → P e → AllByRecursion P xs → AllByRecursion P (with_element n e xs)

@@ -14,7 +14,6 @@ pub mod NameNumbers
 pub mod NumberSets
 pub mod OrderedPlans
 pub mod Pairs
-pub mod PlacedNames
 pub mod Reaching
 pub mod Recursions
 pub mod FirstFaults

@@ -1,6 +1,6 @@
 -- Names by numbers: what a set of names says of a name that is looked up or added.
-use Rattle.std.proofs.Common.{◌≡◌, ℕ, ◌+◌, Bool, true, false, cond, List, [], ◌∷◌, ◌++◌, length, map, Option, Some, None, refl, ap, sym, ◌∙◌, subst, arith}
-use Rattle.std.specs.Prelude.{Contains, MatchOption, is_some, nat_lt, not, position, slice_get, if◌then◌else◌}
+use Rattle.std.proofs.Common.{◌≡◌, ℕ, ◌+◌, Bool, true, false, List, [], ◌∷◌, ◌++◌, length, map, Option, Some, None, refl, ap, sym, ◌∙◌, subst, arith}
+use Rattle.std.specs.Prelude.{Contains, MatchOption, is_some, not, position, slice_get, if◌then◌else◌}
 use Rattle.std.specs.Cmp.Lexicographic.{bytes_decides}
 use Rattle.std.specs.List.{list_any, position_or_len}
 use Rattle.std.proofs.lemmas.List.{length-map}
@@ -11,7 +11,6 @@ use Rattle.std.proofs.lemmas.Option.{slice_get-get_or}
 use Rattle.dom_base.proofs.Lists.{AllByRecursion-contains, Contains-slice_get, list_any-map, map-push, none-list_any}
 use Rattle.dom_base.proofs.Names.{names_equal}
 use Rattle.blif_ast.specs.Cards.{same}
-use Rattle.indexmap.specs.IndexSet.{insert_key}
 use Rattle.network.proofs.Lists.{get_map}
 use Rattle.model_calls.specs.NameNumbers.{IsNameAdded}
 
@@ -56,28 +55,3 @@ module _ {Key : Type 0} (now : Key → List ℕ) (name : List ℕ) where
         number ∙ length_where_none before value is ∙ sym (length-map before now),
         not_there before is,
       )
-
-  -- a name that goes into a set of names
-  pub inserted : (keys : List Key) (value : Key) → now value ≡ name
-      → map now (if list_any test keys then keys else keys ++ value ∷ []) ≡ insert_key same (map now keys) name
-  inserted keys value value_is = by (list_any test keys) ∙ ap (λ b. if b then map now keys else map now keys ++ name ∷ []) (sym (list_any-map (same name) now keys))
-    where
-      by : (b : Bool) → map now (if b then keys else keys ++ value ∷ []) ≡ (if b then map now keys else map now keys ++ name ∷ [])
-      by true = refl
-      by false = map-push now keys value ∙ ap (λ w. map now keys ++ w ∷ []) value_is
-
-  -- where a name stands first
-  pub position_now : (keys : List Key) → position test keys ≡ position (same name) (map now keys)
-  position_now keys = ap (λ n. cond (nat_lt n (length keys)) (Some n) None) (first keys)
-      ∙ ap (λ n. cond (nat_lt (position_or_len (same name) (map now keys)) n) (Some (position_or_len (same name) (map now keys))) None) (sym (length-map keys now))
-    where
-      first : (ks : List Key) → position_or_len test ks ≡ position_or_len (same name) (map now ks)
-      first [] = refl
-      first (k ∷ ks) = ap (λ n. cond (not (same name (now k))) (1 + n) 0) (first ks)
-
--- a name that stands there already goes in and changes nothing
-pub inserted_again : (name : List ℕ) (keys : List (List ℕ)) (n : ℕ) → position (same name) keys ≡ Some n → insert_key same keys name ≡ keys
-inserted_again name keys n e =
-    let at = position-Some (same name) keys n name e in
-    let there : Contains keys name = subst (Contains keys) (sym ((bytes_decides name _).0 at.1)) (Contains-slice_get keys n _ (slice_get-get_or keys n name at.0)) in
-    ap (λ b. if b then keys else keys ++ name ∷ []) (list_any-from_Contains names_equal name keys there)

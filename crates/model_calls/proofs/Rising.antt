@@ -1,5 +1,5 @@
 -- Lists in order of a number rise, and keep their elements.
-use Rattle.std.proofs.Common.{◌≡◌, ℕ, zero, suc, ◌<◌, ◌≤◌, ◌+◌, Bool, true, false, List, [], ◌∷◌, length, Some, refl, ap, sym, ◌∙◌, arith}
+use Rattle.std.proofs.Common.{◌≡◌, ℕ, zero, suc, ◌<◌, ◌≤◌, ◌+◌, Bool, true, false, List, [], ◌∷◌, Some, refl, ap, sym, ◌∙◌, arith}
 use Rattle.std.specs.Prelude.{nat_lt, slice_get, if◌then◌else◌}
 use Rattle.std.specs.List.{AllByRecursion, sum_by}
 use Rattle.std.proofs.lemmas.Bool.{ltb-false, ltb-true}
@@ -39,18 +39,6 @@ module _ {X : Type 0} (n : X → ℕ) where
       omega (arith, ap n i, AllByRecursion-contains (λ w. n z ≤ n w) zs y r.0 (Contains-slice_get zs k y d))
   rising_places (z ∷ zs) r (suc j) zero x y l e d = absurd (omega (arith, l))
   rising_places (z ∷ zs) r (suc j) (suc k) x y l e d = rising_places zs r.1 j k x y (omega (arith, l)) e d
-
-  length_with : (e : X) (xs : List X) → length (with_element n e xs) ≡ length xs + 1
-  length_with e [] = refl
-  length_with e (x ∷ xs) = by (length_with e xs) (nat_lt (n x) (n e))
-    where
-      by : length (with_element n e xs) ≡ length xs + 1 → (b : Bool) → length (if b then x ∷ with_element n e xs else e ∷ x ∷ xs) ≡ length (x ∷ xs) + 1
-      by rest true = omega (arith, rest)
-      by rest false = omega arith
-
-  pub length_in_order : (xs : List X) → length (in_order n xs) ≡ length xs
-  length_in_order [] = refl
-  length_in_order (x ∷ xs) = omega (arith, length_with x (in_order n xs), length_in_order xs)
 
   sum_with : (g : X → ℕ) (e : X) (xs : List X) → sum_by g (with_element n e xs) ≡ g e + sum_by g xs
   sum_with g e [] = sum_by-cons g e []

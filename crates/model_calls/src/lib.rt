@@ -9,17 +9,14 @@ mod formals;
 mod lined;
 mod models;
 mod name_hashes;
-mod name_table;
 mod names;
 mod number_set;
 mod plan;
 mod ports;
-mod recent_numbers;
 mod recursion;
 mod scan;
 
 pub use fault::{FlatFault, FlatKind, Limit};
-pub use models::{FoundCalls, ModelCalls, file_calls, find_calls, plan_all};
-pub use name_table::NameTable;
+pub use models::{ModelCalls, file_calls, plan_all};
 pub use number_set::NumberSet;
 pub use plan::{CardAt, Plan};

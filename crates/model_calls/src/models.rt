@@ -79,7 +79,7 @@ pub fn file_calls(alloc: Global, file: &BlifFile) -> Result<ModelCalls, FlatFaul
 /// The calls of the models of a file, or the first thing that is wrong with its models: a name or a
 /// port that is there twice, an instance of no model, a formal that is wrong, or a model that reaches
 /// itself. It fails only for want of memory.
-pub fn find_calls(alloc: Global, models: &[BlifModel]) -> Result<FoundCalls, OutOfMemory>
+fn find_calls(alloc: Global, models: &[BlifModel]) -> Result<FoundCalls, OutOfMemory>
     requires good { IsGoodFile (record { models = models.now }) }
     ensures { IfOk result (AreFoundCalls (record { models = models.now })) }
 {

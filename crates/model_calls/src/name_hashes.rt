@@ -47,15 +47,6 @@ pub fn hash_of_lists(
     Ok(digest.hash())
 }
 
-/// A hash with a key for names that stand elsewhere. The one error is want of memory.
-pub fn keyed_hash_of_names(alloc: Global, names: &[&Name]) -> Result<NameHash, OutOfMemory> {
-    let mut digest = NameDigest::new(alloc);
-    for name in names {
-        digest.add(name.as_bytes())?;
-    }
-    Ok(digest.hash())
-}
-
 /// A hash for the names of these models. The one error is want of memory.
 pub fn hash_of_models(alloc: Global, models: &[BlifModel]) -> Result<NameHash, OutOfMemory> {
     if models.len() < FEW {

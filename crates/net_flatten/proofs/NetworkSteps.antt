@@ -36,12 +36,15 @@ module _ (f : BlifFileData) (places : List ℕ) (parts : List NumberedPartData) 
       → All (λ t. IsSome (levelled_in_network f places parts t)) ordered → slice_get ordered index ≡ Some t → t.part < length parts
   part_of_levelled ordered index t all at = levelled_there t (All-at (λ u. IsSome (levelled_in_network f places parts u)) ordered index t all at)
 
-  pub tables_next : (ordered : List LevelledTable) (index : ℕ) (t : LevelledTable) (p : NumberedPartData) (tables : List NetTableData) (table : NetTableData)
-      → slice_get ordered index ≡ Some t → slice_get parts t.part ≡ Some p → table_in_network f places p ≡ Some table
+  pub tables_next : (ordered : List LevelledTable) (index : ℕ) (t : LevelledTable) (p : NumberedPartData) (tables more : List NetTableData)
+      → slice_get ordered index ≡ Some t → slice_get parts t.part ≡ Some p → map Some more ≡ map Some tables ++ table_in_network f places p ∷ []
       → map Some tables ≡ map (levelled_in_network f places parts) (take index ordered)
-      → map Some (tables ++ table ∷ []) ≡ map (levelled_in_network f places parts) (take (index + 1) ordered)
-  tables_next ordered index t p tables table at part is e =
-      image_next (levelled_in_network f places parts) tables (take index ordered) t table e (ap (option_and_then (table_in_network f places)) part ∙ is)
+      → map Some more ≡ map (levelled_in_network f places parts) (take (index + 1) ordered)
+  tables_next ordered index t p tables more at part is e =
+      let front = map (levelled_in_network f places parts) (take index ordered) in
+      is ∙ ap (λ l. l ++ table_in_network f places p ∷ []) e
+      ∙ ap (λ o. front ++ o ∷ []) (sym (ap (option_and_then (table_in_network f places)) part))
+      ∙ sym (map-push (levelled_in_network f places parts) (take index ordered) t)
       ∙ ap (map (levelled_in_network f places parts)) (sym (take_next ordered index t at))
 
   module _ (index : ℕ) (p : NumberedPartData) (at : slice_get parts index ≡ Some p) where

@@ -7,6 +7,7 @@ use Rattle.std.proofs.lemmas.Option.{same_Some, slice_get-get_or}
 use Rattle.blif_ast.specs.Printed.{latch_words, model_lines, ports_card, printed, printed_line, table_lines}
 use Rattle.blif_ast.proofs.FileLines.{model_end}
 use Rattle.network.specs.NetworkData.{NetworkData}
+use Rattle.network.proofs.IndexedLists.{take_next}
 use Rattle.model_calls.specs.Occurrences.{main_model}
 use Rattle.net_flatten.specs.OneModel.{file_of, name_at}
 use Rattle.net_flatten.specs.OneModelParts.{latches_here, tables_here}
@@ -28,6 +29,14 @@ module _ {X Y : Type 0} (f : ℕ × X → Y) (g : Y → List ℕ) where
 
   pub appended_all : (xs : List X) (k : ℕ) (text new : List ℕ) → length xs ≤ k → new ≡ text ++ flat_map g (take k (numbered f xs)) → new ≡ text ++ flat_map g (numbered f xs)
   appended_all xs k text new l e = e ∙ ap (λ ys. text ++ flat_map g ys) (numbered_all f xs k (take k (numbered f xs)) l refl)
+
+-- what the next element of a list appends
+pub appended_next : {X : Type 0} (g : X → List ℕ) (xs : List X) (k : ℕ) (x : X) (text old new : List ℕ) → slice_get xs k ≡ Some x
+    → old ≡ text ++ flat_map g (take k xs) → new ≡ old ++ g x → new ≡ text ++ flat_map g (take (k + 1) xs)
+appended_next g xs k x text old new at e is =
+    let front = take k xs in
+    is ∙ ap (λ o. o ++ g x) e ∙ append_assoc text (flat_map g front) (g x)
+    ∙ ap (λ r. text ++ r) (ap (λ r. flat_map g front ++ r) (sym (append-nil (g x))) ∙ sym (flat_map-append g front (x ∷ [])) ∙ ap (flat_map g) (sym (take_next xs k x at)))
 
 -- the whole text
 pub printed_end : (n : NetworkData) (t0 t1 t2 t3 t4 t5 t6 : List ℕ)

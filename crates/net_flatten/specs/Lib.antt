@@ -1,3 +1,4 @@
+pub mod CalledFiles
 pub mod Flattening
 pub mod Laws
 pub mod OneModel

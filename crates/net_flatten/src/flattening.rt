@@ -1,8 +1,8 @@
 //! The network of a file of BLIF, or what refuses the file.
 ghost use Rattle.std.specs.Prelude.{ℕ, ◌≡◌, ◌≤◌, List, IfNone, IfOk, IfSome, IsErrOf, IsTrue, OnOk, length};
 ghost use Rattle.blif_ast.specs.Good.{IsGoodFile};
-ghost use Rattle.blif_numbers.specs.Numbered.{file_of, models_in};
-ghost use Rattle.blif_numbers.specs.Places.{first_part};
+ghost use Rattle.numbered_file.specs.Numbered.{file_of, models_in};
+ghost use Rattle.numbered_file.specs.Places.{first_part};
 ghost use Rattle.card_places.specs.CardPlaces.{AreCardPlaces};
 ghost use Rattle.local_names.specs.LocalNames.{AreLocalNames};
 ghost use Rattle.model_calls.specs.Counts.{signal_count};
@@ -17,14 +17,15 @@ ghost use Rattle.network.specs.Limits.{most_signals};
 ghost use Rattle.part_numbers.specs.NetworkSizes.{IsSizeCheck};
 
 use crate::building::network_of;
+use crate::called::called_file;
 use crate::signal_checks::check_signals;
 use blif_ast::BlifFile;
-use blif_numbers::{NumberedFile, bytes_of, number_file, to_file};
-use card_places::{CardPlaces, card_places, plans};
-use local_names::{LocalNames, count, local_names};
+use card_places::{CardPlaces, plans};
+use file_copies::{bytes_of, number_file, to_file};
+use local_names::{LocalNames, count};
 use model_calls::{FlatFault, ModelCalls, Plan, file_calls};
 use network::Network;
-use numbered_calls::{calls, units};
+use numbered_file::NumberedFile;
 use numbered_signals::number;
 use part_numbers::{CardFile, check_counts};
 use std::alloc::Global;
@@ -113,16 +114,15 @@ fn flatten_known(alloc: Global, file: &NumberedFile<'_>) -> Result<Option<Networ
     ensures too_many { (limit : Limit) (count : ℕ) → IsErrOf result (FlatFault.TooMany limit count)
         → IsRefusal (file_of file.now) (TooMany limit count) }
 {
-    let places = card_places(alloc, file)?;
-    let Some(units) = units(alloc, file)? else {
-        return Ok(None);
-    };
-    let Some(names) = local_names(alloc, file, &units)? else {
-        return Ok(None);
-    };
-    match calls(alloc, file, &places, &units, &names)? {
-        Some(calls) => {
-            let network = flatten_called(alloc, file, &places, &names, &calls)?;
+    match called_file(alloc, file)? {
+        Some(called) => {
+            let network = flatten_called(
+                alloc,
+                file,
+                &called.places,
+                &called.names,
+                &called.calls,
+            )?;
             Ok(Some(network))
         }
         None => Ok(None),

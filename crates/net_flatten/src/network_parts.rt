@@ -1,12 +1,12 @@
 //! The tables and latches of a network, from those of a file by numbers.
-ghost use Rattle.std.specs.Prelude.{◌≡◌, ◌<◌, All, IfOk, IsSome, Some, length, map};
+ghost use Rattle.std.specs.Prelude.{◌≡◌, ◌<◌, ◌++◌, ◌∷◌, [], All, IfOk, IsSome, OnOk, Some, length, map};
 ghost use Rattle.net_flatten.specs.NetworkNumbers.{latches_among};
 ghost use Rattle.net_flatten.specs.NetworkParts.{latch_in_network, levelled_in_network, network_place, table_in_network};
 ghost use Rattle.part_numbers.specs.NumberedFaults.{IsPartWithin};
 
 use crate::table_order::LevelledTable;
 use dom_base::OutOfMemory;
-use network::{NetLatch, NetTable, Reads};
+use network::{NetLatch, NetTables, Reads};
 use part_numbers::{CardFile, NumberedPart, PartCard, card_of};
 use std::alloc::Global;
 
@@ -34,25 +34,31 @@ fn places_read(alloc: Global, places: &[u32], numbers: &[u32]) -> Result<Reads, 
     Ok(found)
 }
 
-/// A table in the network. The one error is want of memory.
-fn net_table(
+/// Appends a table in the network. The one error is want of memory.
+fn push_table(
+    tables: &mut NetTables,
     alloc: Global,
     file: &CardFile<'_>,
     part: &NumberedPart,
     places: &[u32],
-) -> Result<NetTable, OutOfMemory>
+) -> Result<(), OutOfMemory>
     requires there { IsSome (table_in_network file.now places.now part.now) }
     requires within { IsPartWithin (length places.now) part.now }
-    ensures { IfOk result (λ table. table_in_network file.now places.now part.now ≡ Some table) }
+    ensures { OnOk result (map Some tables.new ≡ map Some tables.old ++ table_in_network file.now places.now part.now ∷ []) }
 {
     let card = card_of(file, part);
     let rows = card.rows(alloc)?;
     let inputs = places_read(alloc, places, part.reads.as_slice())?;
-    Ok(NetTable {
-        inputs,
-        on: card.on(),
-        rows,
-    })
+    tables.push(&inputs, card.on(), &rows)
+}
+
+/// How many signals the tables of some parts read, if no more than there are bytes.
+fn count_reads(parts: &[NumberedPart]) -> usize {
+    let mut reads: usize = 0;
+    for part in parts {
+        reads = reads.saturating_add(part.reads.len());
+    }
+    reads
 }
 
 /// A latch in the network.
@@ -76,17 +82,17 @@ pub fn net_tables(
     parts: &[NumberedPart],
     ordered: &[LevelledTable],
     places: &[u32],
-) -> Result<Vec<NetTable>, OutOfMemory>
+) -> Result<NetTables, OutOfMemory>
     requires within { All (IsPartWithin (length places.now)) parts.now }
     requires there { All (λ t. IsSome (levelled_in_network file.now places.now parts.now t)) ordered.now }
-    ensures { IfOk result (λ tables. map Some tables.items
+    ensures { IfOk result (λ tables. map Some tables
         ≡ map (levelled_in_network file.now places.now parts.now) ordered.now) }
 {
-    let mut tables = Vec::with_capacity(alloc, ordered.len())?;
+    let mut tables = NetTables::with_capacity(alloc, ordered.len(), count_reads(parts), 0, 0)?;
     for index in 0..ordered.len() {
         let table = ordered[index];
         let part = &parts[table.part];
-        tables.push(net_table(alloc, file, part, places)?)?;
+        push_table(&mut tables, alloc, file, part, places)?;
     }
     Ok(tables)
 }

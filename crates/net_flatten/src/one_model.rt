@@ -9,9 +9,9 @@ ghost use Rattle.net_flatten.specs.OneModel.{file_of, latch_at, name_at, table_a
 ghost use Rattle.model_calls.specs.Refusal.{Refusal};
 ghost use Rattle.model_calls.specs.Refusals.{HasRefusal};
 
-use blif_ast::{BlifFile, BlifModel, InputNames, Latch, Row, Rows, Table};
+use blif_ast::{BlifFile, BlifModel, InputNames, Latch, Letters, Row, Rows, Table};
 use dom_base::{Name, OutOfMemory};
-use network::Network;
+use network::{Network, TableRows};
 use std::alloc::Global;
 
 /// The file of one model that has the network's inputs, outputs, tables in order and untyped latches. It is
@@ -88,10 +88,10 @@ fn table_of(alloc: Global, network: &Network, k: usize) -> Result<Table, OutOfMe
     requires { k < length network.now.tables }
     ensures { IfOk result (λ table. (t : NetTableData) → slice_get network.now.tables k ≡ Some t → table ≡ table_at network.now k t) }
 {
-    let table = &network.tables[k];
+    let table = network.tables.table(k);
     let first = network.inputs as usize + network.latches.len();
     Ok(Table {
-        inputs: names_read(alloc, network, &table.inputs)?,
+        inputs: names_read(alloc, network, table.inputs)?,
         output: name_of(network, first + k)?,
         on: table.on,
         rows: copies(alloc, &table.rows)?,
@@ -100,10 +100,15 @@ fn table_of(alloc: Global, network: &Network, k: usize) -> Result<Table, OutOfMe
 }
 
 /// Copies of rows.
-fn copies(alloc: Global, rows: &[Row]) -> Result<Rows, OutOfMemory>
+fn copies(alloc: Global, rows: &TableRows<'_>) -> Result<Rows, OutOfMemory>
     ensures { IfOk result (λ copies. copies.items ≡ rows.now) }
 {
-    Ok(Rows::from_clones(alloc, rows)?)
+    let mut copies = Rows::with_capacity(alloc, rows.len())?;
+    for k in 0..rows.len() {
+        let letters = Letters::from_slice(alloc, rows.list(k))?;
+        copies.push(Row { letters })?;
+    }
+    Ok(copies)
 }
 
 /// The latches of the file.

@@ -1,15 +1,15 @@
 //! The text of a network as a file of one model.
 ghost use Rattle.std.specs.Prelude.{◌≡◌, ◌<◌, ◌++◌, ◌∷◌, [], All, IfOk, OnOk, Some, codes, length, map, slice_get};
 ghost use Rattle.std.specs.List.{flat_map};
-ghost use Rattle.blif_ast.specs.Printed.{printed, printed_line, table_lines};
+ghost use Rattle.blif_ast.specs.Printed.{letter_byte, printed, printed_line, row_words, table_lines};
 ghost use Rattle.network.specs.NetworkData.{NetTableData};
 ghost use Rattle.net_flatten.specs.OneModel.{file_of, name_at, table_at};
 ghost use Rattle.net_flatten.specs.OneModelParts.{tables_here};
 
 use crate::one_model::{latches_of, names_of};
-use blif_ast::{Row, end_line, put_head, put_latches, put_ports, put_rows};
+use blif_ast::{Letter, end_line, put_head, put_latches, put_ports};
 use dom_base::{Name, OutOfMemory, append, append_word};
-use network::Network;
+use network::{Network, TableRows};
 use std::alloc::Global;
 
 /// The most bytes of a text besides those of its names and rows.
@@ -61,10 +61,50 @@ fn put_table(text: &mut Vec<u8>, network: &Network, k: usize) -> Result<(), OutO
     ensures { OnOk result ((t : NetTableData) → slice_get network.now.tables k ≡ Some t
         → text.new.items ≡ text.old.items ++ flat_map printed_line (table_lines (table_at network.now k t))) }
 {
-    let table = &network.tables[k];
+    let table = network.tables.table(k);
     let first = network.inputs as usize + network.latches.len();
-    put_card(text, network, &table.inputs, first + k)?;
+    put_card(text, network, table.inputs, first + k)?;
     put_rows(text, table.on, &table.rows)
+}
+
+/// Appends a line for each row: its letters, if there are any, and `1` where `on` is true, else `0`.
+fn put_rows(text: &mut Vec<u8>, on: bool, rows: &TableRows<'_>) -> Result<(), OutOfMemory>
+    ensures { OnOk result (text.new.items ≡ text.old.items ++ flat_map (λ row. printed_line (row_words on row)) rows.now) }
+{
+    for k in 0..rows.len() {
+        put_row(text, on, rows.list(k))?;
+    }
+    Ok(())
+}
+
+/// Appends the line of a row.
+fn put_row(text: &mut Vec<u8>, on: bool, letters: &[Letter]) -> Result<(), OutOfMemory>
+    ensures { OnOk result (text.new.items ≡ text.old.items ++ printed_line (row_words on letters.now)) }
+{
+    put_letters(text, letters)?;
+    if !letters.is_empty() {
+        append(text, b" ")?;
+    }
+    append(text, if on { b"1\n" } else { b"0\n" })
+}
+
+fn put_letters(text: &mut Vec<u8>, letters: &[Letter]) -> Result<(), OutOfMemory>
+    ensures { OnOk result (text.new.items ≡ text.old.items ++ map letter_byte letters.now) }
+{
+    for letter in letters {
+        text.push(byte_of(*letter))?;
+    }
+    Ok(())
+}
+
+fn byte_of(letter: Letter) -> u8
+    ensures { result ≡ letter_byte letter }
+{
+    match letter {
+        Letter::Zero => b'0',
+        Letter::One => b'1',
+        Letter::Any => b'-',
+    }
 }
 
 /// Appends the card of a table that reads these signals and drives this one.
@@ -113,9 +153,11 @@ fn room_of(network: &Network) -> usize {
     for latch in &network.latches {
         room = room.saturating_add(room_of_read(&network.names, latch.input));
     }
-    for table in &network.tables {
-        room = room.saturating_add(room_of_reads(&network.names, &table.inputs));
-        room = room.saturating_add(room_of_rows(&table.rows));
+    for k in 0..network.tables.len() {
+        let table = network.tables.table(k);
+        let row = AROUND_ROW.saturating_add(table.inputs.len());
+        room = room.saturating_add(room_of_reads(&network.names, table.inputs));
+        room = room.saturating_add(row.saturating_mul(table.rows.len()));
     }
     room.saturating_add(AROUND + network.name.as_bytes().len())
 }
@@ -145,15 +187,4 @@ fn room_of_read(names: &[Name], signal: u32) -> usize {
         Some(name) => name.as_bytes().len().saturating_add(1),
         None => 0,
     }
-}
-
-/// How many bytes of room these rows want.
-fn room_of_rows(rows: &[Row]) -> usize {
-    let mut room: usize = 0;
-    for row in rows {
-        room = room
-            .saturating_add(AROUND_ROW)
-            .saturating_add(row.letters.len());
-    }
-    room
 }

@@ -8,13 +8,13 @@ use Rattle.std.proofs.lemmas.Option.{get_or_from_slice_get, slice_get-get_or, sl
 use Rattle.blif_ast.specs.declared.instance.Binding.{Binding}
 use Rattle.blif_ast.specs.BlifModelData.{BlifModelData}
 use Rattle.blif_ast.specs.InstanceData.{InstanceData}
-use Rattle.blif_numbers.specs.declared.parts.PartAt.{PartAt}
-use Rattle.blif_numbers.specs.declared.parts.PartKind.{PartKind}
-use Rattle.blif_numbers.specs.declared.parts.PartKind.TheVariants as at
-use Rattle.blif_numbers.specs.NumberedData.{NumberedData}
-use Rattle.blif_numbers.specs.Numbered.{InstancePart, between, bindings_by, file_of, instance_by, model_by, models_in, name_of, named, part_by, parts_of}
-use Rattle.blif_numbers.specs.Places.{first_part, inputs_at, outputs_at, rows_at, words_at}
-use Rattle.blif_numbers.proofs.Places.{length-models_in, length-parts_of, model_there, part_there}
+use Rattle.numbered_file.specs.declared.parts.PartAt.{PartAt}
+use Rattle.numbered_file.specs.declared.parts.PartKind.{PartKind}
+use Rattle.numbered_file.specs.declared.parts.PartKind.TheVariants as at
+use Rattle.numbered_file.specs.NumberedData.{NumberedData}
+use Rattle.numbered_file.specs.Numbered.{InstancePart, between, bindings_by, file_of, instance_by, model_by, models_in, name_of, named, part_by, parts_of}
+use Rattle.numbered_file.specs.Places.{first_part, inputs_at, outputs_at, rows_at, words_at}
+use Rattle.numbered_file.proofs.Places.{length-models_in, length-parts_of, model_there, part_there}
 use Rattle.card_places.specs.CardPlaces.{AreAtPlaces, AreCardPlaces, CardPlacesData, places_at}
 use Rattle.dom_base.proofs.Lists.{Contains-slice_get, slice_get-contained, slice_get-there}
 use Rattle.network.proofs.IndexedLists.{same_at}

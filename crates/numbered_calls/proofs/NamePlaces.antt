@@ -8,7 +8,7 @@ use Rattle.std.proofs.lemmas.List.{map-append}
 use Rattle.std.proofs.lemmas.List.Sums.{sum_by-cons}
 use Rattle.std.proofs.lemmas.Option.{slice_get_within}
 use Rattle.blif_ast.specs.Cards.{same}
-use Rattle.blif_numbers.specs.Numbered.{named, name_of}
+use Rattle.numbered_file.specs.Numbered.{named, name_of}
 use Rattle.dom_base.proofs.Lists.{Contains-slice_get, slice_get-contained}
 use Rattle.network.proofs.IndexedLists.{take_get}
 use Rattle.network.proofs.Lists.{count_twice, get_map, get_of_map}

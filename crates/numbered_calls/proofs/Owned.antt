@@ -3,12 +3,12 @@ use Rattle.std.proofs.Common.{◌≡◌, ℕ, ◌<◌, ◌+◌, inl, inr, List, 
 use Rattle.std.specs.Prelude.{None, Some, slice_get, slice_index_or, slice_set}
 use Rattle.std.proofs.lemmas.Option.{get_or_from_slice_get, none-some, slice_get-get_or, slice_get_within}
 use Rattle.blif_ast.specs.BlifModelData.{BlifModelData}
-use Rattle.blif_numbers.specs.declared.parts.ModelAt.{ModelAt}
-use Rattle.blif_numbers.specs.declared.parts.PartAt.{PartAt}
-use Rattle.blif_numbers.specs.declared.parts.PartKind.TheVariants.{Instance}
-use Rattle.blif_numbers.specs.NumberedData.{NumberedData}
-use Rattle.blif_numbers.specs.Numbered.{IsNumbered, Part, models_from, models_in, name_of, named, parts_of}
-use Rattle.blif_numbers.specs.Places.{words_at}
+use Rattle.numbered_file.specs.declared.parts.ModelAt.{ModelAt}
+use Rattle.numbered_file.specs.declared.parts.PartAt.{PartAt}
+use Rattle.numbered_file.specs.declared.parts.PartKind.TheVariants.{Instance}
+use Rattle.numbered_file.specs.NumberedData.{NumberedData}
+use Rattle.numbered_file.specs.Numbered.{IsNumbered, Part, models_from, models_in, name_of, named, parts_of}
+use Rattle.numbered_file.specs.Places.{words_at}
 use Rattle.dom_base.proofs.Lists.{AllByRecursion-contains, Contains-slice_get, slice_get-append, slice_get-contained, slice_get-push, slice_get-push_cases, slice_get-set_other}
 use Rattle.graph_order.proofs.Placed.{set_here}
 use Rattle.network.proofs.IndexedLists.{get_replicate, get_set, take_get}

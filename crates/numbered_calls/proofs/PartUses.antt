@@ -6,10 +6,10 @@ use Rattle.std.proofs.lemmas.Bool.{cases_lt}
 use Rattle.std.proofs.lemmas.List.Elements.{Contains-append_right, filter_map-append}
 use Rattle.blif_ast.specs.BlifModelData.{BlifModelData}
 use Rattle.blif_ast.specs.InstanceData.{InstanceData}
-use Rattle.blif_numbers.specs.NumberedData.{NumberedData}
-use Rattle.blif_numbers.specs.Numbered.{InstancePart, Part, between, file_of, instance_by, instance_in, model_by, models_in, name_of, named, part_by, parts_of}
-use Rattle.blif_numbers.specs.Places.{IsPartOf, first_part, inputs_at, outputs_at, rows_at, words_at}
-use Rattle.blif_numbers.proofs.Places.{model_there, part_there}
+use Rattle.numbered_file.specs.NumberedData.{NumberedData}
+use Rattle.numbered_file.specs.Numbered.{InstancePart, Part, between, file_of, instance_by, instance_in, model_by, models_in, name_of, named, part_by, parts_of}
+use Rattle.numbered_file.specs.Places.{IsPartOf, first_part, inputs_at, outputs_at, rows_at, words_at}
+use Rattle.numbered_file.proofs.Places.{model_there, part_there}
 use Rattle.dom_base.proofs.Lists.{Contains-first, Contains-slice_get, slice_get-there}
 use Rattle.network.proofs.IndexedLists.{split_at}
 use Rattle.network.proofs.Lists.{get_take}

@@ -3,7 +3,7 @@ use Rattle.std.proofs.Common.{◌≡◌, ℕ, ◌+◌, ◌<◌, ◌⊎◌, inl, 
 use Rattle.std.specs.Prelude.{Some, slice_get, slice_set}
 use Rattle.std.proofs.lemmas.Bool.{cases_eq}
 use Rattle.std.proofs.lemmas.List.{length-append, length-set}
-use Rattle.blif_numbers.specs.NumberedData.{NumberedData}
+use Rattle.numbered_file.specs.NumberedData.{NumberedData}
 use Rattle.dom_base.proofs.Lists.{slice_get-push_cases}
 use Rattle.network.proofs.IndexedLists.{get_set}
 use Rattle.local_names.specs.LocalNames.{IsInstance, LocalNamesData, names_in}

@@ -8,11 +8,11 @@ use Rattle.std.proofs.lemmas.Option.{get_or_from_slice_get, slice_get_within}
 use Rattle.blif_ast.specs.Good.{IsGoodModel}
 use Rattle.blif_ast.specs.BlifModelData.{BlifModelData}
 use Rattle.blif_ast.specs.InstanceData.{InstanceData}
-use Rattle.blif_numbers.specs.declared.parts.ModelAt.{ModelAt}
-use Rattle.blif_numbers.specs.NumberedData.{NumberedData}
-use Rattle.blif_numbers.specs.Numbered.{IsNumbered, file_of, models_in, name_of, named}
-use Rattle.blif_numbers.specs.Places.{words_at}
-use Rattle.blif_numbers.proofs.Places.{length-models_in, words_below}
+use Rattle.numbered_file.specs.declared.parts.ModelAt.{ModelAt}
+use Rattle.numbered_file.specs.NumberedData.{NumberedData}
+use Rattle.numbered_file.specs.Numbered.{IsNumbered, file_of, models_in, name_of, named}
+use Rattle.numbered_file.specs.Places.{words_at}
+use Rattle.numbered_file.proofs.Places.{length-models_in, words_below}
 use Rattle.card_places.specs.CardPlaces.{AreCardPlaces, CardPlacesData}
 use Rattle.dom_base.proofs.Lists.{AllByRecursion-contains, All-at, Contains-first, Contains-slice_get, slice_get-contained, slice_get-there}
 use Rattle.network.proofs.Lists.{get_map, get_of_map}

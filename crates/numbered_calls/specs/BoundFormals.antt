@@ -1,8 +1,8 @@
 -- The ports of the models of a file of BLIF (Berkeley Logic Interchange Format), and the formals of its instances, by their places
 -- among the names of the models.
 use Rattle.std.specs.Prelude.{ℕ, ◌≡◌, ◌<◌, ◌⊎◌, List, ◌++◌, drop, length, Some, slice_get}
-use Rattle.blif_numbers.specs.NumberedData.{NumberedData}
-use Rattle.blif_numbers.specs.Places.{of_inputs, of_outputs, of_part}
+use Rattle.numbered_file.specs.NumberedData.{NumberedData}
+use Rattle.numbered_file.specs.Places.{of_inputs, of_outputs, of_part}
 use Rattle.local_names.specs.LocalNames.{IsInstance, LocalNamesData, firsts, names_in}
 use Rattle.numbered_calls.specs.PortMarks.{AreBadlyBound, AreBound, ArePorts, AreTwice}
 

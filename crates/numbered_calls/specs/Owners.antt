@@ -1,8 +1,8 @@
 -- The models of a file of BLIF (Berkeley Logic Interchange Format) by the numbers of their names.
 use Rattle.std.specs.Prelude.{ℕ, ◌≡◌, ◌≢◌, ◌<◌, ◌+◌, List, Some, slice_get}
-use Rattle.blif_numbers.specs.declared.parts.ModelAt.{ModelAt}
-use Rattle.blif_numbers.specs.NumberedData.{NumberedData}
-use Rattle.blif_numbers.specs.Places.{words_at}
+use Rattle.numbered_file.specs.declared.parts.ModelAt.{ModelAt}
+use Rattle.numbered_file.specs.NumberedData.{NumberedData}
+use Rattle.numbered_file.specs.Places.{words_at}
 use Rattle.local_names.specs.LocalNames.{IsInstance}
 
 -- a number for each name: 0 where no model has it, else one more than the number of the one model that has it

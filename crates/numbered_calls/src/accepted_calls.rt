@@ -1,7 +1,7 @@
 //! The calls of the models of a file, where nothing is wrong with the models.
 ghost use Rattle.std.specs.Prelude.{◌≡◌, ◌<◌, ◌^◌, IfNone, IfOk, IfSome, length, map, slice_index_or};
 ghost use Rattle.blif_ast.specs.Good.{IsGoodFile};
-ghost use Rattle.blif_numbers.specs.Numbered.{file_of, models_in};
+ghost use Rattle.numbered_file.specs.Numbered.{file_of, models_in};
 ghost use Rattle.card_places.specs.CardPlaces.{AreCardPlaces};
 ghost use Rattle.graph_order.specs.Orders.{IsGraph};
 ghost use Rattle.local_names.specs.LocalNames.{AreLocalNames};
@@ -13,12 +13,12 @@ ghost use Rattle.model_calls.specs.ModelFaults.{IsDuplicateModel};
 ghost use Rattle.numbered_calls.specs.Refused.{IsRefusedForModels};
 
 use crate::formals::{are_bound, marks_of_ports};
-use blif_numbers::NumberedFile;
 use card_places::CardPlaces;
 use dom_base::OutOfMemory;
 use graph_order::{Node, Order, put_in_order};
 use local_names::LocalNames;
 use model_calls::ModelCalls;
+use numbered_file::NumberedFile;
 use std::alloc::Global;
 
 /// More than the models of a file that are numbered.

@@ -5,9 +5,9 @@ ghost use Rattle.numbered_calls.specs.BoundFormals.{AreBoundBelow, HaveBadBindin
 
 use crate::port_marks::PortMarks;
 use crate::unit_numbers::is_instance;
-use blif_numbers::NumberedFile;
 use dom_base::OutOfMemory;
 use local_names::LocalNames;
+use numbered_file::NumberedFile;
 use std::alloc::Global;
 
 /// The first mark of the formals of an instance: those below are for ports.

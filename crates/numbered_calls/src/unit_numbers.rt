@@ -1,9 +1,9 @@
 //! The models that instances name.
 ghost use Rattle.std.specs.Prelude.{◌≡◌, ◌<◌, ◌+◌, ◌^◌, ℕ, IfNone, IfOk, IfSome, IsFalse, IsTrue, None, Some, length, slice_get, slice_set};
 ghost use Rattle.std.specs.List.{AllByRecursion};
-ghost use Rattle.blif_numbers.specs.declared.parts.PartAt.{PartAt};
-ghost use Rattle.blif_numbers.specs.declared.parts.PartKind.TheVariants.{Instance};
-ghost use Rattle.blif_numbers.specs.Numbered.{models_in};
+ghost use Rattle.numbered_file.specs.declared.parts.PartAt.{PartAt};
+ghost use Rattle.numbered_file.specs.declared.parts.PartKind.TheVariants.{Instance};
+ghost use Rattle.numbered_file.specs.Numbered.{models_in};
 ghost use Rattle.local_names.specs.LocalNames.{IsInstance, IsUnitOf};
 ghost use Rattle.local_names.specs.Units.{AreUnits};
 ghost use Rattle.model_calls.specs.FirstFaults.{NoneHolds};
@@ -11,8 +11,8 @@ ghost use Rattle.model_calls.specs.ModelFaults.{IsDuplicateModel};
 ghost use Rattle.numbered_calls.specs.Owners.{AreOwners, HaveNameTwice, NamesNoModel};
 ghost use Rattle.numbered_calls.specs.Refused.{IsRefusedForModels};
 
-use blif_numbers::{ModelAt, NumberedFile, PartAt, PartKind};
 use dom_base::OutOfMemory;
+use numbered_file::{ModelAt, NumberedFile, PartAt, PartKind};
 use std::alloc::Global;
 
 /// More than the models of a file that are numbered.

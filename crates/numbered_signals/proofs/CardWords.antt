@@ -11,12 +11,12 @@ use Rattle.blif_ast.specs.declared.latch.Edge2.{Edge2}
 use Rattle.blif_ast.specs.declared.latch.Latch.{Latch}
 use Rattle.model_calls.specs.CallNumbers.{names_of_models}
 use Rattle.model_calls.specs.Occurrences.{first_model}
-use Rattle.blif_numbers.specs.declared.parts.PartAt.{PartAt}
-use Rattle.blif_numbers.specs.declared.parts.PartKind.{PartKind}
-use Rattle.blif_numbers.specs.declared.parts.PartKind.TheVariants as at
-use Rattle.blif_numbers.specs.NumberedData.{NumberedData}
-use Rattle.blif_numbers.specs.Numbered.{InstancePart, LatchPart, Part, TablePart, bindings_by, file_of, instance_by, latch_by, models_in, named, part_by, parts_of, table_by}
-use Rattle.blif_numbers.specs.Places.{IsPartOf, of_part, rows_at, words_at}
+use Rattle.numbered_file.specs.declared.parts.PartAt.{PartAt}
+use Rattle.numbered_file.specs.declared.parts.PartKind.{PartKind}
+use Rattle.numbered_file.specs.declared.parts.PartKind.TheVariants as at
+use Rattle.numbered_file.specs.NumberedData.{NumberedData}
+use Rattle.numbered_file.specs.Numbered.{InstancePart, LatchPart, Part, TablePart, bindings_by, file_of, instance_by, latch_by, models_in, named, part_by, parts_of, table_by}
+use Rattle.numbered_file.specs.Places.{IsPartOf, of_part, rows_at, words_at}
 use Rattle.card_places.specs.CardPlaces.{AreCardPlaces, CardPlacesData, places_at}
 use Rattle.card_places.proofs.CardsAt.{instance_there, part_at_place}
 use Rattle.local_names.specs.LocalNames.{AreLocalNames, AreLocals, LocalNamesData, firsts, names_in, own_words, seconds}

@@ -5,10 +5,10 @@ use Rattle.std.specs.List.{AllByRecursion}
 use Rattle.dom_base.proofs.Lists.{slice_get-there}
 use Rattle.blif_ast.specs.BlifModelData.{BlifModelData}
 use Rattle.model_calls.specs.Occurrences.{first_model, main_model}
-use Rattle.blif_numbers.specs.NumberedData.{NumberedData}
-use Rattle.blif_numbers.specs.Numbered.{file_of, models_in, named}
-use Rattle.blif_numbers.specs.Places.{inputs_at, of_inputs, of_outputs, outputs_at}
-use Rattle.blif_numbers.proofs.Places.{length-models_in, model_there}
+use Rattle.numbered_file.specs.NumberedData.{NumberedData}
+use Rattle.numbered_file.specs.Numbered.{file_of, models_in, named}
+use Rattle.numbered_file.specs.Places.{inputs_at, of_inputs, of_outputs, outputs_at}
+use Rattle.numbered_file.proofs.Places.{length-models_in, model_there}
 use Rattle.local_names.specs.LocalNames.{AreLocalNames, LocalNamesData}
 use Rattle.part_numbers.specs.SignalNumbers.{HasSignalNumber, signal_number}
 use Rattle.numbered_signals.specs.ScopeRoots.{HasRoot, ScopeRootsData, names_of_model, local_root, signals_with}

@@ -12,8 +12,8 @@ use Rattle.model_calls.specs.Occurrences.{first_model, names_of}
 use Rattle.model_calls.proofs.Apart.{place_once}
 use Rattle.model_calls.proofs.EachPart.{each_itself}
 use Rattle.model_calls.proofs.UniqueNames.{number_in, unique_apart, unique_each}
-use Rattle.blif_numbers.specs.NumberedData.{NumberedData}
-use Rattle.blif_numbers.specs.Numbered.{file_of, models_in, name_of, named}
+use Rattle.numbered_file.specs.NumberedData.{NumberedData}
+use Rattle.numbered_file.specs.Numbered.{file_of, models_in, name_of, named}
 use Rattle.local_names.specs.LocalNames.{AreLocalNames, AreLocals, LocalNamesData, names_in}
 use Rattle.part_numbers.specs.NumberedFiles.{model_at}
 use Rattle.part_numbers.specs.SignalNumbers.{AreDistinctNames, HasSignalNumber, model_names, pair_number, signal_number}

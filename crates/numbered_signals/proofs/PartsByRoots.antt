@@ -12,11 +12,11 @@ use Rattle.blif_ast.specs.TableData.{TableData}
 use Rattle.blif_ast.specs.declared.latch.Edge2.{Edge2}
 use Rattle.blif_ast.specs.declared.latch.Latch.{Latch}
 use Rattle.model_calls.specs.Expanded.{LatchCard, TableCard}
-use Rattle.blif_numbers.specs.declared.parts.PartAt.{PartAt}
-use Rattle.blif_numbers.specs.declared.parts.PartKind.TheVariants as at
-use Rattle.blif_numbers.specs.NumberedData.{NumberedData}
-use Rattle.blif_numbers.specs.Numbered.{LatchPart, TablePart, file_of, latch_by, models_in, named, table_by}
-use Rattle.blif_numbers.specs.Places.{of_part, rows_at, words_at}
+use Rattle.numbered_file.specs.declared.parts.PartAt.{PartAt}
+use Rattle.numbered_file.specs.declared.parts.PartKind.TheVariants as at
+use Rattle.numbered_file.specs.NumberedData.{NumberedData}
+use Rattle.numbered_file.specs.Numbered.{LatchPart, TablePart, file_of, latch_by, models_in, named, table_by}
+use Rattle.numbered_file.specs.Places.{of_part, rows_at, words_at}
 use Rattle.card_places.specs.CardPlaces.{AreCardPlaces, CardPlacesData, places_at}
 use Rattle.card_places.proofs.CardsAt.{latch_there, table_there}
 use Rattle.local_names.specs.LocalNames.{AreLocalNames, LocalNamesData}

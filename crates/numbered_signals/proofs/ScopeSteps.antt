@@ -9,9 +9,9 @@ use Rattle.blif_ast.specs.BlifFileData.{BlifFileData}
 use Rattle.blif_ast.specs.InstanceData.{InstanceData}
 use Rattle.blif_ast.specs.declared.instance.Binding.{Binding}
 use Rattle.network.specs.Limits.{most_signals}
-use Rattle.blif_numbers.specs.NumberedData.{NumberedData}
-use Rattle.blif_numbers.specs.Numbered.{file_of}
-use Rattle.blif_numbers.specs.Places.{of_part}
+use Rattle.numbered_file.specs.NumberedData.{NumberedData}
+use Rattle.numbered_file.specs.Numbered.{file_of}
+use Rattle.numbered_file.specs.Places.{of_part}
 use Rattle.card_places.specs.CardPlaces.{AreCardPlaces, CardPlacesData, places_at}
 use Rattle.local_names.specs.LocalNames.{AreLocalNames, LocalNamesData, firsts, seconds}
 use Rattle.part_numbers.specs.Expansions.{ArePaths, IsScope, IsScopeBelow}

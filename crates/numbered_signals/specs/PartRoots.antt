@@ -1,8 +1,8 @@
 -- The tables and latches of a file of BLIF (Berkeley Logic Interchange Format) by numbers, by the numbers of the signals of their
 -- words.
 use Rattle.std.specs.Prelude.{ℕ, ◌-◌, List, [], ◌∷◌, length, take, Option, None, option_and_then, slice_get, slice_index_or}
-use Rattle.blif_numbers.specs.declared.parts.PartKind.{PartKind}
-use Rattle.blif_numbers.specs.declared.parts.PartKind.TheVariants as at
+use Rattle.numbered_file.specs.declared.parts.PartKind.{PartKind}
+use Rattle.numbered_file.specs.declared.parts.PartKind.TheVariants as at
 use Rattle.card_places.specs.CardPlaces.{CardPlacesData, places_at}
 use Rattle.part_numbers.specs.NumberedFiles.{NumberedPartData}
 use Rattle.part_numbers.specs.declared.numbered.PartCard.{PartCard}

@@ -1,8 +1,8 @@
 -- The numbers of the signals of a file of BLIF (Berkeley Logic Interchange Format) by numbers, where each name is given by its place
 -- among the names of its model.
 use Rattle.std.specs.Prelude.{ℕ, ◌<◌, ◌+◌, ◌++◌, List, [], ◌∷◌, length, map, slice_index_or, slice_set}
-use Rattle.blif_numbers.specs.NumberedData.{NumberedData}
-use Rattle.blif_numbers.specs.Numbered.{models_in}
+use Rattle.numbered_file.specs.NumberedData.{NumberedData}
+use Rattle.numbered_file.specs.Numbered.{models_in}
 use Rattle.part_numbers.specs.SignalNumbers.{SignalNumbersData, model_names}
 
 -- the number of each scope's first name; and for each number the number of the signal that its name is

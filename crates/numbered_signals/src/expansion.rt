@@ -2,7 +2,7 @@
 ghost use Rattle.std.specs.Prelude.{◌≡◌, ◌<◌, ◌≤◌, ◌+◌, ℕ, IfOk, List, length, map};
 ghost use Rattle.std.specs.List.{AllByRecursion};
 ghost use Rattle.blif_ast.specs.Good.{IsGoodFile};
-ghost use Rattle.blif_numbers.specs.Numbered.{file_of, models_in, named};
+ghost use Rattle.numbered_file.specs.Numbered.{file_of, models_in, named};
 ghost use Rattle.card_places.specs.CardPlaces.{AreCardPlaces};
 ghost use Rattle.local_names.specs.LocalNames.{AreLocalNames};
 ghost use Rattle.model_calls.specs.Counts.{signal_count};
@@ -20,11 +20,11 @@ ghost use Rattle.part_numbers.specs.SignalNumbers.{HasSignalNumber, signal_numbe
 use crate::parts::number_parts;
 use crate::roots::ScopeRoots;
 use crate::scopes::number_scopes;
-use blif_numbers::{Names, NumberedFile};
 use card_places::CardPlaces;
 use dom_base::OutOfMemory;
 use local_names::LocalNames;
 use model_calls::{ModelCalls, Plan};
+use numbered_file::{Names, NumberedFile};
 use part_numbers::expand;
 use std::alloc::Global;
 

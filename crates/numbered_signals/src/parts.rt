@@ -2,8 +2,8 @@
 ghost use Rattle.std.specs.Prelude.{◌≡◌, ◌-◌, ◌<◌, Bool, IfOk, IsSome, Some, ℕ, length, map, option_and_then, slice_get};
 ghost use Rattle.std.specs.List.{AllByRecursion};
 ghost use Rattle.blif_ast.specs.Good.{IsGoodFile};
-ghost use Rattle.blif_numbers.specs.Numbered.{file_of};
-ghost use Rattle.blif_numbers.specs.declared.parts.PartKind.TheVariants as at;
+ghost use Rattle.numbered_file.specs.Numbered.{file_of};
+ghost use Rattle.numbered_file.specs.declared.parts.PartKind.TheVariants as at;
 ghost use Rattle.card_places.specs.CardPlaces.{AreCardPlaces};
 ghost use Rattle.local_names.specs.LocalNames.{AreLocalNames};
 ghost use Rattle.numbered_signals.specs.PartRoots.{part_of_roots, card_place};
@@ -12,11 +12,11 @@ ghost use Rattle.part_numbers.specs.PartNumbers.{IsNumberedPart, part_by_numbers
 
 use crate::roots::ScopeRoots;
 use blif_ast::Edge2;
-use blif_numbers::{NumberedFile, PartAt, PartKind};
 use card_places::CardPlaces;
 use dom_base::OutOfMemory;
 use local_names::LocalNames;
 use network::Reads;
+use numbered_file::{NumberedFile, PartAt, PartKind};
 use part_numbers::{NumberedPart, PartCard, ScopedPart};
 use std::alloc::Global;
 

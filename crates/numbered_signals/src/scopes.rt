@@ -1,7 +1,7 @@
 //! The numbers of the signals of a file, over the scopes of a walk.
 ghost use Rattle.std.specs.Prelude.{◌≡◌, ◌<◌, ◌≢◌, IfOk, OnOk, Some, drop, length, slice_get};
 ghost use Rattle.blif_ast.specs.InstanceData.{InstanceData};
-ghost use Rattle.blif_numbers.specs.Numbered.{file_of};
+ghost use Rattle.numbered_file.specs.Numbered.{file_of};
 ghost use Rattle.card_places.specs.CardPlaces.{AreCardPlaces};
 ghost use Rattle.local_names.specs.LocalNames.{AreLocalNames};
 ghost use Rattle.numbered_signals.specs.ScopeBlocks.{AddsBelow, ArePairs, IsCalledAbove, IsNextCalled};
@@ -10,10 +10,10 @@ ghost use Rattle.part_numbers.specs.SignalNumbers.{AddsScope, HasFewPairs, HasSi
 ghost use Rattle.part_numbers.specs.declared.walk.Scope.{Scope};
 
 use crate::roots::ScopeRoots;
-use blif_numbers::NumberedFile;
 use card_places::CardPlaces;
 use dom_base::OutOfMemory;
 use local_names::LocalNames;
+use numbered_file::NumberedFile;
 use part_numbers::Scope;
 use std::alloc::Global;
 

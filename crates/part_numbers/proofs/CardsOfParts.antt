@@ -1,7 +1,7 @@
 -- Models of a file by their numbers, and the cards of its parts.
-use Rattle.std.proofs.Common.{◌≡◌, ℕ, zero, suc, ◌<◌, List, [], ◌∷◌, length, Option, Some, None, ap, sym, ◌∙◌, subst, refl, arith}
+use Rattle.std.proofs.Common.{◌≡◌, ℕ, zero, suc, ◌<◌, List, [], ◌∷◌, length, Option, Some, None, ap, sym, subst, refl, arith}
 use Rattle.std.specs.Prelude.{IsSome, slice_get, slice_index_or}
-use Rattle.std.proofs.lemmas.Option.{get_or_from_slice_get, slice_get_read, slice_get_within}
+use Rattle.std.proofs.lemmas.Option.{slice_get_within}
 use Rattle.std.proofs.lemmas.Bool.{true≢false}
 use Rattle.blif_ast.specs.BlifFileData.{BlifFileData}
 use Rattle.blif_ast.specs.BlifModelData.{BlifModelData}
@@ -17,11 +17,6 @@ module _ {X : Type 0} (part : BlifModelData → List X) (none : part (first_mode
       by [] k s = absurd (true≢false (sym (subst IsSome (ap (λ l. slice_get l i) none) s)))
       by (m ∷ models) zero s = omega arith
       by (m ∷ models) (suc k) s = omega (arith, by models k s)
-
-pub model_is : (f : BlifFileData) (models : List BlifModelData) (k : ℕ) (m : BlifModelData) → models ≡ f.models → k < length f.models → m ≡ slice_index_or models k m → m ≡ model_at f k
-model_is f models k m same l e =
-    let at : slice_get f.models k ≡ Some m = slice_get_read f.models (length f.models) k m refl l (e ∙ ap (λ ms. slice_index_or ms k m) same) in
-    sym (get_or_from_slice_get f.models k m (first_model []) at)
 
 pub some_within : {X : Type 0} (xs : List X) (i : ℕ) → IsSome (slice_get xs i) → i < length xs
 some_within {X = X} xs i s = by (slice_get xs i) refl s

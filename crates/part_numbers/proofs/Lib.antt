@@ -6,7 +6,6 @@ pub mod Depth
 pub mod ExpansionSteps
 pub mod ExpansionWork
 pub mod GoodParts
-pub mod LentCards
 pub mod LineOccurrences
 pub mod NetworkSizes
 pub mod NumberedEnds
@@ -21,3 +20,4 @@ pub mod Ranges
 pub mod ScopeRoots
 pub mod SignalNumbers
 pub mod Walks
+pub mod WordCards

@@ -2,14 +2,14 @@
 use Rattle.std.proofs.Common.{◌≡◌, ℕ, ◌<◌, ◌-◌, List, [], ◌∷◌, length, Some, ap, arith}
 use Rattle.std.specs.Prelude.{◌≢◌, IsSome, slice_get, slice_index_or}
 use Rattle.blif_ast.specs.BlifModelData.{BlifModelData}
-use Rattle.blif_numbers.specs.NumberedData.{NumberedData}
-use Rattle.blif_numbers.specs.Numbered.{Part, between, file_of, model_by, models_from, models_in, name_of, named, parts_of}
-use Rattle.blif_numbers.specs.declared.parts.ModelAt.{ModelAt}
-use Rattle.blif_numbers.proofs.Places.{length-models_in, length-parts_of}
+use Rattle.numbered_file.specs.NumberedData.{NumberedData}
+use Rattle.numbered_file.specs.Numbered.{Part, between, file_of, model_by, models_from, models_in, name_of, named, parts_of}
+use Rattle.numbered_file.specs.declared.parts.ModelAt.{ModelAt}
+use Rattle.numbered_file.proofs.Places.{length-models_in, length-parts_of}
 use Rattle.dom_base.proofs.Lists.{length-some}
 use Rattle.model_calls.specs.Occurrences.{first_model, main_model}
 use Rattle.part_numbers.proofs.CardsOfParts.{some_within}
-use Rattle.part_numbers.proofs.LentCards.{front_is}
+use Rattle.part_numbers.proofs.WordCards.{front_is}
 
 pub models_there : (d : NumberedData) → (file_of d).models ≢ [] → 0 < length d.models
 models_there d some = omega (arith, length-some (models_in d) some, length-models_in d)

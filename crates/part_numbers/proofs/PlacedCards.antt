@@ -4,8 +4,8 @@ use Rattle.std.specs.Prelude.{IsSome, option_map, slice_get}
 use Rattle.std.proofs.lemmas.Bool.{true≢false}
 use Rattle.std.proofs.lemmas.Option.{slice_get-get_or}
 use Rattle.blif_ast.specs.BlifModelData.{BlifModelData}
-use Rattle.blif_numbers.specs.NumberedData.{NumberedData}
-use Rattle.blif_numbers.specs.Numbered.{LatchPart, Part, TablePart, file_of, parts_of}
+use Rattle.numbered_file.specs.NumberedData.{NumberedData}
+use Rattle.numbered_file.specs.Numbered.{LatchPart, Part, TablePart, file_of, parts_of}
 use Rattle.card_places.specs.PartCards.{part_card}
 use Rattle.card_places.proofs.CardsAt.{card_of_place, place_of_card}
 use Rattle.card_places.specs.CardPlaces.{AreAtPlaces, AreCardPlaces, CardPlacesData, places_at}

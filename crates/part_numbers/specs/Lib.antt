@@ -9,5 +9,4 @@ pub mod PartCards
 pub mod CheckOutcomes
 pub mod NetworkSizes
 pub mod Ranges
-pub mod LentCards
-pub mod CardFiles
+pub mod WordCards

@@ -8,7 +8,7 @@ use Rattle.blif_ast.specs.BlifModelData.{BlifModelData}
 use Rattle.blif_ast.specs.Cards.{same}
 use Rattle.blif_ast.specs.TableData.{TableData}
 use Rattle.graph_order.specs.WalkSums.{largest_u64}
-use Rattle.part_numbers.specs.declared.counting.Sizes.{Sizes}
+use Rattle.part_numbers.specs.declared.size_checks.Sizes.{Sizes}
 use Rattle.model_calls.specs.declared.fault.FlatFault.{FlatFault}
 use Rattle.model_calls.specs.declared.fault.FlatFault.TheVariants.{At, TooMany, Memory}
 use Rattle.model_calls.specs.declared.fault.Limit.{Limit}

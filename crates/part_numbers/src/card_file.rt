@@ -1,79 +1,35 @@
-//! Files whose cards are asked for: those with names of their own, and those by numbers.
+//! Files by numbers whose cards are asked for.
 ghost use Rattle.std.specs.Prelude.{◌≡◌, ◌≢◌, ◌<◌, IsSome, Some, [], length, option_map, slice_get};
-ghost use Rattle.blif_numbers.specs.Numbered.{file_of, parts_of};
+ghost use Rattle.numbered_file.specs.Numbered.{file_of, parts_of};
 ghost use Rattle.card_places.specs.CardPlaces.{AreCardPlaces};
 ghost use Rattle.model_calls.specs.Expanded.{LatchCard, TableCard};
 ghost use Rattle.model_calls.specs.Occurrences.{main_model};
-ghost use Rattle.part_numbers.specs.LentCards.{card_by_words, lent_card, part_by_words};
+ghost use Rattle.part_numbers.specs.WordCards.{card_by_words, part_by_words};
 ghost use Rattle.part_numbers.specs.NumberedFiles.{card_at, model_at};
 
-use crate::lent_card::LentCard;
 use crate::numbered::PartCard;
 use crate::word_card::{WordCard, name_at};
-use blif_ast::{BlifFile, BlifModel, Latch, Table};
-use blif_numbers::{ModelAt, NumberedFile, PartAt};
 use card_places::CardPlaces;
+use numbered_file::{ModelAt, NumberedFile, PartAt};
 use std::marker::Model;
 
-/// Where a file stands.
-#[derive(Clone, Copy)]
-pub enum FileSource<'a> {
-    Named(&'a BlifFile),
-    Numbered(&'a NumberedFile<'a>, &'a CardPlaces),
-}
-
-/// A file whose cards are asked for: one with names of its own, or one by numbers with the places of its cards.
+/// A file by numbers whose cards are asked for, with the places of its cards.
 #[derive(Drop)]
 pub struct CardFile<'a> {
-    source: FileSource<'a>,
+    file: &'a NumberedFile<'a>,
+    places: &'a CardPlaces,
 }
 
 impl<'a> Model for CardFile<'a> {
     ghost use Rattle.blif_ast.specs.BlifFileData.{BlifFileData};
-    ghost use Rattle.part_numbers.specs.CardFiles.{HasPlaces, file_of_source};
+    ghost use Rattle.numbered_file.specs.Numbered.{file_of};
+    ghost use Rattle.card_places.specs.CardPlaces.{AreCardPlaces};
 
     ghost Value = { BlifFileData };
 
-    ghost view = { λ f. file_of_source f.source };
+    ghost view = { λ f. file_of f.file.now };
 
-    ghost invariant = { λ f. HasPlaces f.source };
-}
-
-/// The main model, which is the first one.
-fn main_model_of(file: &BlifFile) -> &BlifModel
-    requires some { file.now.models ≢ [] }
-    ensures { result.now ≡ main_model file.now }
-{
-    &file.models[0]
-}
-
-/// The table of this index in the model of this number.
-fn table_at(file: &BlifFile, model: u32, index: u32) -> &Table
-    requires there { IsSome (slice_get (model_at file.now model).tables index) }
-    ensures { slice_get (model_at file.now model).tables index ≡ Some result.now }
-{
-    let model = &file.models[model as usize];
-    &model.tables[index as usize]
-}
-
-/// The latch of this index in the model of this number.
-fn latch_at(file: &BlifFile, model: u32, index: u32) -> &Latch
-    requires there { IsSome (slice_get (model_at file.now model).latches index) }
-    ensures { slice_get (model_at file.now model).latches index ≡ Some result.now }
-{
-    let model = &file.models[model as usize];
-    &model.latches[index as usize]
-}
-
-/// A card of a file with names of its own.
-fn named_card<'a>(file: &'a BlifFile, model: u32, card: PartCard) -> LentCard<'a>
-    requires there { IsSome (card_at (model_at file.now model) card) }
-    ensures { card_at (model_at file.now model) card ≡ Some (lent_card result) }
-{
-    match card {
-        PartCard::Table(index) => LentCard::Table(table_at(file, model, index)),
-        PartCard::Latch(index) => LentCard::Latch(latch_at(file, model, index)),
-    }
+    ghost invariant = { λ f. AreCardPlaces f.file.now f.places.now };
 }
 
 fn part_at(parts: &[PartAt], place: usize) -> PartAt
@@ -186,36 +142,20 @@ fn main_output_of<'a>(file: &'a NumberedFile<'a>, index: usize) -> &'a [u8]
 }
 
 impl<'a> CardFile<'a> {
-    /// A file with names of its own.
-    pub fn named(file: &'a BlifFile) -> CardFile<'a>
-        ensures { result ≡ file.now }
-    {
-        CardFile {
-            source: FileSource::Named(file),
-        }
-    }
-
     /// A file by numbers, with the places of its cards.
     pub fn numbered(file: &'a NumberedFile<'_>, places: &'a CardPlaces) -> CardFile<'a>
         requires { AreCardPlaces file.now places.now }
         ensures { result ≡ file_of file.now }
     {
-        CardFile {
-            source: FileSource::Numbered(file, places),
-        }
+        CardFile { file, places }
     }
 
     /// A card of the model of this number.
-    pub fn card(&self, model: u32, card: PartCard) -> LentCard<'a>
+    pub fn card(&self, model: u32, card: PartCard) -> WordCard<'a>
         requires there { IsSome (card_at (model_at self.now model) card) }
-        ensures { card_at (model_at self.now model) card ≡ Some (lent_card result) }
+        ensures { card_at (model_at self.now model) card ≡ Some (card_by_words result) }
     {
-        match self.source {
-            FileSource::Named(file) => named_card(file, model, card),
-            FileSource::Numbered(file, places) => {
-                LentCard::Words(placed_card(file, places, model, card))
-            }
-        }
+        placed_card(self.file, self.places, model, card)
     }
 
     /// The name of the main model.
@@ -223,10 +163,7 @@ impl<'a> CardFile<'a> {
         requires some { self.now.models ≢ [] }
         ensures { result.now ≡ (main_model self.now).name }
     {
-        match self.source {
-            FileSource::Named(file) => main_model_of(file).name.as_bytes(),
-            FileSource::Numbered(file, _) => main_name_of(file),
-        }
+        main_name_of(self.file)
     }
 
     /// The line of the main model.
@@ -234,10 +171,7 @@ impl<'a> CardFile<'a> {
         requires some { self.now.models ≢ [] }
         ensures { result ≡ (main_model self.now).line }
     {
-        match self.source {
-            FileSource::Named(file) => main_model_of(file).line,
-            FileSource::Numbered(file, _) => main_line_of(file),
-        }
+        main_line_of(self.file)
     }
 
     /// The output of the main model at an index.
@@ -245,9 +179,6 @@ impl<'a> CardFile<'a> {
         requires there { index < length (main_model self.now).outputs }
         ensures { slice_get (main_model self.now).outputs index ≡ Some result.now }
     {
-        match self.source {
-            FileSource::Named(file) => main_model_of(file).outputs[index].as_bytes(),
-            FileSource::Numbered(file, _) => main_output_of(file, index),
-        }
+        main_output_of(self.file, index)
     }
 }

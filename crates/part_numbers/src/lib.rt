@@ -3,9 +3,6 @@
 #![tactic(auto)]
 
 mod card_file;
-mod counting;
-mod file_sizes;
-mod lent_card;
 mod numbered;
 mod part_cards;
 mod size_checks;
@@ -13,14 +10,11 @@ mod walk;
 mod word_card;
 
 pub use card_file::CardFile;
-pub use counting::Sizes;
-pub use file_sizes::sizes;
-pub use lent_card::LentCard;
 pub use numbered::{NumberedFile, NumberedPart, PartCard};
 pub use part_cards::{
     card_of, edge_of, fault_at_control, fault_at_input, fault_at_main_control,
     fault_at_main_output, fault_at_output,
 };
-pub use size_checks::check_counts;
+pub use size_checks::{Sizes, check_counts};
 pub use walk::{Expansion, Frame, Scope, ScopedPart, expand};
 pub use word_card::WordCard;

@@ -2,23 +2,23 @@
 ghost use Rattle.std.specs.Prelude.{◌≡◌, ◌≢◌, ◌<◌, IsSome, IsSomeAnd, Some, [], length, option_and_then, option_map, slice_get};
 ghost use Rattle.part_numbers.specs.CheckOutcomes.{IsAtControlOf, IsAtInput, IsAtMainOutput, IsAtOutput, IsFaultOf, IsLineAt};
 ghost use Rattle.model_calls.specs.Expanded.{card_line};
-ghost use Rattle.part_numbers.specs.LentCards.{lent_card};
+ghost use Rattle.part_numbers.specs.WordCards.{card_by_words};
 ghost use Rattle.part_numbers.specs.NumberedFiles.{HasNumbers, card_at, model_at};
 ghost use Rattle.model_calls.specs.Occurrences.{main_model};
 ghost use Rattle.part_numbers.specs.PartCards.{card_control, card_inputs, card_output, edge_of};
 
 use crate::card_file::CardFile;
-use crate::lent_card::LentCard;
 use crate::numbered::{NumberedFile, NumberedPart, PartCard};
+use crate::word_card::WordCard;
 use blif_ast::Edge2;
 use dom_base::Name;
 use model_calls::{FlatFault, FlatKind};
 use std::alloc::Global;
 
 /// The card of a part.
-pub fn card_of<'a>(file: &CardFile<'a>, part: &NumberedPart) -> LentCard<'a>
+pub fn card_of<'a>(file: &CardFile<'a>, part: &NumberedPart) -> WordCard<'a>
     requires there { IsSome (card_at (model_at file.now part.now.model) part.now.card) }
-    ensures { card_at (model_at file.now part.now.model) part.now.card ≡ Some (lent_card result) }
+    ensures { card_at (model_at file.now part.now.model) part.now.card ≡ Some (card_by_words result) }
 {
     file.card(part.model, part.card)
 }

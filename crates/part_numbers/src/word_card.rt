@@ -1,14 +1,15 @@
 //! Cards of a file by numbers.
 ghost use Rattle.std.specs.Prelude.{◌≡◌, ◌<◌, IfOk, IsSome, Some, [], length, slice_get, slice_index_or};
 ghost use Rattle.blif_ast.specs.Cards.{last_word};
-ghost use Rattle.blif_numbers.specs.Numbered.{named};
+ghost use Rattle.numbered_file.specs.Numbered.{named};
 ghost use Rattle.model_calls.specs.Expanded.{card_line};
-ghost use Rattle.part_numbers.specs.LentCards.{card_by_words};
+ghost use Rattle.part_numbers.specs.WordCards.{card_by_words};
 ghost use Rattle.part_numbers.specs.PartCards.{card_control, card_edge, card_init, card_inputs, card_on, card_output, card_rows};
 
 use blif_ast::{Edge2, Rows};
-use blif_numbers::{Names, PartKind, rows_at};
 use dom_base::OutOfMemory;
+use file_copies::rows_at;
+use numbered_file::{Names, PartKind};
 use std::alloc::Global;
 
 /// A card by its words, which are numbers of names, and by the places of the text at which its rows begin. `line` is

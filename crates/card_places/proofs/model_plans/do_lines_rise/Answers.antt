@@ -1,5 +1,5 @@
 use Rattle.std.proofs.Common.{drop, map, subst, ◌+◌, arith}
-use Rattle.blif_numbers.specs.declared.parts.PartAt.{PartAt}
+use Rattle.numbered_file.specs.declared.parts.PartAt.{PartAt}
 use Rattle.card_places.specs.PartCards.{RisesFrom}
 use Rattle.card_places.proofs.PartPlans.{rises-next}
 use Rattle.card_places.proofs.model_plans.do_lines_rise.Goals as goal

@@ -1,8 +1,8 @@
 use Rattle.std.proofs.Common.{◌+◌, ◌++◌, ◌∷◌, [], ap, sym, ◌∙◌, arith}
 use Rattle.std.specs.Prelude.{slice_get}
 use Rattle.std.proofs.lemmas.Option.{slice_get_within}
-use Rattle.blif_numbers.specs.Numbered.{between, named, parts_of}
-use Rattle.blif_numbers.specs.Places.{rows_at, words_at}
+use Rattle.numbered_file.specs.Numbered.{between, named, parts_of}
+use Rattle.numbered_file.specs.Places.{rows_at, words_at}
 use Rattle.card_places.proofs.KindPlaces.{all-between, between-most, part-between}
 use Rattle.card_places.proofs.PartPlans.{counts-few, plan-all, plan-next}
 use Rattle.card_places.proofs.model_plans.plan_model.Goals as goal

@@ -1,4 +1,4 @@
-use Rattle.blif_numbers.specs.Numbered.{between, parts_of}
+use Rattle.numbered_file.specs.Numbered.{between, parts_of}
 use Rattle.card_places.proofs.PartPlans.{IsPlanSoFar}
 use Rattle.card_places.proofs.model_plans.plan_model.Given as goal
 

@@ -1,8 +1,8 @@
 use Rattle.std.proofs.Common.{◌≤◌, length, refl, ap, sym, ◌∙◌, subst, arith}
 use Rattle.std.specs.Prelude.{slice_get}
 use Rattle.std.proofs.lemmas.List.{take_all}
-use Rattle.blif_numbers.specs.Numbered.{between, models_in}
-use Rattle.blif_numbers.proofs.Places.{length-models_in, model_there, parts_end-there}
+use Rattle.numbered_file.specs.Numbered.{between, models_in}
+use Rattle.numbered_file.proofs.Places.{length-models_in, model_there, parts_end-there}
 use Rattle.model_calls.proofs.FirstFaults.{item_at}
 use Rattle.model_calls.proofs.FormalFaults.{callees_count, calls_at, calls_count}
 use Rattle.model_calls.proofs.ModelPlans.{have_plans_next}

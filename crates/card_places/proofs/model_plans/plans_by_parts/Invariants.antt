@@ -1,6 +1,6 @@
 use Rattle.std.proofs.Common.{◌≡◌, take}
-use Rattle.blif_numbers.specs.Numbered.{models_in}
-use Rattle.blif_numbers.specs.Places.{first_part}
+use Rattle.numbered_file.specs.Numbered.{models_in}
+use Rattle.numbered_file.specs.Places.{first_part}
 use Rattle.model_calls.specs.ModelCalls.{HavePlans}
 use Rattle.card_places.proofs.model_plans.plans_by_parts.Given as goal
 

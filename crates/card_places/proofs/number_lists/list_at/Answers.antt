@@ -2,7 +2,7 @@ use Rattle.std.proofs.Common.{◌≡◌, [], take, ap, sym, ◌∙◌, length, S
 use Rattle.std.specs.Prelude.{slice_get}
 use Rattle.std.proofs.lemmas.Option.{get_or_from_slice_get, slice_get-get_or}
 use Rattle.std.proofs.lemmas.Bool.{ltb-false}
-use Rattle.blif_numbers.specs.Numbered.{between}
+use Rattle.numbered_file.specs.Numbered.{between}
 use Rattle.card_places.specs.NumberLists.{last_end, lists_from}
 use Rattle.card_places.proofs.ListEnds.{list-none, list-there}
 use Rattle.card_places.proofs.number_lists.list_at.Goals as goal

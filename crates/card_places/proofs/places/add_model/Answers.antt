@@ -2,9 +2,9 @@ use Rattle.std.proofs.Common.{◌≡◌, ◌+◌, length, length-take-le, take, 
 use Rattle.std.specs.Prelude.{slice_get}
 use Rattle.std.proofs.lemmas.Option.{slice_get_within}
 use Rattle.graph_order.proofs.Lists.{take_next}
-use Rattle.blif_numbers.specs.Numbered.{InstancePart, LatchPart, TablePart, between, instance_in, latch_in, named, part_by, parts_of, table_in}
-use Rattle.blif_numbers.specs.Places.{rows_at, words_at}
-use Rattle.blif_numbers.proofs.Places.{part_there}
+use Rattle.numbered_file.specs.Numbered.{InstancePart, LatchPart, TablePart, between, instance_in, latch_in, named, part_by, parts_of, table_in}
+use Rattle.numbered_file.specs.Places.{rows_at, words_at}
+use Rattle.numbered_file.proofs.Places.{part_there}
 use Rattle.card_places.proofs.KindPlaces.{AreSoFar, all-between, all-so-far, between-get, instance-next, latch-next, part-between, table-next}
 use Rattle.card_places.proofs.places.add_model.Goals as goal
 

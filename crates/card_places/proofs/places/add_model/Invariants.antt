@@ -1,5 +1,5 @@
 use Rattle.std.proofs.Common.{take}
-use Rattle.blif_numbers.specs.Numbered.{InstancePart, LatchPart, TablePart, between, instance_in, latch_in, parts_of, table_in}
+use Rattle.numbered_file.specs.Numbered.{InstancePart, LatchPart, TablePart, between, instance_in, latch_in, parts_of, table_in}
 use Rattle.card_places.proofs.KindPlaces.{AreSoFar}
 use Rattle.card_places.proofs.places.add_model.Given as goal
 

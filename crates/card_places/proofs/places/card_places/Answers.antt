@@ -1,7 +1,7 @@
 use Rattle.std.proofs.Common.{ℕ, ◌≤◌, length, ap, sym, ◌∙◌, subst, arith}
 use Rattle.std.specs.Prelude.{slice_get}
-use Rattle.blif_numbers.specs.Numbered.{InstancePart, LatchPart, TablePart, between, instance_in, latch_in, parts_of, table_in}
-use Rattle.blif_numbers.proofs.Places.{parts_end-there}
+use Rattle.numbered_file.specs.Numbered.{InstancePart, LatchPart, TablePart, between, instance_in, latch_in, parts_of, table_in}
+use Rattle.numbered_file.proofs.Places.{parts_end-there}
 use Rattle.card_places.specs.KindPlaces.{AreKindPlaces, AreModelKindPlaces, IsListAdded}
 use Rattle.card_places.proofs.KindPlaces.{are-card-places, list-next}
 use Rattle.card_places.proofs.places.card_places.Goals as goal

@@ -1,6 +1,6 @@
 use Rattle.std.proofs.Common.{◌≡◌}
-use Rattle.blif_numbers.specs.Numbered.{InstancePart, LatchPart, TablePart, instance_in, latch_in, table_in}
-use Rattle.blif_numbers.specs.Places.{first_part}
+use Rattle.numbered_file.specs.Numbered.{InstancePart, LatchPart, TablePart, instance_in, latch_in, table_in}
+use Rattle.numbered_file.specs.Places.{first_part}
 use Rattle.card_places.specs.KindPlaces.{AreLists, AreModelKindPlaces}
 use Rattle.card_places.proofs.places.card_places.Given as goal
 

@@ -1,6 +1,6 @@
 use Rattle.std.proofs.Common.{◌≡◌, ◌++◌, ap, sym, ◌∙◌, Some}
 use Rattle.std.specs.Prelude.{slice_get}
-use Rattle.blif_numbers.specs.Numbered.{named, part_by}
+use Rattle.numbered_file.specs.Numbered.{named, part_by}
 use Rattle.local_names.specs.PartNames.{names_by}
 use Rattle.local_names.proofs.Gathered.{gathered-more}
 use Rattle.local_names.proofs.model_numbers.put_kind.Goals as goal

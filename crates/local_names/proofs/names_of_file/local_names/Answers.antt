@@ -12,6 +12,9 @@ returns-in-Some-clause-names c =
     let placed = subst (λ o. IfSome o (AreAllPlaced d c.in_ok-models.models.lists)) c.in-Some.is c.in_ok-placed.ensures.placed in
     record {
       models = c.in_ok-models.ensures.names;
+      input_count = placed.inputs.count;
+      output_count = placed.outputs.count;
+      word_count = placed.words.count;
       inputs = λ m below. placed.inputs.each m below;
       outputs = λ m below. placed.outputs.each m below;
       words = λ m k part inside there. placed.words.own m k part (slice_get_within d.parts k part there) inside there;

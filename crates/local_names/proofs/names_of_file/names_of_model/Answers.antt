@@ -1,6 +1,6 @@
 use Rattle.std.proofs.Common.{length, ap, ◌∙◌, subst}
 use Rattle.std.proofs.lemmas.Result.{on_ok_weaker}
-use Rattle.blif_numbers.specs.Numbered.{AreBelow, named}
+use Rattle.numbered_file.specs.Numbered.{AreBelow, named}
 use Rattle.local_names.proofs.ModelNames.{names-kept}
 use Rattle.local_names.proofs.names_of_file.names_of_model.Goals as goal
 

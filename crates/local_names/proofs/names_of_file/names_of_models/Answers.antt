@@ -1,7 +1,7 @@
 use Rattle.std.proofs.Common.{◌≤◌, ◌<◌, length, map, ap, ◌∙◌, arith}
 use Rattle.std.proofs.lemmas.List.{take_all}
-use Rattle.blif_numbers.specs.Numbered.{models_in}
-use Rattle.blif_numbers.proofs.Places.{length-models_in}
+use Rattle.numbered_file.specs.Numbered.{models_in}
+use Rattle.numbered_file.proofs.Places.{length-models_in}
 use Rattle.card_places.specs.NumberLists.{with_numbers}
 use Rattle.local_names.proofs.ModelNames.{below-more, list-more, names-more}
 use Rattle.part_numbers.specs.SignalNumbers.{model_names}

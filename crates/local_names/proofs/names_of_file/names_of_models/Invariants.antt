@@ -1,6 +1,6 @@
 use Rattle.std.proofs.Common.{◌≡◌, [], length, map, take}
 use Rattle.std.specs.List.{AllByRecursion}
-use Rattle.blif_numbers.specs.Numbered.{AreBelow, models_in, named}
+use Rattle.numbered_file.specs.Numbered.{AreBelow, models_in, named}
 use Rattle.part_numbers.specs.SignalNumbers.{model_names}
 use Rattle.local_names.proofs.names_of_file.names_of_models.Given as goal
 

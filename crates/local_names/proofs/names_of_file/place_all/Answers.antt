@@ -1,5 +1,5 @@
 use Rattle.std.proofs.Common.{subst, rules}
-use Rattle.blif_numbers.specs.Places.{inputs_at, outputs_at}
+use Rattle.numbered_file.specs.Places.{inputs_at, outputs_at}
 use Rattle.local_names.specs.Placed.{IsPlaced}
 use Rattle.local_names.proofs.Placing.{inputs-more, outputs-more}
 use Rattle.local_names.proofs.names_of_file.place_all.Goals as goal

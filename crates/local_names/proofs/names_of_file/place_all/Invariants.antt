@@ -1,4 +1,4 @@
-use Rattle.blif_numbers.specs.Places.{first_part}
+use Rattle.numbered_file.specs.Places.{first_part}
 use Rattle.local_names.specs.Placed.{AreInputsPlaced, AreOutputsPlaced, AreWordsPlaced}
 use Rattle.local_names.proofs.names_of_file.place_all.Given as goal
 

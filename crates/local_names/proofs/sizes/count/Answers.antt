@@ -1,5 +1,5 @@
 use Rattle.std.proofs.Common.{◌≡◌, length, ap, ◌∙◌, arith, min}
-use Rattle.blif_numbers.specs.Numbered.{file_of}
+use Rattle.numbered_file.specs.Numbered.{file_of}
 use Rattle.graph_order.specs.WalkSums.{largest_u64}
 use Rattle.model_calls.specs.Occurrences.{main_model}
 use Rattle.part_numbers.proofs.NetworkSizes.{paths_count_once}

@@ -1,7 +1,7 @@
 use Rattle.std.proofs.Common.{◌≤◌, ◌<◌, length, ap, ◌∙◌, arith}
 use Rattle.std.proofs.lemmas.List.{take_all}
-use Rattle.blif_numbers.specs.Numbered.{models_in}
-use Rattle.blif_numbers.proofs.Places.{length-models_in}
+use Rattle.numbered_file.specs.Numbered.{models_in}
+use Rattle.numbered_file.proofs.Places.{length-models_in}
 use Rattle.part_numbers.specs.NetworkSizes.{model_weights}
 use Rattle.local_names.proofs.Weights.{weights-more}
 use Rattle.local_names.proofs.sizes.weigh_models.Goals as goal

@@ -1,5 +1,5 @@
 use Rattle.std.proofs.Common.{◌≡◌, take}
-use Rattle.blif_numbers.specs.Numbered.{models_in}
+use Rattle.numbered_file.specs.Numbered.{models_in}
 use Rattle.part_numbers.specs.NetworkSizes.{model_weights}
 use Rattle.local_names.proofs.sizes.weigh_models.Given as goal
 

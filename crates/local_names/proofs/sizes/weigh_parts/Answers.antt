@@ -1,5 +1,5 @@
 use Rattle.std.proofs.Common.{◌<◌, ◌+◌, length, arith}
-use Rattle.blif_numbers.proofs.Places.{first_part-within}
+use Rattle.numbered_file.proofs.Places.{first_part-within}
 use Rattle.local_names.proofs.Weights.{weighed-more}
 use Rattle.local_names.proofs.sizes.weigh_parts.Goals as goal
 

@@ -1,6 +1,6 @@
 use Rattle.std.proofs.Common.{◌≡◌, length, Some, ap, sym, ◌∙◌, min}
 use Rattle.std.specs.Prelude.{slice_get}
-use Rattle.blif_numbers.specs.Numbered.{part_by}
+use Rattle.numbered_file.specs.Numbered.{part_by}
 use Rattle.graph_order.specs.WalkSums.{largest_u64}
 use Rattle.local_names.specs.PartWeights.{part_weight}
 use Rattle.local_names.proofs.Weights.{weighed-part}

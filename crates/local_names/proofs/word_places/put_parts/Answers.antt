@@ -1,6 +1,6 @@
 use Rattle.std.proofs.Common.{◌≡◌, ◌≤◌, ◌+◌, subst, arith, rules}
-use Rattle.blif_numbers.specs.Places.{IsPartOf, first_part}
-use Rattle.blif_numbers.proofs.Places.{first_part-more}
+use Rattle.numbered_file.specs.Places.{IsPartOf, first_part}
+use Rattle.numbered_file.proofs.Places.{first_part-more}
 use Rattle.local_names.specs.Placed.{AreWordsPlaced}
 use Rattle.local_names.proofs.Placing.{formal-lost, words-more}
 use Rattle.local_names.proofs.word_places.put_parts.Goals as goal

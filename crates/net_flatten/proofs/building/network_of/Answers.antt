@@ -85,7 +85,7 @@ invariant_of-result c =
       inputs = c.len-inputs.result;
       outputs = c.in_ok-places_of.field-0.items;
       latches = c.in_ok-net_latches.field-0.items;
-      tables = c.in_ok-net_tables.field-0.items;
+      tables = c.in_ok-net_tables.field-0;
     } in
     let is = made c.requires.numbers g
     c.requires.accepted c.requires.levels c.outputs.result.now c.deref-2.result.now c.in_ok-places.places.items network (record {
@@ -122,7 +122,7 @@ returns c =
       inputs = c.len-inputs.result;
       outputs = c.in_ok-places_of.field-0.items;
       latches = c.in_ok-net_latches.field-0.items;
-      tables = c.in_ok-net_tables.field-0.items;
+      tables = c.in_ok-net_tables.field-0;
     } in
     let is = made c.requires.numbers g
     c.requires.accepted c.requires.levels c.outputs.result.now c.deref-2.result.now c.in_ok-places.places.items network (record {

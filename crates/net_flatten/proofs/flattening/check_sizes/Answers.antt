@@ -1,4 +1,4 @@
-use Rattle.blif_numbers.specs.Numbered.{file_of}
+use Rattle.numbered_file.specs.Numbered.{file_of}
 use Rattle.std.proofs.lemmas.Result.{on_ok_weaker}
 use Rattle.net_flatten.proofs.flattening.check_sizes.Goals as goal
 

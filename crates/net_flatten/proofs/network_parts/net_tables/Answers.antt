@@ -13,6 +13,5 @@ loop-index-preserved c =
     let at = slice_get-get_or c.args.ordered.now c.loop-index.index (record { level = 0; part = 0 }) c.loop-index-test.true in
     let inside = part_of_levelled c.args.file.now c.args.places.now c.args.parts.now c.args.ordered.now c.loop-index.index table c.requires.there at in
     let part = slice_get_read c.args.parts.now (length c.args.parts.now) table.part c.index-parts-table.result refl inside c.index-parts-table.is in
-    subst (λ l. map Some l ≡ map (levelled_in_network c.args.file.now c.args.places.now c.args.parts.now) (take (c.loop-index.index + 1) c.args.ordered.now)) (sym {A = List NetTableData} (c.in_ok-push.ensures {u = tt}).items)
-    (tables_next c.args.file.now c.args.places.now c.args.parts.now c.args.ordered.now c.loop-index.index table c.index-parts-table.result c.loop-index.tables.items c.in_ok-net_table.field-0
-    at part c.in_ok-net_table.ensures c.loop-index.invariant)
+    tables_next c.args.file.now c.args.places.now c.args.parts.now c.args.ordered.now c.loop-index.index table c.index-parts-table.result c.loop-index.tables c.push_table.new.tables
+    at part c.in_ok-push_table.ensures c.loop-index.invariant

@@ -1,8 +1,8 @@
 use Rattle.std.proofs.Common.{◌≡◌, length, map, ap, ◌∙◌, subst, sym, arith, rules}
 use Rattle.std.specs.Prelude.{slice_index_or}
 use Rattle.std.proofs.lemmas.List.{take_all}
-use Rattle.blif_numbers.specs.Numbered.{models_in}
-use Rattle.blif_numbers.proofs.Places.{length-models_in}
+use Rattle.numbered_file.specs.Numbered.{models_in}
+use Rattle.numbered_file.proofs.Places.{length-models_in}
 use Rattle.card_places.specs.CardPlaces.{places_at}
 use Rattle.dom_base.proofs.Lists.{slice_get-there}
 use Rattle.model_calls.proofs.CallNumbers.{calls_next}

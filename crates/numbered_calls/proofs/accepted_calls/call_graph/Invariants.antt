@@ -1,5 +1,5 @@
 use Rattle.std.proofs.Common.{take}
-use Rattle.blif_numbers.specs.Numbered.{models_in}
+use Rattle.numbered_file.specs.Numbered.{models_in}
 use Rattle.model_calls.specs.CallNumbers.{AreCalls, names_of_models}
 use Rattle.numbered_calls.proofs.accepted_calls.call_graph.Given as goal
 

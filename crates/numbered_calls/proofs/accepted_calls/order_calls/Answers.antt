@@ -1,7 +1,7 @@
 use Rattle.std.proofs.Common.{rules, length, refl, ap, sym, subst, arith}
 use Rattle.std.specs.List.{flat_map}
-use Rattle.blif_numbers.specs.Numbered.{file_of, models_in}
-use Rattle.blif_numbers.proofs.Places.{length-models_in}
+use Rattle.numbered_file.specs.Numbered.{file_of, models_in}
+use Rattle.numbered_file.proofs.Places.{length-models_in}
 use Rattle.graph_order.specs.Orders.{IsAnswer, IsGraph, IsOrder}
 use Rattle.model_calls.proofs.Accepted.{none_reported, nothing_with}
 use Rattle.model_calls.proofs.FormalFaults.{calls_count}

@@ -1,7 +1,7 @@
 use Rattle.std.proofs.Common.{◌≡◌, ℕ, ◌+◌, ◌++◌, List, ap, ◌∙◌, subst, arith, drop, length, refl, rules}
 use Rattle.std.specs.Prelude.{Some, slice_get, slice_set}
 use Rattle.std.proofs.lemmas.Option.{slice_get_read}
-use Rattle.blif_numbers.specs.Places.{of_inputs, of_part}
+use Rattle.numbered_file.specs.Places.{of_inputs, of_part}
 use Rattle.local_names.specs.LocalNames.{firsts}
 use Rattle.numbered_calls.specs.BoundFormals.{HavePortMarks, formals_at, inputs_in, outputs_in}
 use Rattle.numbered_calls.specs.PortMarks.{AreBadlyBound, AreBound}

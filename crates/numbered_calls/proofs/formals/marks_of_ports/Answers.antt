@@ -1,6 +1,6 @@
 use Rattle.std.proofs.Common.{◌≡◌, ◌⊎◌, ℕ, ◌+◌, List, ap, length, sym, ◌∙◌, subst, arith}
 use Rattle.std.specs.Option.{IfSome}
-use Rattle.blif_numbers.specs.Places.{of_inputs, of_outputs}
+use Rattle.numbered_file.specs.Places.{of_inputs, of_outputs}
 use Rattle.numbered_calls.specs.BoundFormals.{inputs_in}
 use Rattle.numbered_calls.specs.PortMarks.{ArePorts, AreTwice}
 use Rattle.numbered_calls.proofs.PortRows.{HaveFirstPortMarks, all_ports, next_ports, no_ports, port_twice_at}

@@ -1,7 +1,7 @@
 use Rattle.std.proofs.Common.{◌≡◌, ◌+◌, ◌∷◌, ◌++◌, ◌<◌, [], ap, ◌∙◌, length, sym, subst, arith, take}
 use Rattle.std.specs.Prelude.{slice_set}
 use Rattle.std.proofs.lemmas.List.{length-replicate, length-set, length-take-le, take_all}
-use Rattle.blif_numbers.specs.declared.parts.ModelAt.{ModelAt}
+use Rattle.numbered_file.specs.declared.parts.ModelAt.{ModelAt}
 use Rattle.dom_base.proofs.Lists.{AllByRecursion-contains, Contains-slice_get}
 use Rattle.network.proofs.IndexedLists.{take_next}
 use Rattle.numbered_calls.specs.Owners.{AreOwners}

@@ -1,5 +1,5 @@
 use Rattle.std.proofs.Common.{◌∙◌}
-use Rattle.blif_numbers.specs.Numbered.{named}
+use Rattle.numbered_file.specs.Numbered.{named}
 use Rattle.dom_base.proofs.Options.{if_ok-weaker}
 use Rattle.numbered_signals.proofs.NamePlaces.{named_names}
 use Rattle.numbered_signals.proofs.expansion.main_names.Goals as goal

@@ -1,5 +1,5 @@
 use Rattle.std.proofs.Common.{◌≡◌, map, take}
-use Rattle.blif_numbers.specs.Numbered.{named}
+use Rattle.numbered_file.specs.Numbered.{named}
 use Rattle.numbered_signals.proofs.expansion.names_at.Given as goal
 
 abbrev pub invariant-loop-number : goal.invariant-loop-number

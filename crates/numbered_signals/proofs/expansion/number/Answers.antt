@@ -1,5 +1,5 @@
 use Rattle.std.proofs.Common.{rules, ◌≡◌, length, ap, sym, ◌∙◌, subst, arith}
-use Rattle.blif_numbers.specs.Numbered.{file_of}
+use Rattle.numbered_file.specs.Numbered.{file_of}
 use Rattle.model_calls.specs.CallNumbers.{names_of_models}
 use Rattle.model_calls.specs.ModelCallsData.{ModelCallsData}
 use Rattle.model_calls.specs.declared.fault.FlatKind.TheVariants.{Recursion}

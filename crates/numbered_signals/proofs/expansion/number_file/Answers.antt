@@ -1,6 +1,6 @@
 use Rattle.std.proofs.Common.{◌≡◌, map, length, ap, sym, ◌∙◌, subst, arith}
 use Rattle.std.specs.List.{AllByRecursion}
-use Rattle.blif_numbers.specs.Numbered.{file_of}
+use Rattle.numbered_file.specs.Numbered.{file_of}
 use Rattle.numbered_signals.specs.ScopeRoots.{signals_with}
 use Rattle.part_numbers.specs.Expansions.{ExpansionData}
 use Rattle.part_numbers.specs.NumberedFiles.{NumberedFileData}

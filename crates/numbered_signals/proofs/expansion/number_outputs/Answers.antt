@@ -1,6 +1,6 @@
 use Rattle.std.proofs.Common.{map, ap, sym, ◌∙◌, subst}
 use Rattle.std.specs.List.{AllByRecursion}
-use Rattle.blif_numbers.specs.Places.{of_outputs}
+use Rattle.numbered_file.specs.Places.{of_outputs}
 use Rattle.dom_base.proofs.Options.{if_ok-weaker}
 use Rattle.numbered_signals.specs.ScopeRoots.{HasRoot, local_root}
 use Rattle.numbered_signals.proofs.MainPorts.{outputs_rooted, outputs_same}

@@ -1,6 +1,6 @@
 use Rattle.std.proofs.Common.{map, sym, ap, ◌∙◌, subst}
 use Rattle.std.specs.List.{AllByRecursion}
-use Rattle.blif_numbers.specs.Places.{of_part}
+use Rattle.numbered_file.specs.Places.{of_part}
 use Rattle.dom_base.proofs.Options.{if_ok-weaker}
 use Rattle.numbered_signals.specs.PartRoots.{part_of_roots}
 use Rattle.numbered_signals.specs.ScopeRoots.{HasRoot, local_root}

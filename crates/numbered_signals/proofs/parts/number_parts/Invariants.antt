@@ -1,5 +1,5 @@
 use Rattle.std.proofs.Common.{◌≡◌, map, take}
-use Rattle.blif_numbers.specs.Numbered.{file_of}
+use Rattle.numbered_file.specs.Numbered.{file_of}
 use Rattle.numbered_signals.specs.ScopeRoots.{signals_with}
 use Rattle.part_numbers.specs.PartNumbers.{part_by_numbers}
 use Rattle.numbered_signals.proofs.parts.number_parts.Given as goal

@@ -1,7 +1,7 @@
 use Rattle.std.proofs.Common.{◌≡◌, length, subst, arith}
 use Rattle.std.specs.Prelude.{slice_index_or}
 use Rattle.std.proofs.lemmas.Option.{slice_get-get_or}
-use Rattle.blif_numbers.specs.Numbered.{file_of}
+use Rattle.numbered_file.specs.Numbered.{file_of}
 use Rattle.numbered_signals.specs.ScopeRoots.{signals_with}
 use Rattle.part_numbers.specs.SignalNumbers.{AreNumbers}
 use Rattle.part_numbers.proofs.SignalNumbers.{still_numbers}

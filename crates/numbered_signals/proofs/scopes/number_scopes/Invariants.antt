@@ -1,6 +1,6 @@
 use Rattle.std.proofs.Common.{List}
 use Rattle.blif_ast.specs.InstanceData.{InstanceData}
-use Rattle.blif_numbers.specs.Numbered.{file_of}
+use Rattle.numbered_file.specs.Numbered.{file_of}
 use Rattle.numbered_signals.specs.ScopeRoots.{signals_with}
 use Rattle.part_numbers.specs.Expansions.{ArePaths}
 use Rattle.part_numbers.specs.SignalNumbers.{AreNumbers}

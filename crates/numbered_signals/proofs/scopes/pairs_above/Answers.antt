@@ -1,5 +1,5 @@
 use Rattle.std.proofs.Common.{drop, sym, ◌∙◌, subst, ap}
-use Rattle.blif_numbers.specs.Places.{of_part}
+use Rattle.numbered_file.specs.Places.{of_part}
 use Rattle.numbered_signals.specs.ScopeBlocks.{ArePairs}
 use Rattle.numbered_signals.specs.ScopeRoots.{names_of_model}
 use Rattle.numbered_signals.proofs.ScopeSteps.{instance_there, pairs_bound}

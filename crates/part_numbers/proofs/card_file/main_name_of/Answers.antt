@@ -1,6 +1,6 @@
 use Rattle.std.proofs.Common.{ap, sym, ◌∙◌}
 use Rattle.blif_ast.specs.BlifModelData.{BlifModelData}
-use Rattle.blif_numbers.specs.Numbered.{name_of}
+use Rattle.numbered_file.specs.Numbered.{name_of}
 use Rattle.part_numbers.proofs.NumberedMains.{main_is}
 use Rattle.part_numbers.proofs.card_file.main_name_of.Goals as goal
 

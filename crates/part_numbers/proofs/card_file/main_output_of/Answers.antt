@@ -1,6 +1,6 @@
 use Rattle.std.proofs.Common.{[], Some, ap, sym, ◌∙◌}
 use Rattle.std.specs.Prelude.{slice_index_or}
-use Rattle.blif_numbers.specs.Numbered.{named}
+use Rattle.numbered_file.specs.Numbered.{named}
 use Rattle.part_numbers.proofs.NumberedMains.{output_is}
 use Rattle.part_numbers.proofs.card_file.main_output_of.Goals as goal
 

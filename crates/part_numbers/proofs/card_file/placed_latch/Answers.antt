@@ -1,4 +1,4 @@
-use Rattle.part_numbers.specs.LentCards.{part_by_words}
+use Rattle.part_numbers.specs.WordCards.{part_by_words}
 use Rattle.part_numbers.proofs.PlacedCards.{latch_is, latch_part, latch_place}
 use Rattle.part_numbers.proofs.card_file.placed_latch.Goals as goal
 

@@ -1,4 +1,4 @@
-use Rattle.part_numbers.specs.LentCards.{part_by_words}
+use Rattle.part_numbers.specs.WordCards.{part_by_words}
 use Rattle.part_numbers.proofs.PlacedCards.{table_is, table_part, table_place}
 use Rattle.part_numbers.proofs.card_file.placed_table.Goals as goal
 

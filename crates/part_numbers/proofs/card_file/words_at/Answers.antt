@@ -1,7 +1,7 @@
 use Rattle.std.proofs.Common.{Some, length, ap, sym, ◌∙◌, arith}
 use Rattle.std.specs.Prelude.{slice_get}
-use Rattle.blif_numbers.specs.Numbered.{named, part_by}
-use Rattle.blif_numbers.proofs.Places.{part_there}
+use Rattle.numbered_file.specs.Numbered.{named, part_by}
+use Rattle.numbered_file.proofs.Places.{part_there}
 use Rattle.part_numbers.proofs.NumberedMains.{place_within}
 use Rattle.part_numbers.proofs.card_file.words_at.Goals as goal
 

@@ -1,6 +1,6 @@
 use Rattle.std.proofs.Common.{◌≡◌, sym, subst}
 use Rattle.std.specs.Result.{IsErrAnd}
-use Rattle.blif_numbers.specs.Numbered.{file_of}
+use Rattle.numbered_file.specs.Numbered.{file_of}
 use Rattle.blif_read.proofs.AcceptedIsGoodModels.{accepted_file}
 use Rattle.trace_tool.specs.CosimRefusals.{IsUnflattened, of_flat}
 use Rattle.trace_tool.proofs.UnflattenedFiles.{unflattened}

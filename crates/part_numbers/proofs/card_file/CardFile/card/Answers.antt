@@ -1,6 +1,4 @@
-use Rattle.std.proofs.Common.{subst}
-use Rattle.part_numbers.specs.CardFiles.{HasPlaces}
 use Rattle.part_numbers.proofs.card_file.CardFile.card.Goals as goal
 
 pub placed_card-requires-clause-are : goal.placed_card-requires-clause-are
-placed_card-requires-clause-are c = subst HasPlaces c.in-Numbered.is c.self.invariant
+placed_card-requires-clause-are c = c.self.invariant

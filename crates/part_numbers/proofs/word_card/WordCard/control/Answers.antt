@@ -1,6 +1,6 @@
 use Rattle.std.proofs.Common.{Some, ap, sym, ◌∙◌}
-use Rattle.blif_numbers.specs.Numbered.{named}
-use Rattle.part_numbers.proofs.LentCards.{control_by}
+use Rattle.numbered_file.specs.Numbered.{named}
+use Rattle.part_numbers.proofs.WordCards.{control_by}
 use Rattle.part_numbers.proofs.word_card.WordCard.control.Goals as goal
 
 pub returns : goal.returns

@@ -1,6 +1,6 @@
 use Rattle.std.proofs.Common.{Some, ap, sym, ◌∙◌}
-use Rattle.blif_numbers.specs.Numbered.{named}
-use Rattle.part_numbers.proofs.LentCards.{input_by}
+use Rattle.numbered_file.specs.Numbered.{named}
+use Rattle.part_numbers.proofs.WordCards.{input_by}
 use Rattle.part_numbers.proofs.word_card.WordCard.input.Goals as goal
 
 pub returns : goal.returns

@@ -1,6 +1,6 @@
 use Rattle.std.proofs.Common.{sym, ◌∙◌}
-use Rattle.blif_numbers.specs.Numbered.{named}
-use Rattle.part_numbers.proofs.LentCards.{line_by}
+use Rattle.numbered_file.specs.Numbered.{named}
+use Rattle.part_numbers.proofs.WordCards.{line_by}
 use Rattle.part_numbers.proofs.word_card.WordCard.line.Goals as goal
 
 pub returns : goal.returns
