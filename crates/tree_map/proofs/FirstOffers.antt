@@ -11,9 +11,10 @@ use Rattle.dual_rail.specs.ForestData.{ForestData}
 use Rattle.dual_rail.proofs.ForestOrders.{reads_later}
 use Rattle.dual_rail.specs.ForestOrder.{AreInOrder, ReadsBefore}
 use Rattle.dual_rail.specs.Forests.{left_arm, right_arm}
+use Rattle.tree_map.specs.declared.offers.Choice.{Choice as offered_choice}
 use Rattle.tree_map.specs.declared.offers.Offer.{Offer}
 use Rattle.tree_map.specs.declared.ties.Wanted.{Wanted}
-use Rattle.cover_plan.specs.Covers.{AreFirst, Costs, GivesLeast, IsChoice, IsLeast, joined_sum}
+use Rattle.cover_plan.specs.Covers.{AreFirst, Costs, GivesLeast, IsChoice, IsFirstAlone, IsLeast, joined_sum}
 use Rattle.cover_plan.specs.Parts.{Choice, Comes, CoverPart, CutOff, Earlier, End, Fits, Join, Keep, Nothing, Operator, TreeShape, joined_shape}
 use Rattle.tree_map.specs.CoverSums.{AreCutsOf, AreLeastBefore, AreSumsOf, SumsData, sum_at}
 use Rattle.tree_map.specs.LeastPlans.{IsPartOf, operator_of}
@@ -152,7 +153,7 @@ pair_read forest pairs same place pair lt is = slice_get_read forest.pairs (leng
 
 module _ (forest : ForestData) (t : SumsData) (frees : List Bool) (wide : (2 ≤ t.w) × (t.w ≤ 8)) (tall : (2 ≤ t.h) × (t.h ≤ 6)) (order : AreInOrder forest.pairs) (sums : AreSumsOf forest t) (cuts : AreCutsOf forest t)
     (are : AreFreeOf forest frees) (place : ℕ) (pair : Pair) (at : slice_get forest.pairs place ≡ Some pair) where
-  parts : HasParts forest pair
+  pub parts : HasParts forest pair
   parts = parts_of forest order place pair at
 
   least_before : AreLeastBefore forest place t
@@ -166,7 +167,7 @@ module _ (forest : ForestData) (t : SumsData) (frees : List Bool) (wide : (2 ≤
   right_offers arm xs e make =
       make forest place parts.r are (subst (ReadsBefore place) (sym e) (order place pair at).1) least_before (subst (λ a. IsPartOf forest a parts.r) (sym e) parts.right_part)
 
-  is_least : (shape : TreeShape) (sum : ℕ) → sum_at t place shape ≡ Some sum → IsLeast t.costs t.w t.h (Join (operator_of pair) parts.l parts.r) shape sum
+  pub is_least : (shape : TreeShape) (sum : ℕ) → sum_at t place shape ≡ Some sum → IsLeast t.costs t.w t.h (Join (operator_of pair) parts.l parts.r) shape sum
   is_least shape sum = (sums place pair parts.l parts.r at parts.left_part parts.right_part shape sum).0
 
   pub left_within : (arm : Arm) → arm ≡ left_arm pair → ReadsBefore (length frees) arm
@@ -187,6 +188,40 @@ module _ (forest : ForestData) (t : SumsData) (frees : List Bool) (wide : (2 ≤
   pub node_below : (shape : TreeShape) (sum node : ℕ) → IsNode t.costs (operator_of pair) node → sum_at t place shape ≡ Some sum → node ≤ sum
   node_below shape sum node is e = node_within t.costs t.w t.h (operator_of pair) parts.l parts.r shape sum node is (is_least shape sum e)
 
+  -- what is decided of the pair, by its shape and the first choices for its arms
+  pub decision : (shape : TreeShape) (split : Bool) (left right : offered_choice) (kept : Option TreeShape)
+      → (split ≡ false → AreFirst t.costs t.w t.h (operator_of pair) parts.l parts.r shape (choice_of left) (choice_of right))
+      → (split ≡ true → IsFirstAlone t.costs t.w t.h parts.l (choice_of left)) → (split ≡ true → IsFirstAlone t.costs t.w t.h parts.r (choice_of right))
+      → IfSome kept (λ before. (shape ≡ before) × (split ≡ false)) → (kept ≡ None → IsRootKind t place shape split)
+      → IsDecision t.costs forest t.w t.h pair kept split shape left right
+  decision shape split left right kept first left_alone right_alone stays root = record {
+    l = parts.l;
+    r = parts.r;
+    left_part = parts.left_part;
+    right_part = parts.right_part;
+    stays = λ before e. before_is kept before e stays;
+    root = λ e bare. simple_is t place (operator_of pair) parts.l parts.r wide_t tall_t (sums place pair parts.l parts.r at parts.left_part parts.right_part) (cuts place pair parts.l parts.r at parts.left_part parts.right_part)
+        shape split (root e) bare;
+    first = first;
+    compound = λ marked. compound_is t place (operator_of pair) parts.l parts.r wide_t tall_t (sums place pair parts.l parts.r at parts.left_part parts.right_part)
+        (cuts place pair parts.l parts.r at parts.left_part parts.right_part) shape split (root (unkept kept stays marked)) marked (choice_of left) (choice_of right)
+        (left_alone marked) (right_alone marked);
+  }
+    where
+      wide_t : 1 ≤ t.w
+      wide_t = omega (arith, wide.0)
+
+      tall_t : 1 ≤ t.h
+      tall_t = omega (arith, tall.0)
+
+      before_is : (kept : Option TreeShape) (before : TreeShape) → kept ≡ Some before → IfSome kept (λ s. (shape ≡ s) × (split ≡ false)) → (shape ≡ before) × (split ≡ false)
+      before_is None before e stays = absurd (cc)
+      before_is (Some s) before e stays = (stays.0 ∙ same_Some s before e, stays.1)
+
+      unkept : (kept : Option TreeShape) → IfSome kept (λ s. (shape ≡ s) × (split ≡ false)) → split ≡ true → kept ≡ None
+      unkept None stays marked = refl
+      unkept (Some s) stays marked = absurd (never marked stays.1)
+
   module _ (a b : Arm) (xs ys : List Offer) (a_is : a ≡ left_arm pair) (b_is : b ≡ right_arm pair) (lefts : AreOffersFor t frees a xs) (rights : AreOffersFor t frees b ys)
       (shape : TreeShape) (sum number node : ℕ) (sum_is : sum_at t place shape ≡ Some sum) (of_node : IsNode t.costs (operator_of pair) node) (number_is : number ≡ sum - node) where
     whole : number + node ≡ sum
@@ -199,31 +234,9 @@ module _ (forest : ForestData) (t : SumsData) (frees : List Bool) (wide : (2 ≤
     pub decided : (split : Bool) (left right : Offer) (kept : Option TreeShape) → (split ≡ false → AreFirstOffers (record { pair = pair; shape = shape; sum = number }) xs ys left right)
         → (split ≡ true → IsFirstLeast xs left) → (split ≡ true → IsFirstLeast ys right) → IfSome kept (λ before. (shape ≡ before) × (split ≡ false)) → (kept ≡ None → IsRootKind t place shape split)
         → IsDecision t.costs forest t.w t.h pair kept split shape left.choice right.choice
-    decided split left right kept first first_left first_right stays root = record {
-      l = parts.l;
-      r = parts.r;
-      left_part = parts.left_part;
-      right_part = parts.right_part;
-      stays = λ before e. before_is kept before e stays;
-      root = λ e bare. simple_is t place (operator_of pair) parts.l parts.r wide_t tall_t (sums place pair parts.l parts.r at parts.left_part parts.right_part) (cuts place pair parts.l parts.r at parts.left_part parts.right_part)
-          shape split (root e) bare;
-      first = λ bare. first_are t.costs t.w t.h (record { pair = pair; shape = shape; sum = number }) sum node of_node whole parts.l parts.r xs ys (left_offers a xs a_is lefts) (right_offers b ys b_is rights)
-          (is_least shape sum sum_is) left right (first bare);
-      compound = λ marked. compound_is t place (operator_of pair) parts.l parts.r wide_t tall_t (sums place pair parts.l parts.r at parts.left_part parts.right_part)
-          (cuts place pair parts.l parts.r at parts.left_part parts.right_part) shape split (root (unkept kept stays marked)) marked (choice_of left.choice) (choice_of right.choice)
-          (first_alone_is t.costs t.w t.h parts.l xs left (left_offers a xs a_is lefts) (first_left marked)) (first_alone_is t.costs t.w t.h parts.r ys right (right_offers b ys b_is rights) (first_right marked));
-    }
-      where
-        wide_t : 1 ≤ t.w
-        wide_t = omega (arith, wide.0)
-
-        tall_t : 1 ≤ t.h
-        tall_t = omega (arith, tall.0)
-
-        before_is : (kept : Option TreeShape) (before : TreeShape) → kept ≡ Some before → IfSome kept (λ s. (shape ≡ s) × (split ≡ false)) → (shape ≡ before) × (split ≡ false)
-        before_is None before e stays = absurd (cc)
-        before_is (Some s) before e stays = (stays.0 ∙ same_Some s before e, stays.1)
-
-        unkept : (kept : Option TreeShape) → IfSome kept (λ s. (shape ≡ s) × (split ≡ false)) → split ≡ true → kept ≡ None
-        unkept None stays marked = refl
-        unkept (Some s) stays marked = absurd (never marked stays.1)
+    decided split left right kept first first_left first_right stays root =
+        decision shape split left.choice right.choice kept
+        (λ bare. first_are t.costs t.w t.h (record { pair = pair; shape = shape; sum = number }) sum node of_node whole parts.l parts.r xs ys (left_offers a xs a_is lefts) (right_offers b ys b_is rights)
+        (is_least shape sum sum_is) left right (first bare))
+        (λ marked. first_alone_is t.costs t.w t.h parts.l xs left (left_offers a xs a_is lefts) (first_left marked))
+        (λ marked. first_alone_is t.costs t.w t.h parts.r ys right (right_offers b ys b_is rights) (first_right marked)) stays root

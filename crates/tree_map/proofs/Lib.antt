@@ -1,5 +1,6 @@
 pub mod ArmEntries
 pub mod ArmTrees
+pub mod BesideLeaves
 pub mod CompoundCells
 pub mod DecidedCover
 pub mod DecidedLists

@@ -1,3 +1,4 @@
+pub mod BesideLeaves
 pub mod Bounds
 pub mod CompoundCover
 pub mod CoverRows

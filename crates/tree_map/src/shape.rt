@@ -1,7 +1,7 @@
 //! Shapes of trees: a height and a width.
 ghost use Rattle.std.specs.Prelude.{◌≡◌, ◌+◌, ◌*◌, ◌<◌, ◌≤◌, ◌^◌};
 ghost use Rattle.tree_map.specs.CoverRows.{IsShapeIn, row_index};
-ghost use Rattle.cover_plan.specs.Parts.{InParallel, InSeries, joined_shape, leaf_shape};
+ghost use Rattle.cover_plan.specs.Parts.{InParallel, InSeries, TreeShape, joined_shape, leaf_shape};
 ghost use Rattle.tree_map.specs.LeastPlans.{operator_of};
 
 use crate::Bounds;
@@ -70,6 +70,24 @@ impl Shape {
         match pair {
             Pair::And(_, _) => left.in_series(right),
             Pair::Or(_, _) => left.in_parallel(right),
+        }
+    }
+
+    /// The shape of a tree that comes to this shape beside a leaf, where there is one: And is series, and Or is parallel.
+    pub(crate) fn beside_leaf(self, pair: Pair) -> Shape
+        ensures gives { 1 ≤ result.height → 1 ≤ result.width → joined_shape (operator_of pair) result leaf_shape ≡ self }
+        ensures one { (shape : TreeShape) → 1 ≤ shape.height → 1 ≤ shape.width
+            → joined_shape (operator_of pair) shape leaf_shape ≡ self → shape ≡ result }
+    {
+        match pair {
+            Pair::And(_, _) => Shape {
+                height: self.height.saturating_sub(1),
+                width: self.width,
+            },
+            Pair::Or(_, _) => Shape {
+                height: self.height,
+                width: self.width.saturating_sub(1),
+            },
         }
     }
 

@@ -3,6 +3,8 @@ ghost use Rattle.std.specs.Prelude.{◌≡◌, ◌≤◌, ◌<◌, ◌*◌, ◌+
 ghost use Rattle.std.specs.List.{range_with_len};
 ghost use Rattle.dual_rail.specs.declared.forest.Pair.{Pair as PairData};
 ghost use Rattle.cover_plan.specs.Parts.{TreeShape};
+ghost use Rattle.dual_rail.specs.ForestOrder.{ReadsBefore};
+ghost use Rattle.tree_map.specs.BesideLeaves.{ArePicked, IsBesideLeaf, IsPicked, NoneBesideLeaf};
 ghost use Rattle.tree_map.specs.CoverSums.{AreCutsOf, AreSumsOf, cut_at, sum_at};
 ghost use Rattle.compound_plan.specs.Plans.{IsDecided};
 ghost use Rattle.tree_map.specs.Offers.{HasSums};
@@ -10,11 +12,12 @@ ghost use Rattle.tree_map.specs.Plans.{IsFree, is_free, is_kept};
 ghost use Rattle.tree_map.specs.Ties.{AreFirstOffers, AreSmall, Give, IsDecision, IsFirstLeast, IsFirstRight, IsRootKind, IsSmall, NoneGives, SomeGive};
 
 use crate::decisions::{Decision, Decisions};
-use crate::offers::{Offer, offers_of, root_of};
+use crate::free::free_pair;
+use crate::offers::{Choice, Offer, offers_of, root_of};
 use crate::shape::Shape;
 use crate::sums::Sums;
 use dom_base::OutOfMemory;
-use dual_rail::{Forest, Pair};
+use dual_rail::{Arm, Forest, Pair};
 use std::alloc::Global;
 
 /// What the choices for the arms of a pair are to give: its shape at its least sum, less the cost of its node.
@@ -82,6 +85,49 @@ impl Wanted {
             (first_alone(lefts), first_alone(rights))
         } else {
             self.first_offers(lefts, rights)
+        }
+    }
+
+    /// The shape in which the tree of this pair gives it beside a leaf, where there is one.
+    fn kept_beside_leaf(&self, sums: &Sums, place: usize) -> Option<Shape>
+        ensures { MatchOption result (NoneBesideLeaf self.now (sum_at sums.now place)) (IsBesideLeaf self.now (sum_at sums.now place)) }
+    {
+        let shape = self.shape.beside_leaf(self.pair);
+        let sum = sums.sum(place, shape.height, shape.width)?;
+        if sum < self.sum && self.sum - sum == 1 {
+            Some(shape)
+        } else {
+            None
+        }
+    }
+
+    /// What is done with this pair beside a leaf: it is kept in the shape that gives it, or cut off where none does.
+    fn choice_beside_leaf(&self, sums: &Sums, place: usize) -> Choice
+        ensures { IsPicked self.now (sum_at sums.now place) result }
+    {
+        match self.kept_beside_leaf(sums, place) {
+            Some(shape) => Choice::Keep(shape),
+            None => Choice::CutOff,
+        }
+    }
+
+    /// The first choices for the arms of the pair where one of them is a leaf: no list of offers is needed.
+    fn choices_beside_leaf(
+        &self,
+        free: &[bool],
+        sums: &Sums,
+        left: Arm,
+        right: Arm,
+    ) -> Option<(Choice, Choice)>
+        requires left { ReadsBefore (length free.now) left }
+        requires right { ReadsBefore (length free.now) right }
+        ensures { IfSome result (λ c. ArePicked self.now sums.now free.now left right c.0 c.1) }
+    {
+        match (free_pair(free, left), free_pair(free, right)) {
+            (None, None) => Some((Choice::Nothing, Choice::Nothing)),
+            (Some(place), None) => Some((self.choice_beside_leaf(sums, place), Choice::Nothing)),
+            (None, Some(place)) => Some((Choice::Nothing, self.choice_beside_leaf(sums, place))),
+            (Some(_), Some(_)) => None,
         }
     }
 }
@@ -163,13 +209,23 @@ fn decision_of(
     let Some(sum) = sums.sum(place, shape.height, shape.width) else {
         unreachable!()
     };
-    offers_of(sums, free, left_arm, lefts)?;
-    offers_of(sums, free, right_arm, rights)?;
     let wanted = Wanted {
         pair,
         shape,
         sum: sum - sums.costs().node(pair),
     };
+    if !split {
+        if let Some((left, right)) = wanted.choices_beside_leaf(free, sums, left_arm, right_arm) {
+            return Ok(Decision {
+                split,
+                shape,
+                left,
+                right,
+            });
+        }
+    }
+    offers_of(sums, free, left_arm, lefts)?;
+    offers_of(sums, free, right_arm, rights)?;
     let (left, right) = wanted.first_choices(split, lefts.as_slice(), rights.as_slice());
     Ok(Decision {
         split,

@@ -1,12 +1,15 @@
 -- A pair has a shape and two offers that give it, and the first two are its first choices.
 use Rattle.std.proofs.Common.{◌∙◌, ◌-◌, ap, refl, sym, subst}
+use Rattle.std.specs.Prelude.{IfSome}
 use Rattle.dual_rail.specs.ForestData.{ForestData}
 use Rattle.dual_rail.specs.ForestOrder.{IsForest}
+use Rattle.tree_map.specs.BesideLeaves.{ArePicked}
 use Rattle.tree_map.specs.CoverSums.{sum_at}
 use Rattle.tree_map.specs.declared.ties.Wanted.{Wanted}
 use Rattle.std.proofs.lemmas.Option.{same_Some}
 use Rattle.tree_map.specs.Ties.{AreFirstOffers, AreSmall, IsDecision, IsFirstLeast, SomeGive}
 use Rattle.tree_map.proofs.FirstOffers.{decided, given, has_sums, left_within, pair_read, right_within, is_node, node_below, small_left, small_right}
+use Rattle.tree_map.proofs.BesideLeaves.{decided_beside}
 use Rattle.tree_map.proofs.ties.decision_of.Goals as goal
 
 pub shape_of-shape-requires : goal.shape_of-shape-requires
@@ -88,3 +91,33 @@ overflow_sub-wanted c =
     node_below c.args.forest.now c.args.sums.now c.args.free.now c.requires.width c.requires.height forest.in_place.in_order c.requires.sums c.requires.cuts c.requires.free c.args.place c.index-pair.result.now at
     c.shape_of-shape.result.0 c.in-Some.sum c.node.result (is_node c.costs.result c.args.sums.now.costs c.index-pair.result.now c.node.result c.costs.ensures c.node.ensures.adds)
     (ap (sum_at c.args.sums.now c.args.place) (sym c.shape.view_is) ∙ sym c.sum.ensures ∙ c.in-Some.is)
+
+pub choices_beside_leaf-requires-clause-left : goal.choices_beside_leaf-requires-clause-left
+choices_beside_leaf-requires-clause-left c =
+    let forest = subst IsForest c.forest.view_is c.forest.invariant in
+    let at = pair_read c.args.forest.now c.forest.inside.pairs.items (ap (λ (g : ForestData). g.pairs) c.forest.view_is) c.args.place c.index-pair.result.now c.requires.place c.index-pair.ensures in
+    left_within c.args.forest.now c.args.sums.now c.args.free.now c.requires.width c.requires.height forest.in_place.in_order c.requires.sums c.requires.cuts c.requires.free c.args.place c.index-pair.result.now at
+    c.arms-left_arm.result.0 c.arms-left_arm.ensures.left
+
+pub choices_beside_leaf-requires-clause-right : goal.choices_beside_leaf-requires-clause-right
+choices_beside_leaf-requires-clause-right c =
+    let forest = subst IsForest c.forest.view_is c.forest.invariant in
+    let at = pair_read c.args.forest.now c.forest.inside.pairs.items (ap (λ (g : ForestData). g.pairs) c.forest.view_is) c.args.place c.index-pair.result.now c.requires.place c.index-pair.ensures in
+    right_within c.args.forest.now c.args.sums.now c.args.free.now c.requires.width c.requires.height forest.in_place.in_order c.requires.sums c.requires.cuts c.requires.free c.args.place c.index-pair.result.now at
+    c.arms-left_arm.result.1 c.arms-left_arm.ensures.right
+
+pub returns-in-Some-choices_beside_leaf : goal.returns-in-Some-choices_beside_leaf
+returns-in-Some-choices_beside_leaf c = λ pair at.
+    let forest = subst IsForest c.forest.view_is c.forest.invariant in
+    let here = pair_read c.args.forest.now c.forest.inside.pairs.items (ap (λ (g : ForestData). g.pairs) c.forest.view_is) c.args.place c.index-pair.result.now c.requires.place c.index-pair.ensures in
+    let same = same_Some c.index-pair.result.now pair (sym here ∙ at) in
+    let wanted : Wanted = record { pair = c.index-pair.result.now; shape = c.shape_of-shape.result.0; sum = c.in-Some.sum - c.node.result } in
+    let left = c.in-Some-choices_beside_leaf.left in
+    let right = c.in-Some-choices_beside_leaf.right in
+    let picked = subst (λ o. IfSome o (λ p. ArePicked wanted c.args.sums.now c.args.free.now c.arms-left_arm.result.0 c.arms-left_arm.result.1 p.0 p.1)) c.in-Some-choices_beside_leaf.is c.choices_beside_leaf.ensures in
+    subst (λ p. IsDecision c.args.sums.now.costs c.args.forest.now c.args.sums.now.w c.args.sums.now.h p c.args.kept c.shape_of-shape.result.1 c.shape_of-shape.result.0 left right) same
+    (decided_beside c.args.forest.now c.args.sums.now c.args.free.now c.requires.width c.requires.height forest.in_place.in_order c.requires.sums c.requires.cuts c.requires.free c.args.place c.index-pair.result.now here
+    c.arms-left_arm.result.0 c.arms-left_arm.result.1 c.arms-left_arm.ensures.left c.arms-left_arm.ensures.right
+    c.shape_of-shape.result.0 c.in-Some.sum (c.in-Some.sum - c.node.result) c.node.result (ap (sum_at c.args.sums.now c.args.place) (sym c.shape.view_is) ∙ sym c.sum.ensures ∙ c.in-Some.is)
+    (is_node c.costs.result c.args.sums.now.costs c.index-pair.result.now c.node.result c.costs.ensures c.node.ensures.adds) refl c.shape_of-shape.result.1 left right c.args.kept
+    c.if-not-split.true picked c.shape_of-shape.ensures.stays c.shape_of-shape.ensures.root)
