@@ -20,11 +20,9 @@ use dom_base::OutOfMemory;
 use exact_phase::exact;
 use gate_decompose::decompose;
 use network::Network;
-use spice_text::{write, write_cells};
+use spice_text::write;
 use std::alloc::Global;
-use synth_flow::{
-    DeckVersion, Grouped, SynthOptions, deck_text, synth_grouped, synth_signs, synth_skew,
-};
+use synth_flow::{DeckVersion, SynthOptions, deck_text, synth_signs, synth_skew};
 use trace_tool::network_of_text;
 
 /// The greatest number of sinks of which exact signs are sought.
@@ -102,18 +100,8 @@ fn plain_text(
     requires good_options { AreGoodOptions options }
     ensures { IfOk result (λ text. IsWholeText network options (Plain version) text.items) }
 {
-    match version {
-        DeckVersion::One => {
-            let text = deck_text(alloc, network, options)?;
-            Ok(text)
-        }
-        DeckVersion::Two => {
-            let Grouped { circuit, ends } = synth_grouped(alloc, &network, options)?;
-            drop(network);
-            circuit.whole();
-            write_cells(alloc, &circuit, ends.as_slice())
-        }
-    }
+    let text = deck_text(alloc, network, options, version)?;
+    Ok(text)
 }
 
 /// The circuit of a network with options, of the signs that need the fewest pairs of all.

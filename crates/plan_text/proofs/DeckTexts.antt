@@ -86,20 +86,23 @@ module _ (name : List ℕ) (phases : List Phase) (clocks : ℕ) (pins outs : Lis
       let grew = with_devices-grew bare devices in
       ap (λ (n : ℕ). take n full.nets) grew.ports ∙ ap (take (length ports)) grew.nets ∙ take_at ports grew.more_nets (length ports) refl
 
+  -- its ports
+  pub port_groups : 1 ≤ clocks → ArePortGroups (take full.ports full.nets) (leading_ports clocks) pins outs
+  port_groups some = record {
+    clocks = clocks;
+    leading_are = refl;
+    roles = record { some_clock = some; few_clocks = few_clocks; pins_are = pins_are; outs_are = outs_are; order = ports_stay };
+  }
+
   -- the text of the circuit
   pub written_by_names : 1 ≤ clocks → IsWritten full (named_deck_text name phases clocks pins outs devices)
   written_by_names some =
       let grew = with_devices-grew bare devices in
       let before : List ℕ = codes "* domsyn deck 1" ++ 10 ∷ [] ++ flat_map phase_line phases in
       let middle : List ℕ = deck_head name phases clocks pins outs in
-      let cut : ArePortGroups (take full.ports full.nets) (leading_ports clocks) pins outs = record {
-        clocks = clocks;
-        leading_are = refl;
-        roles = record { some_clock = some; few_clocks = few_clocks; pins_are = pins_are; outs_are = outs_are; order = ports_stay };
-      } in
       let part : IsSubckt before full.name (take full.ports full.nets) middle =
       subst (λ (n : List ℕ). IsSubckt before n (take full.ports full.nets) middle) (sym grew.name)
-      (subckt-cut before name middle (take full.ports full.nets) (leading_ports clocks) pins outs cut refl) in
+      (subckt-cut before name middle (take full.ports full.nets) (leading_ports clocks) pins outs (port_groups some) refl) in
       let cards = cards_by_names bare devices refl in
       text-whole full before middle (named_deck_text name phases clocks pins outs devices)
       (ap (λ (l : List Phase). codes "* domsyn deck 1" ++ 10 ∷ [] ++ flat_map phase_line l) (sym grew.phases)) part

@@ -1,9 +1,14 @@
 pub mod ArmGates
+pub mod CalledTexts
 pub mod CardMarks
 pub mod CardTexts
 pub mod CellLoops
 pub mod DeckTexts
+pub mod DeviceTexts
+pub mod GroupedTexts
 pub mod Heads
 pub mod Loops
+pub mod NameLists
 pub mod PairTrees
+pub mod PlannedTexts
 pub mod SinkLoops

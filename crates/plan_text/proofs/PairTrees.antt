@@ -14,9 +14,10 @@ use Rattle.dual_rail.specs.declared.forest.Pair.TheVariants.{And, Or}
 use Rattle.sp_network.specs.Tree.{Tree, Leaf, Series, Parallel, inner_count, leaves}
 use Rattle.sp_network.proofs.TreeImages.{inner_count-map_tree}
 use Rattle.tree_map.specs.Plans.{IsArmTree, literal, cut, series, parallel, IsTreeOf, is_kept}
-use Rattle.plan_text.specs.CardTexts.{CardTextData, with_named_cards}
+use Rattle.plan_text.specs.DeviceTexts.{with_put}
+use Rattle.plan_text.specs.declared.device_text.DeviceText.{DeviceText}
 use Rattle.plan_text.specs.PutCells.{HasRoomForArm, HasRoomForTree, netted}
-use Rattle.plan_text.proofs.CardTexts.{then_cards}
+use Rattle.plan_text.proofs.DeviceTexts.{then_put}
 
 module _ (forest : ForestData) (kept : List Bool) where
   -- the tree below an arm to a kept pair is the tree of the pair
@@ -73,20 +74,20 @@ module _ (forest : ForestData) (kept : List Bool) (place : ℕ) (a b : Arm) (at 
     abbrev over : Tree ℕ → Tree (List ℕ)
     over = netted pins forest.leaves
 
-    pub and_cards : (old mid new : CardTextData) (top middle bottom : List ℕ) (k n : ℕ) → middle ≡ inner k
-        → ((l : Tree ℕ) → IsArmTree forest kept a l → mid ≡ with_named_cards old (spell nch inner (over l) top middle (k + 1)))
+    pub and_cards : (old mid new : DeviceText) (top middle bottom : List ℕ) (k n : ℕ) → middle ≡ inner k
+        → ((l : Tree ℕ) → IsArmTree forest kept a l → mid ≡ with_put old (spell nch inner (over l) top middle (k + 1)))
         → ((l : Tree ℕ) → IsArmTree forest kept a l → n ≡ k + 1 + inner_count l)
-        → ((r : Tree ℕ) → IsArmTree forest kept b r → new ≡ with_named_cards mid (spell nch inner (over r) middle bottom n))
-        → (tree : Tree ℕ) → IsTreeOf forest kept place tree → new ≡ with_named_cards old (spell nch inner (over tree) top bottom k)
+        → ((r : Tree ℕ) → IsArmTree forest kept b r → new ≡ with_put mid (spell nch inner (over r) middle bottom n))
+        → (tree : Tree ℕ) → IsTreeOf forest kept place tree → new ≡ with_put old (spell nch inner (over tree) top bottom k)
     and_cards old mid new top middle bottom k n m first count second tree is =
         let p = series_of tree is in
         let l = p.0 in
         let r = p.1 in
         let number : n ≡ k + 1 + inner_count (over l) = count l p.2 ∙ ap (λ c. k + 1 + c) (sym (inner_count-map_tree (named_gate pins forest.leaves) l)) in
-        then_cards old mid new (spell nch inner (over l) top (inner k) (k + 1)) (spell nch inner (over r) (inner k) bottom (k + 1 + inner_count (over l)))
-        (first l p.2 ∙ ap (λ w. with_named_cards old (spell nch inner (over l) top w (k + 1))) m)
-        (second r p.3 ∙ (λ i. with_named_cards mid (spell nch inner (over r) (m i) bottom (number i))))
-        ∙ ap (λ t. with_named_cards old (spell nch inner (over t) top bottom k)) (sym p.4)
+        then_put old mid new (spell nch inner (over l) top (inner k) (k + 1)) (spell nch inner (over r) (inner k) bottom (k + 1 + inner_count (over l)))
+        (first l p.2 ∙ ap (λ w. with_put old (spell nch inner (over l) top w (k + 1))) m)
+        (second r p.3 ∙ (λ i. with_put mid (spell nch inner (over r) (m i) bottom (number i))))
+        ∙ ap (λ t. with_put old (spell nch inner (over t) top bottom k)) (sym p.4)
 
 module _ (forest : ForestData) (kept : List Bool) (place : ℕ) (a b : Arm) (at : slice_get forest.pairs place ≡ Some (Or a b)) where
   -- the tree of a pair that is an Or
@@ -129,16 +130,16 @@ module _ (forest : ForestData) (kept : List Bool) (place : ℕ) (a b : Arm) (at 
     abbrev across : Tree ℕ → Tree (List ℕ)
     across = netted pins forest.leaves
 
-    pub or_cards : (old mid new : CardTextData) (top bottom : List ℕ) (k n : ℕ)
-        → ((l : Tree ℕ) → IsArmTree forest kept a l → mid ≡ with_named_cards old (spell nch inner (across l) top bottom k))
+    pub or_cards : (old mid new : DeviceText) (top bottom : List ℕ) (k n : ℕ)
+        → ((l : Tree ℕ) → IsArmTree forest kept a l → mid ≡ with_put old (spell nch inner (across l) top bottom k))
         → ((l : Tree ℕ) → IsArmTree forest kept a l → n ≡ k + inner_count l)
-        → ((r : Tree ℕ) → IsArmTree forest kept b r → new ≡ with_named_cards mid (spell nch inner (across r) top bottom n))
-        → (tree : Tree ℕ) → IsTreeOf forest kept place tree → new ≡ with_named_cards old (spell nch inner (across tree) top bottom k)
+        → ((r : Tree ℕ) → IsArmTree forest kept b r → new ≡ with_put mid (spell nch inner (across r) top bottom n))
+        → (tree : Tree ℕ) → IsTreeOf forest kept place tree → new ≡ with_put old (spell nch inner (across tree) top bottom k)
     or_cards old mid new top bottom k n first count second tree is =
         let p = parallel_of tree is in
         let l = p.0 in
         let r = p.1 in
         let number : n ≡ k + inner_count (across l) = count l p.2 ∙ ap (λ c. k + c) (sym (inner_count-map_tree (named_gate pins forest.leaves) l)) in
-        then_cards old mid new (spell nch inner (across l) top bottom k) (spell nch inner (across r) top bottom (k + inner_count (across l)))
-        (first l p.2) (second r p.3 ∙ ap (λ m. with_named_cards mid (spell nch inner (across r) top bottom m)) number)
-        ∙ ap (λ t. with_named_cards old (spell nch inner (across t) top bottom k)) (sym p.4)
+        then_put old mid new (spell nch inner (across l) top bottom k) (spell nch inner (across r) top bottom (k + inner_count (across l)))
+        (first l p.2) (second r p.3 ∙ ap (λ m. with_put mid (spell nch inner (across r) top bottom m)) number)
+        ∙ ap (λ t. with_put old (spell nch inner (across t) top bottom k)) (sym p.4)

@@ -1,5 +1,8 @@
+pub mod CalledTexts
 pub mod CardTexts
 pub mod DeckTexts
+pub mod DeviceTexts
+pub mod NameLists
 pub mod Nets
 pub mod PlannedDecks
 pub mod PutCells

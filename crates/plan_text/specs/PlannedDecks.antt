@@ -2,6 +2,7 @@
 use Rattle.std.specs.Prelude.{ℕ, List, map}
 use Rattle.deck.specs.NamedDevices.{NamedDevice}
 use Rattle.deck_form.specs.ChosenDecks.{end_at_cell}
+use Rattle.deck_form.specs.DeckGroups.{card_groups}
 use Rattle.deck_form.specs.DeckNets.{CellPlan, named_cell, named_devices}
 use Rattle.deck_form.specs.DominoDecks.{cells_of}
 use Rattle.sp_network.specs.Tree.{Tree}
@@ -25,4 +26,10 @@ planned_cells deck trees = cells_of deck.phases deck.levels.now trees
 abbrev pub planned_devices : PlannedDeck → List (Tree ℕ) → List (NamedDevice (List ℕ))
 planned_devices deck trees =
     named_devices deck.style deck.cover.pins.now deck.outs.now deck.starts.now (planned_cells deck trees) deck.complements.now
+    (map (end_at_cell deck.cover.kept.now) deck.cover.forest.now.ends)
+
+-- these devices in groups: one for each cell, complement, latch and sink
+abbrev pub planned_groups : PlannedDeck → List (Tree ℕ) → List (List (NamedDevice (List ℕ)))
+planned_groups deck trees =
+    card_groups deck.style deck.cover.pins.now deck.outs.now deck.starts.now (planned_cells deck trees) deck.complements.now
     (map (end_at_cell deck.cover.kept.now) deck.cover.forest.now.ends)

@@ -75,32 +75,16 @@ impl CardText {
     {
         put_card(
             &mut self.text,
-            self.mark,
+            &self.mark,
             self.next,
             kind,
-            drain,
-            gate,
-            source,
+            &drain,
+            &gate,
+            &source,
         )?;
         let _length = self.text.len();
-        self.mark = next_mark(self.mark, self.next);
+        next_mark(&mut self.mark, self.next);
         self.next += 1;
-        Ok(())
-    }
-
-    /// Appends the cards of an inverter from a net to another.
-    pub fn put_inverter(
-        &mut self,
-        vdd: Net<'_>,
-        vss: Net<'_>,
-        gate: Net<'_>,
-        out: Net<'_>,
-    ) -> Result<(), OutOfMemory>
-        ensures { OnOk result (self.new ≡ with_named_cards self.old
-            (inverter (net_text vdd.entry) (net_text vss.entry) (net_text gate.entry) (net_text out.entry))) }
-    {
-        self.put(Kind::P, out, gate, vdd)?;
-        self.put(Kind::N, out, gate, vss)?;
         Ok(())
     }
 }
@@ -121,16 +105,16 @@ fn short_end(kind: Kind) -> ShortText
 #[inline(always)]
 fn put_card(
     text: &mut BufferedText,
-    mark: Option<ShortText>,
+    mark: &Option<ShortText>,
     number: u64,
     kind: Kind,
-    drain: Net<'_>,
-    gate: Net<'_>,
-    source: Net<'_>,
+    drain: &Net<'_>,
+    gate: &Net<'_>,
+    source: &Net<'_>,
 ) -> Result<(), OutOfMemory>
-    requires mark { IfSome mark (λ mark. short_bytes mark ≡ codes "m" ++ decimal number) }
+    requires mark { IfSome mark.now (λ mark. short_bytes mark ≡ codes "m" ++ decimal number) }
     ensures card { OnOk result (text.new ≡ text.old ++ named_card
-        (number, record { kind = kind; drain = net_text drain.entry; gate = net_text gate.entry; source = net_text source.entry })) }
+        (number, record { kind = kind; drain = net_text drain.now; gate = net_text gate.now; source = net_text source.now })) }
     ensures longer { OnOk result (length text.old < length text.new) }
     ensures no_shorter { length text.old ≤ length text.new }
 {

@@ -1,6 +1,6 @@
 //! The devices of the cells of a cover.
-ghost use Rattle.std.specs.Prelude.{ℕ, ◌≡◌, ◌≤◌, ◌<◌, All, List, OnOk, length};
-ghost use Rattle.std.specs.List.{enumerate_from, flat_map};
+ghost use Rattle.std.specs.Prelude.{ℕ, ◌≡◌, ◌≤◌, ◌<◌, All, List, OnOk, length, map};
+ghost use Rattle.std.specs.List.{enumerate_from};
 ghost use Rattle.clock_phase.specs.Levels.{greatest};
 ghost use Rattle.deck_form.specs.DeckNets.{named_cell};
 ghost use Rattle.domino_cell.specs.StyledCells.{inner_precharges, styled_cell};
@@ -8,11 +8,11 @@ ghost use Rattle.dual_rail.specs.ForestOrder.{IsForest};
 ghost use Rattle.sp_network.specs.Tree.{Tree, inner_count};
 ghost use Rattle.tree_map.specs.MappedCover.{root_cell_numbers};
 ghost use Rattle.tree_map.specs.Plans.{IsTreeOf, roots};
-ghost use Rattle.plan_text.specs.CardTexts.{with_named_cards};
+ghost use Rattle.plan_text.specs.DeviceTexts.{with_groups, with_put};
 ghost use Rattle.plan_text.specs.PlannedDecks.{AreCellTrees, netted_in, planned_cells};
 ghost use Rattle.plan_text.specs.PutCells.{HasRoomForTree, HasSmallTrees, digits_cell, precharge_cards};
 
-use crate::card_text::CardText;
+use crate::device_text::DeviceText;
 use crate::net::Net;
 use crate::planned::{CutForest, PlannedDeck};
 use crate::trees::{pair_inner, put_pair};
@@ -23,12 +23,12 @@ use itoa::Buffer;
 
 /// Appends the cards that precharge so many inner nets of the cell whose number has these digits.
 fn put_inner_precharges(
-    cards: &mut CardText,
+    cards: &mut DeviceText,
     clock: u8,
     digits: &[u8],
     count: u32,
 ) -> Result<(), OutOfMemory>
-    ensures { OnOk result (cards.new ≡ with_named_cards cards.old (inner_precharges (digits_cell clock digits.now) 0 count)) }
+    ensures { OnOk result (cards.new ≡ with_put cards.old (inner_precharges (digits_cell clock digits.now) 0 count)) }
 {
     let clock = Net::numbered(b"ck", clock as u32);
     let vdd = Net::fixed(b"vdd");
@@ -41,7 +41,7 @@ fn put_inner_precharges(
 /// Appends the cards of the cell whose number has these digits before its tree, whose root is this pair: the precharge, and the
 /// keeper or the precharge of each inner net.
 fn put_precharge(
-    cards: &mut CardText,
+    cards: &mut DeviceText,
     style: Style,
     cover: &CutForest<'_>,
     place: usize,
@@ -53,7 +53,7 @@ fn put_precharge(
     requires there { place < length cover.now.forest.now.pairs }
     requires room { HasRoomForTree cover.now.forest.now cover.now.kept.now place 0 }
     ensures { OnOk result ((tree : Tree ℕ) → IsTreeOf cover.now.forest.now cover.now.kept.now place tree
-        → cards.new ≡ with_named_cards cards.old (precharge_cards style (digits_cell clock digits.now) (inner_count tree))) }
+        → cards.new ≡ with_put cards.old (precharge_cards style (digits_cell clock digits.now) (inner_count tree))) }
 {
     let dynamic = Net::of_cell(b"d", digits);
     let vdd = Net::fixed(b"vdd");
@@ -74,7 +74,7 @@ fn put_precharge(
 /// Appends the cards of the cell whose number has these digits, in this style: the precharge and what follows it, the tree, whose
 /// root is this pair, the foot and the inverter.
 fn put_cell(
-    cards: &mut CardText,
+    cards: &mut DeviceText,
     style: Style,
     cover: &CutForest<'_>,
     place: usize,
@@ -87,7 +87,7 @@ fn put_cell(
     requires there { place < length cover.now.forest.now.pairs }
     requires room { HasRoomForTree cover.now.forest.now cover.now.kept.now place 0 }
     ensures { OnOk result ((tree : Tree ℕ) → IsTreeOf cover.now.forest.now cover.now.kept.now place tree
-        → cards.new ≡ with_named_cards cards.old (styled_cell style (digits_cell clock digits.now) (netted_in cover.now tree))) }
+        → cards.new ≡ with_put cards.old (styled_cell style (digits_cell clock digits.now) (netted_in cover.now tree))) }
 {
     let dynamic = Net::of_cell(b"d", digits);
     let foot = Net::of_cell(b"f", digits);
@@ -100,7 +100,7 @@ fn put_cell(
 }
 
 /// Appends the cards of the cells of a deck, from cell 0 on. Each is on the clock of its level.
-pub fn put_cells(cards: &mut CardText, deck: &PlannedDeck<'_>) -> Result<(), OutOfMemory>
+pub fn put_cells(cards: &mut DeviceText, deck: &PlannedDeck<'_>) -> Result<(), OutOfMemory>
     requires some_phase { 1 ≤ deck.now.phases }
     requires few_phases { deck.now.phases ≤ 4 }
     requires forest { IsForest deck.now.cover.forest.now }
@@ -112,8 +112,8 @@ pub fn put_cells(cards: &mut CardText, deck: &PlannedDeck<'_>) -> Result<(), Out
     requires top { deck.now.top ≡ greatest deck.now.levels.now }
     requires trees { HasSmallTrees deck.now.cover.forest.now deck.now.cover.kept.now }
     ensures { OnOk result ((trees : List (Tree ℕ)) → AreCellTrees deck.now.cover trees
-        → cards.new ≡ with_named_cards cards.old
-        (flat_map (named_cell deck.now.style deck.now.cover.pins.now deck.now.cover.forest.now.leaves)
+        → cards.new ≡ with_groups cards.old
+        (map (named_cell deck.now.style deck.now.cover.pins.now deck.now.cover.forest.now.leaves)
         (enumerate_from 0 (planned_cells deck.now trees)))) }
 {
     'cells: for k in 0..deck.places.len() {
@@ -128,6 +128,7 @@ pub fn put_cells(cards: &mut CardText, deck: &PlannedDeck<'_>) -> Result<(), Out
             clock,
             digits,
         )?;
+        cards.end_group()?;
     }
     Ok(())
 }

@@ -41,6 +41,24 @@ pub fn begin_deck(
     Ok(text)
 }
 
+/// The first lines of a deck by cells: a comment and the phases of its sinks, which have these signs. There
+/// is room for so many bytes.
+pub fn begin_cells(
+    alloc: Global,
+    room: usize,
+    outs: &[NetName],
+    signs: &[bool],
+) -> Result<BufferedText, OutOfMemory>
+    requires { length signs.now < 2 ^ 32 }
+    ensures { IfOk result (λ text. (starts : List Bool) → length signs.now ≡ length outs.now + length starts
+        → text ≡ codes "* domsyn deck 2" ++ 10 ∷ [] ++ flat_map phase_line (signed_phases outs.now starts signs.now)) }
+{
+    let mut text = BufferedText::new(Vec::with_capacity(alloc, room)?);
+    text.put(b"* domsyn deck 2\n")?;
+    put_phases(&mut text, outs, signs)?;
+    Ok(text)
+}
+
 /// Appends the last line of a deck.
 pub fn end_deck(text: &mut BufferedText, name: &[u8]) -> Result<(), OutOfMemory>
     ensures { OnOk result (text.new ≡ text.old ++ deck_line (codes ".ends") (name.now ∷ [])) }
@@ -72,7 +90,7 @@ fn put_phase(
     ensures { OnOk result (text.new ≡ text.old ++ phase_line (record { net = nth_sink outs.now k; plus = plus })) }
 {
     text.put(b"* phase")?;
-    put_net(text, sink_net(outs, k))?;
+    put_net(text, &sink_net(outs, k))?;
     text.put(if plus { b" +\n" } else { b" -\n" })
 }
 
@@ -92,7 +110,7 @@ fn clock_words(clocks: u8) -> &'static [u8]
 
 /// Appends `.subckt`, the name, and the ports: the supplies, so many clocks and the clocks and resets of latches on this
 /// line, and pins and outputs on lines of their own.
-fn put_subckt(
+pub fn put_subckt(
     text: &mut BufferedText,
     name: &[u8],
     clocks: u8,

@@ -1,5 +1,5 @@
 //! The marks of cards: `m` and the number of the card.
-ghost use Rattle.std.specs.Prelude.{ℕ, ◌≡◌, ◌≤◌, ◌<◌, ◌+◌, ◌^◌, ◌++◌, ◌∷◌, [], IfSome, List, OnOk, codes, length};
+ghost use Rattle.std.specs.Prelude.{ℕ, ◌≡◌, ◌≤◌, ◌<◌, ◌+◌, ◌^◌, ◌++◌, ◌∷◌, [], IfSome, List, OnOk, codes, length, true};
 ghost use Rattle.std.specs.Fmt.{decimal};
 ghost use Rattle.plan_text.specs.ShortTexts.{short_bytes};
 
@@ -16,52 +16,52 @@ fn mark_of(number: u64) -> Option<ShortText>
     ShortText::joined(b"m", buffer.format(number).as_bytes())
 }
 
-/// A short text with the next digit in the place of its last one, where that is a digit below 9.
+/// Puts the next digit in the place of the last byte, where that is a digit below 9, and says whether it was.
 #[inline(always)]
-fn with_next_digit(short: ShortText) -> Option<ShortText>
-    ensures { IfSome result (λ next. (front : List ℕ) × (digit : ℕ) × (short_bytes short ≡ front ++ digit ∷ []) × (digit < 57)
-        × (short_bytes next ≡ front ++ (digit + 1) ∷ [])) }
+fn raise_last_digit(short: &mut ShortText) -> bool
+    ensures { result ≡ true → (front : List ℕ) × (digit : ℕ) × (short_bytes short.old ≡ front ++ digit ∷ []) × (digit < 57)
+        × (short_bytes short.new ≡ front ++ (digit + 1) ∷ []) }
 {
-    if short.count == 0 || short.count > MOST_SHORT {
-        return None;
+    let count = short.count;
+    if count == 0 || count > MOST_SHORT {
+        return false;
     }
-    let last = short.count - 1;
-    let digit = short.bytes[last];
+    let digit = short.bytes[count - 1];
     if digit >= b'9' {
-        return None;
+        return false;
     }
-    let mut next = short;
-    next.bytes[last] = digit + 1;
-    Some(next)
+    short.bytes[count - 1] = digit + 1;
+    true
 }
 
-/// The mark of the next card, from the mark of the card of this number where that is there.
-pub fn next_mark(mark: Option<ShortText>, number: u64) -> Option<ShortText>
+/// Makes the mark of the card of this number, where it is there, that of the next card, which may be there.
+#[inline(always)]
+pub fn next_mark(mark: &mut Option<ShortText>, number: u64)
     requires room { number + 1 < 2 ^ 64 }
-    requires mark { IfSome mark (λ mark. short_bytes mark ≡ codes "m" ++ decimal number) }
-    ensures { IfSome result (λ mark. short_bytes mark ≡ codes "m" ++ decimal (number + 1)) }
+    requires mark { IfSome mark.old (λ mark. short_bytes mark ≡ codes "m" ++ decimal number) }
+    ensures { IfSome mark.new (λ mark. short_bytes mark ≡ codes "m" ++ decimal (number + 1)) }
 {
     if let Some(short) = mark {
-        if let Some(next) = with_next_digit(short) {
-            return Some(next);
+        if raise_last_digit(short) {
+            return;
         }
     }
-    mark_of(number + 1)
+    *mark = mark_of(number + 1);
 }
 
 /// Appends the mark of the card of this number, which may be there.
 #[inline(always)]
 pub fn put_mark(
     text: &mut BufferedText,
-    mark: Option<ShortText>,
+    mark: &Option<ShortText>,
     number: u64,
 ) -> Result<(), OutOfMemory>
-    requires mark { IfSome mark (λ mark. short_bytes mark ≡ codes "m" ++ decimal number) }
+    requires mark { IfSome mark.now (λ mark. short_bytes mark ≡ codes "m" ++ decimal number) }
     ensures mark { OnOk result (text.new ≡ text.old ++ codes "m" ++ decimal number) }
     ensures longer { length text.old ≤ length text.new }
 {
     match mark {
-        Some(short) => text.put_short(&short),
+        Some(short) => text.put_short(short),
         None => {
             text.put(b"m")?;
             text.put_number(number)

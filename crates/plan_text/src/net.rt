@@ -7,8 +7,8 @@ ghost use Rattle.plan_text.specs.Nets.{listed_net, net_text, tree_front};
 ghost use Rattle.plan_text.specs.ShortTexts.{short_bytes};
 
 use crate::buffered::BufferedText;
-use crate::short::ShortText;
-use dom_base::{NetName, OutOfMemory};
+use crate::short::{ShortText, short_slice};
+use dom_base::{NetName, OutOfMemory, append, append_number};
 use dual_rail::Rail;
 use itoa::Buffer;
 
@@ -86,16 +86,28 @@ fn short_inner(digits: &[u8], number: u32) -> Option<ShortText>
 
 /// Appends a blank and the name of a net.
 #[inline(always)]
-pub fn put_net(text: &mut BufferedText, net: Net<'_>) -> Result<(), OutOfMemory>
-    ensures name { OnOk result (text.new ≡ text.old ++ 32 ∷ net_text net.entry) }
+pub fn put_net(text: &mut BufferedText, net: &Net<'_>) -> Result<(), OutOfMemory>
+    ensures name { OnOk result (text.new ≡ text.old ++ 32 ∷ net_text net.now) }
+    ensures longer { length text.old ≤ length text.new }
+{
+    if let Net::Short(name) = net {
+        return text.put_short_word(name);
+    }
+    put_any_net(text, net)
+}
+
+/// The same, by a call: most nets are short, and none is made for them.
+#[inline(never)]
+fn put_any_net(text: &mut BufferedText, net: &Net<'_>) -> Result<(), OutOfMemory>
+    ensures name { OnOk result (text.new ≡ text.old ++ 32 ∷ net_text net.now) }
     ensures longer { length text.old ≤ length text.new }
 {
     match net {
-        Net::Short(name) => text.put_short_word(&name),
+        Net::Short(name) => text.put_short_word(name),
         Net::Named(name) => text.put_word(name),
         Net::Numbered(front, number) => {
             text.put_word(front)?;
-            text.put_number(u64::from(number))
+            text.put_number(u64::from(*number))
         }
         Net::OfCell(front, digits) => {
             text.put_word(front)?;
@@ -103,7 +115,7 @@ pub fn put_net(text: &mut BufferedText, net: Net<'_>) -> Result<(), OutOfMemory>
         }
         Net::Inner(digits, number) => {
             text.put_word(b"t")?;
-            put_inner(text, digits, number)
+            put_inner(text, digits, *number)
         }
     }
 }
@@ -144,5 +156,29 @@ pub fn rail_net<'a>(pins: &'a [NetName], rail: Rail) -> Net<'a>
         own_net(pins, rail.leaf)
     } else {
         Net::numbered(b"c", rail.leaf)
+    }
+}
+
+/// Appends the name of a net to bytes.
+pub fn append_net(bytes: &mut Vec<u8>, net: &Net<'_>) -> Result<(), OutOfMemory>
+    ensures { OnOk result (bytes.new.items ≡ bytes.old.items ++ net_text net.now) }
+{
+    match net {
+        Net::Short(name) => append(bytes, short_slice(name)),
+        Net::Named(name) => append(bytes, name),
+        Net::Numbered(front, number) => {
+            append(bytes, front)?;
+            append_number(bytes, u64::from(*number))
+        }
+        Net::OfCell(front, digits) => {
+            append(bytes, front)?;
+            append(bytes, digits)
+        }
+        Net::Inner(digits, number) => {
+            append(bytes, b"t")?;
+            append(bytes, digits)?;
+            append(bytes, b"_")?;
+            append_number(bytes, u64::from(*number))
+        }
     }
 }

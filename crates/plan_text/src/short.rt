@@ -76,3 +76,11 @@ impl ShortText {
         self.count = count;
     }
 }
+
+/// The bytes of a short text.
+#[inline(always)]
+pub fn short_slice(short: &ShortText) -> &[u8]
+    ensures { result.now ≡ short_bytes short.now }
+{
+    &short.bytes[..short.count.min(MOST_SHORT)]
+}

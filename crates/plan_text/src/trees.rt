@@ -7,12 +7,12 @@ ghost use Rattle.domino_cell.specs.Spelling.{spell};
 ghost use Rattle.sp_network.specs.Tree.{Tree, inner_count};
 ghost use Rattle.tree_map.specs.MappedCover.{IsArmInForest, root_cell_numbers};
 ghost use Rattle.tree_map.specs.Plans.{IsArmTree, IsTreeOf};
-ghost use Rattle.plan_text.specs.CardTexts.{with_named_cards};
+ghost use Rattle.plan_text.specs.DeviceTexts.{with_put};
 ghost use Rattle.plan_text.specs.Nets.{net_text, tree_front};
 ghost use Rattle.plan_text.specs.PlannedDecks.{netted_in};
 ghost use Rattle.plan_text.specs.PutCells.{HasRoomForArm, HasRoomForTree};
 
-use crate::card_text::CardText;
+use crate::device_text::DeviceText;
 use crate::net::{Net, rail_net};
 use crate::planned::CutForest;
 use dom_base::{Kind, OutOfMemory};
@@ -61,7 +61,7 @@ fn arm_inner(forest: &Forest, kept: &[bool], arm: Arm) -> u32
 /// next number.
 #[cycle(put)]
 pub fn put_pair(
-    cards: &mut CardText,
+    cards: &mut DeviceText,
     cover: &CutForest<'_>,
     place: usize,
     top: Net<'_>,
@@ -77,7 +77,7 @@ pub fn put_pair(
     ensures next { IfOk result (λ next. (tree : Tree ℕ) → IsTreeOf cover.now.forest.now cover.now.kept.now place tree
         → next ≡ inner + inner_count tree) }
     ensures cards { OnOk result ((tree : Tree ℕ) → IsTreeOf cover.now.forest.now cover.now.kept.now place tree
-        → cards.new ≡ with_named_cards cards.old
+        → cards.new ≡ with_put cards.old
         (spell nch (inner_net (tree_front digits.now)) (netted_in cover.now tree) (net_text top.entry) (net_text bottom.entry) inner)) }
 {
     let forest = cover.forest;
@@ -100,7 +100,7 @@ pub fn put_pair(
 /// So for the tree below an arm.
 #[cycle(put)]
 fn put_arm(
-    cards: &mut CardText,
+    cards: &mut DeviceText,
     cover: &CutForest<'_>,
     arm: Arm,
     top: Net<'_>,
@@ -116,7 +116,7 @@ fn put_arm(
     ensures next { IfOk result (λ next. (tree : Tree ℕ) → IsArmTree cover.now.forest.now cover.now.kept.now arm tree
         → next ≡ inner + inner_count tree) }
     ensures cards { OnOk result ((tree : Tree ℕ) → IsArmTree cover.now.forest.now cover.now.kept.now arm tree
-        → cards.new ≡ with_named_cards cards.old
+        → cards.new ≡ with_put cards.old
         (spell nch (inner_net (tree_front digits.now)) (netted_in cover.now tree) (net_text top.entry) (net_text bottom.entry) inner)) }
 {
     match arm {

@@ -41,7 +41,7 @@ pub struct PlacedGroups {
 }
 
 /// The number of a shape, which is added at the end where it is new. The one error is out of memory.
-fn number_shape(shapes: &mut ShapeSet, shape: &Shape) -> Result<usize, OutOfMemory>
+pub fn number_shape(shapes: &mut ShapeSet, shape: &Shape) -> Result<usize, OutOfMemory>
     ensures number { IfOk result (λ number. number ≡ position_or_len (same_cell_shape shape.now) shapes.old.keys) }
     ensures keys { OnOk result (shapes.new.keys ≡ insert_key same_cell_shape shapes.old.keys shape.now) }
 {

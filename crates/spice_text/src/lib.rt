@@ -17,10 +17,12 @@ mod shape;
 pub use by_cells::write_cells;
 pub use cards::card_end;
 use cards::{put_cards, put_phases};
+pub use cells::{ShapeSet, number_shape, put_shapes};
 use deck::{Circuit, roles};
 use dom_base::{OutOfMemory, append, append_word};
 pub use laws::written_reads_back;
 use ports::put_subckt;
+pub use shape::Shape;
 use std::alloc::Global;
 
 /// The text of a circuit, in bytes. Each line ends with LF and its words are separated by one

@@ -1,5 +1,5 @@
 -- The text of a deck from its counted cover is that of a circuit that synthesis gives, which is whole.
-use Rattle.std.proofs.Common.{◌≡◌, ℕ, ◌+◌, ◌*◌, ◌≤◌, ◌<◌, ◌^◌, ◌||◌, Bool, List, [], ◌∷◌, ◌++◌, Some, slice_get, get_or, length, map, zip, filter, refl, sym, ap, ◌∙◌, subst, arith, All}
+use Rattle.std.proofs.Common.{◌≡◌, ℕ, ◌+◌, ◌*◌, ◌≤◌, ◌<◌, ◌^◌, ◌||◌, Bool, List, [], ◌∷◌, ◌++◌, get_or, length, map, zip, filter, refl, sym, ap, ◌∙◌, subst, arith, All}
 use Rattle.std.specs.Prelude.{codes}
 use Rattle.std.specs.List.{AllByRecursion, list_any, range_with_len}
 use Rattle.std.proofs.lemmas.List.{length-map}
@@ -7,13 +7,13 @@ use Rattle.std.proofs.lemmas.List.Elements.{All-from_recursion, All-weaker, recu
 use Rattle.std.proofs.lemmas.List.FromFn.{length-range_with_len}
 use Rattle.std.proofs.lemmas.Option.{slice_get_within}
 use Rattle.clock_phase.specs.Levels.{AreLevels, clock_of, greatest}
-use Rattle.clock_phase.specs.Plans.{ReadEarlierCells}
 use Rattle.clock_phase.proofs.Greatest.{each_leaf_weaker}
 use Rattle.clock_phase.proofs.Levels.{clock_within, level_at_most}
 use Rattle.clock_phase.proofs.LevelsUpTo.{levels_from_one}
 use Rattle.deck.specs.CircuitData.{CircuitData}
 use Rattle.deck.specs.Escapes.{escaped}
 use Rattle.deck.specs.PortNames.{IsByteName}
+use Rattle.deck.specs.NamedDevices.{NamedDevice, with_devices}
 use Rattle.deck.specs.Pushes.{new_circuit}
 use Rattle.deck.specs.Whole.{IsWhole}
 use Rattle.deck.specs.declared.phase.Phase.{Phase}
@@ -24,6 +24,8 @@ use Rattle.deck_form.specs.DeckNets.{CellPlan, SinkEnd, named_devices, sink_nets
 use Rattle.deck_form.specs.DominoDecks.{cells_of, complements_of, deck_circuit, outs_of, phases_of_sinks, pins_of, starts_of}
 use Rattle.deck_form.specs.NamedDecks.{names_complement}
 use Rattle.deck_form.specs.declared.options.SynthOptions.{SynthOptions}
+use Rattle.deck_form.specs.DeckGroups.{card_groups, ends_from}
+use Rattle.deck_form.proofs.DeckGroups.{groups_are_cards}
 use Rattle.deck_form.proofs.SmallTrees.{trees_are_small}
 use Rattle.dom_base.specs.Names.{IsNetName}
 use Rattle.dom_base.proofs.Lists.{All-at, AllByRecursion-kept, AllByRecursion-map, AllByRecursion-weaker}
@@ -37,19 +39,20 @@ use Rattle.gate_decompose.specs.Sinks.{leaf_count}
 use Rattle.network.specs.NetworkData.{NetworkData}
 use Rattle.network.specs.Networks.{IsNetwork}
 use Rattle.network.specs.declared.network.NetLatch.{NetLatch}
-use Rattle.plan_text.specs.DeckTexts.{named_deck_text}
+use Rattle.plan_text.specs.DeckTexts.{grouped_deck_text, named_deck_text}
 use Rattle.plan_text.proofs.CellLoops.{cell_total}
 use Rattle.plan_text.proofs.DeckTexts.{whole_by_names, written_by_names}
+use Rattle.plan_text.proofs.GroupedTexts.{grouped_by_names}
 use Rattle.sp_network.specs.Tree.{Tree, EachLeaf, leaves}
+use Rattle.spice_text.specs.Cells.{IsWrittenByCells}
 use Rattle.spice_text.specs.Text.{IsWritten}
 use Rattle.style_costs.specs.Styles.{cost_in}
 use Rattle.tree_map.specs.LeastPlans.{IsChosenPlan}
-use Rattle.tree_map.specs.Plans.{cell_of}
 use Rattle.tree_map.proofs.ArmTrees.{cell_within}
 use Rattle.synth_flow.specs.CellCounts.{is_read_in}
 use Rattle.synth_flow.specs.ChosenForests.{IsChosenForest}
 use Rattle.synth_flow.specs.NamedComplements.{is_plus_end}
-use Rattle.synth_flow.specs.WholeTexts.{IsChosenText}
+use Rattle.synth_flow.specs.WholeTexts.{IsChosenCellText, IsChosenText}
 use Rattle.synth_flow.proofs.DeckFigures.{complements_same, devices_counted}
 use Rattle.synth_flow.proofs.NetworkDecks.{all_apart, few_leaves, few_sinks, outs_begin, outs_count, pins_begin, pins_count}
 use Rattle.synth_flow.proofs.PlainDevices.{IsLowCell, IsLowEnd, devices_plain, sinks_are_plain}
@@ -184,11 +187,13 @@ module _ (network : NetworkData) (is : IsNetwork network) (bytes : All (λ name.
           few_sinks network is,
         )
 
-    -- the text is whole
-    pub text_is_whole : IsNetName (escaped network.name)
-        → IsChosenText network options (named_deck_text (escaped network.name) (phases_of_sinks network signs) options.phases (pins_of network) (outs_of network)
-        (named_devices options.style (pins_of network) (outs_of network) (starts_of network) cells complements ends))
-    text_is_whole name =
+    devices_same : named_devices options.style (pins_of network) (outs_of network) (starts_of network) cells complements ends
+        ≡ named_devices options.style (pins_of network) (outs_of network) (starts_of network) cells (complements_of network cells ends) ends
+    devices_same = ap (λ (l : List ℕ). named_devices options.style (pins_of network) (outs_of network) (starts_of network) cells l ends) complements_named
+
+    -- the circuit is whole
+    circuit_is_whole : IsNetName (escaped network.name) → IsWhole circuit
+    circuit_is_whole name =
         let devices = named_devices options.style (pins_of network) (outs_of network) (starts_of network) cells (complements_of network cells ends) ends in
         let few_cells : length cells < 2 ^ 64 =
         omega (arith, cell_total options.phases levels trees levels_are.one_each, levels_are.one_each, few_trees forest kept options.bounds.w options.bounds.h trees plan.plan whole) in
@@ -198,14 +203,43 @@ module _ (network : NetworkData) (is : IsNetwork network) (bytes : All (λ name.
         low_ends in
         let phases = All-from_recursion (λ (p : Phase). IsNetName p.net) (phases_of_sinks network signs)
         (phases_plain (sink_nets (outs_of network) (starts_of network)) signs (sinks_are_plain (outs_of network) (starts_of network) outs_plain (omega (arith, few_starts)))) in
+        whole_by_names (escaped network.name) (phases_of_sinks network signs) options.phases (pins_of network) (outs_of network) devices few_phases
+        (pins_begin network is) (outs_begin network is) (all_apart network is bytes)
+        (omega (arith, pins_count network is, outs_count network is, few_leaves network is, few_sinks network is)) few_devices name phases pins_plain outs_plain plain
+
+    -- the text is that of the circuit
+    pub text_is_whole : IsNetName (escaped network.name)
+        → IsChosenText network options (named_deck_text (escaped network.name) (phases_of_sinks network signs) options.phases (pins_of network) (outs_of network)
+        (named_devices options.style (pins_of network) (outs_of network) (starts_of network) cells complements ends))
+    text_is_whole name =
+        let devices = named_devices options.style (pins_of network) (outs_of network) (starts_of network) cells (complements_of network cells ends) ends in
         record {
           circuit = circuit;
           is_chosen = is_deck;
-          whole = whole_by_names (escaped network.name) (phases_of_sinks network signs) options.phases (pins_of network) (outs_of network) devices few_phases
-              (pins_begin network is) (outs_begin network is) (all_apart network is bytes)
-              (omega (arith, pins_count network is, outs_count network is, few_leaves network is, few_sinks network is)) few_devices name phases pins_plain outs_plain plain;
-          written = subst (λ (l : List ℕ). IsWritten circuit (named_deck_text (escaped network.name) (phases_of_sinks network signs) options.phases (pins_of network) (outs_of network)
-              (named_devices options.style (pins_of network) (outs_of network) (starts_of network) cells l ends))) (sym complements_named)
+          whole = circuit_is_whole name;
+          written = subst (λ (l : List (NamedDevice (List ℕ))). IsWritten circuit (named_deck_text (escaped network.name) (phases_of_sinks network signs) options.phases (pins_of network) (outs_of network) l))
+              (sym devices_same)
               (written_by_names (escaped network.name) (phases_of_sinks network signs) options.phases (pins_of network) (outs_of network) devices few_phases
               (pins_begin network is) (outs_begin network is) some_phase);
+        }
+
+    -- and by its cells
+    pub cells_are_whole : IsNetName (escaped network.name)
+        → IsChosenCellText network options (grouped_deck_text (escaped network.name) (phases_of_sinks network signs) options.phases (pins_of network) (outs_of network)
+        (card_groups options.style (pins_of network) (outs_of network) (starts_of network) cells complements ends))
+    cells_are_whole name =
+        let groups = card_groups options.style (pins_of network) (outs_of network) (starts_of network) cells (complements_of network cells ends) ends in
+        let text = grouped_deck_text (escaped network.name) (phases_of_sinks network signs) options.phases (pins_of network) (outs_of network) in
+        let same = groups_are_cards options.style (pins_of network) (outs_of network) (starts_of network) cells (complements_of network cells ends) ends in
+        let bare = new_circuit (escaped network.name) (phases_of_sinks network signs) options.phases (pins_of network) (outs_of network) in
+        record {
+          circuit = circuit;
+          ends = ends_from 0 groups;
+          is_grouped = (is_deck, refl);
+          whole = circuit_is_whole name;
+          written = subst (λ (l : List ℕ). IsWrittenByCells circuit (ends_from 0 groups)
+              (text (card_groups options.style (pins_of network) (outs_of network) (starts_of network) cells l ends))) (sym complements_named)
+              (subst (λ (l : List (NamedDevice (List ℕ))). IsWrittenByCells (with_devices bare l) (ends_from 0 groups) (text groups)) same
+              (grouped_by_names (escaped network.name) (phases_of_sinks network signs) options.phases (pins_of network) (outs_of network) groups few_phases
+              (pins_begin network is) (outs_begin network is) some_phase));
         }

@@ -7,9 +7,11 @@ use Rattle.clock_phase.specs.Levels.{AreLevels}
 use Rattle.dual_rail.specs.ForestData.{ForestData}
 use Rattle.network.specs.NetworkData.{NetworkData}
 use Rattle.sp_network.specs.Tree.{Tree}
+use Rattle.spice_text.specs.Cells.{IsWrittenByCells}
 use Rattle.spice_text.specs.Text.{IsWritten}
 use Rattle.deck_form.specs.AskedOptions.{deck_options}
 use Rattle.deck_form.specs.ChosenDecks.{IsChosenDeck}
+use Rattle.deck_form.specs.DeckGroups.{IsGroupedDeck}
 use Rattle.deck_form.specs.declared.options.SynthOptions.{SynthOptions}
 use Rattle.tree_map.specs.LeastPlans.{IsChosenPlan}
 use Rattle.tree_map.specs.MappedCover.{root_cell_numbers}
@@ -23,6 +25,14 @@ pub record IsChosenText (network : NetworkData) (options : SynthOptions) (text :
   pub is_chosen : IsChosenDeck network (deck_options options) circuit
   pub whole : IsWhole circuit
   pub written : IsWritten circuit text
+
+-- the text by its cells of this circuit and the groups of its devices, which end at these places
+pub record IsChosenCellText (network : NetworkData) (options : SynthOptions) (text : List ℕ) : Type 0 where
+  pub circuit : CircuitData
+  pub ends : List ℕ
+  pub is_grouped : IsGroupedDeck network (deck_options options) circuit ends
+  pub whole : IsWhole circuit
+  pub written : IsWrittenByCells circuit ends text
 
 -- the chosen cover of a forest: the numbers of its cells, the places of their roots and their levels, and the leaves whose
 -- complements are named

@@ -3,15 +3,16 @@ ghost use Rattle.std.specs.Prelude.{◌≡◌, ◌≤◌, ◌<◌, All, IfOk, ma
 ghost use Rattle.deck.specs.Escapes.{escaped};
 ghost use Rattle.dom_base.specs.Names.{IsNetName};
 ghost use Rattle.deck_form.specs.DominoDecks.{outs_of, pins_of, starts_of};
+ghost use Rattle.deck_form.specs.declared.version.DeckVersion.TheVariants.{One, Two};
 ghost use Rattle.network.specs.declared.network.NetLatch.{NetLatch};
-ghost use Rattle.synth_flow.specs.WholeTexts.{IsChosenText};
+ghost use Rattle.synth_flow.specs.WholeTexts.{IsChosenCellText, IsChosenText};
 
 use crate::bare::{see_bytes, see_names};
 use crate::chosen::{ChosenForest, chosen_forest};
 use crate::counted::{CountedCover, counted_cover};
 use crate::counts::greatest_level;
 use crate::names::{escaped_name, out_names, pin_names};
-use deck_form::SynthOptions;
+use deck_form::{DeckVersion, SynthOptions};
 use dom_base::{NetName, OutOfMemory};
 use network::{NetLatch, Network};
 use plan_text::{CutForest, PlannedDeck, text_of_plan};
@@ -59,12 +60,14 @@ fn deck_names(alloc: Global, network: &Network) -> Result<DeckNames, OutOfMemory
     })
 }
 
-/// The text of the deck of a network: that of the circuit that `synth` gives of it with the same options. It doesn't make
-/// the circuit, and writes the cards of the devices from the kept edges of the chosen cover. The one error is out of memory.
+/// The text of the deck of a network in a version: that of the circuit that `synth` gives of it with the same options, or by
+/// the cells of its groups, as `synth_grouped` gives them. It doesn't make the circuit, and writes the devices from the kept
+/// edges of the chosen cover. The one error is out of memory.
 pub fn deck_text(
     alloc: Global,
     network: Network,
     options: SynthOptions,
+    version: DeckVersion,
 ) -> Result<Vec<u8>, OutOfMemory>
     requires some_width { 2 ≤ options.bounds.w }
     requires few_wide { options.bounds.w ≤ 8 }
@@ -72,7 +75,8 @@ pub fn deck_text(
     requires few_high { options.bounds.h ≤ 6 }
     requires some_phase { 1 ≤ options.phases }
     requires few_phases { options.phases ≤ 4 }
-    ensures { IfOk result (λ text. IsChosenText network options text.items) }
+    ensures one { version ≡ One → IfOk result (λ text. IsChosenText network options text.items) }
+    ensures two { version ≡ Two → IfOk result (λ text. IsChosenCellText network options text.items) }
 {
     let ChosenForest { signs, forest } = chosen_forest(alloc, &network)?;
     let DeckNames {
@@ -109,6 +113,6 @@ pub fn deck_text(
         outs: outs.as_slice(),
         starts: starts.as_slice(),
     };
-    let text = text_of_plan(alloc, &deck)?;
+    let text = text_of_plan(alloc, &deck, version)?;
     Ok(text)
 }

@@ -1,33 +1,29 @@
-use Rattle.std.proofs.Common.{◌∙◌, ℕ, List, subst, sym}
-use Rattle.std.proofs.lemmas.Result.{IfOk-weaker}
-use Rattle.spice_text.specs.Cells.{HasCells, IsWrittenByCells}
-use Rattle.cell_decks.proofs.SynthCells.{has_cells}
-use Rattle.deck_form.specs.AskedOptions.{deck_options}
-use Rattle.deck_form.specs.ChosenDecks.{planned}
-use Rattle.deck_form.specs.DeckTexts.{IsWrittenAs}
+use Rattle.std.proofs.Common.{◌≡◌, ℕ, List, refl, subst}
+use Rattle.command_words.specs.declared.command.Method.TheVariants.{Plain}
+use Rattle.deck_form.specs.declared.options.SynthOptions.{SynthOptions}
 use Rattle.deck_form.specs.declared.version.DeckVersion.{DeckVersion}
+use Rattle.deck_form.specs.declared.version.DeckVersion.TheVariants.{One, Two}
+use Rattle.network.specs.NetworkData.{NetworkData}
+use Rattle.spice_text.specs.Cells.{IsWrittenByCells}
+use Rattle.synth_flow.specs.WholeTexts.{IsChosenCellText, IsChosenText}
+use Rattle.domsyn.specs.Decks.{IsWholeText}
 use Rattle.domsyn.proofs.synth.plain_text.Goals as goal
 
-pub write_cells-requires : goal.write_cells-requires
-write_cells-requires c =
-    let circuit = c.in_ok-circuit-in-Two.field-0.circuit in
-    let is = c.in_ok-circuit-in-Two.ensures in
-    let good = c.requires.good_options in
-    subst (λ (places : List ℕ). HasCells circuit places) (sym (c.as_slice.ensures.value ∙ is.1))
-    (has_cells c.args.network (deck_options c.args.options) circuit (planned is.0) good.few_wide good.few_high good.few_phases)
-
-pub returns-in_ok-circuit-in-Two : goal.returns-in_ok-circuit-in-Two
-returns-in_ok-circuit-in-Two c =
-    let circuit = c.in_ok-circuit-in-Two.field-0.circuit in
-    let is = c.in_ok-circuit-in-Two.ensures in
-    IfOk-weaker c.write_cells.result _ _
-    (λ text written.
+whole_text : (network : NetworkData) (options : SynthOptions) (version : DeckVersion) (text : List ℕ)
+    → (version ≡ One → IsChosenText network options text) → (version ≡ Two → IsChosenCellText network options text)
+    → IsWholeText network options (Plain version) text
+whole_text network options One text one two =
+    let is = one refl in
+    record { circuit = is.circuit; is_chosen = is.is_chosen; whole = is.whole; written = is.written }
+whole_text network options Two text one two =
+    let is = two refl in
     record {
-      circuit = circuit;
-      is_chosen = is.0;
-      whole = c.whole.ensures.whole;
-      written =
-          subst (λ (version : DeckVersion). IsWrittenAs version (planned is.0) text.items) (sym c.in-Two.is)
-          (subst (λ (places : List ℕ). IsWrittenByCells circuit places text.items) (c.as_slice.ensures.value ∙ is.1) written);
-    })
-    c.write_cells.ensures
+      circuit = is.circuit;
+      is_chosen = is.is_grouped.0;
+      whole = is.whole;
+      written = subst (λ (places : List ℕ). IsWrittenByCells is.circuit places text) is.is_grouped.1 is.written;
+    }
+
+pub returns : goal.returns
+returns c =
+    whole_text c.args.network c.args.options c.args.version c.in_ok-text.text.items c.in_ok-text.ensures.one c.in_ok-text.ensures.two

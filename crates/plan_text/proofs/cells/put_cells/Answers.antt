@@ -1,6 +1,6 @@
-use Rattle.std.proofs.Common.{◌≡◌, ◌<◌, length, get_or, take, ap, ◌∙◌, arith}
+use Rattle.std.proofs.Common.{◌≡◌, ◌<◌, length, get_or, map, take, ap, ◌∙◌, arith}
 use Rattle.std.specs.Fmt.{decimal}
-use Rattle.std.specs.List.{enumerate_from, flat_map}
+use Rattle.std.specs.List.{enumerate_from}
 use Rattle.std.proofs.lemmas.List.{take_all}
 use Rattle.std.proofs.lemmas.Option.{slice_get-get_or}
 use Rattle.clock_phase.specs.Levels.{clock_of}
@@ -8,7 +8,7 @@ use Rattle.clock_phase.proofs.Levels.{level_at_most}
 use Rattle.deck_form.specs.DeckNets.{named_cell}
 use Rattle.deck_form.specs.DominoDecks.{cells_of}
 use Rattle.domino_cell.specs.StyledCells.{styled_cell}
-use Rattle.plan_text.specs.CardTexts.{with_named_cards}
+use Rattle.plan_text.specs.DeviceTexts.{with_groups, with_put}
 use Rattle.plan_text.specs.PutCells.{digits_cell, netted}
 use Rattle.plan_text.proofs.CellLoops.{cell_total, few_places, next_cell, root_has_room, root_is_there, trees_total}
 use Rattle.plan_text.proofs.cells.put_cells.Goals as goal
@@ -40,9 +40,9 @@ cells-preserved c =
     let clock = c.clock_of_level-clock.ensures ∙ ap (λ t. clock_of c.args.deck.now.phases t (get_or c.args.deck.now.levels.now c.cells.k 0)) c.requires.top in
     λ trees are.
     next_cell c.args.deck.now.cover.forest.now c.args.deck.now.cover.kept.now c.args.deck.now.places.now c.requires.places c.cells.k c.cells-test.true c.args.deck.now.style
-    c.args.deck.now.phases c.clock_of_level-clock.result c.args.deck.now.cover.pins.now c.args.deck.now.levels.now c.args.cards.now c.cells.cards c.put_cell.new.cards
+    c.args.deck.now.phases c.clock_of_level-clock.result c.args.deck.now.cover.pins.now c.args.deck.now.levels.now c.args.cards.now c.cells.cards c.put_cell.new.cards c.end_group.new.self
     c.requires.levels clock trees are (c.cells.invariant trees are)
-    (λ tree is. c.in_ok-put_cell.ensures tree is ∙ ap (λ d. with_named_cards c.cells.cards (styled_cell style (digits_cell c.clock_of_level-clock.result d) (netted pins leaves tree))) digits)
+    (λ tree is. c.in_ok-put_cell.ensures tree is ∙ ap (λ d. with_put c.cells.cards (styled_cell style (digits_cell c.clock_of_level-clock.result d) (netted pins leaves tree))) digits) c.in_ok-end_group.ensures
 
 pub returns : goal.returns
 returns c = λ trees are.
@@ -51,4 +51,4 @@ returns c = λ trees are.
     let count = cell_total c.args.deck.now.phases c.args.deck.now.levels.now trees (omega (arith, c.requires.levels, total)) in
     let all : take c.cells.k cells ≡ cells = take_all c.cells.k cells (omega (arith, count, c.requires.levels, c.cells-test.false)) in
     c.cells.invariant trees are
-    ∙ ap (λ l. with_named_cards c.args.cards.now (flat_map (named_cell c.args.deck.now.style c.args.deck.now.cover.pins.now c.args.deck.now.cover.forest.now.leaves) (enumerate_from 0 l))) all
+    ∙ ap (λ l. with_groups c.args.cards.now (map (named_cell c.args.deck.now.style c.args.deck.now.cover.pins.now c.args.deck.now.cover.forest.now.leaves) (enumerate_from 0 l))) all

@@ -5,8 +5,8 @@ use Rattle.plan_text.specs.ShortTexts.{short_bytes}
 use Rattle.plan_text.proofs.CardMarks.{next_by_digit}
 use Rattle.plan_text.proofs.marks.next_mark.Goals as goal
 
-pub returns-in-Some-with_next_digit : goal.returns-in-Some-with_next_digit
-returns-in-Some-with_next_digit c =
-    let parts = c.in-Some-with_next_digit.ensures in
+pub returns-then-raise_last_digit : goal.returns-then-raise_last_digit
+returns-then-raise_last_digit c =
+    let parts = c.raise_last_digit.ensures c.if-raise_last_digit.true in
     let now = subst (λ m. IfSome m (λ mark. short_bytes mark ≡ codes "m" ++ decimal c.args.number)) c.in-Some.is c.requires.mark in
-    next_by_digit c.args.number (short_bytes c.in-Some.short) (short_bytes c.in-Some-with_next_digit.next) parts.0 parts.1 c.requires.room now parts.2 parts.3 parts.4
+    next_by_digit c.args.number (short_bytes c.in-Some.short) (short_bytes c.raise_last_digit.new.short) parts.0 parts.1 c.requires.room now parts.2 parts.3 parts.4

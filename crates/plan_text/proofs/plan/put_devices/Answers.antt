@@ -1,5 +1,5 @@
 use Rattle.std.proofs.Common.{◌≡◌, ◌+◌, List, ◌++◌, All, length, map, zip, ap, sym, ◌∙◌, subst, arith}
-use Rattle.std.specs.List.{enumerate_from, flat_map}
+use Rattle.std.specs.List.{enumerate_from}
 use Rattle.deck_form.specs.ChosenDecks.{end_at_cell}
 use Rattle.deck_form.specs.DeckNets.{named_cell, named_complement, named_latch, named_sink, sink_nets}
 use Rattle.deck_form.specs.DominoDecks.{cells_of}
@@ -7,8 +7,8 @@ use Rattle.dual_rail.specs.ForestData.{ForestData}
 use Rattle.dual_rail.specs.Uses.{IsEndThere}
 use Rattle.dual_rail.specs.declared.forest.End.{End}
 use Rattle.tree_map.proofs.ArmTrees.{length-cells}
-use Rattle.plan_text.specs.CardTexts.{with_named_cards}
-use Rattle.plan_text.proofs.CardTexts.{then_cards}
+use Rattle.plan_text.specs.DeviceTexts.{with_groups}
+use Rattle.plan_text.proofs.DeviceTexts.{then_groups}
 use Rattle.plan_text.proofs.SinkLoops.{ends_have_cells}
 use Rattle.plan_text.proofs.plan.put_devices.Goals as goal
 
@@ -37,14 +37,14 @@ returns c = λ trees are.
     let old = c.args.cards.now in
     let plans = cells_of c.args.deck.now.phases c.args.deck.now.levels.now trees in
     let ends = c.as_slice.ensures.value ∙ ap (λ (f : ForestData). f.ends) c.forest.view_is in
-    let cells = flat_map (named_cell c.args.deck.now.style pins (length pins + length starts)) (enumerate_from 0 plans) in
-    let complements = flat_map (named_complement pins) c.args.deck.now.complements.now in
-    let latches = flat_map named_latch (enumerate_from 0 starts) in
-    let sinks = flat_map (named_sink pins) (zip (sink_nets outs starts) (map (end_at_cell kept) forest.ends)) in
-    let first = c.in_ok-put_cells.ensures trees are ∙ ap (λ n. with_named_cards old (flat_map (named_cell c.args.deck.now.style pins n) (enumerate_from 0 plans))) c.requires.leaves in
+    let cells = map (named_cell c.args.deck.now.style pins (length pins + length starts)) (enumerate_from 0 plans) in
+    let complements = map (named_complement pins) c.args.deck.now.complements.now in
+    let latches = map named_latch (enumerate_from 0 starts) in
+    let sinks = map (named_sink pins) (zip (sink_nets outs starts) (map (end_at_cell kept) forest.ends)) in
+    let first = c.in_ok-put_cells.ensures trees are ∙ ap (λ n. with_groups old (map (named_cell c.args.deck.now.style pins n) (enumerate_from 0 plans))) c.requires.leaves in
     let last = c.in_ok-put_sinks.ensures kept starts c.requires.cells (ap length ends ∙ c.requires.ends)
-    ∙ ap (λ (l : List End). with_named_cards c.put_latches.new.cards (flat_map (named_sink pins) (zip (sink_nets outs starts) (map (end_at_cell kept) l)))) ends in
-    then_cards old c.put_latches.new.cards c.put_sinks.new.cards (cells ++ complements ++ latches) sinks
-    (then_cards old c.put_complements.new.cards c.put_latches.new.cards (cells ++ complements) latches
-    (then_cards old c.put_cells.new.cards c.put_complements.new.cards cells complements first c.in_ok-put_complements.ensures)
+    ∙ ap (λ (l : List End). with_groups c.put_latches.new.cards (map (named_sink pins) (zip (sink_nets outs starts) (map (end_at_cell kept) l)))) ends in
+    then_groups old c.put_latches.new.cards c.put_sinks.new.cards (cells ++ complements ++ latches) sinks
+    (then_groups old c.put_complements.new.cards c.put_latches.new.cards (cells ++ complements) latches
+    (then_groups old c.put_cells.new.cards c.put_complements.new.cards cells complements first c.in_ok-put_complements.ensures)
     c.in_ok-put_latches.ensures) last

@@ -10,7 +10,7 @@ use Rattle.sp_network.specs.Tree.{Tree, inner_count}
 use Rattle.tree_map.specs.Plans.{cut, literal}
 use Rattle.tree_map.proofs.ArmTrees.{cell_at, left_there, length-cells, pair_at, right_there, room_less}
 use Rattle.tree_map.proofs.PlanOne.{arm_tree_one}
-use Rattle.plan_text.specs.CardTexts.{with_named_cards}
+use Rattle.plan_text.specs.DeviceTexts.{with_put}
 use Rattle.plan_text.specs.Nets.{net_text, tree_front}
 use Rattle.plan_text.proofs.ArmGates.{literal_net, root_net}
 use Rattle.plan_text.proofs.PairTrees.{and_cards, and_left_room, and_next, and_right_room, or_cards, or_left_room, or_next, or_right_room, tree_at_kept}
@@ -92,8 +92,8 @@ put_arm-returns-in_ok-put-in-Literal-clause-cards t c = λ tree is.
     let low = subst (ReadsLeaves c.args.cover.now.forest.now.leaves) c.in-Literal.is c.requires.there.1 in
     let gate = literal_net c.args.cover.now.forest.now c.args.cover.now.kept.now c.args.cover.now.pins.now c.args.arm c.in-Literal.rail tree is c.in-Literal.is low in
     c.in_ok-put-in-Literal.ensures
-    ∙ (λ i. with_named_cards c.args.cards.now (record { kind = nch; drain = net_text c.args.top; gate = c.rail_net.ensures i; source = net_text c.args.bottom } ∷ []))
-    ∙ ap (λ (x : Tree (List ℕ)). with_named_cards c.args.cards.now (spell nch (inner_net (tree_front c.args.digits.now)) x (net_text c.args.top) (net_text c.args.bottom) c.args.inner)) (sym gate)
+    ∙ (λ i. with_put c.args.cards.now (record { kind = nch; drain = net_text c.args.top; gate = c.rail_net.ensures i; source = net_text c.args.bottom } ∷ []))
+    ∙ ap (λ (x : Tree (List ℕ)). with_put c.args.cards.now (spell nch (inner_net (tree_front c.args.digits.now)) x (net_text c.args.top) (net_text c.args.bottom) c.args.inner)) (sym gate)
 
 pub put_arm-returns-in_ok-next-in-Pair-clause-next : goal.put_arm-returns-in_ok-next-in-Pair-clause-next
 put_arm-returns-in_ok-next-in-Pair-clause-next t c = λ tree is.
@@ -113,5 +113,5 @@ put_arm-returns-in_ok-put-in-Pair-clause-cards t c = λ tree is.
     let cell = cell_at c.args.cover.now.kept.now c.args.cover.now.cells.now c.in-Pair.place c.requires.cells (omega (arith, there, c.requires.one_each)) in
     let gate = root_net c.args.cover.now.forest.now c.args.cover.now.kept.now c.args.cover.now.pins.now c.args.arm c.in-Pair.place tree is c.in-Pair.is c.if-cover-place.false in
     c.in_ok-put-in-Pair.ensures
-    ∙ (λ i. with_named_cards c.args.cards.now (record { kind = nch; drain = net_text c.args.top; gate = (c.numbered.ensures ∙ ap output_net cell) i; source = net_text c.args.bottom } ∷ []))
-    ∙ ap (λ (x : Tree (List ℕ)). with_named_cards c.args.cards.now (spell nch (inner_net (tree_front c.args.digits.now)) x (net_text c.args.top) (net_text c.args.bottom) c.args.inner)) (sym gate)
+    ∙ (λ i. with_put c.args.cards.now (record { kind = nch; drain = net_text c.args.top; gate = (c.numbered.ensures ∙ ap output_net cell) i; source = net_text c.args.bottom } ∷ []))
+    ∙ ap (λ (x : Tree (List ℕ)). with_put c.args.cards.now (spell nch (inner_net (tree_front c.args.digits.now)) x (net_text c.args.top) (net_text c.args.bottom) c.args.inner)) (sym gate)
