@@ -1,7 +1,7 @@
 #!/usr/bin/env python3
 """Writes a Verilog model of a deck over a stimulus, of switches, for the comparison with Icarus Verilog.
 
-    deck_to_verilog.py DECK STIM [lean] > FILE
+    deck_to_verilog.py DECK STIM [lean|skew] > FILE
 
 Each device is a switch primitive without delay. Where one end of it is a source of the circuit, the value goes to the
 other end alone: `nmos`, `pmos`, and `rpmos` for `pkeep`, which loses strength. Else it is `tranif1`, `tranif0` or
@@ -9,28 +9,35 @@ other end alone: `nmos`, `pmos`, and `rpmos` for `pkeep`, which loses strength. 
 A net that isn't the output of an inverter or such a Nand keeps its value by a register that follows it and drives it with
 weak strength, since Icarus has no `trireg`. With `lean` only those of these nets do that gate a device or are outputs;
 the inner nets of a tree then lose their value where the model keeps it. The initial block has the moves of
-power and of the cycles, one time unit for each going to rest, and writes a line `cycle C in PINS out OUTS` for each cycle.
+power and of the cycles, one time unit for each going to rest, and writes a line `cycle C in PINS out OUTS` for each cycle. With `skew`
+each clock but the last falls once the next one has risen, as `domsyn sim --skew` has them.
 
-It takes decks as `domsyn` writes them: a card on a line but for the lines of ports, no other comments among them.
+It takes decks as `domsyn` writes them, in either version: a card on a line but for the lines of ports, no other comments among them.
 """
 import sys
 from collections import defaultdict
 
 
 def read_deck(text):
-    """The ports, and the devices as (drain, gate, source, model)."""
-    ports, devices = [], []
+    """The ports, and the devices as (drain, gate, source, model), with each call replaced by those that it stands for."""
+    ports, devices, cells, name = [], [], {}, None
     for line in text.splitlines():
         words = line.lower().split()
         if not words or words[0].startswith("*"):
             continue
         if words[0] == ".subckt":
-            ports += words[2:]
+            name, ports, devices = words[1], words[2:], []
         elif words[0].startswith("+"):
             ports += [word for word in [words[0][1:]] + words[1:] if word]
         elif words[0].startswith("m"):
             devices.append((words[1], words[2], words[3], words[5]))
-        elif words[0] != ".ends":
+        elif words[0].startswith("x"):
+            inner_ports, inner = cells[words[-1]]
+            nets = dict(zip(inner_ports, words[1:-1]))
+            devices += [(*(nets.get(net, f"{words[0]}.{net}") for net in device[:3]), device[3]) for device in inner]
+        elif words[0] == ".ends":
+            cells[name] = (ports, devices)
+        else:
             sys.exit("unknown card: " + line)
     return ports, devices
 
@@ -97,7 +104,7 @@ def bits(nets):
     return "{" + ", ".join(name(net) for net in nets) + "}"
 
 
-def moves(clocks, pins, outs, cycles):
+def moves(clocks, pins, outs, cycles, skew):
     """The moves of power and of the cycles."""
     yield "  initial begin\n"
     yield "".join(f"    {name(clock)}= 0;\n" for clock in clocks)
@@ -108,7 +115,10 @@ def moves(clocks, pins, outs, cycles):
     yield f"    #1 for (c = 0; c < {len(cycles)}; c = c + 1) begin\n"
     if pins:
         yield f"      {bits(pins)} = stimulus[c]; #1;\n"
-    yield "".join(f"      {name(clock)}= 1; #1;\n" for clock in clocks)
+    for place, clock in enumerate(clocks):
+        yield f"      {name(clock)}= 1; #1;\n"
+        if skew and place > 0:
+            yield f"      {name(clocks[place - 1])}= 0; #1;\n"
     given = "%b" if pins else "-"
     taken = "%b" if outs else "-"
     words = [bits(nets) for nets in (pins, outs) if nets]
@@ -126,7 +136,7 @@ def keeper(place, net):
             f"  assign (weak0, weak1) {name(net)} = KEEP{place};\n")
 
 
-def model(ports, devices, cycles, lean):
+def model(ports, devices, cycles, word):
     sources = {port for port in ports if not port.startswith("o_")}
     clocks = [port for port in ports if port.startswith("ck")]
     pins = [port for port in ports if port.startswith("i_")]
@@ -135,7 +145,7 @@ def model(ports, devices, cycles, lean):
     nets.update(dict.fromkeys(outs))
     nands = nand_nets(devices)
     steady = inverter_outputs(devices) | {*nands, *nands.values()}
-    if lean:
+    if word == "lean":
         steady |= set(nets) - {device[1] for device in devices} - set(outs)
     yield "module deck;\n  supply1 vdd;\n  supply0 vss;\n  reg lm, lmb, ls, lsb, rs, rsb;\n  integer c;\n"
     yield "".join(f"  reg {name(net)};\n" for net in clocks + pins)
@@ -148,18 +158,18 @@ def model(ports, devices, cycles, lean):
         yield "  initial begin\n"
         yield "".join(f"    stimulus[{c}] = {len(pins)}'b{line};\n" for c, line in enumerate(cycles))
         yield "  end\n"
-    yield from moves(clocks, pins, outs, cycles)
+    yield from moves(clocks, pins, outs, cycles, word == "skew")
     yield "endmodule\n"
 
 
 def main():
-    if len(sys.argv) not in (3, 4) or sys.argv[3:] not in ([], ["lean"]):
-        sys.exit("usage: deck_to_verilog.py DECK STIM [lean] > FILE")
+    if len(sys.argv) not in (3, 4) or sys.argv[3:] not in ([], ["lean"], ["skew"]):
+        sys.exit("usage: deck_to_verilog.py DECK STIM [lean|skew] > FILE")
     with open(sys.argv[1]) as deck:
         ports, devices = read_deck(deck.read())
     with open(sys.argv[2]) as stimulus:
         cycles = read_stimulus(stimulus.read(), sum(port.startswith("i_") for port in ports))
-    for piece in model(ports, devices, cycles, len(sys.argv) == 4):
+    for piece in model(ports, devices, cycles, "".join(sys.argv[3:])):
         sys.stdout.write(piece)
 
 

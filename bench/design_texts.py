@@ -9,6 +9,9 @@
     design_texts.py alike RUN LINES                  how many cycles of two texts are alike
     design_texts.py alike_but_x RUN LINES            the same, where an x of LINES is like any value
     design_texts.py counts BLIF FLAT DECK            the numbers of inputs, outputs, latches, tables, cells and devices
+    design_texts.py figures DECK                     the numbers of cells (of those compound ones, if any), levels and devices of a deck
+    design_texts.py shuffled DECK > FILE             the deck with its devices and calls in another order and half of the ends exchanged
+    design_texts.py same_devices DECK OTHER          whether two decks, their calls expanded, have the same ports and devices in order
     design_texts.py ngspice DECK SIZED STIM > FILE   a circuit for ngspice that runs the sized deck over the stimulus
     design_texts.py voltages STIM OUTPUT > LINES     the lines that ngspice's OUTPUT gives: x is a voltage that is neither low nor high
 """
@@ -118,6 +121,40 @@ def counts(blif, flat, deck):
         sum(re.match(r"m\d+ d\d+ ck\d ", line) is not None for line in devices), len(devices)]))
 
 
+def figures(deck):
+    _, devices = read_deck(deck)
+    sides = {net for net, _, _, model in devices if model == "pch" and re.fullmatch(r"[de]\d+", net)}
+    reads = {net[1:]: set() for net in sides}
+    for drain, gate, _, model in devices:
+        inner = re.fullmatch(r"[deut](\d+)(_\d+)?", drain)
+        if model == "nch" and inner and gate.startswith("z"):
+            reads[inner[1]].add(gate[1:])
+    level = {}
+    for cell in sorted(reads, key=int):  # each reads earlier cells alone
+        level[cell] = 1 + max((level[one] for one in reads[cell]), default=0)
+    compound = len(sides) - len(reads)
+    return f"{len(reads)}{f' ({compound})' * (compound > 0)}, {max(level.values(), default=0)}, {len(devices)}"
+
+
+def shuffled(deck):
+    draw = random.Random(len(deck))
+    lines = deck.split("\n")
+    starts = [k for k, line in enumerate(lines) if line.startswith((".subckt", ".ends"))]
+    for start, end in zip(starts, starts[1:]):
+        places = [k for k in range(start, end) if lines[k].startswith(("m", "x"))]
+        cards = [lines[k].split() for k in places]
+        draw.shuffle(cards)
+        for k, words in zip(places, cards):
+            if words[0].startswith("m") and draw.random() < 1 / 2:
+                words[1], words[3] = words[3], words[1]
+            lines[k] = " ".join(words)
+    return "\n".join(lines)
+
+
+def same_devices(deck, other):
+    return "same" if read_deck(deck) == read_deck(other) else "OTHER"
+
+
 def wave(node, place, corners):
     """A source whose voltage moves within 0.2 ns to each level at its time."""
     points, level = [], corners[0][1]
@@ -174,12 +211,12 @@ def main():
         out = re.sub(r"(?m)^(\.inputs.*?) clk\b", r"\1", read(words[0]), count=1)
     elif kind == "ngspice":
         out = ngspice(read(words[0]), words[1], read(words[2]))
-    elif kind in ("with_inputs", "alike", "alike_but_x", "counts", "voltages"):
+    elif kind in ("with_inputs", "alike", "alike_but_x", "counts", "figures", "shuffled", "same_devices", "voltages"):
         out = globals()[kind](*map(read, words))
     else:
         sys.exit(__doc__)
     sys.stdout.write("".join(out))
-    if kind in ("alike", "alike_but_x", "counts"):
+    if kind in ("alike", "alike_but_x", "counts", "figures", "same_devices"):
         print()
 
 

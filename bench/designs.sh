@@ -7,8 +7,9 @@
 # DOMSYN is the program, by default where `cd crates/domsyn_cli && rt run -- synth data/and2.blif` leaves it. CYCLES is how
 # many cycles of random bits each design runs, by default 100; decks of more than 5,000 devices run fewer. DESIGN is a file of
 # bench/designs without its ending; with none there are all of them. STYLE may name the style of the cells, by default `keeper`, and
-# METHOD a further option of `synth`, such as `--compound`. It needs yosys, berkeley-abc, iverilog, ngspice, python3 and GNU time. Each design has a line of the table; what isn't as it should be has
-# a line on standard error, and then the status is 1.
+# METHOD a further option of `synth`, such as `--compound`. With WAYS set each design is made in six ways at the default bounds, judged, and
+# has a line of the second table. It needs yosys, berkeley-abc, iverilog, ngspice, python3 and GNU time, with WAYS netgen-lvs too. Each
+# design has a line of the table; what isn't as it should be has a line on standard error, and then the status is 1.
 set -eu
 here=$(CDPATH='' cd -- "$(dirname -- "$0")" && pwd)
 . "$here/measure.sh"
@@ -55,10 +56,15 @@ equal() {
     return 1
 }
 
-# writings: the design as yosys writes it flat, as yosys writes its modules, and as ABC writes it, one name a line.
-writings() {
+# flat_writing: the design as yosys writes it flat.
+flat_writing() {
     read="read_verilog $source; hierarchy -check -top $design"
     yosys -q -p "$read; flatten; check -assert; $steps; write_blif -noalias $folder/yosys.blif"
+}
+
+# writings: the same, as yosys writes its modules, and as ABC writes it, one name a line.
+writings() {
+    flat_writing
     berkeley-abc -q "read_blif $folder/yosys.blif; strash; dch; if -K 6; sop; write_blif $folder/with_clock.blif" >/dev/null 2>&1
     texts without_clock "$folder/with_clock.blif" >"$folder/abc.blif"
     echo yosys
@@ -154,12 +160,94 @@ one() {
         "$switch_decks | $same_decks | ${voltage_word:--} |"
 }
 
+# audited: `audit` says yes of a deck with keepers, as it is and shuffled, and counts its cells.
+audited() {
+    texts shuffled "$deck" >"$folder/shuffled.sp"
+    for one in "$deck" "$folder/shuffled.sp"; do
+        "$domsyn" audit "$one" >"$folder/said" || true
+        grep -q "^yes cells ${figures%%,*} " "$folder/said" || fault "audit $way_name: $(cat "$folder/said")"
+    done
+}
+
+# same_text: the deck by cells has the devices of the plain one, by its calls, by netgen and by all events of its trace.
+same_text() {
+    [ "$(texts same_devices "$folder/keeper.sp" "$deck")" = same ] || fault "devices of $way_name"
+    name=$(sed -n 's/^\.subckt \([^ ]*\) vdd vss ck1 .*/\1/p' "$deck" | tail -1)
+    echo "permute default" >"$folder/setup.tcl"
+    (cd "$folder" && netgen-lvs -batch lvs "$deck $name" "keeper.sp $name" setup.tcl comp.out >netgen_said 2>&1) || true
+    grep -q '^Result: Circuits match uniquely' "$folder/netgen_said" || fault "netgen: $(grep '^Result' "$folder/netgen_said")"
+    head -n 5 "$folder/stim" >"$folder/stim5"
+    "$domsyn" sim "$folder/keeper.sp" "$folder/stim5" --events >"$folder/events"
+    "$domsyn" sim "$deck" "$folder/stim5" --events | cmp -s - "$folder/events" || fault "events of $way_name"
+}
+
+# one_way NAME OPTION..: the deck of these options, judged; its figures are the next column.
+one_way() {
+    way_name=$1 deck=$folder/$1.sp word=
+    shift
+    case "$*" in *--skew*) word=skew ;; esac
+    if ! "$domsyn" synth "$folder/yosys.blif" "$@" >"$deck" 2>"$folder/said"; then
+        grep -q 'too many sinks' "$folder/said" || fault "$way_name: $(cat "$folder/said")"
+        columns="$columns - |"
+        return
+    fi
+    figures=$(texts figures "$deck")
+    case "$*" in
+        *--deck*) columns="$columns $(grep -c '^\.subckt cell-' "$deck"), $(grep -c '^x' "$deck") |" ;;
+        *) columns="$columns $figures |" ;;
+    esac
+    "$domsyn" cosim "$folder/yosys.blif" "$deck" "$folder/stim" --order seed --seed 7 >"$folder/said" || true
+    grep -q '^same' "$folder/said" || fault "cosim $way_name: $(cat "$folder/said")"
+    case "$*" in *precharge*) ;; *) audited ;; esac
+    case "$*" in *--deck*) same_text && return ;; esac
+    python3 "$here/deck_to_blif.py" "$deck" >"$folder/deck.blif" || fault "deck_to_blif $way_name"
+    equal "$folder/yosys.blif" "$folder/deck.blif" || true
+    [ "$devices" -lt 20000 ] || return 0
+    # shellcheck disable=SC2086
+    python3 "$here/deck_to_verilog.py" "$deck" "$folder/stim" $word >"$folder/deck.v"
+    iverilog -o "$folder/deck.vvp" "$folder/deck.v"
+    vvp "$folder/deck.vvp" >"$folder/lines"
+    lines_word=$(texts alike "$folder/run" "$folder/lines")
+    case $lines_word in OTHER*) fault "switches $way_name: $lines_word" ;; esac
+}
+
+# six: a design in six ways, and its line of the second table.
+six() {
+    source=$here/designs/$design.v
+    way=cec cuts=0 columns=""
+    ! grep -q 'edge clk' "$source" || way=dsec
+    flat_writing
+    "$domsyn" flat "$folder/yosys.blif" >"$folder/yosys.flat"
+    devices=$("$domsyn" report "$folder/yosys.blif" | sed -n 's/^devices //p')
+    number=$cycles
+    [ "$devices" -lt 5000 ] || number=$((cycles / 5))
+    [ "$devices" -lt 20000 ] || number=$((cycles / 20))
+    texts stimulus "$folder/yosys.flat" "$number" >"$folder/stim"
+    "$domsyn" run "$folder/yosys.blif" "$folder/stim" >"$folder/run"
+    one_way keeper
+    one_way precharge --style precharge
+    one_way compound --style precharge --compound
+    one_way skew --phases 4 --skew
+    one_way exact --exact
+    one_way cells --deck 2
+    echo "| \`$design\` |$columns"
+}
+
 [ $# -lt 2 ] || shift
 [ $# -lt 1 ] || shift
 if [ $# -eq 0 ]; then
     for source in "$here"/designs/*.v; do
         set -- "$@" "$(basename "$source" .v)"
     done
+fi
+if [ -n "${WAYS:-}" ]; then
+    need netgen-lvs
+    echo "| Design | \`keeper\` | \`precharge\` | \`--compound\` | \`--skew\` | \`--exact\` | \`--deck 2\` |"
+    echo "|---|---|---|---|---|---|---|"
+    for design; do
+        six
+    done
+    exit $bad
 fi
 echo "| Design | What it is | In | Out | Latches | Tables | Cells | Devices | \`synth\`, ms |" \
     "\`flat\` of | Verilog | Equal decks | In switches | \`cosim\` | ngspice |"

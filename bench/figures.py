@@ -8,7 +8,7 @@ DOMSYN and YARDSTICK are two programs with the words of domsyn. Each command run
 and both have to end with the same status and put out the same. A line of the table has the median of the processor
 time (user and system), the peak memory of one run more, their ratios, and the growth: the time of domsyn at this size by
 that at half the size. With WORDs only lines that have one of them in their name. The texts take 100 MB of the folder
-TMPDIR at a time. It needs python3 and GNU time (`time`).
+TMPDIR at a time. It needs python3 and GNU time (`time`). (The yardstick takes `--deck 2` where DOMSYN_LATER=1.)
 
 With --styles each command that takes a style runs by DOMSYN in both, in turn. A line of this table has the least of the
 times in style precharge and in style keeper, the peak memory, what was put out, and the ratios of these.
@@ -85,6 +85,9 @@ CASES = [
     ("`synth`", "latches in a ring", logic("synth", "latches", ("2,047", "4,095", "8,191"))),
     ("`synth`", "outputs over one cone", logic("synth", "shared", ("2,048", "4,096", "8,192"))),
     ("`synth`", "gates, a tree in halves", logic("synth", "deep", ("14,000", "28,000", "56,000"))),
+    ("`synth --deck 2`", "a chain of tables", logic("synth", "chain", ("16,650", "33,300", "66,600"), "--deck", "2")),
+    ("`synth --deck 2`", "latches in a ring", logic("synth", "latches", ("2,047", "4,095", "8,191"), "--deck", "2")),
+    ("`synth --deck 2`", "outputs over one cone", logic("synth", "shared", ("2,048", "4,096", "8,192"), "--deck", "2")),
     ("`report`", "a chain of tables", logic("report", "chain", ("16,650", "33,300", "66,600"))),
     ("`report`", "a table of 4,096 inputs", logic("report", "wide", ("24 rows", "48 rows", "96 rows"))),
     ("`report`", "that in both signs", logic("report", "both", ("24 rows", "48 rows", "96 rows"))),

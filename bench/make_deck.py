@@ -13,7 +13,7 @@ writes a deck of at most BYTES bytes of this kind, as many cards, cells or ports
     pins      pins and no device, at most as many ports as a deck may have, and then a comment
     plus      the chain `near` with each word of a card on a line of its own that begins with `+`
     comments  one half short comments, the other half one long comment
-    colliding inverters whose nets have different names with the same hash in the maps of `indexmap`, then a comment
+    colliding inverters whose nets have different names with the same fast hash, then a comment
 
 All of them are decks, they come to rest, and `sim` takes them.
 """
@@ -21,7 +21,7 @@ import itertools
 import sys
 
 sys.dont_write_bytecode = True
-from make_blif import NAME, PAIRS  # noqa: E402
+from make_blif import collisions  # noqa: E402
 
 PORTS = "vdd vss ck1 lm lmb ls lsb rs rsb"
 MOST_PORTS = 1_048_576
@@ -147,10 +147,7 @@ def comments(size):
 
 
 def colliding(size):
-    pairs = [line.split() for line in PAIRS.split("\n") if line]
-    count = 2 ** len(pairs) * size // 2**26
-    names = ["".join(blocks).ljust(NAME, "a") for blocks in itertools.islice(itertools.product(*pairs), count)]
-    devices = (inverter(place, "i_0", name) for place, name in enumerate(names))
+    devices = (inverter(place, "i_0", name) for place, name in enumerate(collisions(size)))
     return padded([*head("colliding"), *devices, ".ends colliding\n"], size)
 
 
