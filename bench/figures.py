@@ -8,7 +8,8 @@ DOMSYN and YARDSTICK are two programs with the words of domsyn. Each command run
 and both have to end with the same status and put out the same. A line of the table has the median of the processor
 time (user and system), the peak memory of one run more, their ratios, and the growth: the time of domsyn at this size by
 that at half the size. With WORDs only lines that have one of them in their name. The texts take 100 MB of the folder
-TMPDIR at a time. It needs python3 and GNU time (`time`). (The yardstick takes `--deck 2` where DOMSYN_LATER=1.)
+TMPDIR at a time. It needs python3 and GNU time (`time`). (The yardstick takes `--deck 2` and decks with calls where
+DOMSYN_LATER=1.)
 
 With --styles each command that takes a style runs by DOMSYN in both, in turn. A line of this table has the least of the
 times in style precharge and in style keeper, the peak memory, what was put out, and the ratios of these.
@@ -69,6 +70,14 @@ CASES = [
         (f"{size >> 20} MiB", {"t.sp": lambda size=size: made("make_deck.py", "cells", size), "t.stim": lambda: b"x\n"},
          ["sim", "t.sp", "t.stim"])
         for size in (LIMIT // 4, LIMIT // 2, LIMIT)]),
+    ("`sim`, reading (refused)", "calls of 1,000 subcircuits", [
+        (f"{size >> 20} MiB", {"t.sp": lambda size=size: made("make_deck.py", "called", size), "t.stim": lambda: b"x\n"},
+         ["sim", "t.sp", "t.stim"])
+        for size in (LIMIT // 4, LIMIT // 2, LIMIT)]),
+    ("`sim`, reading (refused)", "calls in calls, 60 levels", [
+        (f"{size // 1000} kB", {"t.sp": lambda size=size: made("make_deck.py", "levels", size), "t.stim": lambda: b"x\n"},
+         ["sim", "t.sp", "t.stim"])
+        for size in (40_000, 80_000, 160_000)]),
     ("`flat`", "tables in a chain, last first", hierarchy("tables_last_first", (50_000, 100_000, 200_000))),
     ("`flat`", "inverters, half inside instances", hierarchy("signals", (55_500, 111_000, 222_000))),
     ("`flat`", "nested models", hierarchy("nested_models", (25_000, 50_000, 99_990))),

@@ -11,6 +11,8 @@ writes a deck of at most BYTES bytes of this kind, as many cards, cells or ports
               cell before it, or a pin, and that of a cell further back, or a pin. There are 16 pins, and the
               last 16 cells drive the outputs; there are no fewer than these, whatever BYTES is
     pins      pins and no device, at most as many ports as a deck may have, and then a comment
+    called    the cells of `cells` as subcircuits: a thousand of them, alike but for their names, and calls of each in turn
+    levels    calls of a subcircuit that calls one that calls one, 60 deep, with 4 devices at each level: 240 devices a call
     plus      the chain `near` with each word of a card on a line of its own that begins with `+`
     comments  one half short comments, the other half one long comment
     colliding inverters whose nets have different names with the same fast hash, then a comment
@@ -28,6 +30,8 @@ MOST_PORTS = 1_048_576
 PINS = 16
 OUTS = 16
 STRIDE = 7_368_787
+CELLS = 1_000
+LEVELS = 60
 
 
 def head(name, pins=("i_0",), outs=()):
@@ -115,6 +119,42 @@ def cells(size):
     yield last
 
 
+def called(size):
+    pins = [f"i_{k}" for k in range(PINS)]
+    outs = [f"o_{k}" for k in range(OUTS)]
+    subcircuits = "".join(
+        f".subckt c{k} vdd vss ck1 a b z o\n"
+        "m0 d ck1 vdd vdd pch\nm1 d z vdd vdd pkeep\nm2 d a t vss nch\nm3 t b f vss nch\nm4 f ck1 vss vss nch\n"
+        f"m5 z d vdd vdd pch\nm6 z d vss vss nch\nm7 o d vdd vdd pch\nm8 o d vss vss nch\n.ends c{k}\n"
+        for k in range(CELLS))
+    top = subcircuits + "".join(head("called", pins, outs))
+    last = ".ends called\n"
+    room = size - len(top) - len(last)
+    count = 0
+    while room >= len(call(count)):
+        room -= len(call(count))
+        count += 1
+    count = max(count, OUTS)
+    yield top
+    yield from (call(k, outs[k - count] if k >= count - OUTS else None) for k in range(count))
+    yield last
+
+
+def call(place, drives=None):
+    """A call of one of the subcircuits, which reads what the cell of this place reads."""
+    far_back = place - 1 - place * 31 % 97
+    gates = [f"z{back}" if back >= 0 else f"i_{(place + k) % PINS}" for k, back in enumerate((place - 1, far_back))]
+    return f"x{place} vdd vss ck1 {gates[0]} {gates[1]} z{place} {drives or f'o{place}'} c{place % CELLS}\n"
+
+
+def levels(size):
+    for k in reversed(range(LEVELS)):
+        yield f".subckt s{k} vdd vss a z\n" + inverter(0, "a", "n") + inverter(1, "n", "z")
+        yield f"x vdd vss n m s{k + 1}\n.ends s{k}\n" if k + 1 < LEVELS else f".ends s{k}\n"
+    calls = (f"x{k} vdd vss {link(k)} {link(k + 1)} s0\n" for k in itertools.count())
+    yield from fits(itertools.chain(head("levels"), calls), size, ".ends levels\n")
+
+
 def padded(pieces, size):
     """The pieces, and a comment that fills the rest."""
     for piece in pieces:
@@ -151,7 +191,7 @@ def colliding(size):
     return padded([*head("colliding"), *devices, ".ends colliding\n"], size)
 
 
-KINDS = [near, far, cells, pins, plus, comments, colliding]
+KINDS = [near, far, cells, called, levels, pins, plus, comments, colliding]
 
 
 def main():

@@ -28,14 +28,14 @@ use crate::line_fault::{card_fault, row_fault};
 use crate::open_model::{OpenModel, OpenTable, opened_table};
 use blif_ast::{BlifKind, Card};
 use dom_base::{NameHash, OutOfMemory};
-use numbered_file::{NumberedFile, as_u32};
+use numbered_file::{NumberedFile, OpenFile, as_u32};
 use std::alloc::Global;
 use std::marker::Model;
 
 /// The lists of the file so far, and the open model.
 #[derive(Drop)]
 pub struct Builder<'t> {
-    file: NumberedFile<'t>,
+    file: OpenFile<'t>,
     open_model: Option<OpenModel>,
 }
 
@@ -55,7 +55,7 @@ impl<'t> Builder<'t> {
         ensures builder { IsBuilder result }
     {
         Builder {
-            file: NumberedFile::new(alloc, text, hash),
+            file: OpenFile::new(alloc, text, hash),
             open_model: None,
         }
     }
@@ -324,7 +324,7 @@ impl<'t> Builder<'t> {
     }
 
     /// The file after the last line, or the fault of a text without a model, at the line behind it.
-    pub fn finish(self, line: u64) -> Result<NumberedFile<'t>, BlifFault>
+    pub fn finish(self, alloc: Global, line: u64) -> Result<NumberedFile<'t>, BlifFault>
         requires { IsBuilder self }
         ensures file { IfOk result (λ file. ((file_of file).models ≡ (model_closed (table_closed (built_in self.entry))).models)
             × ((file_of file).models ≢ [])) }
@@ -340,7 +340,7 @@ impl<'t> Builder<'t> {
                 kind: BlifKind::NoModel,
             });
         }
-        Ok(builder.file.without_guesses())
+        Ok(builder.file.close(alloc)?)
     }
 
     /// Closes the open table and the open model, if there are any.

@@ -14,11 +14,11 @@ ghost use Rattle.blif_lines.specs.Cuts.{numbered_line};
 use crate::forms::sides;
 use blif_ast::{Card, Edge2};
 use dom_base::OutOfMemory;
-use numbered_file::{NumberedFile, PartKind};
+use numbered_file::{OpenFile, PartKind};
 
 /// Appends what a card that neither opens nor closes a model says of it. No words or rows wait for a part.
 pub fn push_part<'t>(
-    file: &mut NumberedFile<'t>,
+    file: &mut OpenFile<'t>,
     card: Card,
     line: u32,
     words: &[&'t [u8]],
@@ -70,7 +70,7 @@ fn behind_second<'w, 'a>(words: &'w [&'a [u8]]) -> &'w [&'a [u8]]
     }
 }
 
-fn push_inputs<'t>(file: &mut NumberedFile<'t>, names: &[&'t [u8]]) -> Result<(), OutOfMemory>
+fn push_inputs<'t>(file: &mut OpenFile<'t>, names: &[&'t [u8]]) -> Result<(), OutOfMemory>
     ensures lists { OnOk result (open_lists file.new ≡ with_inputs (open_lists file.old) (map (λ w. w.now) names.now)) }
     ensures grown { OnOk result (Grows file.old.names file.new.names) }
 {
@@ -80,7 +80,7 @@ fn push_inputs<'t>(file: &mut NumberedFile<'t>, names: &[&'t [u8]]) -> Result<()
     Ok(())
 }
 
-fn push_outputs<'t>(file: &mut NumberedFile<'t>, names: &[&'t [u8]]) -> Result<(), OutOfMemory>
+fn push_outputs<'t>(file: &mut OpenFile<'t>, names: &[&'t [u8]]) -> Result<(), OutOfMemory>
     ensures lists { OnOk result (open_lists file.new ≡ with_outputs (open_lists file.old) (map (λ w. w.now) names.now)) }
     ensures grown { OnOk result (Grows file.old.names file.new.names) }
 {
@@ -90,7 +90,7 @@ fn push_outputs<'t>(file: &mut NumberedFile<'t>, names: &[&'t [u8]]) -> Result<(
     Ok(())
 }
 
-fn push_words<'t>(file: &mut NumberedFile<'t>, words: &[&'t [u8]]) -> Result<(), OutOfMemory>
+fn push_words<'t>(file: &mut OpenFile<'t>, words: &[&'t [u8]]) -> Result<(), OutOfMemory>
     ensures lists { OnOk result (open_lists file.new ≡ with_words (open_lists file.old) (map (λ w. w.now) words.now)) }
     ensures grown { OnOk result (Grows file.old.names file.new.names) }
 {
@@ -166,7 +166,7 @@ fn signal_in<'t>(words: &[&'t [u8]]) -> Option<&'t [u8]>
     }
 }
 
-fn push_signal<'t>(file: &mut NumberedFile<'t>, words: &[&'t [u8]]) -> Result<(), OutOfMemory>
+fn push_signal<'t>(file: &mut OpenFile<'t>, words: &[&'t [u8]]) -> Result<(), OutOfMemory>
     ensures lists { OnOk result (open_lists file.new
         ≡ with_words (open_lists file.old) (option_to_list (signal_in (map (λ w. w.now) words.now)))) }
     ensures grown { OnOk result (Grows file.old.names file.new.names) }
@@ -178,7 +178,7 @@ fn push_signal<'t>(file: &mut NumberedFile<'t>, words: &[&'t [u8]]) -> Result<()
 }
 
 /// Appends the words of a latch.
-fn push_latch_words<'t>(file: &mut NumberedFile<'t>, words: &[&'t [u8]]) -> Result<(), OutOfMemory>
+fn push_latch_words<'t>(file: &mut OpenFile<'t>, words: &[&'t [u8]]) -> Result<(), OutOfMemory>
     ensures lists { OnOk result (open_lists file.new ≡ with_words (open_lists file.old) (latch_words (map (λ w. w.now) words.now))) }
     ensures grown { OnOk result (Grows file.old.names file.new.names) }
 {
@@ -188,11 +188,7 @@ fn push_latch_words<'t>(file: &mut NumberedFile<'t>, words: &[&'t [u8]]) -> Resu
 }
 
 /// Appends the latch of a card `.latch`. No words or rows wait for a part.
-fn push_latch<'t>(
-    file: &mut NumberedFile<'t>,
-    line: u32,
-    words: &[&'t [u8]],
-) -> Result<(), OutOfMemory>
+fn push_latch<'t>(file: &mut OpenFile<'t>, line: u32, words: &[&'t [u8]]) -> Result<(), OutOfMemory>
     requires words { (open_lists file.old).words ≡ [] }
     requires rows { (open_lists file.old).rows ≡ [] }
     ensures lists { OnOk result (open_lists file.new
@@ -210,7 +206,7 @@ fn push_latch<'t>(
 }
 
 /// Appends the words of bindings.
-fn push_bindings<'t>(file: &mut NumberedFile<'t>, words: &[&'t [u8]]) -> Result<(), OutOfMemory>
+fn push_bindings<'t>(file: &mut OpenFile<'t>, words: &[&'t [u8]]) -> Result<(), OutOfMemory>
     ensures lists { OnOk result (open_lists file.new
         ≡ with_words (open_lists file.old) (binding_words (map (λ w. w.now) words.now))) }
     ensures grown { OnOk result (Grows file.old.names file.new.names) }
@@ -222,7 +218,7 @@ fn push_bindings<'t>(file: &mut NumberedFile<'t>, words: &[&'t [u8]]) -> Result<
 }
 
 /// Appends the words of a binding.
-fn push_binding<'t>(file: &mut NumberedFile<'t>, word: &'t [u8]) -> Result<(), OutOfMemory>
+fn push_binding<'t>(file: &mut OpenFile<'t>, word: &'t [u8]) -> Result<(), OutOfMemory>
     ensures lists { OnOk result (open_lists file.new
         ≡ with_words (open_lists file.old) (formal_of word.now ∷ actual_of word.now ∷ [])) }
     ensures grown { OnOk result (Grows file.old.names file.new.names) }
@@ -234,7 +230,7 @@ fn push_binding<'t>(file: &mut NumberedFile<'t>, word: &'t [u8]) -> Result<(), O
 
 /// Appends the instance of a card `.subckt` in its form. No words or rows wait for a part.
 fn push_instance<'t>(
-    file: &mut NumberedFile<'t>,
+    file: &mut OpenFile<'t>,
     line: u32,
     words: &[&'t [u8]],
 ) -> Result<(), OutOfMemory>

@@ -6,7 +6,7 @@ ghost use Rattle.file_copies.specs.Pushing.{IsNext, IsPushing, IsReached, IsToCo
 use crate::part_words::{push_instance, push_latch, push_table};
 use blif_ast::{Instance, Latch, Table};
 use dom_base::OutOfMemory;
-use numbered_file::NumberedFile;
+use numbered_file::OpenFile;
 
 /// A kind of parts.
 #[derive(Clone, Copy, Debug)]
@@ -101,7 +101,7 @@ fn instance_line(instances: &[Instance]) -> Option<u64>
 /// Appends the parts that are to come. The letters of their rows are the first of these, the last of the text; the result
 /// is what stands behind them. The one error is out of memory.
 pub fn push_parts<'t>(
-    file: &mut NumberedFile<'t>,
+    file: &mut OpenFile<'t>,
     parts: Rest<'t>,
     letters: &'t [u8],
 ) -> Result<&'t [u8], OutOfMemory>
@@ -120,7 +120,7 @@ pub fn push_parts<'t>(
 
 /// Appends the next part of this kind.
 fn push_due<'t>(
-    file: &mut NumberedFile<'t>,
+    file: &mut OpenFile<'t>,
     rest: &mut Rest<'t>,
     due: Due,
     letters: &'t [u8],
@@ -140,7 +140,7 @@ fn push_due<'t>(
 }
 
 fn push_next_table<'t>(
-    file: &mut NumberedFile<'t>,
+    file: &mut OpenFile<'t>,
     rest: &mut Rest<'t>,
     letters: &'t [u8],
 ) -> Result<&'t [u8], OutOfMemory>
@@ -162,7 +162,7 @@ fn push_next_table<'t>(
 }
 
 fn push_next_latch<'t>(
-    file: &mut NumberedFile<'t>,
+    file: &mut OpenFile<'t>,
     rest: &mut Rest<'t>,
     letters: &'t [u8],
 ) -> Result<&'t [u8], OutOfMemory>
@@ -184,7 +184,7 @@ fn push_next_latch<'t>(
 }
 
 fn push_next_instance<'t>(
-    file: &mut NumberedFile<'t>,
+    file: &mut OpenFile<'t>,
     rest: &mut Rest<'t>,
     letters: &'t [u8],
 ) -> Result<&'t [u8], OutOfMemory>

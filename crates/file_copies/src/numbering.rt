@@ -13,7 +13,7 @@ use crate::model_parts::{Rest, push_parts};
 use crate::part_words::{push_inputs, push_outputs};
 use blif_ast::{BlifFile, BlifModel};
 use dom_base::{Name, NameHash, OutOfMemory};
-use numbered_file::{NumberedFile, as_u32};
+use numbered_file::{NumberedFile, OpenFile, as_u32};
 use std::alloc::Global;
 
 /// The file by numbers that stands for a good file. Its names are lent from the file, and its text is what `bytes_of` makes
@@ -51,17 +51,18 @@ fn number_by<'t>(
     ensures file { IfOk result (λ numbered. file_of numbered ≡ file.now) }
     ensures closed { IfOk result (λ numbered. first_part numbered (length numbered.models) ≡ length numbered.parts) }
 {
-    let mut numbered = NumberedFile::new(alloc, bytes, hash);
+    let mut numbered = OpenFile::new(alloc, bytes, hash);
     let pushed = push_models(&mut numbered, &file.models, bytes);
     *are_crowded = numbered.are_crowded();
     pushed?;
+    let numbered = numbered.close(alloc)?;
     numbered.is_in_order();
     Ok(numbered)
 }
 
 /// Appends models to a file without models. The letters of their rows are the text.
 fn push_models<'t>(
-    file: &mut NumberedFile<'t>,
+    file: &mut OpenFile<'t>,
     models: &'t [BlifModel],
     letters: &'t [u8],
 ) -> Result<(), OutOfMemory>
@@ -83,7 +84,7 @@ fn push_models<'t>(
 /// Appends a model to a file whose last model is closed. The letters of its rows are the first of these, the last of the
 /// text; the result is what stands behind them.
 fn push_model<'t>(
-    file: &mut NumberedFile<'t>,
+    file: &mut OpenFile<'t>,
     model: &'t BlifModel,
     letters: &'t [u8],
 ) -> Result<&'t [u8], OutOfMemory>
@@ -104,11 +105,7 @@ fn push_model<'t>(
 }
 
 /// Appends a model of this name, whose inputs, outputs and parts are there.
-fn close_model<'t>(
-    file: &mut NumberedFile<'t>,
-    name: &'t [u8],
-    line: u32,
-) -> Result<(), OutOfMemory>
+fn close_model<'t>(file: &mut OpenFile<'t>, name: &'t [u8], line: u32) -> Result<(), OutOfMemory>
     ensures { OnOk result (open_lists file.new ≡ with_model (open_lists file.old) name.now line) }
 {
     let number = file.number(name)?;

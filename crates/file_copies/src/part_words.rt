@@ -11,7 +11,7 @@ ghost use Rattle.file_copies.specs.Pushing.{HasRows, edge_of, pair_words, signal
 
 use blif_ast::{Binding, Control, Edge2, Instance, Latch, Row, Table};
 use dom_base::{Name, OutOfMemory};
-use numbered_file::{NumberedFile, PartKind, as_u32, from_place};
+use numbered_file::{OpenFile, PartKind, as_u32, from_place};
 
 fn name_at(names: &[Name], index: usize) -> &[u8]
     requires { index < length names.now }
@@ -21,7 +21,7 @@ fn name_at(names: &[Name], index: usize) -> &[u8]
 }
 
 /// Appends inputs of the model that comes. The one error is out of memory.
-pub fn push_inputs<'t>(file: &mut NumberedFile<'t>, names: &'t [Name]) -> Result<(), OutOfMemory>
+pub fn push_inputs<'t>(file: &mut OpenFile<'t>, names: &'t [Name]) -> Result<(), OutOfMemory>
     ensures { OnOk result (open_lists file.new ≡ with_inputs (open_lists file.old) names.now) }
 {
     for index in 0..names.len() {
@@ -31,7 +31,7 @@ pub fn push_inputs<'t>(file: &mut NumberedFile<'t>, names: &'t [Name]) -> Result
 }
 
 /// Appends outputs of the model that comes. The one error is out of memory.
-pub fn push_outputs<'t>(file: &mut NumberedFile<'t>, names: &'t [Name]) -> Result<(), OutOfMemory>
+pub fn push_outputs<'t>(file: &mut OpenFile<'t>, names: &'t [Name]) -> Result<(), OutOfMemory>
     ensures { OnOk result (open_lists file.new ≡ with_outputs (open_lists file.old) names.now) }
 {
     for index in 0..names.len() {
@@ -40,7 +40,7 @@ pub fn push_outputs<'t>(file: &mut NumberedFile<'t>, names: &'t [Name]) -> Resul
     Ok(())
 }
 
-fn push_words<'t>(file: &mut NumberedFile<'t>, names: &'t [Name]) -> Result<(), OutOfMemory>
+fn push_words<'t>(file: &mut OpenFile<'t>, names: &'t [Name]) -> Result<(), OutOfMemory>
     ensures { OnOk result (open_lists file.new ≡ with_words (open_lists file.old) names.now) }
 {
     for index in 0..names.len() {
@@ -50,7 +50,7 @@ fn push_words<'t>(file: &mut NumberedFile<'t>, names: &'t [Name]) -> Result<(), 
 }
 
 /// Appends a row of the table that comes, which begins where these letters do, the last of the text.
-fn push_row(file: &mut NumberedFile<'_>, letters: &[u8]) -> Result<(), OutOfMemory>
+fn push_row(file: &mut OpenFile<'_>, letters: &[u8]) -> Result<(), OutOfMemory>
     ensures { OnOk result (open_lists file.new
         ≡ with_row (open_lists file.old) (length (open_lists file.old).text - length letters.now)) }
 {
@@ -61,7 +61,7 @@ fn push_row(file: &mut NumberedFile<'_>, letters: &[u8]) -> Result<(), OutOfMemo
 /// Appends rows of this width of the table that comes. Their letters are the first of these, the last of the text; the
 /// result is what stands behind them.
 fn push_rows<'t>(
-    file: &mut NumberedFile<'_>,
+    file: &mut OpenFile<'_>,
     width: usize,
     rows: &[Row],
     letters: &'t [u8],
@@ -84,7 +84,7 @@ fn push_rows<'t>(
 /// Appends a table. No words or rows wait for a part. The letters of its rows are the first of these, the last of the
 /// text; the result is what stands behind them. The one error is out of memory.
 pub fn push_table<'t>(
-    file: &mut NumberedFile<'t>,
+    file: &mut OpenFile<'t>,
     table: &'t Table,
     letters: &'t [u8],
 ) -> Result<&'t [u8], OutOfMemory>
@@ -136,7 +136,7 @@ fn kind_of(table: &Table) -> PartKind
 }
 
 /// Appends a latch. No words or rows wait for a part. The one error is out of memory.
-pub fn push_latch<'t>(file: &mut NumberedFile<'t>, latch: &'t Latch) -> Result<(), OutOfMemory>
+pub fn push_latch<'t>(file: &mut OpenFile<'t>, latch: &'t Latch) -> Result<(), OutOfMemory>
     requires words { (open_lists file.old).words ≡ [] }
     requires rows { (open_lists file.old).rows ≡ [] }
     ensures { OnOk result (open_lists file.new ≡ with_parts (open_lists file.old) (LatchPart latch.now ∷ [])) }
@@ -168,10 +168,7 @@ fn edge_of(control: &Option<Control>) -> Option<Edge2>
 }
 
 /// Appends the signal of a control, if it has one.
-fn push_signal<'t>(
-    file: &mut NumberedFile<'t>,
-    control: &'t Option<Control>,
-) -> Result<(), OutOfMemory>
+fn push_signal<'t>(file: &mut OpenFile<'t>, control: &'t Option<Control>) -> Result<(), OutOfMemory>
     ensures { OnOk result (open_lists file.new ≡ with_words (open_lists file.old) (signal_words control.now)) }
 {
     match signal_of(control) {
@@ -193,10 +190,7 @@ fn signal_of(control: &Option<Control>) -> Option<&[u8]>
 }
 
 /// Appends an instance. No words or rows wait for a part. The one error is out of memory.
-pub fn push_instance<'t>(
-    file: &mut NumberedFile<'t>,
-    instance: &'t Instance,
-) -> Result<(), OutOfMemory>
+pub fn push_instance<'t>(file: &mut OpenFile<'t>, instance: &'t Instance) -> Result<(), OutOfMemory>
     requires words { (open_lists file.old).words ≡ [] }
     requires rows { (open_lists file.old).rows ≡ [] }
     ensures { OnOk result (open_lists file.new ≡ with_parts (open_lists file.old) (InstancePart instance.now ∷ [])) }
@@ -225,10 +219,7 @@ fn bindings_of(instance: &Instance) -> &[Binding]
     instance.bindings.as_slice()
 }
 
-fn push_bindings<'t>(
-    file: &mut NumberedFile<'t>,
-    bindings: &'t [Binding],
-) -> Result<(), OutOfMemory>
+fn push_bindings<'t>(file: &mut OpenFile<'t>, bindings: &'t [Binding]) -> Result<(), OutOfMemory>
     ensures { OnOk result (open_lists file.new ≡ with_words (open_lists file.old) (pair_words bindings.now)) }
 {
     for index in 0..bindings.len() {
@@ -245,7 +236,7 @@ fn binding_at(bindings: &[Binding], index: usize) -> &Binding
 }
 
 /// Appends the words of a binding.
-fn push_pair<'t>(file: &mut NumberedFile<'t>, binding: &'t Binding) -> Result<(), OutOfMemory>
+fn push_pair<'t>(file: &mut OpenFile<'t>, binding: &'t Binding) -> Result<(), OutOfMemory>
     ensures { OnOk result (open_lists file.new
         ≡ with_words (open_lists file.old) (binding.now.formal ∷ binding.now.actual ∷ [])) }
 {

@@ -3,12 +3,17 @@
 
 mod file;
 mod guesses;
+mod lists;
+mod name_table;
 mod names;
+mod open_file;
 mod parts;
 mod slices;
 mod word;
 
 pub use file::NumberedFile;
-pub use names::{Names, as_u32};
+pub use name_table::as_u32;
+pub use names::Names;
+pub use open_file::OpenFile;
 pub use parts::{ModelAt, PartAt, PartKind};
 pub use slices::{Ends, between, ends_of, from_place, items_before};

@@ -1,6 +1,6 @@
 use Rattle.std.proofs.Common.{ap, sym, ◌∙◌}
 use Rattle.std.specs.Prelude.{Some, slice_get}
-use Rattle.numbered_file.proofs.names.Names.guessed.Goals as goal
+use Rattle.numbered_file.proofs.name_table.NameTable.guessed.Goals as goal
 
 pub returns-then-is_same : goal.returns-then-is_same
 returns-then-is_same c =

@@ -1,7 +1,7 @@
 use Rattle.std.proofs.Common.{ap, length, sym, ◌∙◌}
 use Rattle.numbered_file.specs.NumberedData.{NumberedData}
 use Rattle.numbered_file.proofs.FileSteps.{model-lists, model-numbered}
-use Rattle.numbered_file.proofs.file.NumberedFile.push_model.Goals as goal
+use Rattle.numbered_file.proofs.open_file.OpenFile.push_model.Goals as goal
 
 pub invariant_of-self-2 : goal.invariant_of-self-2
 invariant_of-self-2 c =

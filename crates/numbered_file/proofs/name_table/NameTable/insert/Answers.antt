@@ -3,7 +3,7 @@ use Rattle.std.specs.Prelude.{slice_get}
 use Rattle.std.proofs.lemmas.Result.{IfOk-weaker}
 use Rattle.numbered_file.specs.NameNumbers.{AddsAtMost, Grows}
 use Rattle.numbered_file.proofs.NameLists.{added, grown, numbered}
-use Rattle.numbered_file.proofs.names.Names.insert.Goals as goal
+use Rattle.numbered_file.proofs.name_table.NameTable.insert.Goals as goal
 
 pub returns-clause-grown : goal.returns-clause-grown
 returns-clause-grown c =

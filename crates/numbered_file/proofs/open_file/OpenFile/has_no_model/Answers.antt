@@ -1,7 +1,7 @@
 use Rattle.std.proofs.Common.{◌≡◌, ◌==◌, true, false, length, sym, ap, ◌∙◌}
 use Rattle.numbered_file.specs.Numbered.{models_in}
 use Rattle.numbered_file.proofs.Growth.{models-none}
-use Rattle.numbered_file.proofs.file.NumberedFile.has_no_model.Goals as goal
+use Rattle.numbered_file.proofs.open_file.OpenFile.has_no_model.Goals as goal
 
 pub returns-clause-some : goal.returns-clause-some
 returns-clause-some c = λ no none.

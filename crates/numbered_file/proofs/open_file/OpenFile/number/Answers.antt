@@ -1,5 +1,5 @@
 use Rattle.numbered_file.proofs.FileSteps.{names-lists, names-numbered}
-use Rattle.numbered_file.proofs.file.NumberedFile.number.Goals as goal
+use Rattle.numbered_file.proofs.open_file.OpenFile.number.Goals as goal
 
 pub invariant_of-self : goal.invariant_of-self
 invariant_of-self c = names-numbered c.self.invariant c.self.view_is c.number.ensures.grown c.number.ensures.distinct

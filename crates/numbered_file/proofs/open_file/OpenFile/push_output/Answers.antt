@@ -1,5 +1,5 @@
 use Rattle.numbered_file.proofs.FileSteps.{output-lists, output-numbered}
-use Rattle.numbered_file.proofs.file.NumberedFile.push_output.Goals as goal
+use Rattle.numbered_file.proofs.open_file.OpenFile.push_output.Goals as goal
 
 pub invariant_of-self-2 : goal.invariant_of-self-2
 invariant_of-self-2 c = output-numbered c.self.invariant c.self.view_is c.requires c.in_ok-push.ensures.items
