@@ -2,7 +2,7 @@
 ghost use Rattle.std.specs.Prelude.{◌≡◌, ◌<◌, ◌+◌, ◌++◌, ℕ, List, IsTrue, OnOk, drop, length, slice_get, true};
 ghost use Rattle.std.specs.List.{flat_map};
 ghost use Rattle.numbered_file.specs.Numbered.{named, part_by};
-ghost use Rattle.numbered_file.specs.Places.{first_part};
+ghost use Rattle.numbered_file.specs.Places.{first_part, words_at};
 ghost use Rattle.local_names.specs.PartNames.{IsLatchForm, actuals_by, all_names, names_by, parts_at, with_cards};
 
 use dom_base::OutOfMemory;
@@ -58,7 +58,7 @@ fn put_kind(
     let end = parts_end(file, model);
     for place in first..end {
         match part_at(file, place) {
-            Some(part) => put_part(all, part, file.words_of(place), kind)?,
+            Some(part) => put_part(all, file, place, part.kind, kind)?,
             None => return Err(OutOfMemory),
         }
     }
@@ -84,23 +84,27 @@ pub fn parts_end(file: &NumberedFile<'_>, model: usize) -> usize
     }
 }
 
-/// Appends the numbers of the names on a part's card, where it is of this kind.
+/// Appends the numbers of the names on the card of a part, where it is of this kind.
 fn put_part(
     all: &mut Vec<u32>,
-    part: PartAt,
-    words: &[u32],
+    file: &NumberedFile<'_>,
+    place: usize,
+    part: PartKind,
     kind: CardKind,
 ) -> Result<(), OutOfMemory>
     ensures { OnOk result ((text : List ℕ) (names : List (List ℕ)) (line : ℕ) (rows : List ℕ)
         → named names all.new.items
-        ≡ named names all.old.items ++ names_by kind (part_by text part.kind line (named names words.now) rows)) }
+        ≡ named names all.old.items ++ names_by kind (part_by text part line (named names (words_at file.now place)) rows)) }
 {
-    match (kind, part.kind) {
-        (CardKind::Table, PartKind::Table { .. }) => put_words(all, words, !words.is_empty()),
-        (CardKind::Latch, PartKind::Latch { edge, .. }) => {
-            put_words(all, words, is_latch(words, edge.is_some()))
+    match (kind, part) {
+        (CardKind::Table, PartKind::Table { .. }) => {
+            let words = file.words_of(place);
+            put_words(all, words, !words.is_empty())
         }
-        (CardKind::Instance, PartKind::Instance) => put_actuals(all, words),
+        (CardKind::Latch, PartKind::Latch { edge, .. }) => {
+            put_latch(all, file.words_of(place), edge.is_some())
+        }
+        (CardKind::Instance, PartKind::Instance) => put_actuals(all, file.words_of(place)),
         _ => Ok(()),
     }
 }
@@ -114,6 +118,13 @@ fn put_words(all: &mut Vec<u32>, words: &[u32], good: bool) -> Result<(), OutOfM
     }
     all.extend_from_slice(words)?;
     Ok(())
+}
+
+/// Appends the words of a latch, which is in its form.
+fn put_latch(all: &mut Vec<u32>, words: &[u32], has_edge: bool) -> Result<(), OutOfMemory>
+    ensures { OnOk result (IsLatchForm (length words.now) has_edge × (all.new.items ≡ all.old.items ++ words.now)) }
+{
+    put_words(all, words, is_latch(words, has_edge))
 }
 
 /// Whether these are the words of a latch: two, and a third only where it has an edge.

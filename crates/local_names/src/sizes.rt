@@ -3,6 +3,7 @@ ghost use Rattle.std.specs.Prelude.{◌≡◌, ◌<◌, ◌+◌, ◌*◌, ◌-�
 ghost use Rattle.blif_ast.specs.BlifModelData.{BlifModelData};
 ghost use Rattle.blif_ast.specs.Good.{IsGoodFile};
 ghost use Rattle.numbered_file.specs.Numbered.{Part, file_of, models_in, part_by, parts_of};
+ghost use Rattle.numbered_file.specs.Places.{rows_at, words_at};
 ghost use Rattle.graph_order.specs.WalkSums.{largest_u64};
 ghost use Rattle.local_names.specs.LocalNames.{AreLocalNames};
 ghost use Rattle.local_names.specs.PartWeights.{model_part_weight, part_weight};
@@ -113,18 +114,20 @@ fn weight_at(file: &NumberedFile<'_>, limit: Limit, place: usize) -> u64
         → result ≡ min (part_weight limit part) largest_u64 }
 {
     match part_at(file, place) {
-        Some(part) => weigh_part(limit, part.kind, file.words_of(place), file.rows_of(place)),
+        Some(part) => weigh_part(file, limit, part.kind, place),
         None => unreachable!(),
     }
 }
 
-/// What a part of these words and rows counts for a limit; or 2^64 - 1 where that is larger.
-fn weigh_part(limit: Limit, kind: PartKind, words: &[u32], rows: &[u32]) -> u64
-    ensures { (text : List ℕ) (line : ℕ) (names : List (List ℕ)) → length names ≡ length words.now
-        → result ≡ min (part_weight limit (part_by text kind line names rows.now)) largest_u64 }
+/// What the part of this kind at a place counts for a limit; or 2^64 - 1 where that is larger.
+fn weigh_part(file: &NumberedFile<'_>, limit: Limit, kind: PartKind, place: usize) -> u64
+    ensures { (text : List ℕ) (line : ℕ) (names : List (List ℕ)) → length names ≡ length (words_at file.now place)
+        → result ≡ min (part_weight limit (part_by text kind line names (rows_at file.now place))) largest_u64 }
 {
     match (limit, kind) {
-        (Limit::Letters, PartKind::Table { .. }) => letters_of(words.len(), rows),
+        (Limit::Letters, PartKind::Table { .. }) => {
+            letters_of(file.words_of(place).len(), file.rows_of(place))
+        }
         (Limit::Sinks, PartKind::Latch { .. }) => 1,
         _ => 0,
     }

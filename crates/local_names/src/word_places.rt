@@ -37,72 +37,71 @@ pub fn put_parts(
     ensures lost { IfOk result (λ good. IsFalse good → HasLostFormal file.now lookup.entry.models.now.lists) }
 {
     file.is_in_order();
+    let names = lookup.models.at(model);
     let first = file.first_part(model);
     let end = parts_end(file, model);
     for part in first..end {
-        if !put_part_of(words, file, lookup, model, part, place)? {
+        if !put_part(words, file, lookup, names, part, place)? {
             return Ok(false);
         }
     }
     Ok(true)
 }
 
-/// The same for one part.
-fn put_part_of(
+/// The same for one part of a model with these names.
+fn put_part(
     words: &mut Vec<u32>,
     file: &NumberedFile<'_>,
     lookup: Lookup<'_>,
-    model: usize,
+    names: &[u32],
     part: usize,
     place: &[u32],
 ) -> Result<bool, OutOfMemory>
     ensures placed { IfOk result (λ good. IsTrue good → (at : PartAt) × (slice_get file.now.parts part ≡ Some at)
-        × IsPartPlaced at.kind (slice_index_or lookup.entry.models.now.lists model [])
+        × IsPartPlaced at.kind names.now
         (slice_index_or lookup.entry.models.now.lists (slice_index_or lookup.entry.units.now part 0) [])
         (words_at file.now part) words.old.items words.new.items) }
     ensures lost { IfOk result (λ good. IsFalse good → (at : PartAt) × (slice_get file.now.parts part ≡ Some at)
         × IsPartLost at.kind (slice_index_or lookup.entry.models.now.lists (slice_index_or lookup.entry.units.now part 0) [])
         (words_at file.now part)) }
 {
-    let names = lookup.models.at(model);
-    let unit = lookup.units.get(part).copied().unwrap_or(0);
-    let unit_names = lookup.models.list(unit);
-    let hints = file.of_part(lookup.hints, part);
-    match part_at(file, part) {
-        Some(at) => put_part(
-            words,
-            at.kind,
-            file.words_of(part),
-            hints,
-            names,
-            unit_names,
-            place,
-        ),
-        None => Err(OutOfMemory),
-    }
-}
-
-/// The same for a part of these words.
-fn put_part(
-    all: &mut Vec<u32>,
-    kind: PartKind,
-    words: &[u32],
-    hints: &[u32],
-    names: &[u32],
-    unit_names: &[u32],
-    place: &[u32],
-) -> Result<bool, OutOfMemory>
-    ensures placed { IfOk result (λ good. IsTrue good
-        → IsPartPlaced kind names.now unit_names.now words.now all.old.items all.new.items) }
-    ensures lost { IfOk result (λ good. IsFalse good → IsPartLost kind unit_names.now words.now) }
-{
-    match kind {
-        PartKind::Instance => put_instance(all, words, hints, names, unit_names, place),
+    let Some(at) = part_at(file, part) else {
+        return Err(OutOfMemory);
+    };
+    match at.kind {
+        PartKind::Instance => put_instance_at(words, file, lookup, names, part, place),
         _ => {
-            put_words(all, names, place, words)?;
+            put_words(words, names, place, file.words_of(part))?;
             Ok(true)
         }
     }
+}
+
+/// The same for a part that is an instance.
+fn put_instance_at(
+    all: &mut Vec<u32>,
+    file: &NumberedFile<'_>,
+    lookup: Lookup<'_>,
+    names: &[u32],
+    part: usize,
+    place: &[u32],
+) -> Result<bool, OutOfMemory>
+    ensures placed { IfOk result (λ good. IsTrue good → IsPartPlaced PartKind.Instance names.now
+        (slice_index_or lookup.entry.models.now.lists (slice_index_or lookup.entry.units.now part 0) [])
+        (words_at file.now part) all.old.items all.new.items) }
+    ensures lost { IfOk result (λ good. IsFalse good → IsPartLost PartKind.Instance
+        (slice_index_or lookup.entry.models.now.lists (slice_index_or lookup.entry.units.now part 0) [])
+        (words_at file.now part)) }
+{
+    let words = file.words_of(part);
+    if words.len() == 1 {
+        all.push(0)?;
+        return Ok(true);
+    }
+    let unit = lookup.units.get(part).copied().unwrap_or(0);
+    let unit_names = lookup.models.list(unit);
+    let hints = file.of_part(lookup.hints, part);
+    put_instance(all, words, hints, names, unit_names, place)
 }
 
 /// Appends the places of some numbers, which `place` has.

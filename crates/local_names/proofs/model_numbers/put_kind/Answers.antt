@@ -1,7 +1,5 @@
-use Rattle.std.proofs.Common.{◌≡◌, ◌++◌, ap, sym, ◌∙◌, Some}
+use Rattle.std.proofs.Common.{◌≡◌, sym, ◌∙◌, Some}
 use Rattle.std.specs.Prelude.{slice_get}
-use Rattle.numbered_file.specs.Numbered.{named, part_by}
-use Rattle.local_names.specs.PartNames.{names_by}
 use Rattle.local_names.proofs.Gathered.{gathered-more}
 use Rattle.local_names.proofs.model_numbers.put_kind.Goals as goal
 
@@ -10,6 +8,4 @@ loop-place-preserved c =
     let l = c.loop-place in
     let there : slice_get c.args.file.now.parts l.place ≡ Some c.in-Some.part = sym c.part_at.ensures ∙ c.in-Some.is in
     gathered-more c.args.file.now c.args.kind c.first_part-first.result c.parts_end-end.result l.place c.args.all.now.items l.all.items c.put_part.new.all.items c.in-Some.part
-    l.invariant c.loop-place-test.true there
-    (λ text names line rows. c.in_ok-put_part-in-Some.ensures text names line rows
-    ∙ ap (λ ws. named names l.all.items ++ names_by c.args.kind (part_by text c.in-Some.part.kind line (named names ws) rows)) c.words_of.ensures)
+    l.invariant c.loop-place-test.true there c.in_ok-put_part-in-Some.ensures
