@@ -1,4 +1,5 @@
 pub mod ByDrives
+pub mod Chains
 pub mod Classes
 pub mod ClosedGroups
 pub mod ComponentLists

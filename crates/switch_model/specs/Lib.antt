@@ -1,3 +1,4 @@
+pub mod Chains
 pub mod ComponentLists
 pub mod Components
 pub mod Drives

@@ -1,5 +1,5 @@
 //! The components of a circuit: nets that devices join, whatever their gates, with the devices that end at them.
-ghost use Rattle.std.specs.Prelude.{◌≡◌, ◌<◌, ◌≤◌, ◌^◌, ◌⊎◌, ◌↔◌, ℕ, All, Contains, IfOk, IfSome, IfNone, IsTrue, OnOk, Some, false, length, slice_get, slice_index_or, true, ◌+◌, ◌≢◌};
+ghost use Rattle.std.specs.Prelude.{◌≡◌, ◌<◌, ◌≤◌, ◌^◌, ◌⊎◌, ◌↔◌, ℕ, All, Contains, IfOk, IfSome, IfNone, IsTrue, OnOk, Some, false, length, slice_get};
 ghost use Rattle.std.specs.List.Sorted.{IsStrictlyIncreasing};
 ghost use Rattle.deck.specs.Nets.{IsInRange};
 ghost use Rattle.deck.specs.declared.device.Device.{Device as DeviceData};
@@ -241,20 +241,9 @@ fn touch(touched: &mut Lists, net: u32, number: u32) -> Result<(), OutOfMemory>
     ensures touched { OnOk result ((x k : ℕ) → Contains (list_at touched.new x) k
         ↔ (Contains (list_at touched.old x) k ⊎ ((k ≡ number) × (x ≡ net)))) }
 {
-    if is_last(touched.at(net as usize), number) {
+    if touched.is_last(net, number) {
         return Ok(());
     }
     touched.add(net, number)?;
     Ok(())
-}
-
-/// Whether a number is the last of some.
-fn is_last(numbers: &[u32], number: u32) -> bool
-    ensures yes { result ≡ true → Contains numbers.now number }
-    ensures no { result ≡ false → (k : ℕ) → k + 1 ≡ length numbers.now → slice_index_or numbers.now k 0 ≢ number }
-{
-    match numbers.last() {
-        Some(last) => *last == number,
-        None => false,
-    }
 }

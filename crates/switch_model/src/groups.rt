@@ -3,7 +3,7 @@ ghost use Rattle.std.specs.Prelude.{◌≡◌, ◌<◌, ◌≤◌, IfOk, length}
 ghost use Rattle.std.specs.List.{slice_range};
 ghost use Rattle.switch_model.specs.ComponentLists.{list_at};
 
-use crate::lists::Lists;
+use crate::lists::{Lists, shorter};
 use dom_base::OutOfMemory;
 use std::alloc::Global;
 use std::marker::Model;
@@ -12,7 +12,7 @@ use std::marker::Model;
 #[derive(Drop)]
 pub struct Groups {
     // Where each list begins, and where the last one ends.
-    starts: Vec<usize>,
+    starts: Vec<u32>,
     numbers: Vec<u32>,
 }
 
@@ -32,12 +32,15 @@ impl Groups {
     pub fn new(alloc: Global, lists: &Lists) -> Result<Groups, OutOfMemory>
         ensures { IfOk result (λ groups. groups ≡ lists.now) }
     {
-        let mut starts = Vec::with_capacity(alloc, lists.len())?;
-        let mut numbers = Vec::new(alloc);
+        let mut starts = Vec::with_capacity(alloc, lists.len().saturating_add(1))?;
+        let mut numbers = Vec::with_capacity(alloc, lists.total())?;
+        let mut list = Vec::new(alloc);
         starts.push(0)?;
-        for list in 0..lists.len() {
-            numbers.extend_from_slice(lists.at(list))?;
-            starts.push(numbers.len())?;
+        for number in 0..lists.len() {
+            lists.put(number, &mut list)?;
+            numbers.extend_from_slice(list.as_slice())?;
+            let end = shorter(numbers.len())?;
+            starts.push(end)?;
         }
         Ok(Groups { starts, numbers })
     }
@@ -57,8 +60,8 @@ impl Groups {
         let group = group as usize;
         piece(
             self.numbers.as_slice(),
-            self.starts[group],
-            self.starts[group + 1],
+            self.starts[group] as usize,
+            self.starts[group + 1] as usize,
         )
     }
 }

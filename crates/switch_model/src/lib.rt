@@ -11,7 +11,6 @@ mod laws;
 mod lead;
 mod links;
 mod lists;
-mod places;
 mod refresh;
 mod room;
 mod rooms;

@@ -49,8 +49,8 @@ impl Links {
     {
         let sources = circuit.ports - roles.outs;
         let nets = circuit.nets.len() as u32;
+        let components = Components::new(alloc, circuit.devices.as_slice(), nets, sources)?;
         let devices = Vec::from_slice(alloc, circuit.devices.as_slice())?;
-        let components = Components::new(alloc, devices.as_slice(), nets, sources)?;
         let rooms = Rooms::new(alloc, nets)?;
         Ok(Links {
             wires: Wires::new(devices),

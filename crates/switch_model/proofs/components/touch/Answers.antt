@@ -1,5 +1,5 @@
-use Rattle.std.proofs.Common.{◌≡◌, ◌+◌, sym, subst, length, get_or, List, ℕ}
-use Rattle.std.specs.Prelude.{◌≢◌, ◌⊎◌, ◌↔◌, Contains}
+use Rattle.std.proofs.Common.{◌≡◌, sym, subst, List, ℕ}
+use Rattle.std.specs.Prelude.{◌⊎◌, ◌↔◌, Contains}
 use Rattle.switch_model.specs.ComponentLists.{AreRisingTo, list_at}
 use Rattle.switch_model.proofs.ComponentLists.{added, rising-added}
 use Rattle.switch_model.proofs.components.touch.Goals as goal
@@ -7,8 +7,7 @@ use Rattle.switch_model.proofs.components.touch.Goals as goal
 pub returns-clause-rising : goal.returns-clause-rising
 returns-clause-rising c =
     let lists = c.args.touched.now in
-    let last : (k : ℕ) → k + 1 ≡ length (list_at lists c.args.net) → get_or (list_at lists c.args.net) k 0 ≢ c.args.number =
-    subst (λ (l : List ℕ). (k : ℕ) → k + 1 ≡ length l → get_or l k 0 ≢ c.args.number) c.at.ensures (c.is_last.ensures.no c.if-is_last.false) in
+    let last = c.is_last.ensures.no c.if-is_last.false in
     subst (AreRisingTo c.args.number) (sym c.in_ok-add.ensures) (rising-added c.args.number lists c.args.net c.requires.within c.requires.rising last)
 
 pub returns-clause-touched : goal.returns-clause-touched

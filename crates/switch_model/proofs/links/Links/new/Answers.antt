@@ -24,27 +24,27 @@ overflow_cast-nets c = omega (arith, c.len-nets.ensures.len, few-nets c.circuit.
 
 pub new-requires-clause-in_range : goal.new-requires-clause-in_range
 new-requires-clause-in_range c =
-    let devices : c.as_slice-2.result.now ≡ c.circuit.inside.devices.items = c.as_slice-2.ensures.value ∙ c.in_ok-devices.ensures.items ∙ c.as_slice.ensures.value in
+    let devices : c.as_slice.result.now ≡ c.circuit.inside.devices.items = c.as_slice.ensures.value in
     subst (λ (l : List Device). All (IsInRange c.len-nets.result) l) (sym devices)
     (subst (λ (n : ℕ). All (IsInRange n) c.circuit.inside.devices.items) (sym c.len-nets.ensures.len)
     (IsCircuit-in_range c.circuit.inside.ports c.circuit.inside.nets.keys c.circuit.inside.devices.items c.circuit.invariant))
 
 pub invariant_of-result : goal.invariant_of-result
 invariant_of-result c =
-    let devices : c.as_slice-2.result.now ≡ c.circuit.inside.devices.items = c.as_slice-2.ensures.value ∙ c.in_ok-devices.ensures.items ∙ c.as_slice.ensures.value in
-    let wires : c.as_slice-2.result.now ≡ c.new-3.result = c.as_slice-2.ensures.value ∙ sym c.new-3.ensures in
+    let devices : c.as_slice.result.now ≡ c.circuit.inside.devices.items = c.as_slice.ensures.value in
+    let wires : c.as_slice.result.now ≡ c.new-3.result = devices ∙ sym (c.new-3.ensures ∙ c.in_ok-devices.ensures.items ∙ c.as_slice-2.ensures.value) in
     let comps = c.in_ok-components.components in
     let free = is_first (c.circuit.inside.ports - c.args.roles.outs) in
     let long : c.len-nets.result ≡ length comps.nets = sym c.in_ok-components.ensures.nets_long in
-    let range : All (IsInRange c.len-nets.result) c.as_slice-2.result.now =
+    let range : All (IsInRange c.len-nets.result) c.as_slice.result.now =
     subst (λ (l : List Device). All (IsInRange c.len-nets.result) l) (sym devices)
     (subst (λ (n : ℕ). All (IsInRange n) c.circuit.inside.devices.items) (sym c.len-nets.ensures.len)
     (IsCircuit-in_range c.circuit.inside.ports c.circuit.inside.nets.keys c.circuit.inside.devices.items c.circuit.invariant)) in
     record {
       few = omega (arith, long, c.len-nets.ensures.len, few-nets c.circuit.inside.ports c.circuit.inside.nets.keys c.circuit.inside.devices.items c.circuit.invariant);
-      in_range = subst (λ (l : List Device). All (IsInRange (length comps.nets)) l) wires (subst (λ (n : ℕ). All (IsInRange n) c.as_slice-2.result.now) long range);
+      in_range = subst (λ (l : List Device). All (IsInRange (length comps.nets)) l) wires (subst (λ (n : ℕ). All (IsInRange n) c.as_slice.result.now) long range);
       components_are = subst (λ (l : List Device). AreComponentLists l free (length comps.nets) comps) wires
-          (subst (λ (n : ℕ). AreComponentLists c.as_slice-2.result.now free n comps) long c.in_ok-components.ensures);
+          (subst (λ (n : ℕ). AreComponentLists c.as_slice.result.now free n comps) long c.in_ok-components.ensures);
       rooms_are = subst (λ (n : ℕ). AreRooms n c.in_ok-rooms.rooms) long c.in_ok-rooms.ensures;
     }
 
@@ -56,7 +56,7 @@ returns c =
     let nets : length c.in_ok-components.components.nets ≡ length c.args.circuit.now.nets =
     c.in_ok-components.ensures.nets_long ∙ c.len-nets.ensures.len ∙ ap (λ (d : CircuitData). length d.nets) c.circuit.view_is in
     let devices : c.new-3.result ≡ c.args.circuit.now.devices =
-    c.new-3.ensures ∙ c.in_ok-devices.ensures.items ∙ c.as_slice.ensures.value ∙ ap (λ (d : CircuitData). d.devices) c.circuit.view_is in
+    c.new-3.ensures ∙ c.in_ok-devices.ensures.items ∙ c.as_slice-2.ensures.value ∙ ap (λ (d : CircuitData). d.devices) c.circuit.view_is in
     ap (λ (n : ℕ). made n (c.circuit.inside.ports - c.args.roles.outs) c.new-3.result) nets
     ∙ ap (λ (n : ℕ). made (length c.args.circuit.now.nets) n c.new-3.result) sources
     ∙ ap (made (length c.args.circuit.now.nets) (source_count c.args.roles)) devices
