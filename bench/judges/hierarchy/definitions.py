@@ -466,7 +466,7 @@ def network_runs(n, stream):
         runs = more
     return [r[0] for r in runs]
 
-# ---------------------------------------------------------------- stim_text/specs, domsyn/specs/{Networks,Refusals}
+# ---------------------------------------------------------------- stim_text/specs, command_answers/specs/Networks, domsyn/specs/Refusals
 def lettered_lines(text):
     all = [bytes(b for b in without_comment(l) if not is_blank(b)) for l in lines(text)]
     return [(k + 1, l) for k, l in enumerate(all) if l != b""]

@@ -14,7 +14,7 @@ use Rattle.trace_tool.specs.declared.fault.TraceFault.{TraceFault}
 use Rattle.trace_tool.specs.declared.fault.TraceFault.TheVariants as trace_fault
 use Rattle.domsyn.specs.declared.refusal.Refusal.{Refusal}
 use Rattle.domsyn.specs.declared.refusal.Refusal.TheVariants.{TooLong, Deck, Ports}
-use Rattle.domsyn.specs.Audits.{IsUnaudited, audit_line, is_yes}
+use Rattle.command_answers.specs.Audits.{IsUnaudited, audit_line, is_yes}
 use Rattle.domsyn.specs.Laws.{HasAnswer, IsKnownFile}
 use Rattle.domsyn.specs.Refusals.{about, refusal_of}
 use Rattle.domsyn.specs.Outcomes.{Printed, Refused}

@@ -3,7 +3,8 @@ use Rattle.std.proofs.Common.{◌≡◌, ◌≢◌, ◌⊎◌, ℕ, List, inl, i
 use Rattle.command_words.specs.Commands.{Asks, Bench, Command}
 use Rattle.command_words.proofs.AskedOnce.{asks_one}
 use Rattle.deck_form.specs.declared.options.SynthOptions.{SynthOptions}
-use Rattle.domsyn.specs.Benches.{GivesSameBench, IsSameBench}
+use Rattle.domsyn.specs.Benches.{GivesSameBench}
+use Rattle.command_answers.specs.Benches.{IsSameBench}
 use Rattle.domsyn.specs.Headline.{IsRightFor}
 use Rattle.domsyn.specs.Outcomes.{Files, IsOutcome, IsUnread, Refused}
 use Rattle.domsyn.proofs.ReportedFailures.{FailureReported, refusal, unread, memory}

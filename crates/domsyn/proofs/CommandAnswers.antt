@@ -1,8 +1,7 @@
 -- The text of a command, by the bytes of its files.
-use Rattle.std.proofs.Common.{◌≡◌, ◌≤◌, ◌∙◌, length, ℕ, Bool, true, false, List, ap, arith, refl}
+use Rattle.std.proofs.Common.{◌≡◌, ◌∙◌, ℕ, Bool, true, false, List, ap, arith, refl}
 use Rattle.std.specs.Prelude.{if◌then◌else◌}
 use Rattle.blif_ast.specs.Printed.{printed}
-use Rattle.dom_io.specs.Held.{file_limit}
 use Rattle.command_words.specs.declared.command.Method.{Method}
 use Rattle.deck.specs.CircuitData.{CircuitData}
 use Rattle.deck_audit.specs.Audits.{Answer}
@@ -10,24 +9,20 @@ use Rattle.network.specs.NetworkData.{NetworkData}
 use Rattle.net_flatten.specs.OneModel.{file_of}
 use Rattle.deck_form.specs.declared.options.SynthOptions.{SynthOptions}
 use Rattle.port_runs.specs.declared.clocking.Clocking.{Clocking}
-use Rattle.trace_tool.specs.CosimRefusals.{HasNetworkOf}
 use Rattle.trace_tool.specs.TraceData.{TraceOptionsData}
 use Rattle.trace_tool.specs.Traces.{IsTraceBy}
 use Rattle.trace_tool.specs.VerdictLines.{verdict_line}
 use Rattle.trace_tool.specs.Verdicts.{IsVerdictOf}
 use Rattle.trace_tool.specs.declared.options.Order.{Order}
 use Rattle.trace_tool.specs.declared.verdict.Verdict.{Verdict}
-use Rattle.domsyn.specs.declared.answer.Ending.{Ending}
-use Rattle.domsyn.specs.declared.answer.Ending.TheVariants.{Differs, Done}
-use Rattle.domsyn.specs.Decks.{AreFiguresFor, IsDeckFor}
-use Rattle.domsyn.specs.Endings.{ending_number, ending_of}
-use Rattle.domsyn.specs.Networks.{HasNetwork, IsRunOf}
-use Rattle.domsyn.specs.Audits.{IsAuditOf, audit_line, is_yes}
-use Rattle.domsyn.specs.Outcomes.{Files, IsAuditReport, IsComparison, IsDeck, IsFigureReport, IsFile, IsFlat, IsPrintedRun, IsTrace, is_same_verdict}
-
--- bytes of a file with a network
-pub text_network : (bytes : List ℕ) (n : NetworkData) → length bytes ≤ file_limit → HasNetworkOf bytes n → HasNetwork bytes n
-text_network bytes n within has = record { within = within; file = has.file; accepted = has.accepted; network_is = has.network_is }
+use Rattle.command_answers.specs.declared.answer.Ending.{Ending}
+use Rattle.command_answers.specs.declared.answer.Ending.TheVariants.{Differs, Done}
+use Rattle.command_answers.specs.Decks.{AreFiguresFor, IsDeckFor}
+use Rattle.command_answers.specs.Endings.{ending_number, ending_of}
+use Rattle.command_answers.specs.Networks.{HasNetwork, IsRunOf}
+use Rattle.command_answers.specs.Audits.{IsAuditOf, audit_line, is_yes}
+use Rattle.domsyn.specs.Outcomes.{Files, IsAuditReport, IsComparison, IsDeck, IsFigureReport, IsFile, IsFlat, IsPrintedRun, IsTrace}
+use Rattle.command_answers.specs.Verdicts.{is_same_verdict}
 
 -- the number of an ending by whether all is well
 number_of : (well : Bool) → ending_number (ending_of well) ≡ (if well then 0 else 6)

@@ -5,35 +5,30 @@ use Rattle.std.proofs.lemmas.Option.{same_Some}
 use Rattle.dom_io.specs.Held.{file_limit}
 use Rattle.command_words.specs.Commands.{Command, Synth, Flat as flat, Run as run, Sim, Cosim, Report, Bench, Audit, files_of}
 use Rattle.deck_form.specs.declared.options.SynthOptions.{SynthOptions}
-use Rattle.network.specs.NetworkData.{NetworkData}
 use Rattle.port_runs.specs.declared.clocking.Clocking.{Clocking}
-use Rattle.stim_text.specs.Stimuli.{IsStimFaultAt}
-use Rattle.stim_text.specs.declared.fault.StimFault.{StimFault}
-use Rattle.stim_text.specs.declared.fault.StimFault.TheVariants as stim_faults
-use Rattle.stim_text.specs.declared.fault.StimKind.{StimKind}
 use Rattle.model_calls.specs.declared.fault.FlatFault.TheVariants as flat_fault
 use Rattle.trace_tool.specs.CosimRefusals.{IsCosimRefused, IsUnflattened}
-use Rattle.trace_tool.specs.Refusals.{IsRefused, of_stim}
+use Rattle.trace_tool.specs.Refusals.{IsRefused}
 use Rattle.trace_tool.specs.TraceData.{TraceOptionsData}
 use Rattle.trace_tool.specs.declared.fault.TraceFault.{TraceFault}
 use Rattle.trace_tool.specs.declared.fault.TraceFault.TheVariants as trace_fault
 use Rattle.trace_tool.specs.declared.options.Order.{Order}
 use Rattle.command_words.specs.declared.command.Method.{Method}
 use Rattle.command_words.specs.declared.command.Method.TheVariants.{Compound, Exact, Plain, Skew}
-use Rattle.domsyn.specs.declared.fault.Fault.{Fault}
-use Rattle.domsyn.specs.declared.fault.Fault.TheVariants as any_fault
-use Rattle.domsyn.specs.declared.fault.Fault.TheVariants.{Traced}
+use Rattle.command_answers.specs.declared.fault.Fault.{Fault}
+use Rattle.command_answers.specs.declared.fault.Fault.TheVariants as any_fault
+use Rattle.command_answers.specs.declared.fault.Fault.TheVariants.{Traced}
 use Rattle.domsyn.specs.declared.failure.Failure.{Failure}
 use Rattle.domsyn.specs.declared.failure.Failure.TheVariants as failure
 use Rattle.domsyn.specs.declared.refusal.Refusal.{Refusal}
 use Rattle.domsyn.specs.declared.refusal.Refusal.TheVariants.{TooLong, Blif, Flat, TooMany, TooManySinks, Deck, Ports, NoNet, Stim}
-use Rattle.domsyn.specs.Audits.{IsUnaudited}
+use Rattle.command_answers.specs.Audits.{IsUnaudited}
 use Rattle.domsyn.specs.Failures.{AreUnfetched, IsFailureFor, IsFailureOf, IsCommandFault}
 use Rattle.domsyn.specs.Outcomes.{Files, HasNone, IsFile, IsFirstTooLong, IsOutcome, Refused}
-use Rattle.domsyn.specs.Networks.{HasNetwork, IsNotRunFor, IsRunRefused}
-use Rattle.domsyn.specs.Methods.{IsUndecked}
-use Rattle.domsyn.specs.Refusals.{HasNoNetworkFor, about, cause_of, refusal_of}
-use Rattle.domsyn.proofs.Methods.{without_network}
+use Rattle.command_answers.specs.Networks.{IsRunRefused}
+use Rattle.domsyn.proofs.DeckCauses.{without_network}
+use Rattle.command_answers.specs.Methods.{IsUndecked}
+use Rattle.domsyn.specs.Refusals.{HasNoNetworkFor, IsNotRunFor, about, cause_of, refusal_of}
 use Rattle.domsyn.proofs.FetchedFiles.{IsLater}
 
 -- the cause of a text without a network is one of its file
@@ -65,21 +60,6 @@ run_cause bytes stim (trace_fault.Ports place) why within is e = absurd is
 run_cause bytes stim (trace_fault.NoNet name) why within is e = absurd is
 run_cause bytes stim (trace_fault.Stim line kind) why within is e = subst (IsNotRunFor bytes stim) (same_Some (Stim line kind) why e) is
 run_cause bytes stim trace_fault.Memory why within is e = absurd cc
-
--- a text without a network has no run, nor has one whose stimulus has a fault
-pub network_unrun : (bytes stim : List ℕ) (fault : TraceFault) → IsUnflattened bytes fault → IsRunRefused bytes stim fault
-network_unrun bytes stim (trace_fault.Blif line kind) is = is
-network_unrun bytes stim (trace_fault.Flat fault) is = is
-network_unrun bytes stim (trace_fault.Deck line kind) is = is
-network_unrun bytes stim (trace_fault.Ports place) is = is
-network_unrun bytes stim (trace_fault.NoNet name) is = is
-network_unrun bytes stim (trace_fault.Stim line kind) is = absurd is
-network_unrun bytes stim trace_fault.Memory is = tt
-
-pub stimulus_unrun : (bytes stim : List ℕ) (n : NetworkData) (fault : StimFault) (why : TraceFault) → HasNetwork bytes n
-    → ((line : ℕ) (kind : StimKind) → fault ≡ stim_faults.At line kind → IsStimFaultAt n.inputs stim line kind) → why ≡ of_stim fault → IsRunRefused bytes stim why
-stimulus_unrun bytes stim n (stim_faults.At line kind) why has f is = subst (IsRunRefused bytes stim) (sym is) (record { network = n; has = has; fault = f line kind refl })
-stimulus_unrun bytes stim n stim_faults.Memory why has f is = subst (IsRunRefused bytes stim) (sym is) tt
 
 -- each cause is about the one file that there is
 about_one : (file : List ℕ) (why : Refusal) → about file file file why ≡ file

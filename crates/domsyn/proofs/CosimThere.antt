@@ -25,7 +25,8 @@ use Rattle.domsyn.specs.declared.refusal.Refusal.{Refusal}
 use Rattle.domsyn.specs.declared.refusal.Refusal.TheVariants.{TooLong, Blif, Flat, TooMany, TooManySinks, Deck, Ports, NoNet, Stim}
 use Rattle.domsyn.specs.Laws.{IsKnownFile}
 use Rattle.domsyn.specs.Refusals.{HasNoNetworkFor, about, refusal_of}
-use Rattle.domsyn.specs.Outcomes.{Printed, Refused, is_same_verdict}
+use Rattle.domsyn.specs.Outcomes.{Printed, Refused}
+use Rattle.command_answers.specs.Verdicts.{is_same_verdict}
 use Rattle.domsyn.proofs.KnownFiles.{Pairs, HasOne, fits_or_not}
 use Rattle.domsyn.proofs.NetworksThere.{IsNetworkCause, HasNetworkOrCause, network_there}
 

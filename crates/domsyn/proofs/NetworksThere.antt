@@ -13,7 +13,7 @@ use Rattle.network_law.specs.Laws.{HasAnswer}
 use Rattle.network_law.proofs.Answered.{has_answer}
 use Rattle.domsyn.specs.declared.refusal.Refusal.{Refusal}
 use Rattle.domsyn.specs.declared.refusal.Refusal.TheVariants.{TooLong, Blif, Flat, TooMany, TooManySinks, Deck, Ports, NoNet, Stim}
-use Rattle.domsyn.specs.Networks.{HasNetwork}
+use Rattle.command_answers.specs.Networks.{HasNetwork}
 use Rattle.domsyn.specs.Refusals.{HasNoNetworkFor}
 
 -- a cause for which bytes that aren't too many have no network

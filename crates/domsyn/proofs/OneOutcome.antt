@@ -14,19 +14,20 @@ use Rattle.synth_flow.specs.SummaryLines.{summary_lines}
 use Rattle.deck_form.specs.declared.options.SynthOptions.{SynthOptions}
 use Rattle.port_runs.specs.declared.clocking.Clocking.{Clocking}
 use Rattle.port_runs.specs.declared.clocking.Clocking.TheVariants.{Together}
-use Rattle.domsyn.specs.Methods.{HasNoDeckFor}
-use Rattle.domsyn.proofs.Methods.{deck_causes_alike, deck_or_cause}
-use Rattle.domsyn.proofs.MethodTexts.{text_one}
-use Rattle.domsyn.specs.Decks.{AreFiguresFor, IsDeckFor, IsTextBy}
-use Rattle.domsyn.specs.Outcomes.{IsAuditReport, IsComparison, IsDeck, IsFile, IsFirstTooLong, IsFlat, HasNoDeck, HasNone, IsNoAudit, IsNoComparison, IsNoRun, IsNoTrace, IsOutcome, IsPrintedRun, IsFigureReport, IsTooLong, IsTrace, Outcome, Printed, Refused, is_same_verdict}
-use Rattle.domsyn.specs.Networks.{HasNetwork, IsNotRunFor, IsRunOf}
-use Rattle.domsyn.specs.Refusals.{HasNoNetworkFor, IsFaulty, about, refusal_of}
-use Rattle.domsyn.specs.Audits.{IsAuditOf, IsUnaudited}
-use Rattle.domsyn.proofs.Benches.{bench_one}
+use Rattle.domsyn.proofs.DeckCauses.{deck_causes_alike, deck_or_cause}
+use Rattle.command_answers.specs.Verdicts.{is_same_verdict}
+use Rattle.command_answers.proofs.OneNetwork.{network_kept, networks_alike, runs_alike}
+use Rattle.command_answers.proofs.MethodTexts.{text_one}
+use Rattle.command_answers.specs.Decks.{AreFiguresFor, IsDeckFor, IsTextBy}
+use Rattle.domsyn.specs.Outcomes.{IsAuditReport, IsComparison, IsDeck, IsFile, IsFirstTooLong, IsFlat, HasNoDeck, HasNone, IsNoAudit, IsNoComparison, IsNoRun, IsNoTrace, IsOutcome, IsPrintedRun, IsFigureReport, IsTooLong, IsTrace, Outcome, Printed, Refused}
+use Rattle.command_answers.specs.Networks.{HasNetwork, IsRunOf}
+use Rattle.domsyn.specs.Refusals.{HasNoDeckFor, HasNoNetworkFor, IsFaulty, IsNotRunFor, about, refusal_of}
+use Rattle.command_answers.specs.Audits.{IsAuditOf, IsUnaudited}
+use Rattle.command_answers.proofs.Benches.{bench_one}
 use Rattle.domsyn.proofs.KnownFiles.{Pairs}
-use Rattle.domsyn.proofs.OneAudit.{audit_one, unaudited_apart, unaudited_same}
-use Rattle.domsyn.proofs.OneSummary.{summaries_one}
-use Rattle.domsyn.proofs.NetworkCauses.{network_causes_alike, network_kept, network_or_cause, networks_alike, run_causes_alike, run_or_cause, runs_alike}
+use Rattle.command_answers.proofs.OneAudit.{audit_one, unaudited_apart, unaudited_same}
+use Rattle.command_answers.proofs.OneSummary.{summaries_one}
+use Rattle.domsyn.proofs.NetworkCauses.{network_causes_alike, network_or_cause, run_causes_alike, run_or_cause}
 use Rattle.trace_tool.specs.Refusals.{IsRefused}
 use Rattle.trace_tool.specs.TraceData.{TraceData, TraceOptionsData}
 use Rattle.trace_tool.specs.Traces.{IsTraceBy}

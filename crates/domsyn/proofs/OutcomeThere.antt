@@ -5,7 +5,7 @@ use Rattle.std.proofs.lemmas.List.Elements.{All-head, All-tail}
 use Rattle.command_words.specs.Commands.{Command, Synth, Flat as flat, Run as run, Sim, Cosim, Report, Bench, Audit, HasGoodOptions, files_of}
 use Rattle.domsyn.specs.Laws.{HasAnswer, IsKnownFile}
 use Rattle.domsyn.proofs.AuditThere.{audit_there}
-use Rattle.domsyn.proofs.Benches.{bench_there}
+use Rattle.command_answers.proofs.Benches.{bench_there}
 use Rattle.domsyn.specs.Outcomes.{Printed}
 use Rattle.domsyn.proofs.KnownFiles.{Pairs, HasOne}
 use Rattle.domsyn.proofs.CosimThere.{cosim_there}

@@ -29,14 +29,14 @@ use Rattle.planned_audit.specs.PlannedAudits.{IsReordered}
 use Rattle.planned_audit.proofs.PlannedAudits.{named_decks_get_yes}
 use Rattle.skew_law.proofs.BufferedCircuits.{has_shape}
 use Rattle.sp_network.specs.Tree.{height, width}
-use Rattle.domsyn.specs.Audits.{yes_line}
-use Rattle.domsyn.specs.Headline.{IsRightBy}
+use Rattle.command_answers.specs.Audits.{yes_line}
+use Rattle.command_answers.specs.RightDecks.{IsRightBy}
 use Rattle.domsyn.specs.Outcomes.{Files, IsOutcome, Outcome, Printed, Refused, status_of}
 use Rattle.domsyn.specs.OwnAudits.{AreReorderedFiles, IsYesOf, OwnDeckGetsYes, SaysYes}
 use Rattle.domsyn.specs.Top.{HasOutcome}
 use Rattle.domsyn.specs.declared.refusal.Refusal.{Refusal}
 use Rattle.domsyn.proofs.OneOutcome.{one_outcome}
-use Rattle.domsyn.proofs.OwnVerdicts.{roles_are}
+use Rattle.command_answers.proofs.OwnVerdicts.{roles_are}
 use Rattle.domsyn.proofs.ReportedFailures.{FailureReported, refusal, unread, memory}
 
 -- the circuit of a right deck in cells with keepers is a loose deck by names

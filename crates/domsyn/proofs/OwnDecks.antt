@@ -2,7 +2,6 @@
 use Rattle.std.specs.Prelude.{Some}
 use Rattle.std.proofs.Common.{ℕ, List, Bool, length, refl, subst}
 use Rattle.command_words.specs.declared.command.Method.{Method}
-use Rattle.command_words.specs.declared.command.Method.TheVariants.{Compound, Exact, Plain, Skew}
 use Rattle.deck_form.specs.declared.options.SynthOptions.{SynthOptions}
 use Rattle.dom_base.proofs.Faults.{answer_same}
 use Rattle.network.specs.NetworkData.{NetworkData}
@@ -15,40 +14,11 @@ use Rattle.trace_tool.specs.declared.options.Order.{Order}
 use Rattle.trace_tool.specs.declared.verdict.Verdict.{Verdict}
 use Rattle.trace_tool.specs.declared.verdict.Verdict.TheVariants.{Same}
 use Rattle.trace_tool.proofs.NetworkTexts.{network_same}
-use Rattle.verdict_law.specs.Laws.{IsRightTogether, IsSame, right_together}
+use Rattle.verdict_law.specs.Laws.{IsRightTogether, IsSame}
 use Rattle.verdict_law.proofs.RightVerdicts.{right_deck_is_same, some_verdict}
-use Rattle.domsyn.specs.Headline.{IsRightBy}
+use Rattle.command_answers.proofs.RightTogether.{right_for}
 use Rattle.domsyn.specs.Outcomes.{IsComparison}
 use Rattle.domsyn.specs.OwnDecks.{AreOwnFiles, OwnDeckIsSame}
-
--- by each method a right deck is right where all clocks fall together
-right_for : (bytes text : List ℕ) (options : SynthOptions) (method : Method) → IsRightBy method bytes options text → IsRightTogether bytes options.phases text
-right_for bytes text options (Plain version) right = right_together right
-right_for bytes text options Exact right = right_together right
-right_for bytes text options Skew right = record {
-  network = right.network;
-  has = record { file = right.file; accepted = right.is_file; network_is = right.is_network };
-  circuit = right.circuit;
-  reads_back = right.reads_back;
-  no_other = right.no_other;
-  some_clock = (right.form).some_clock;
-  few_clocks = (right.form).few_clocks;
-  ports = right.ports;
-  right = right.right_together;
-}
-right_for bytes text options Compound least =
-    let right = least.right in
-    record {
-      network = right.network;
-      has = record { file = right.file; accepted = right.is_file; network_is = right.is_network };
-      circuit = right.circuit;
-      reads_back = right.reads_back;
-      no_other = right.no_other;
-      some_clock = (right.is_deck).some_clock;
-      few_clocks = (right.is_deck).few_clocks;
-      ports = right.ports;
-      right = right.right;
-    }
 
 module _ (known : List (List ℕ × List ℕ)) (file deck stim : List ℕ) (order : Order) (seed : ℕ) (options : SynthOptions) (method : Method) (stream : List (List Bool))
     (o : AreOwnFiles known file deck stim options method stream) where

@@ -10,7 +10,7 @@ use Rattle.synth_flow.specs.Summaries.{figures}
 use Rattle.synth_flow.specs.SummaryLines.{summary_lines}
 use Rattle.plan_law.proofs.DecksThere.{decks_there}
 use Rattle.deck_form.specs.AskedOptions.{deck_options}
-use Rattle.domsyn.proofs.NetworkCauses.{network_kept}
+use Rattle.command_answers.proofs.OneNetwork.{network_kept}
 use Rattle.domsyn.specs.Outcomes.{Printed, Refused}
 use Rattle.domsyn.proofs.KnownFiles.{Pairs, HasOne, fits_or_not}
 use Rattle.domsyn.proofs.NetworksThere.{HasNetworkOrCause, network_there}

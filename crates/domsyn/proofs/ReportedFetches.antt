@@ -7,9 +7,9 @@ use Rattle.dom_io.specs.Asked.{Asking}
 use Rattle.command_words.specs.Commands.{Asks, Bench, Command, files_of}
 use Rattle.command_words.proofs.AskedOnce.{asks_one}
 use Rattle.deck_form.specs.declared.options.SynthOptions.{SynthOptions}
-use Rattle.domsyn.specs.Endings.{ending_number}
-use Rattle.domsyn.specs.declared.answer.Ending.{Ending}
-use Rattle.domsyn.specs.declared.answer.Ending.TheVariants.{Done, Differs}
+use Rattle.command_answers.specs.Endings.{ending_number}
+use Rattle.command_answers.specs.declared.answer.Ending.{Ending}
+use Rattle.command_answers.specs.declared.answer.Ending.TheVariants.{Done, Differs}
 use Rattle.domsyn.specs.Failures.{IsFailureOf, IsReportedAt}
 use Rattle.domsyn.specs.Fetches.{AsksAll, AsksAt, AsksAtRefusal, AsksEach, AsksFirst, AsksUpTo}
 use Rattle.domsyn.specs.Outcomes.{Files, Refused}

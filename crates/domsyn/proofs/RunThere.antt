@@ -10,9 +10,9 @@ use Rattle.net_run.proofs.OneRun.{one_run}
 use Rattle.domsyn.specs.declared.refusal.Refusal.{Refusal}
 use Rattle.domsyn.specs.declared.refusal.Refusal.TheVariants.{TooLong, Blif, Flat, TooMany, TooManySinks, Deck, Ports, NoNet, Stim}
 use Rattle.domsyn.specs.Laws.{IsKnownFile}
-use Rattle.domsyn.specs.Networks.{HasNetwork, IsNotRunFor, run_lines}
-use Rattle.domsyn.specs.Refusals.{HasNoNetworkFor, about}
-use Rattle.domsyn.proofs.NetworkCauses.{network_kept}
+use Rattle.command_answers.specs.Networks.{HasNetwork, run_lines}
+use Rattle.command_answers.proofs.OneNetwork.{network_kept}
+use Rattle.domsyn.specs.Refusals.{HasNoNetworkFor, IsNotRunFor, about}
 use Rattle.domsyn.specs.Outcomes.{Printed, Refused}
 use Rattle.domsyn.proofs.KnownFiles.{Pairs, HasOne, fits_or_not}
 use Rattle.domsyn.proofs.NetworksThere.{IsNetworkCause, HasNetworkOrCause, network_there}

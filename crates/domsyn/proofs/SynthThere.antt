@@ -6,14 +6,15 @@ use Rattle.command_words.specs.SynthOptionWords.{AreGoodOptions}
 use Rattle.command_words.specs.declared.command.Method.{Method}
 use Rattle.network.specs.NetworkData.{NetworkData}
 use Rattle.domsyn.specs.declared.refusal.Refusal.{Refusal}
-use Rattle.domsyn.specs.Methods.{HasNoDeckFor, IsSuited}
-use Rattle.domsyn.specs.Networks.{HasNetwork}
-use Rattle.domsyn.proofs.MethodTexts.{text_there}
-use Rattle.domsyn.proofs.Methods.{suited_or_not, without_network}
+use Rattle.command_answers.specs.Methods.{IsSuited}
+use Rattle.domsyn.specs.Refusals.{HasNoDeckFor}
+use Rattle.domsyn.proofs.DeckCauses.{suited_or_not, without_network}
+use Rattle.command_answers.proofs.OneNetwork.{network_kept}
+use Rattle.command_answers.specs.Networks.{HasNetwork}
+use Rattle.command_answers.proofs.MethodTexts.{text_there}
 use Rattle.domsyn.specs.declared.refusal.Refusal.TheVariants.{TooLong}
 use Rattle.domsyn.specs.Laws.{IsKnownFile}
 use Rattle.deck_form.specs.declared.options.SynthOptions.{SynthOptions}
-use Rattle.domsyn.proofs.NetworkCauses.{network_kept}
 use Rattle.domsyn.specs.Outcomes.{Printed, Refused}
 use Rattle.domsyn.proofs.KnownFiles.{Pairs, HasOne, fits_or_not}
 use Rattle.domsyn.proofs.NetworksThere.{HasNetworkOrCause, network_there}

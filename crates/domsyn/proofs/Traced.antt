@@ -3,8 +3,8 @@ use Rattle.std.proofs.Common.{◌≡◌, Result, Ok, Err, IfOk, refl, sym, subst
 use Rattle.std.specs.Prelude.{IsErrOf}
 use Rattle.trace_tool.specs.declared.fault.TraceFault.{TraceFault}
 use Rattle.domsyn.specs.Traced.{traced}
-use Rattle.domsyn.specs.declared.fault.Fault.{Fault}
-use Rattle.domsyn.specs.declared.fault.Fault.TheVariants.{Traced}
+use Rattle.command_answers.specs.declared.fault.Fault.{Fault}
+use Rattle.command_answers.specs.declared.fault.Fault.TheVariants.{Traced}
 
 pub traced_ok : {A : Type 0} (P : A → Type 0) (given : Result A TraceFault) (result : Result A Fault) → result ≡ traced given → IfOk given P → IfOk result P
 traced_ok {A} P given result is h = subst (λ (r : Result A Fault). IfOk r P) (sym is) (by given h)

@@ -8,7 +8,7 @@ use Rattle.domsyn.specs.declared.refusal.Refusal.TheVariants.{TooLong}
 use Rattle.domsyn.specs.Outcomes.{Files, IsFirstTooLong, IsOutcome, IsTooLong, IsUnread, IsUnreadOf, Refused as RefusedFor}
 use Rattle.domsyn.specs.Refusals.{about, cause_of, refusal_line}
 use Rattle.domsyn.specs.Top.{line_of, unread_line}
-use Rattle.domsyn.specs.declared.fault.Fault.{Fault}
+use Rattle.command_answers.specs.declared.fault.Fault.{Fault}
 
 -- why a command has no text over these files: a file is refused, or one can't be read, and the shelf's count rose;
 -- that it's out of memory has no cause

@@ -5,37 +5,18 @@
 -- (`deck/specs/DeckText`). Of a deck with chains of buffers `IsRightOverlappingDeck` says it where early clocks may fall while later ones
 -- still evaluate (Harris and Horowitz, Skew-tolerant domino circuits; `skew_law/specs/BufferedDecks`): its form, and that each cell has in
 -- each cycle the bit of its root pair in the network's run. Of a deck with compound cells (Rabaey: compound domino) `IsRightCompoundDeck`
--- says that it is right so, joins the supplies never, and has the least cost of all plans (`compound_law/specs/Laws`).
+-- says that it is right so, joins the supplies never, and has the least cost of all plans (`compound_law/specs/Laws`). Which of these a
+-- method gives says `IsRightBy` (`command_answers/specs/RightDecks`).
 use Rattle.std.specs.Prelude.{ℕ, ◌≡◌, List}
+use Rattle.command_answers.specs.Benches.{IsSameBench}
+use Rattle.command_answers.specs.Methods.{HasSignsOf}
+use Rattle.command_answers.specs.RightDecks.{IsRightBy}
 use Rattle.command_words.specs.Commands.{Asks, Command, Synth, Flat, Run, Sim, Cosim, Report, Bench, Audit}
 use Rattle.command_words.specs.SynthOptionWords.{SuitsMethod}
 use Rattle.command_words.specs.declared.command.Method.{Method}
-use Rattle.command_words.specs.declared.command.Method.TheVariants.{Compound, Skew}
-use Rattle.compound_law.specs.CompoundDecks.{IsChosenDeck}
-use Rattle.compound_law.specs.Laws.{IsLeastDeck}
-use Rattle.compound_law.specs.Laws as compound_law
-use Rattle.deck_law.specs.Headline.{IsRightDeck}
-use Rattle.deck_form.specs.AskedOptions.{deck_options}
 use Rattle.deck_form.specs.declared.options.SynthOptions.{SynthOptions}
 use Rattle.domsyn.specs.AuditedDecks.{IsAuditedFile}
-use Rattle.domsyn.specs.Benches.{IsSameBench}
-use Rattle.domsyn.specs.Methods.{HasSignsOf}
 use Rattle.domsyn.specs.Outcomes.{Files, IsFile}
-use Rattle.skew_law.specs.BufferedDecks.{IsRightOverlappingDeck}
-
--- the text is a right deck of the bytes with simple and compound cells, with options: that of the chosen signs and the chosen plan, whose
--- cost is least of all plans with compound roots, and whose cells have so many devices
-pub record IsRightCompoundDeck (bytes : List ℕ) (options : SynthOptions) (text : List ℕ) : Type 0 where
-  pub right : compound_law.IsRightDeck bytes options.bounds.w options.bounds.h options.phases text
-  pub is_chosen : IsChosenDeck right.network options.bounds.w options.bounds.h options.phases right.circuit
-  pub least : IsLeastDeck is_chosen
-
--- the text, in either version, is a right deck of the bytes, with options; for clocks that overlap it is one whose clocks may, and with
--- compound cells one of least cost
-abbrev pub IsRightBy : Method → (bytes : List ℕ) → SynthOptions → (text : List ℕ) → Type 0
-IsRightBy Skew bytes options text = IsRightOverlappingDeck bytes options text
-IsRightBy Compound bytes options text = IsRightCompoundDeck bytes options text
-IsRightBy method bytes options text = IsRightDeck bytes (deck_options options) text
 
 -- the text is a right deck of the file's bytes, with options; by exact signs its phases are signs of which no others need fewer pairs
 pub record IsRightDeckOfFile (files : Files) (name : List ℕ) (options : SynthOptions) (method : Method) (text : List ℕ) : Type 0 where

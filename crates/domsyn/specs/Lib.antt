@@ -1,16 +1,9 @@
 pub mod AuditedDecks
-pub mod Audits
 pub mod Benches
-pub mod Bits
-pub mod Decks
-pub mod Endings
 pub mod Failures
 pub mod Fetches
 pub mod Headline
 pub mod Laws
-pub mod Methods
-pub mod NetworkRuns
-pub mod Networks
 pub mod Outcomes
 pub mod OwnAudits
 pub mod OwnDecks

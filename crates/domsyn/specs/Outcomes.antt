@@ -1,5 +1,5 @@
 -- The outcome of a command over files: a text with its status, or the file that is refused and the cause.
-use Rattle.std.specs.Prelude.{ℕ, ◌<◌, ◌≤◌, ◌≡◌, ◌⊎◌, Bool, true, false, if◌then◌else◌, List, [], ◌∷◌, Option, Some, IfSome, length}
+use Rattle.std.specs.Prelude.{ℕ, ◌<◌, ◌≤◌, ◌≡◌, ◌⊎◌, Bool, if◌then◌else◌, List, [], ◌∷◌, Option, Some, IfSome, length}
 use Rattle.dom_io.specs.Held.{file_limit, held}
 use Rattle.blif_ast.specs.Printed.{printed}
 use Rattle.network.specs.NetworkData.{NetworkData}
@@ -11,14 +11,13 @@ use Rattle.deck.specs.CircuitData.{CircuitData}
 use Rattle.deck_audit.specs.Audits.{Answer}
 use Rattle.deck_form.specs.declared.options.SynthOptions.{SynthOptions}
 use Rattle.port_runs.specs.declared.clocking.Clocking.{Clocking}
-use Rattle.synth_flow.specs.SummaryData.{SummaryData}
-use Rattle.domsyn.specs.Audits.{IsAuditOf, IsUnaudited, audit_line, is_yes}
-use Rattle.domsyn.specs.Benches.{IsBenchOf, bench_text}
+use Rattle.command_answers.specs.Audits.{IsAuditOf, IsUnaudited, audit_line, is_yes}
+use Rattle.command_answers.specs.Benches.{IsBench}
 use Rattle.command_words.specs.declared.command.Method.{Method}
-use Rattle.domsyn.specs.Methods.{HasNoDeckFor}
-use Rattle.domsyn.specs.Decks.{AreFiguresFor, IsDeckFor}
-use Rattle.domsyn.specs.Networks.{HasNetwork, IsNotRunFor, IsRunOf}
-use Rattle.domsyn.specs.Refusals.{HasNoNetworkFor, IsFaulty, about}
+use Rattle.command_answers.specs.Decks.{AreFiguresFor, IsDeckFor}
+use Rattle.command_answers.specs.Networks.{HasNetwork, IsRunOf}
+use Rattle.command_answers.specs.Verdicts.{is_same_verdict}
+use Rattle.domsyn.specs.Refusals.{HasNoDeckFor, HasNoNetworkFor, IsFaulty, IsNotRunFor, about}
 use Rattle.trace_tool.specs.CosimRefusals.{IsCosimRefused}
 use Rattle.trace_tool.specs.Refusals.{IsRefused}
 use Rattle.trace_tool.specs.TraceData.{TraceOptionsData}
@@ -28,7 +27,6 @@ use Rattle.trace_tool.specs.Verdicts.{IsVerdictOf}
 use Rattle.trace_tool.specs.declared.options.Order.{Order}
 use Rattle.trace_tool.specs.declared.options.ProbeWord.{ProbeWord}
 use Rattle.trace_tool.specs.declared.verdict.Verdict.{Verdict}
-use Rattle.trace_tool.specs.declared.verdict.Verdict.TheVariants.{Same, Differ, PortsDiffer, Unsettled}
 
 -- names with their bytes, where they are known
 abbrev pub Files : Type 0
@@ -136,13 +134,6 @@ pub record IsNoTrace (files : Files) (deck stim : List ℕ) (probes : List Probe
   pub is_stim : IsFile files stim stim_bytes
   pub faulty : IsFaulty (IsRefused deck_bytes stim_bytes probes) deck deck stim name why
 
--- the verdict is that all is the same
-abbrev pub is_same_verdict : Verdict → Bool
-is_same_verdict (Same cycles events) = true
-is_same_verdict (Differ cycle pin wanted found) = false
-is_same_verdict (PortsDiffer place) = false
-is_same_verdict (Unsettled cycle events) = false
-
 -- the verdict of a deck beside a file over a stimulus; the status says whether all is the same
 pub record IsComparison (files : Files) (file deck stim : List ℕ) (order : Order) (seed : ℕ) (status : ℕ) (text : List ℕ) : Type 0 where
   pub bytes : List ℕ
@@ -172,15 +163,6 @@ pub record IsFigureReport (files : Files) (file : List ℕ) (options : SynthOpti
   pub is_file : IsFile files file bytes
   pub figures : AreFiguresFor bytes options text
   pub done : status ≡ 0
-
--- the figures of the deck of a network that is generated, and the deck's verdict beside it; the status says whether all is the same
-pub record IsBench (seed size : ℕ) (options : SynthOptions) (status : ℕ) (text : List ℕ) : Type 0 where
-  pub model : List ℕ
-  pub summary : SummaryData
-  pub verdict : Verdict
-  pub is : IsBenchOf seed size options model summary verdict
-  pub text_is : text ≡ bench_text model summary verdict
-  pub status_is : status ≡ (if is_same_verdict verdict then 0 else 6)
 
 -- what the audit of a deck says; the status says whether it is a yes
 pub record IsAuditReport (files : Files) (deck : List ℕ) (status : ℕ) (text : List ℕ) : Type 0 where

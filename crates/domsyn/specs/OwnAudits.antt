@@ -13,8 +13,8 @@ use Rattle.deck_form.specs.declared.options.SynthOptions.{SynthOptions}
 use Rattle.domino_cell.specs.declared.style.Style.TheVariants.{Keeper as WithKeeper}
 use Rattle.planned_audit.specs.PlannedAudits.{IsReordered}
 use Rattle.sp_network.specs.Tree.{height, width}
-use Rattle.domsyn.specs.Audits.{yes_line}
-use Rattle.domsyn.specs.Headline.{IsRightBy}
+use Rattle.command_answers.specs.Audits.{yes_line}
+use Rattle.command_answers.specs.RightDecks.{IsRightBy}
 use Rattle.domsyn.specs.Outcomes.{Files, IsFile, IsOutcome, Printed}
 
 -- A right deck of a text of BLIF by a method, of this circuit, in cells with keepers; and a file that is known, of a deck with the same

@@ -7,8 +7,8 @@ use Rattle.network.specs.NetworkData.{NetworkData}
 use Rattle.stim_text.specs.Stimuli.{IsStimulusOf}
 use Rattle.trace_tool.specs.VerdictLines.{same_line}
 use Rattle.trace_tool.specs.declared.options.Order.{Order}
-use Rattle.domsyn.specs.Headline.{IsRightBy}
-use Rattle.domsyn.specs.Networks.{HasNetwork}
+use Rattle.command_answers.specs.RightDecks.{IsRightBy}
+use Rattle.command_answers.specs.Networks.{HasNetwork}
 use Rattle.domsyn.specs.Outcomes.{Files, IsFile, IsOutcome, Printed}
 
 -- a text, a right deck of it by a method, and a stimulus of these cycles for the inputs of its network, as files that are known, none too

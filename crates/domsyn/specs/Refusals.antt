@@ -1,5 +1,5 @@
 -- Why a file is refused, and the line that reports it.
-use Rattle.std.specs.Prelude.{ℕ, ◌≡◌, ◌≤◌, ◌<◌, List, [], ◌++◌, Option, None, Some, length, codes}
+use Rattle.std.specs.Prelude.{ℕ, ◌≡◌, ◌≤◌, ◌<◌, ◌⊎◌, List, [], ◌++◌, Option, None, Some, length, codes}
 use Rattle.std.specs.Fmt.{decimal}
 use Rattle.dom_io.specs.Held.{file_limit}
 use Rattle.blif_ast.specs.BlifFileData.{BlifFileData}
@@ -14,8 +14,12 @@ use Rattle.model_calls.specs.Kinds.{flat_kind_number, flat_kind_word, limit_word
 use Rattle.model_calls.specs.Refusal.{Refusal as Hierarchy}
 use Rattle.model_calls.specs.Refusal as hierarchy
 use Rattle.model_calls.specs.Refusals.{IsRefusal}
-use Rattle.domsyn.specs.declared.fault.Fault.{Fault}
-use Rattle.domsyn.specs.declared.fault.Fault.TheVariants as any_fault
+use Rattle.command_answers.specs.declared.fault.Fault.{Fault}
+use Rattle.command_answers.specs.declared.fault.Fault.TheVariants as any_fault
+use Rattle.command_answers.specs.Methods.{HaveTooManySinks}
+use Rattle.command_answers.specs.Networks.{IsStimRefused}
+use Rattle.command_words.specs.declared.command.Method.{Method}
+use Rattle.command_words.specs.declared.command.Method.TheVariants.{Compound, Exact, Plain, Skew}
 use Rattle.domsyn.specs.declared.refusal.Refusal.{Refusal}
 use Rattle.domsyn.specs.declared.refusal.Refusal.TheVariants.{TooLong, Blif, Flat, TooMany, TooManySinks, Deck, Ports, NoNet, Stim}
 use Rattle.stim_text.specs.Stimuli.{stim_kind_word}
@@ -45,6 +49,25 @@ HasNoNetworkFor bytes (Deck line kind) = ⊥
 HasNoNetworkFor bytes (Ports place) = ⊥
 HasNoNetworkFor bytes (NoNet name) = ⊥
 HasNoNetworkFor bytes (Stim line kind) = ⊥
+
+-- bytes of a file have no deck by the method for this cause: no network, or too many sinks for exact signs
+abbrev pub HasNoDeckFor : Method → List ℕ → Refusal → Type 0
+HasNoDeckFor (Plain version) bytes why = HasNoNetworkFor bytes why
+HasNoDeckFor Exact bytes why = HasNoNetworkFor bytes why ⊎ ((count : ℕ) × HaveTooManySinks bytes count × (why ≡ TooManySinks count))
+HasNoDeckFor Skew bytes why = HasNoNetworkFor bytes why
+HasNoDeckFor Compound bytes why = HasNoNetworkFor bytes why
+
+-- the network of bytes isn't run over the stimulus of others, for this cause
+abbrev pub IsNotRunFor : (bytes stim : List ℕ) → Refusal → Type 0
+IsNotRunFor bytes stim TooLong = ⊥
+IsNotRunFor bytes stim (Blif line kind) = HasNoNetworkFor bytes (Blif line kind)
+IsNotRunFor bytes stim (Flat line kind name) = HasNoNetworkFor bytes (Flat line kind name)
+IsNotRunFor bytes stim (TooMany limit count) = HasNoNetworkFor bytes (TooMany limit count)
+IsNotRunFor bytes stim (TooManySinks count) = ⊥
+IsNotRunFor bytes stim (Deck line kind) = ⊥
+IsNotRunFor bytes stim (Ports place) = ⊥
+IsNotRunFor bytes stim (NoNet name) = ⊥
+IsNotRunFor bytes stim (Stim line kind) = IsStimRefused bytes stim line kind
 
 -- the text of a kind of a hierarchy with its line and name, and of too many of something
 abbrev pub named_text : ℕ → FlatKind → List ℕ → List ℕ

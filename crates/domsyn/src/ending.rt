@@ -3,15 +3,15 @@ ghost use Rattle.std.specs.Prelude.{ℕ, ◌≡◌, ◌≢◌, ◌++◌, ◌≤�
 ghost use Rattle.std.specs.Io.KnownBytes.{Appends};
 ghost use Rattle.dom_io.specs.Faults.{Rose};
 ghost use Rattle.dom_io.specs.Pieces.{AppendsPrefix};
-ghost use Rattle.domsyn.specs.Endings.{ending_number};
+ghost use Rattle.command_answers.specs.Endings.{ending_number};
 ghost use Rattle.domsyn.specs.Failures.{HasRoomForFailure, IsReportedAt};
 ghost use Rattle.domsyn.specs.Refusals.{refusal_line};
 ghost use Rattle.domsyn.specs.Top.{Reports, line_of};
 
-use crate::answer::Answer;
 use crate::failure::Failure;
 use crate::refusal::Refusal;
-use crate::status::{CANNOT_READ, CANNOT_WRITE, OUT_OF_MEMORY, REFUSED};
+use crate::status::{CANNOT_READ, CANNOT_WRITE, DONE, OUT_OF_MEMORY, REFUSED, UNSETTLED};
+use command_answers::{Answer, Ending};
 use dom_io::{Sink, SinkFault, put_all};
 use std::alloc::Global;
 
@@ -29,11 +29,21 @@ pub fn finish<K: Sink, E: Sink>(answer: &Answer, out: &mut K, err: &mut E) -> u8
     ensures err_later { E.faults err.old ≤ E.faults err.new }
 {
     match put_all(out, &answer.text) {
-        Ok(()) => answer.ending.number(),
+        Ok(()) => number_of(answer.ending),
         Err(_) => {
             put_line(err, b"domsyn: cannot write\n");
             CANNOT_WRITE
         }
+    }
+}
+
+/// The status that the program ends with, once the text of a command that ends so is put out.
+fn number_of(ending: Ending) -> u8
+    ensures { result ≡ ending_number ending }
+{
+    match ending {
+        Ending::Done => DONE,
+        Ending::Differs => UNSETTLED,
     }
 }
 

@@ -3,8 +3,8 @@ ghost use Rattle.command_words.specs.Asked.{asked_command};
 ghost use Rattle.domsyn.specs.Failures.{IsFailureFor, IsFailureNamed};
 
 use crate::failure::Failure;
-use crate::fault::Fault;
 use crate::refusal::Refusal;
+use command_answers::Fault;
 use command_words::Command;
 use net_flatten::FlatFault;
 use trace_tool::TraceFault;

@@ -1,25 +1,15 @@
 //! The commands of the program over a shelf of files and two sinks.
 #![tactic(auto)]
 
-mod answer;
-mod audit;
-mod bench;
-mod cosim;
 mod dispatch;
 mod ending;
 mod failure;
-mod fault;
 mod fault_failure;
 mod fetch;
-mod flat;
 mod laws;
 mod program;
 mod refusal;
-mod report;
-mod run;
-mod sim;
 mod status;
-mod synth;
 
 pub use command_words::{asked_is_in_range, asked_is_one};
 pub use laws::{outcome_is_one, outcome_is_there, own_deck_gets_yes, own_deck_is_same};

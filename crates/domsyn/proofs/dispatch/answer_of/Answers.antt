@@ -3,14 +3,14 @@ use Rattle.std.proofs.lemmas.Result.{IfOk-weaker}
 use Rattle.std.proofs.lemmas.List.{length-map}
 use Rattle.command_words.specs.Asked.{asked_command}
 use Rattle.command_words.specs.Commands.{Command}
-use Rattle.domsyn.specs.Endings.{ending_number}
+use Rattle.command_answers.specs.Endings.{ending_number}
 use Rattle.domsyn.specs.Failures.{IsCommandFault}
 use Rattle.domsyn.specs.Headline.{IsRightFor}
 use Rattle.domsyn.specs.Outcomes.{IsOutcome, Printed}
-use Rattle.domsyn.proofs.Benches.{same_bench}
+use Rattle.command_answers.proofs.Benches.{same_bench}
 use Rattle.domsyn.proofs.CommandAnswers.{audit_printed, cosim_printed, done_of, flat_printed, report_printed, run_printed, sim_printed, synth_printed}
 use Rattle.domsyn.proofs.CommandFaults.{audit_fault, bench_fault, cosim_fault, flat_fault_of, report_fault, run_fault, sim_fault, synth_fault}
-use Rattle.domsyn.specs.declared.fault.Fault.TheVariants.{Traced}
+use Rattle.command_answers.specs.declared.fault.Fault.TheVariants.{Traced}
 use Rattle.domsyn.proofs.Traced.{traced_err, traced_ok}
 use Rattle.domsyn.proofs.FetchedFiles.{bytes_of, files_moved, place_within}
 use Rattle.domsyn.proofs.dispatch.answer_of.Goals as goal

@@ -1,0 +1,13 @@
+pub mod AuditedDecks
+pub mod Benches
+pub mod ExactDecks
+pub mod MethodTexts
+pub mod Methods
+pub mod NetworkRuns
+pub mod OneAudit
+pub mod OneNetwork
+pub mod OneSummary
+pub mod OwnVerdicts
+pub mod RightTexts
+pub mod RightTogether
+pub mod TextNetworks

@@ -1,0 +1,11 @@
+pub mod AuditedDecks
+pub mod Audits
+pub mod Benches
+pub mod Bits
+pub mod Decks
+pub mod Endings
+pub mod Methods
+pub mod NetworkRuns
+pub mod Networks
+pub mod RightDecks
+pub mod Verdicts

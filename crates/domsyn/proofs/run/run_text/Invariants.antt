@@ -1,5 +1,0 @@
-use Rattle.domsyn.proofs.NetworkRuns.{HasRunTo}
-use Rattle.domsyn.proofs.run.run_text.Given as goal
-
-abbrev pub invariant-loop-k : goal.invariant-loop-k
-invariant-loop-k l = HasRunTo l.fn.network l.fn.cycles l.k l.runner l.text.items
