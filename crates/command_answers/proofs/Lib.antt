@@ -1,6 +1,7 @@
 pub mod AuditedDecks
 pub mod Benches
 pub mod ExactDecks
+pub mod LeastDecks
 pub mod MethodTexts
 pub mod Methods
 pub mod NetworkRuns

@@ -4,6 +4,7 @@ use Rattle.compound_law.specs.CompoundDecks.{IsChosenDeck as IsChosenCompoundDec
 use Rattle.deck.specs.CircuitData.{CircuitData}
 use Rattle.deck.specs.Whole.{IsWhole}
 use Rattle.network.specs.NetworkData.{NetworkData}
+use Rattle.plan_law.specs.LeastDecks.{HasLeastCover, IsLeastDeck}
 use Rattle.deck_form.specs.AskedOptions.{deck_options}
 use Rattle.deck_form.specs.ChosenDecks.{IsDeckOfSigns, planned}
 use Rattle.deck_form.specs.DeckTexts.{IsWrittenAs}
@@ -14,7 +15,7 @@ use Rattle.synth_flow.specs.SummaryData.{SummaryData}
 use Rattle.synth_flow.specs.SummaryLines.{summary_lines}
 use Rattle.deck_form.specs.declared.options.SynthOptions.{SynthOptions}
 use Rattle.command_words.specs.declared.command.Method.{Method}
-use Rattle.command_words.specs.declared.command.Method.TheVariants.{Compound, Plain, Skew}
+use Rattle.command_words.specs.declared.command.Method.TheVariants.{Compound, Exact, Plain, Skew}
 use Rattle.command_answers.specs.Methods.{AreSignsOf, IsSuited}
 use Rattle.command_answers.specs.Networks.{HasNetwork}
 
@@ -43,6 +44,22 @@ pub record IsDeckFor (bytes : List ℕ) (options : SynthOptions) (method : Metho
   pub has : HasNetwork bytes network
   pub suited : IsSuited method network
   pub is_text : IsTextBy method network options text
+
+-- no cover of the forest within the width and the height costs less, in the style of the options, and the cells have as many devices; by
+-- the chosen signs no change of one sign needs fewer pairs. Of a deck with compound cells `IsRightCompoundDeck` says it.
+abbrev pub IsLeastBy : (method : Method) (network : NetworkData) (options : SynthOptions) (circuit : CircuitData)
+    → IsCircuitBy method network options circuit → Type 0
+IsLeastBy (Plain version) network options circuit is = IsLeastDeck options is
+IsLeastBy Exact network options circuit is = HasLeastCover options is
+IsLeastBy Skew network options circuit is = Unit {0}
+IsLeastBy Compound network options circuit is = Unit {0}
+
+-- the text of the bytes' network has such a circuit
+pub record IsLeastDeckFor (bytes : List ℕ) (options : SynthOptions) (method : Method) (text : List ℕ) : Type 0 where
+  pub network : NetworkData
+  pub has : HasNetwork bytes network
+  pub is_text : IsTextBy method network options text
+  pub least : IsLeastBy method network options is_text.circuit is_text.is_chosen
 
 -- such a text, of a circuit that is whole
 pub record IsWholeText (network : NetworkData) (options : SynthOptions) (method : Method) (text : List ℕ) : Type 0 where

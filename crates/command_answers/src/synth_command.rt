@@ -4,7 +4,7 @@ ghost use Rattle.dom_io.specs.Held.{file_limit};
 ghost use Rattle.command_words.specs.SynthOptionWords.{AreGoodOptions};
 ghost use Rattle.deck_form.specs.AskedOptions.{deck_options};
 ghost use Rattle.deck_form.specs.ChosenDecks.{IsDeckOfSigns};
-ghost use Rattle.command_answers.specs.Decks.{IsDeckFor, IsWholeText};
+ghost use Rattle.command_answers.specs.Decks.{IsDeckFor, IsLeastDeckFor, IsWholeText};
 ghost use Rattle.command_answers.specs.RightDecks.{IsRightBy};
 ghost use Rattle.command_answers.specs.Methods.{AreSignsOf, HasNamesFor, HasSignsOf, IsSuited, IsUndecked, IsUnsuited};
 ghost use Rattle.command_words.specs.declared.command.Method.TheVariants.{Exact, Plain};
@@ -39,7 +39,7 @@ pub fn synth(
     requires good_options { AreGoodOptions options }
     ensures deck { IfOk result (λ answer. IsDeckFor bytes.now options method answer.text.items × (answer.ending ≡ Done)) }
     ensures right { IfOk result (λ answer. IsRightBy method bytes.now options answer.text.items
-        × HasSignsOf method bytes.now answer.text.items) }
+        × HasSignsOf method bytes.now answer.text.items × IsLeastDeckFor bytes.now options method answer.text.items) }
     ensures refused { (why : AnyFault) → IsErrOf result why → IsUndecked method bytes.now why }
 {
     let network = network_of_text(alloc, bytes)?;

@@ -1,3 +1,4 @@
+pub mod Answered
 pub mod AuditClauses
 pub mod AuditThere
 pub mod BenchClauses

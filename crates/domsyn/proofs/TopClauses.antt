@@ -17,6 +17,12 @@ pub asks_found : (words : List (List ℕ)) (found : Option Read) (command : Read
 asks_found words found command is asks =
     subst (λ (found : Option Read). MatchOption found ((command : Command) → Asks words command → ⊥) (λ command. Asks words (asked_command command))) is asks
 
+-- where none was found, they ask for nothing
+pub asks_none : (words : List (List ℕ)) (found : Option Read) → found ≡ None
+    → MatchOption found ((command : Command) → Asks words command → ⊥) (λ command. Asks words (asked_command command)) → (command : Command) → Asks words command → ⊥
+asks_none words found is none =
+    subst (λ (found : Option Read). MatchOption found ((command : Command) → Asks words command → ⊥) (λ command. Asks words (asked_command command))) is none
+
 -- words that ask for something ask for a command
 pub asks_some : (words : List (List ℕ)) → IsSome (command_for words) → ((command : Command) → Asks words command → ⊥) → ⊥
 asks_some words some none = by (command_for words) refl some
@@ -26,7 +32,7 @@ asks_some words some none = by (command_for words) refl some
     by (Some command) e is = none command e
 
 -- over files that are known the words have one outcome
-outcome_once : (known : List (List ℕ × List ℕ)) (words : List (List ℕ)) (a b : Outcome) → HasOutcome (Some known) words a → HasOutcome (Some known) words b → a ≡ b
+pub outcome_once : (known : List (List ℕ × List ℕ)) (words : List (List ℕ)) (a b : Outcome) → HasOutcome (Some known) words a → HasOutcome (Some known) words b → a ≡ b
 outcome_once known words a b x y =
     let same = asks_one words x.command y.command x.asks y.asks in
     one_outcome known y.command a b (subst (λ command. IsOutcome (Some known) command a) same x.outcome_is) y.outcome_is

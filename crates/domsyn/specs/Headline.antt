@@ -9,6 +9,7 @@
 -- method gives says `IsRightBy` (`command_answers/specs/RightDecks`).
 use Rattle.std.specs.Prelude.{ℕ, ◌≡◌, List}
 use Rattle.command_answers.specs.Benches.{IsSameBench}
+use Rattle.command_answers.specs.Decks.{IsLeastDeckFor}
 use Rattle.command_answers.specs.Methods.{HasSignsOf}
 use Rattle.command_answers.specs.RightDecks.{IsRightBy}
 use Rattle.command_words.specs.Commands.{Asks, Command, Synth, Flat, Run, Sim, Cosim, Report, Bench, Audit}
@@ -18,12 +19,14 @@ use Rattle.deck_form.specs.declared.options.SynthOptions.{SynthOptions}
 use Rattle.domsyn.specs.AuditedDecks.{IsAuditedFile}
 use Rattle.domsyn.specs.Outcomes.{Files, IsFile}
 
--- the text is a right deck of the file's bytes, with options; by exact signs its phases are signs of which no others need fewer pairs
+-- the text is a right deck of the file's bytes, with options, whose cover costs no more than any; by exact signs its phases are signs of
+-- which no others need fewer pairs
 pub record IsRightDeckOfFile (files : Files) (name : List ℕ) (options : SynthOptions) (method : Method) (text : List ℕ) : Type 0 where
   pub bytes : List ℕ
   pub is_file : IsFile files name bytes
   pub is_right : IsRightBy method bytes options text
   pub signs : HasSignsOf method bytes text
+  pub least : IsLeastDeckFor bytes options method text
 
 -- a text that is put out for a command with a status: for `synth` it is a right deck of the file, with its options,
 -- for `bench` it says that all is the same, and for `audit` it says yes of a deck that is one of domino cells, where all is well

@@ -1,3 +1,4 @@
+pub mod Answered
 pub mod AuditedDecks
 pub mod Benches
 pub mod Failures

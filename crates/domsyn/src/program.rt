@@ -8,6 +8,7 @@ ghost use Rattle.dom_io.specs.Pieces.{AppendsPrefix};
 ghost use Rattle.domsyn.specs.declared.refusal.Refusal.{Refusal};
 ghost use Rattle.command_words.specs.Commands.{Asks, Bench, Command, files_of};
 ghost use Rattle.deck_form.specs.declared.options.SynthOptions.{SynthOptions};
+ghost use Rattle.domsyn.specs.Answered.{AnswersOutcome};
 ghost use Rattle.domsyn.specs.AuditedDecks.{GivesAuditedDeck};
 ghost use Rattle.domsyn.specs.Benches.{GivesSameBench};
 ghost use Rattle.domsyn.specs.Fetches.{AsksAll, AsksAtRefusal, AsksFirst, AsksUpTo};
@@ -86,6 +87,9 @@ pub fn top<S: Shelf, K: Sink, E: Sink>(
         → HasOutcome (Some known) (map string_bytes words.now) outcome
         → (Rose (S.faults shelf.old) (S.faults shelf.new) → ⊥) → (Rose (K.faults out.old) (K.faults out.new) → ⊥)
         → (result ≡ status_of outcome) ⊎ (result ≡ 5)) }
+    // Where the files of the words are known, there is one outcome, and its status is the answer, or 5, where no count rose.
+    ensures answered { AnswersOutcome (S.files shelf.old) (map string_bytes words.now) result
+        (Rose (S.faults shelf.old) (S.faults shelf.new) ⊎ Rose (K.faults out.old) (K.faults out.new)) }
 
     // Where the words ask for the deck of a file, what was put out is a right deck of that file, in every order of events.
     ensures headline { result ≡ 0 → GivesRightDeck (S.files shelf.old) (map string_bytes words.now)

@@ -2,6 +2,7 @@ use Rattle.std.proofs.Common.{refl}
 use Rattle.std.proofs.lemmas.Result.{err_from_is_err_and}
 use Rattle.command_answers.proofs.TextNetworks.{text_network}
 use Rattle.command_answers.proofs.ExactDecks.{has_signs}
+use Rattle.command_answers.proofs.LeastDecks.{least_deck}
 use Rattle.command_answers.proofs.Methods.{unsuited_undecked}
 use Rattle.command_answers.proofs.RightTexts.{text_is_right}
 use Rattle.command_answers.proofs.synth_command.synth.Goals as goal
@@ -29,6 +30,8 @@ returns-clause-right c =
     let is = c.in_ok-text.ensures.text in (
       text_is_right bytes text found.file network c.args.options found.accepted found.network_is good c.args.method c.in_ok-text.ensures.names is,
       has_signs c.args.method bytes text network c.args.options (text_network bytes network c.requires.within found) good is,
+      least_deck c.args.method bytes network c.args.options text (text_network bytes network c.requires.within found)
+          (record { circuit = is.circuit; is_chosen = is.is_chosen; written = is.written }),
     )
 
 pub returns-in_err-text-clause-refused : goal.returns-in_err-text-clause-refused

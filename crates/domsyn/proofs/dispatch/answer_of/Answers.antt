@@ -38,7 +38,7 @@ returns-in-Synth-clause-right c =
     (λ answer is known are.
     let names : List (List ℕ) = c.in-Synth.file.now ∷ [] in
     let here = files_moved known (asked_command c.args.command.now) _ (map bytes_of c.args.files.now) same are in
-    subst (λ (k : Command). IsRightFor known k (ending_number answer.ending) answer.text.items) (sym same) (record { bytes = c.bytes_at.result.now; is_file = (c.bytes_at.ensures known names here); is_right = is.0; signs = is.1 }))
+    subst (λ (k : Command). IsRightFor known k (ending_number answer.ending) answer.text.items) (sym same) (record { bytes = c.bytes_at.result.now; is_file = (c.bytes_at.ensures known names here); is_right = is.0; signs = is.1; least = is.2 }))
     c.synth.ensures.right
 
 pub returns-in-Synth-clause-refused : goal.returns-in-Synth-clause-refused

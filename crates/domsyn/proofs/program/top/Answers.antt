@@ -7,12 +7,13 @@ use Rattle.dom_io.specs.Faults.{Rose}
 use Rattle.dom_io.proofs.AskedLemmas.{HasAsked-nothing}
 use Rattle.command_words.proofs.AskedOnce.{asks_in_range}
 use Rattle.domsyn.specs.Top.{IsText}
+use Rattle.domsyn.proofs.Answered.{answers_memory, answers_nothing, answers_outcome}
 use Rattle.domsyn.proofs.AuditClauses.{finished_audited}
 use Rattle.domsyn.proofs.OwnAnswers.{finished_own, reported_own}
 use Rattle.domsyn.proofs.OwnAudits.{finished_yes, reported_yes}
 use Rattle.domsyn.proofs.BenchClauses.{finished_bench, finished_same, reported_bench}
 use Rattle.domsyn.proofs.HeadlineClauses.{finished_right}
-use Rattle.domsyn.proofs.TopClauses.{asks_found, asks_some, finished_complete}
+use Rattle.domsyn.proofs.TopClauses.{asks_found, asks_none, asks_some, finished_complete}
 use Rattle.domsyn.proofs.Rooms.{room_for_failure, room_of}
 use Rattle.domsyn.proofs.ReportedFailures.{failure_reported, reported_cause, reported_complete, reported_unread}
 use Rattle.domsyn.proofs.ReportedFetches.{asks_all, bench_asks_none, failed_as, finished_known, first_asks, refused_asks, unread_asks}
@@ -194,3 +195,21 @@ returns-clause-own_audit g c =
     let asks = asks_found words c.in-Ok-Some.field-0 c.in-Ok-Some.command c.in-Ok-Some.field-0-is c.in-Ok-Some.ensures.command in
     let Puts = Appends (g.K.Sink.taken c.args.out.now) (g.K.Sink.taken c.args.out.now) in
     reported_yes {words = words} Puts (failure_reported (asked_command c.in-Ok-Some.command) c.in-Err-outcome_of.failure asks (c.in-Err-outcome_of.ensures.failed c.in-Err-outcome_of.failure refl) c.report_failure.ensures.reported)
+
+pub returns-in-Err-clause-answered : goal.returns-in-Err-clause-answered
+returns-in-Err-clause-answered g c = answers_memory _ (map string_bytes c.args.words.now) _ _ _ c.report_memory.ensures.status
+
+pub returns-in-Ok-None-clause-answered : goal.returns-in-Ok-None-clause-answered
+returns-in-Ok-None-clause-answered g c = answers_nothing _ (map string_bytes c.args.words.now) _ _ _ (asks_none (map string_bytes c.args.words.now) c.in-Ok-None.field-0 c.in-Ok-None.field-0-is c.in-Ok-None.ensures.command)
+
+pub returns-in-Ok-clause-answered : goal.returns-in-Ok-clause-answered
+returns-in-Ok-clause-answered g c =
+    let words = map string_bytes c.args.words.now in
+    let asks = asks_found words c.in-Ok-Some.field-0 c.in-Ok-Some.command c.in-Ok-Some.field-0-is c.in-Ok-Some.ensures.command in
+    answers_outcome _ words _ _ _ (finished_complete c.in-Ok.answer.text.items _ (record { command = asked_command c.in-Ok-Some.command; asks = asks; outcome_is = c.in-Ok.ensures.text }) c.finish.ensures.known c.finish.ensures.cannot_write)
+
+pub returns-clause-answered : goal.returns-clause-answered
+returns-clause-answered g c =
+    let words = map string_bytes c.args.words.now in
+    let asks = asks_found words c.in-Ok-Some.field-0 c.in-Ok-Some.command c.in-Ok-Some.field-0-is c.in-Ok-Some.ensures.command in
+    answers_outcome _ words _ _ _ (reported_complete _ (failure_reported (asked_command c.in-Ok-Some.command) c.in-Err-outcome_of.failure asks (c.in-Err-outcome_of.ensures.failed c.in-Err-outcome_of.failure refl) c.report_failure.ensures.reported))
