@@ -324,7 +324,7 @@ impl<'t> Builder<'t> {
     }
 
     /// The file after the last line, or the fault of a text without a model, at the line behind it.
-    pub fn finish(self, alloc: Global, line: u64) -> Result<NumberedFile<'t>, BlifFault>
+    pub fn finish(self, line: u64) -> Result<NumberedFile<'t>, BlifFault>
         requires { IsBuilder self }
         ensures file { IfOk result (λ file. ((file_of file).models ≡ (model_closed (table_closed (built_in self.entry))).models)
             × ((file_of file).models ≢ [])) }
@@ -340,7 +340,7 @@ impl<'t> Builder<'t> {
                 kind: BlifKind::NoModel,
             });
         }
-        Ok(builder.file.close(alloc)?)
+        Ok(builder.file.close())
     }
 
     /// Closes the open table and the open model, if there are any.

@@ -62,7 +62,7 @@ fn read_by<'t>(
         }
         push(&mut builder, &line, notes.place, are_crowded)?;
     }
-    builder.finish(alloc, lines.number)
+    builder.finish(lines.number)
 }
 
 /// Takes the next line, which has no fault and whose first word stands at this place of the text, and says whether names

@@ -55,7 +55,7 @@ fn number_by<'t>(
     let pushed = push_models(&mut numbered, &file.models, bytes);
     *are_crowded = numbered.are_crowded();
     pushed?;
-    let numbered = numbered.close(alloc)?;
+    let numbered = numbered.close();
     numbered.is_in_order();
     Ok(numbered)
 }

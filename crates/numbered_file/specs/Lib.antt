@@ -3,3 +3,4 @@ pub mod Numbered
 pub mod NumberedData
 pub mod OpenLists
 pub mod Places
+pub mod Slots

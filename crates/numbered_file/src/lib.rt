@@ -2,13 +2,14 @@
 #![tactic(auto)]
 
 mod file;
-mod guesses;
 mod lists;
 mod name_table;
 mod names;
 mod open_file;
+mod others;
 mod parts;
 mod slices;
+mod slots;
 mod word;
 
 pub use file::NumberedFile;

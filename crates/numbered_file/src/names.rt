@@ -11,7 +11,7 @@ use std::marker::Model;
 /// Names that differ, in the order in which they were first seen: a name's number is its index. Each is a part of the text.
 #[derive(Drop)]
 pub struct Names<'t> {
-    names: Vec<Word<'t>>,
+    pub(crate) names: Vec<Word<'t>>,
 }
 
 impl<'t> Model for Names<'t> {

@@ -88,14 +88,16 @@ impl<'t> OpenFile<'t> {
         self.names.are_crowded()
     }
 
-    /// The file, once no more comes. The one error is out of memory.
-    pub fn close(self, alloc: Global) -> Result<NumberedFile<'t>, OutOfMemory>
-        ensures { IfOk result (λ file. file ≡ self.entry) }
+    /// The file, once no more comes.
+    pub fn close(self) -> NumberedFile<'t>
+        ensures { result ≡ self.entry }
     {
         let _ = self.lists.models.len();
         let OpenFile { names, lists } = self;
-        let names = names.into_names(alloc)?;
-        Ok(NumberedFile { names, lists })
+        NumberedFile {
+            names: names.into_names(),
+            lists,
+        }
     }
 
     /// The number of a name, which is added where it is new. The one error is out of memory, or names that are crowded.

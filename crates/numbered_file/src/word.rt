@@ -1,8 +1,9 @@
 //! Words of a text, as keys.
-ghost use Rattle.std.specs.Prelude.{◌≡◌, ◌==◌, ◌∷◌, [], IsTrue};
+ghost use Rattle.std.specs.Prelude.{◌≡◌, ◌==◌, ◌∷◌, []};
 ghost use Rattle.std.specs.Cmp.Lexicographic.{pointwise};
 ghost use Rattle.std.specs.Cmp.Rules.{comparing, hashing};
 ghost use Rattle.std.proofs.Common.{rules};
+ghost use Rattle.blif_ast.specs.Cards.{same};
 
 use std::hash::{Hash, Hasher};
 use std::marker::Model;
@@ -45,7 +46,7 @@ impl<'t> Hash for Word<'t> {
 
 /// Whether two words have the same bytes, which are compared one by one: most words are short.
 pub fn is_same(word: &[u8], other: &[u8]) -> bool
-    ensures { IsTrue result → word.now ≡ other.now }
+    ensures { result ≡ same word.now other.now }
 {
     if word.len() != other.len() {
         return false;

@@ -17,13 +17,13 @@ returns-then-has_no_model-clause-fault c = λ number kind is. (
 
 pub returns-clause-file : goal.returns-clause-file
 returns-clause-file c =
-    let file_is = c.in_ok-close.ensures ∙ ap (λ (x : BuilderData). x.file) c.builder.view_is in (
+    let file_is = c.close.ensures ∙ ap (λ (x : BuilderData). x.file) c.builder.view_is in (
       ap models_in file_is ∙ ap (λ (b : Built). b.models) c.in_ok-close_all.ensures.built,
       λ none. c.has_no_model.ensures.some c.if-has_no_model.false (sym (ap models_in file_is) ∙ none),
     )
 
 pub returns-clause-closed : goal.returns-clause-closed
 returns-clause-closed c =
-    let file_is = c.in_ok-close.ensures ∙ ap (λ (x : BuilderData). x.file) c.builder.view_is in
+    let file_is = c.close.ensures ∙ ap (λ (x : BuilderData). x.file) c.builder.view_is in
     subst (λ (f : NumberedData). IsClosed (open_lists f)) (sym file_is)
     (closed-all c.in_ok-close_all.ensures.builder (ap (λ (b : Built). b.model) c.in_ok-close_all.ensures.built))
