@@ -1,5 +1,5 @@
 -- How a table of names finds them: what slots say of a name, and what becomes of the names where one is added.
-use Rattle.std.proofs.Common.{◌≡◌, ◌≢◌, ◌⊎◌, inl, inr, ℕ, suc, ◌+◌, ◌-◌, ◌<◌, Bool, true, false, List, [], ◌∷◌, ◌++◌, Option, Some, None, length, refl, sym, ap, subst, ◌∙◌, arith, append-nil, append_assoc, zero}
+use Rattle.std.proofs.Common.{◌≡◌, ◌≢◌, inl, inr, ℕ, suc, ◌+◌, ◌<◌, false, List, [], ◌∷◌, ◌++◌, Option, Some, None, length, refl, sym, ap, subst, ◌∙◌, arith, append-nil, append_assoc, zero}
 use Rattle.std.specs.Prelude.{slice_get, slice_set}
 use Rattle.std.proofs.lemmas.Option.{same_Some, slice_get-get_or, slice_get_within}
 use Rattle.std.proofs.lemmas.Bool.{cases_lt}
@@ -11,8 +11,8 @@ use Rattle.std.specs.List.{IsDistinct, AllByRecursion, list_any}
 use Rattle.std.specs.Cmp.Lexicographic.{bytes_decides}
 use Rattle.blif_ast.specs.Cards.{same}
 use Rattle.dom_base.proofs.Bools.{not_true}
-use Rattle.dom_base.proofs.Lists.{AllByRecursion-contains, AllByRecursion-every, AllByRecursion-from_places, Contains-slice_get, IsDistinct-append, list_any-none, slice_get-append, slice_get-push, slice_get-push_cases, slice_get-set_other}
-use Rattle.numbered_file.specs.Slots.{AreFound, AreNumbered, HasAsked, HasOther, IsLookup, IsTable, IsTaken, Leads, OtherNames, OthersGrow, known, free, taken, none, slots_of, with_other}
+use Rattle.dom_base.proofs.Lists.{AllByRecursion-contains, AllByRecursion-from_places, Contains-slice_get, IsDistinct-append, list_any-none, slice_get-append, slice_get-push, slice_get-push_cases, slice_get-set_other}
+use Rattle.numbered_file.specs.Slots.{AreFound, AreNumbered, HasAsked, HasOther, IsLookup, Leads, OtherNames, OthersGrow, known, free, taken, none, slots_of, with_other}
 
 -- a slot of its own, and then others
 pub in_turn : (names : List (List ℕ)) (slots : List ℕ) (name : List ℕ) (slot : ℕ) (more : List ℕ) (says : Lookup)

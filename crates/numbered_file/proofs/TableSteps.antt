@@ -1,18 +1,18 @@
 -- What becomes of a table of names where the number of one is asked for.
-use Rattle.std.proofs.Common.{◌≡◌, ◌≢◌, ◌⊎◌, inl, inr, ℕ, ◌+◌, Bool, true, false, List, [], ◌∷◌, ◌++◌, Option, Some, None, Result, Ok, Err, length, refl, sym, ap, subst, ◌∙◌}
+use Rattle.std.proofs.Common.{◌≡◌, ◌⊎◌, inl, inr, ℕ, ◌+◌, false, List, [], ◌∷◌, ◌++◌, Some, None, Result, Ok, Err, length, refl, sym, ap, subst, ◌∙◌}
 use Rattle.std.specs.Prelude.{slice_get, slice_set, IfOk, OnOk, OnErr}
 use Rattle.std.specs.List.{list_any}
 use Rattle.std.proofs.lemmas.List.{length-set, length_push}
 use Rattle.std.proofs.lemmas.Option.{slice_get_within}
 use Rattle.std.specs.Cmp.Lexicographic.{bytes_decides}
 use Rattle.blif_ast.specs.Cards.{same}
-use Rattle.dom_base.proofs.Lists.{AllByRecursion-contains, Contains-slice_get, none-list_any, slice_get-contained, slice_get-push}
+use Rattle.dom_base.proofs.Lists.{AllByRecursion-contains, Contains-slice_get, none-list_any, slice_get-push}
 use Rattle.dom_base.specs.declared.memory.OutOfMemory.{OutOfMemory}
 use Rattle.numbered_file.specs.declared.slots.Lookup.{Lookup}
 use Rattle.numbered_file.specs.declared.slots.Lookup.TheVariants as look
 use Rattle.numbered_file.specs.NameNumbers.{AddsAtMost}
-use Rattle.numbered_file.specs.Slots.{AreFound, AreNumbered, HasAsked, HasOther, IsLookup, IsTable, Leads, OtherNames, slots_of, with_other}
-use Rattle.numbered_file.proofs.SlotSteps.{asked_has, asked_numbered, distinct_more, found_grown, found_next, free_slot_is, grown_added, is_other, not_among, not_there, numbered_grown, numbered_added, has_added, other_found, other_number, Leads-grown, Leads-new, Leads-set}
+use Rattle.numbered_file.specs.Slots.{AreFound, HasAsked, IsLookup, IsTable, OtherNames, slots_of, with_other}
+use Rattle.numbered_file.proofs.SlotSteps.{distinct_more, found_grown, found_next, free_slot_is, grown_added, is_other, not_among, not_there, numbered_grown, numbered_added, has_added, other_found, other_number, Leads-grown, Leads-new, Leads-set}
 
 module _ (names : List (List ℕ)) (slots : List ℕ) (others : OtherNames) (name : List ℕ) (table : IsTable names slots others) where
   abbrev IsAnswer : List (List ℕ) → List ℕ → OtherNames → Result ℕ OutOfMemory → Type 0

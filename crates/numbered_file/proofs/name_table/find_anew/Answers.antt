@@ -1,10 +1,9 @@
-use Rattle.std.proofs.Common.{◌≡◌, ◌+◌, ℕ, List, Some, length, slice_get, ap, refl, sym, subst, ◌∙◌}
+use Rattle.std.proofs.Common.{Some, length, ap, refl, sym, subst, ◌∙◌}
 use Rattle.std.specs.Prelude.{slice_set}
 use Rattle.std.proofs.lemmas.Option.{slice_get-get_or, slice_get_within}
 use Rattle.std.proofs.lemmas.List.{length-set}
-use Rattle.numbered_file.specs.declared.slots.Lookup.TheVariants as look
 use Rattle.numbered_file.specs.Slots.{HasAsked, IsLookup, Leads, slots_of}
-use Rattle.numbered_file.proofs.SlotSteps.{asked_grown, asked_has, asked_numbered, found_kept, found_next, free_slot_is, known_found, one_number, other_found, said_number, Leads-grown, Leads-new, Leads-set}
+use Rattle.numbered_file.proofs.SlotSteps.{asked_grown, asked_has, asked_numbered, found_next, free_slot_is, known_found, one_number, other_found, said_number, Leads-grown, Leads-new, Leads-set}
 use Rattle.numbered_file.proofs.name_table.find_anew.Goals as goal
 
 pub fill-requires : goal.fill-requires

@@ -1,8 +1,7 @@
 use Rattle.std.proofs.Common.{length}
 use Rattle.std.proofs.lemmas.Option.{slice_get_within}
-use Rattle.numbered_file.specs.declared.slots.Lookup.{Lookup}
 use Rattle.numbered_file.specs.declared.slots.Lookup.TheVariants as look
-use Rattle.numbered_file.specs.Slots.{IsLookup, slots_of}
+use Rattle.numbered_file.specs.Slots.{slots_of}
 use Rattle.numbered_file.proofs.SlotSteps.{free_slot_is, said_number}
 use Rattle.numbered_file.proofs.TableSteps.{free_step, says_at, taken_step}
 use Rattle.numbered_file.proofs.name_table.number_in.Goals as goal

@@ -1,4 +1,4 @@
-use Rattle.std.proofs.Common.{◌≡◌, List, [], ◌∷◌, ap, ap₂, length, subst, ◌∙◌}
+use Rattle.std.proofs.Common.{[], ◌∷◌, ap, ap₂, length, subst, ◌∙◌}
 use Rattle.numbered_file.specs.Slots.{first_slot, second_slot, IsLookup}
 use Rattle.numbered_file.proofs.SlotSteps.{at_once, in_turn}
 use Rattle.numbered_file.proofs.slots.look_up.Goals as goal

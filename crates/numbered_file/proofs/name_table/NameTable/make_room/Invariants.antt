@@ -1,4 +1,4 @@
-use Rattle.std.proofs.Common.{◌≡◌, length}
+use Rattle.std.proofs.Common.{◌≡◌}
 use Rattle.numbered_file.specs.Slots.{AreFound, AreNumbered, OthersGrow}
 use Rattle.numbered_file.proofs.name_table.NameTable.make_room.Given as goal
 
