@@ -1,12 +1,12 @@
 -- Numbers that are kept once each, from the last one on, are those of the names that are kept so.
-use Rattle.std.proofs.Common.{◌≡◌, ℕ, ◌≤◌, ◌<◌, ◌+◌, ◌-◌, ◌⊎◌, inl, inr, Bool, true, false, List, [], ◌∷◌, ◌++◌, length, drop, reverse, set, Some, refl, ap, sym, ◌∙◌, subst, arith}
+use Rattle.std.proofs.Common.{◌≡◌, ℕ, ◌≤◌, ◌<◌, ◌⊎◌, inl, inr, Bool, true, false, List, [], ◌∷◌, ◌++◌, length, reverse, set, Some, refl, ap, sym, ◌∙◌, subst, arith, append-nil, append_assoc}
 use Rattle.std.specs.Prelude.{Contains, slice_get, if◌then◌else◌}
 use Rattle.std.specs.Cmp.Lexicographic.{same_text}
 use Rattle.std.specs.List.{AllByRecursion, IsDistinct, list_any}
 use Rattle.std.specs.Set.{unique_keys}
 use Rattle.std.proofs.lemmas.Bool.{cases_lt, true≢false}
 use Rattle.std.proofs.lemmas.Cmp.{nat_list_eq_equiv}
-use Rattle.std.proofs.lemmas.List.{length-map, length-set, reverse-reverse}
+use Rattle.std.proofs.lemmas.List.{length-set, reverse-reverse}
 use Rattle.std.proofs.lemmas.Map.Keys.{apart_from_distinct}
 use Rattle.std.proofs.lemmas.Map.Views.{list_any-from_Contains}
 use Rattle.std.proofs.lemmas.Option.{slice_get_within}
@@ -16,8 +16,8 @@ use Rattle.blif_ast.specs.Cards.{same}
 use Rattle.numbered_file.specs.Numbered.{name_of, named}
 use Rattle.graph_order.proofs.Placed.{set_here}
 use Rattle.network.proofs.Lists.{get_map}
-use Rattle.model_calls.proofs.UniqueNames.{insert_back}
-use Rattle.local_names.specs.Places.{IsIndexed, IsNoted}
+use Rattle.model_calls.proofs.UniqueNames.{insert_front}
+use Rattle.local_names.specs.Places.{AreKept, AreNoted, AreNotedOf, IsIndexed, IsNoted}
 
 module _ (names : List (List ℕ)) (apart : IsDistinct same names) where
   not_same : (a b : ℕ) → a < b → b < length names → name_of names a ≡ name_of names b → ⊥
@@ -64,35 +64,76 @@ module _ (names : List (List ℕ)) (apart : IsDistinct same names) where
           ∙ ap (λ b. if b then named names kept else named names kept ++ name_of names number ∷ []) (sym (list_any-none (same (name_of names number)) (named names kept) each))
     ]
 
--- the names of the numbers from an index on, each once, from the last one on
-abbrev pub AreKept : List ℕ → ℕ → ℕ → List ℕ → Type 0
-AreKept numbers count index kept = (names : List (List ℕ)) → IsDistinct same names → length names ≡ count
-    → named names kept ≡ reverse (unique_keys same (drop (length (named names numbers) - index) (named names numbers)))
+-- nothing goes in
+pub noted-none : (count : ℕ) (kept : List ℕ) → AreNotedOf count (λ names. []) kept kept
+noted-none count kept names apart known all are = are
 
-pub kept-next : (numbers kept after place : List ℕ) (count index number : ℕ) → index < length numbers
-    → slice_get numbers (length numbers - 1 - index) ≡ Some number → count ≡ length place
-    → IsNoted kept after place number → AreKept numbers count index kept → AreKept numbers count (index + 1) after
-kept-next numbers kept after place count index number l at count_is noted are names apart known =
-    let all = named names numbers in
-    let long : length all ≡ length numbers = length-map numbers (name_of names) in
-    let there : slice_get all (length all - 1 - index) ≡ Some (name_of names number) =
-    ap (λ n. slice_get all (n - 1 - index)) long ∙ get_map (name_of names) numbers (length numbers - 1 - index) number at in
-    names-noted names apart kept after place number (known ∙ count_is) noted
-    ∙ ap (λ ks. if list_any (same (name_of names number)) ks then ks else ks ++ name_of names number ∷ []) (are names apart known)
-    ∙ insert_back all index (name_of names number) (omega (arith, l, long)) there
+-- one number goes in
+pub noted-one : (count number : ℕ) (kept after place : List ℕ) → length place ≡ count → IsNoted kept after place number
+    → AreNotedOf count (λ names. name_of names number ∷ []) kept after
+noted-one count number kept after place long noted names apart known all are =
+    names-noted names apart kept after place number (known ∙ sym long) noted
+    ∙ ap (λ ks. if list_any (same (name_of names number)) ks then ks else ks ++ name_of names number ∷ []) are
+    ∙ insert_front (name_of names number) all
+
+-- names go in, and then others in front of them
+pub noted-both : (count : ℕ) (more first : List (List ℕ) → List (List ℕ)) (before middle after : List ℕ) → AreNotedOf count first before middle
+    → AreNotedOf count more middle after → AreNotedOf count (λ names. more names ++ first names) before after
+noted-both count more first before middle after these those names apart known all are =
+    subst (AreKept names after) (sym (append_assoc (more names) (first names) all))
+    (those names apart known (first names ++ all) (these names apart known all are))
+
+pub noted-same : (count : ℕ) (more others : List (List ℕ) → List (List ℕ)) (before after : List ℕ) → ((names : List (List ℕ)) → more names ≡ others names)
+    → AreNotedOf count more before after → AreNotedOf count others before after
+noted-same count more others before after is these names apart known =
+    subst (λ ns. AreNoted names ns before after) (is names) (these names apart known)
+
+-- of some numbers those behind the rest have gone in
+pub record AreNotedBehind (count : ℕ) (numbers rest before now place : List ℕ) : Type 0 where
+  pub count_is : length place ≡ count
+  pub indexed : IsIndexed now place
+  pub behind : List ℕ
+  pub split : rest ++ behind ≡ numbers
+  pub noted : AreNotedOf count (λ names. named names behind) before now
+
+pub behind-none : (count : ℕ) (numbers before place : List ℕ) → length place ≡ count → IsIndexed before place
+    → AreNotedBehind count numbers numbers before before place
+behind-none count numbers before place count_is indexed = record {
+  count_is = count_is;
+  indexed = indexed;
+  behind = [];
+  split = append-nil numbers;
+  noted = noted-none count before;
+}
+
+pub behind-next : (count number : ℕ) (numbers rest shorter before now after old place : List ℕ) → AreNotedBehind count numbers rest before now old
+    → rest ≡ shorter ++ number ∷ [] → length place ≡ length old → IsNoted now after place number
+    → AreNotedBehind count numbers shorter before after place
+behind-next count number numbers rest shorter before now after old place so_far is long noted = record {
+  count_is = long ∙ so_far.count_is;
+  indexed = noted.indexed;
+  behind = number ∷ so_far.behind;
+  split = sym (append_assoc shorter (number ∷ []) so_far.behind) ∙ ap (λ l. l ++ so_far.behind) (sym is) ∙ so_far.split;
+  noted = noted-both count (λ names. name_of names number ∷ []) (λ names. named names so_far.behind) before now after so_far.noted
+      (noted-one count number now after place (long ∙ so_far.count_is) noted);
+}
+
+pub behind-all : (count : ℕ) (numbers rest before now place : List ℕ) → AreNotedBehind count numbers rest before now place → rest ≡ []
+    → AreNotedOf count (λ names. named names numbers) before now
+behind-all count numbers rest before now place so_far none =
+    noted-same count (λ names. named names so_far.behind) (λ names. named names numbers) before now
+    (λ names. ap (named names) (ap (λ l. l ++ so_far.behind) (sym none) ∙ so_far.split)) so_far.noted
 
 named-reverse : (names : List (List ℕ)) (numbers : List ℕ) → named names (reverse numbers) ≡ reverse (named names numbers)
 named-reverse names [] = refl
 named-reverse names (n ∷ numbers) = ap (named names) (reverse-cons n numbers) ∙ map-push (name_of names) (reverse numbers) n
     ∙ ap (λ ns. ns ++ name_of names n ∷ []) (named-reverse names numbers) ∙ sym (reverse-cons (name_of names n) (named names numbers))
 
-pub kept-all : (numbers kept found : List ℕ) (count index : ℕ) → AreKept numbers count index kept → found ≡ reverse kept → length numbers ≤ index
-    → (names : List (List ℕ)) → IsDistinct same names → length names ≡ count → named names found ≡ unique_keys same (named names numbers)
-kept-all numbers kept found count index are is all names apart known =
-    let whole = named names numbers in
-    let none : length whole - index ≡ 0 = omega (arith, all, length-map numbers (name_of names)) in
-    ap (named names) is ∙ named-reverse names kept ∙ ap reverse (are names apart known) ∙ reverse-reverse (unique_keys same (drop (length whole - index) whole))
-    ∙ ap (λ n. unique_keys same (drop n whole)) none
+-- what went in from the last on, from the first on
+pub kept-all : (names : List (List ℕ)) (kept found : List ℕ) (all : List (List ℕ)) → AreKept names kept all → found ≡ reverse kept
+    → named names found ≡ unique_keys same all
+kept-all names kept found all are is =
+    ap (named names) is ∙ named-reverse names kept ∙ ap reverse are ∙ reverse-reverse (unique_keys same all)
 
 -- numbers with places are below the count of places
 pub kept-below : (kept found place : List ℕ) (count : ℕ) → length place ≡ count → IsIndexed kept place → found ≡ reverse kept

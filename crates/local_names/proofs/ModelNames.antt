@@ -1,17 +1,19 @@
 -- The names of each model, model by model.
-use Rattle.std.proofs.Common.{◌≡◌, ℕ, ◌<◌, ◌+◌, List, [], ◌∷◌, ◌++◌, length, map, take, Some, ap, sym, ◌∙◌, subst, arith}
+use Rattle.std.proofs.Common.{◌≡◌, ℕ, ◌<◌, ◌+◌, List, [], ◌∷◌, ◌++◌, length, map, reverse, take, Some, ap, sym, ◌∙◌, subst, arith}
 use Rattle.std.specs.Prelude.{slice_get}
-use Rattle.std.specs.List.{AllByRecursion, IsDistinct}
+use Rattle.std.specs.List.{AllByRecursion}
 use Rattle.std.specs.Set.{unique_keys}
 use Rattle.dom_base.proofs.Lists.{AllByRecursion-append, map-push, slice_get-there}
 use Rattle.blif_ast.specs.BlifModelData.{BlifModelData}
 use Rattle.blif_ast.specs.Cards.{same}
 use Rattle.numbered_file.specs.NumberedData.{NumberedData}
-use Rattle.numbered_file.specs.Numbered.{AreBelow, IsNumbered, models_in, named}
+use Rattle.numbered_file.specs.Numbered.{AreBelow, models_in, named}
 use Rattle.numbered_file.proofs.PartLists.{take-get}
 use Rattle.numbered_file.proofs.Places.{length-models_in}
 use Rattle.card_places.specs.NumberLists.{NumberListsData, closed, with_numbers}
 use Rattle.local_names.specs.PartNames.{all_names}
+use Rattle.local_names.specs.Places.{AreKept}
+use Rattle.local_names.proofs.KeptNumbers.{kept-all}
 use Rattle.local_names.proofs.Gathered.{names-of_model}
 use Rattle.part_numbers.specs.SignalNumbers.{model_names}
 
@@ -20,13 +22,11 @@ abbrev pub HasNamesOf : NumberedData → ℕ → List ℕ → Type 0
 HasNamesOf d m numbers = (model : BlifModelData) → slice_get (models_in d) m ≡ Some model → named d.names numbers ≡ model_names model
 
 -- numbers that are kept once of all that occur in a model
-pub names-kept : (d : NumberedData) (m count : ℕ) (all kept : List ℕ) → IsNumbered d → m < length d.models → count ≡ length d.names
-    → named d.names all ≡ all_names d m
-    → ((names : List (List ℕ)) → IsDistinct same names → length names ≡ count → named names kept ≡ unique_keys same (named names all))
-    → HasNamesOf d m kept
-names-kept d m count all kept h within count_is all_is once model there =
+pub names-kept : (d : NumberedData) (m : ℕ) (kept found : List ℕ) → m < length d.models → AreKept d.names kept (all_names d m)
+    → found ≡ reverse kept → HasNamesOf d m found
+names-kept d m kept found within are is model there =
     let at = slice_get-there d.models m within in
-    once d.names h.names (sym count_is) ∙ ap (unique_keys same) (all_is ∙ sym (names-of_model d m at.0 model at.1 there))
+    kept-all d.names kept found (all_names d m) are is ∙ ap (unique_keys same) (sym (names-of_model d m at.0 model at.1 there))
 
 -- one model more
 pub names-more : (d : NumberedData) (m : ℕ) (numbers : List ℕ) (before after : List (List ℕ)) → m < length d.models → HasNamesOf d m numbers

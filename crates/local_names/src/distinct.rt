@@ -1,44 +1,29 @@
 //! The numbers of a list, each once, and their places.
-ghost use Rattle.std.specs.Prelude.{◌≡◌, ◌≢◌, ◌<◌, ◌-◌, ◌++◌, ◌∷◌, [], ℕ, List, Contains, IfOk, IfSome, IsFalse, IsNone, IsTrue, OnOk, Some, length, slice_get, slice_set};
-ghost use Rattle.std.specs.List.{IsDistinct};
-ghost use Rattle.std.specs.Set.{unique_keys};
-ghost use Rattle.blif_ast.specs.Cards.{same};
-ghost use Rattle.numbered_file.specs.Numbered.{AreBelow, named};
-ghost use Rattle.local_names.specs.Places.{IsIndexed, IsNoted};
+ghost use Rattle.std.specs.Prelude.{◌≡◌, ◌≢◌, ◌<◌, ◌++◌, ◌∷◌, [], Contains, IfOk, IfSome, IsFalse, IsNone, IsTrue, OnOk, Some, length, slice_get, slice_set};
+ghost use Rattle.numbered_file.specs.Numbered.{named};
+ghost use Rattle.local_names.specs.Places.{AreNotedOf, IsIndexed, IsNoted};
 
 use dom_base::OutOfMemory;
 use std::alloc::Global;
 
-/// Makes `kept` the numbers of a list, each once, as the last of those that are equal. Each number is below the length of
-/// `place`, which is for each number its place in a list, and may be anything before. The one error is out of memory.
-pub fn last_of_each(
-    numbers: &[u32],
-    kept: &mut Vec<u32>,
-    place: &mut [u32],
-) -> Result<(), OutOfMemory>
+/// Appends the numbers of a list from the last one on, each unless it is there. `place` has for each number that is there its
+/// place in the list, and may have anything for others. The one error is out of memory.
+pub fn note_all(place: &mut [u32], kept: &mut Vec<u32>, numbers: &[u32]) -> Result<(), OutOfMemory>
+    requires { IsIndexed kept.old.items place.old }
     ensures length { length place.new ≡ length place.old }
-    ensures below { OnOk result (AreBelow (length place.old) kept.new.items) }
-    ensures once { OnOk result ((names : List (List ℕ)) → IsDistinct same names
-        → length names ≡ length place.old → named names kept.new.items ≡ unique_keys same (named names numbers.now)) }
+    ensures indexed { OnOk result (IsIndexed kept.new.items place.new) }
+    ensures noted { OnOk result (AreNotedOf (length place.old) (λ names. named names numbers.now) kept.old.items kept.new.items) }
 {
-    kept.clear();
-    for index in 0..numbers.len() {
-        note(place, kept, from_last(numbers, index))?;
+    let mut rest = numbers;
+    'numbers: while let [before @ .., number] = rest {
+        note(place, kept, *number)?;
+        rest = before;
     }
-    kept.reverse();
     Ok(())
 }
 
-/// The number at this index from the last one on.
-fn from_last(numbers: &[u32], index: usize) -> u32
-    requires { index < length numbers.now }
-    ensures { slice_get numbers.now (length numbers.now - 1 - index) ≡ Some result }
-{
-    numbers[numbers.len() - 1 - index]
-}
-
 /// Appends a number, unless it is there.
-fn note(place: &mut [u32], kept: &mut Vec<u32>, number: u32) -> Result<(), OutOfMemory>
+pub fn note(place: &mut [u32], kept: &mut Vec<u32>, number: u32) -> Result<(), OutOfMemory>
     requires { IsIndexed kept.old.items place.old }
     ensures length { length place.new ≡ length place.old }
     ensures noted { OnOk result (IsNoted kept.old.items kept.new.items place.new number) }

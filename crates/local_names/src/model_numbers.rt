@@ -1,10 +1,12 @@
-//! All names on the cards of a model by their numbers, as often as they stand there.
-ghost use Rattle.std.specs.Prelude.{◌≡◌, ◌<◌, ◌+◌, ◌++◌, ℕ, List, IsTrue, OnOk, drop, length, slice_get, true};
+//! The names on the cards of a model by their numbers, each once.
+ghost use Rattle.std.specs.Prelude.{◌≡◌, ◌<◌, ◌+◌, ℕ, List, IsTrue, OnOk, drop, length, slice_get, true};
 ghost use Rattle.std.specs.List.{flat_map};
 ghost use Rattle.numbered_file.specs.Numbered.{named, part_by};
 ghost use Rattle.numbered_file.specs.Places.{first_part, words_at};
-ghost use Rattle.local_names.specs.PartNames.{IsLatchForm, actuals_by, all_names, names_by, parts_at, with_cards};
+ghost use Rattle.local_names.specs.PartNames.{IsLatchForm, actuals_by, names_by, parts_at};
+ghost use Rattle.local_names.specs.Places.{AreNoted, AreNotedOf, IsIndexed};
 
+use crate::distinct::{note, note_all};
 use dom_base::OutOfMemory;
 use numbered_file::{NumberedFile, PartAt, PartKind};
 
@@ -16,49 +18,30 @@ pub enum CardKind {
     Instance,
 }
 
-/// Makes `all` the numbers of all names that occur in a model, as often as they occur. The one error is out of memory; a card that
-/// is not in its form, which no reader makes, is answered by it too.
-pub fn numbers_of_model(
-    all: &mut Vec<u32>,
-    file: &NumberedFile<'_>,
-    model: usize,
-) -> Result<(), OutOfMemory>
-    requires { model < length file.now.models }
-    ensures { OnOk result (named file.now.names all.new.items ≡ all_names file.now model) }
-{
-    all.clear();
-    all.extend_from_slice(file.inputs_of(model))?;
-    all.extend_from_slice(file.outputs_of(model))?;
-    put_cards(all, file, model)
-}
-
-/// Appends the numbers of the names on the cards of a model, by their kinds.
-fn put_cards(all: &mut Vec<u32>, file: &NumberedFile<'_>, model: usize) -> Result<(), OutOfMemory>
-    requires { model < length file.now.models }
-    ensures { OnOk result (named file.now.names all.new.items
-        ≡ with_cards (named file.now.names all.old.items) (parts_at file.now model)) }
-{
-    put_kind(all, file, model, CardKind::Table)?;
-    put_kind(all, file, model, CardKind::Latch)?;
-    put_kind(all, file, model, CardKind::Instance)
-}
-
-/// The same for the cards of one kind.
-fn put_kind(
-    all: &mut Vec<u32>,
+/// Appends to `kept` the numbers of the names on the cards of one kind of a model, each unless it is there, from the last one
+/// on. `place` has for each number that is there its place in the list. The one error is out of memory; a card that is not in its
+/// form, which no reader makes, is answered by it too.
+pub fn note_kind(
+    place: &mut [u32],
+    kept: &mut Vec<u32>,
     file: &NumberedFile<'_>,
     model: usize,
     kind: CardKind,
 ) -> Result<(), OutOfMemory>
-    requires { model < length file.now.models }
-    ensures { OnOk result (named file.now.names all.new.items
-        ≡ named file.now.names all.old.items ++ flat_map (names_by kind) (parts_at file.now model)) }
+    requires within { model < length file.now.models }
+    requires places { length place.old ≡ length file.now.names }
+    requires indexed { IsIndexed kept.old.items place.old }
+    ensures length { length place.new ≡ length place.old }
+    ensures indexed { OnOk result (IsIndexed kept.new.items place.new) }
+    ensures noted { OnOk result
+        (AreNoted file.now.names (flat_map (names_by kind) (parts_at file.now model)) kept.old.items kept.new.items) }
 {
+    file.is_in_order();
     let first = file.first_part(model);
     let end = parts_end(file, model);
-    for place in first..end {
-        match part_at(file, place) {
-            Some(part) => put_part(all, file, place, part.kind, kind)?,
+    for index in (first..end).rev() {
+        match part_at(file, index) {
+            Some(part) => note_part(place, kept, file, index, part.kind, kind)?,
             None => return Err(OutOfMemory),
         }
     }
@@ -84,47 +67,69 @@ pub fn parts_end(file: &NumberedFile<'_>, model: usize) -> usize
     }
 }
 
-/// Appends the numbers of the names on the card of a part, where it is of this kind.
-fn put_part(
-    all: &mut Vec<u32>,
+/// The same for the card of a part, where it is of this kind.
+fn note_part(
+    place: &mut [u32],
+    kept: &mut Vec<u32>,
     file: &NumberedFile<'_>,
-    place: usize,
+    index: usize,
     part: PartKind,
     kind: CardKind,
 ) -> Result<(), OutOfMemory>
-    ensures { OnOk result ((text : List ℕ) (names : List (List ℕ)) (line : ℕ) (rows : List ℕ)
-        → named names all.new.items
-        ≡ named names all.old.items ++ names_by kind (part_by text part line (named names (words_at file.now place)) rows)) }
+    requires { IsIndexed kept.old.items place.old }
+    ensures length { length place.new ≡ length place.old }
+    ensures indexed { OnOk result (IsIndexed kept.new.items place.new) }
+    ensures noted { OnOk result ((text : List ℕ) (line : ℕ) (rows : List ℕ) → AreNotedOf (length place.old)
+        (λ names. names_by kind (part_by text part line (named names (words_at file.now index)) rows)) kept.old.items kept.new.items) }
 {
     match (kind, part) {
         (CardKind::Table, PartKind::Table { .. }) => {
-            let words = file.words_of(place);
-            put_words(all, words, !words.is_empty())
+            let words = file.words_of(index);
+            note_words(place, kept, words, !words.is_empty())
         }
         (CardKind::Latch, PartKind::Latch { edge, .. }) => {
-            put_latch(all, file.words_of(place), edge.is_some())
+            note_latch(place, kept, file.words_of(index), edge.is_some())
         }
-        (CardKind::Instance, PartKind::Instance) => put_actuals(all, file.words_of(place)),
+        (CardKind::Instance, PartKind::Instance) => {
+            note_actuals(place, kept, file.words_of(index))
+        }
         _ => Ok(()),
     }
 }
 
-/// Appends the words of a card, which is in its form.
-fn put_words(all: &mut Vec<u32>, words: &[u32], good: bool) -> Result<(), OutOfMemory>
-    ensures { OnOk result ((good ≡ true) × (all.new.items ≡ all.old.items ++ words.now)) }
+/// The same for the words of a card, which is in its form.
+fn note_words(
+    place: &mut [u32],
+    kept: &mut Vec<u32>,
+    words: &[u32],
+    good: bool,
+) -> Result<(), OutOfMemory>
+    requires { IsIndexed kept.old.items place.old }
+    ensures length { length place.new ≡ length place.old }
+    ensures good { OnOk result (good ≡ true) }
+    ensures indexed { OnOk result (IsIndexed kept.new.items place.new) }
+    ensures noted { OnOk result (AreNotedOf (length place.old) (λ names. named names words.now) kept.old.items kept.new.items) }
 {
     if !good {
         return Err(OutOfMemory);
     }
-    all.extend_from_slice(words)?;
-    Ok(())
+    note_all(place, kept, words)
 }
 
-/// Appends the words of a latch, which is in its form.
-fn put_latch(all: &mut Vec<u32>, words: &[u32], has_edge: bool) -> Result<(), OutOfMemory>
-    ensures { OnOk result (IsLatchForm (length words.now) has_edge × (all.new.items ≡ all.old.items ++ words.now)) }
+/// The same for the words of a latch, which is in its form.
+fn note_latch(
+    place: &mut [u32],
+    kept: &mut Vec<u32>,
+    words: &[u32],
+    has_edge: bool,
+) -> Result<(), OutOfMemory>
+    requires { IsIndexed kept.old.items place.old }
+    ensures length { length place.new ≡ length place.old }
+    ensures form { OnOk result (IsLatchForm (length words.now) has_edge) }
+    ensures indexed { OnOk result (IsIndexed kept.new.items place.new) }
+    ensures noted { OnOk result (AreNotedOf (length place.old) (λ names. named names words.now) kept.old.items kept.new.items) }
 {
-    put_words(all, words, is_latch(words, has_edge))
+    note_words(place, kept, words, is_latch(words, has_edge))
 }
 
 /// Whether these are the words of a latch: two, and a third only where it has an edge.
@@ -134,15 +139,16 @@ fn is_latch(words: &[u32], has_edge: bool) -> bool
     words.len() == 2 || (words.len() == 3 && has_edge)
 }
 
-/// Appends the actuals of an instance.
-fn put_actuals(all: &mut Vec<u32>, words: &[u32]) -> Result<(), OutOfMemory>
-    ensures { OnOk result ((names : List (List ℕ))
-        → named names all.new.items ≡ named names all.old.items ++ actuals_by (named names (drop 1 words.now))) }
+/// The same for the actuals of an instance.
+fn note_actuals(place: &mut [u32], kept: &mut Vec<u32>, words: &[u32]) -> Result<(), OutOfMemory>
+    requires { IsIndexed kept.old.items place.old }
+    ensures length { length place.new ≡ length place.old }
+    ensures indexed { OnOk result (IsIndexed kept.new.items place.new) }
+    ensures noted { OnOk result (AreNotedOf (length place.old) (λ names. actuals_by (named names (drop 1 words.now))) kept.old.items kept.new.items) }
 {
-    let mut rest = behind_first(words);
-    'bindings: while let [_, actual, more @ ..] = rest {
-        all.push(*actual)?;
-        rest = more;
+    let bindings = behind_first(words);
+    for index in (0..bindings.len() / 2).rev() {
+        note(place, kept, bindings[2 * index + 1])?;
     }
     Ok(())
 }

@@ -10,9 +10,9 @@ ghost use Rattle.local_names.specs.Units.{AreUnits};
 ghost use Rattle.model_calls.specs.ModelCalls.{NothingRefuses};
 ghost use Rattle.part_numbers.specs.SignalNumbers.{model_names};
 
-use crate::distinct::{index, last_of_each, zeros};
+use crate::distinct::{index, note_all, zeros};
 use crate::formals::formal_hints;
-use crate::model_numbers::numbers_of_model;
+use crate::model_numbers::{CardKind, note_kind};
 use crate::table::LocalNames;
 use crate::word_places::{Lookup, put_parts, put_words};
 use card_places::NumberLists;
@@ -72,21 +72,19 @@ fn names_of_models(
     ensures length { length place.new ≡ length place.old }
 {
     let mut models = NumberLists::new(alloc);
-    let mut all = Vec::new(alloc);
     let mut kept = Vec::new(alloc);
     for model in 0..file.models().len() {
-        names_of_model(file, model, &mut all, &mut kept, place)?;
+        names_of_model(file, model, &mut kept, place)?;
         models.extend(&kept)?;
         models.close()?;
     }
     Ok(models)
 }
 
-/// Makes `kept` the names of a model, by their numbers, and `all` those of all words that are names of it.
+/// Makes `kept` the names of a model, by their numbers, each once as the last of those that are equal.
 fn names_of_model(
     file: &NumberedFile<'_>,
     model: usize,
-    all: &mut Vec<u32>,
     kept: &mut Vec<u32>,
     place: &mut [u32],
 ) -> Result<(), OutOfMemory>
@@ -98,8 +96,14 @@ fn names_of_model(
     ensures length { length place.new ≡ length place.old }
 {
     file.is_in_order();
-    numbers_of_model(all, file, model)?;
-    last_of_each(all, kept, place)
+    kept.clear();
+    note_kind(place, kept, file, model, CardKind::Instance)?;
+    note_kind(place, kept, file, model, CardKind::Latch)?;
+    note_kind(place, kept, file, model, CardKind::Table)?;
+    note_all(place, kept, file.outputs_of(model))?;
+    note_all(place, kept, file.inputs_of(model))?;
+    kept.reverse();
+    Ok(())
 }
 
 /// The places of all inputs, outputs and words among these names of all models; none where a formal is no name of its model.

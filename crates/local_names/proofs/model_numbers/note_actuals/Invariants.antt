@@ -1,12 +1,12 @@
-use Rattle.std.proofs.Common.{◌≡◌, length}
+use Rattle.std.proofs.Common.{◌≡◌, drop, length}
 use Rattle.local_names.specs.Places.{IsIndexed}
-use Rattle.local_names.proofs.KeptNumbers.{AreKept}
-use Rattle.local_names.proofs.distinct.last_of_each.Given as goal
+use Rattle.local_names.proofs.Gathered.{AreActualsNoted}
+use Rattle.local_names.proofs.model_numbers.note_actuals.Given as goal
 
 pub record Keeps (l : goal.Live-loop-index) : Type 0 where
   pub count : length l.place ≡ length l.fn.place
   pub indexed : IsIndexed l.kept.items l.place
-  pub kept : AreKept l.numbers (length l.fn.place) l.index l.kept.items
+  pub noted : AreActualsNoted (length l.fn.place) (drop 1 l.words) l.index l.fn.kept.items l.kept.items
 
 abbrev pub invariant-loop-index : goal.invariant-loop-index
 invariant-loop-index l = Keeps l
