@@ -18,11 +18,11 @@ pub fn formal_hints(
 ) -> Result<Vec<u32>, OutOfMemory>
     ensures { length place.new ≡ length place.old }
 {
-    let count = file.models().len();
-    let chains = Chains::of_file(alloc, file.parts(), units, count)?;
-    if chains.is_empty {
+    if !has_formals(file.parts()) {
         return Ok(Vec::new(alloc));
     }
+    let count = file.models().len();
+    let chains = Chains::of_file(alloc, file.parts(), units, count)?;
     let mut hints = zeros(alloc, file.words().len())?;
     for unit in 0..count {
         let first = chains.first(unit);
@@ -34,6 +34,26 @@ pub fn formal_hints(
     Ok(hints)
 }
 
+/// Whether an instance binds formals.
+fn has_formals(parts: &[PartAt]) -> bool {
+    let mut start = 0;
+    for part in parts {
+        if binds(*part, start) {
+            return true;
+        }
+        start = part.words_end;
+    }
+    false
+}
+
+/// Whether a part whose words begin at this place is an instance that binds formals.
+fn binds(part: PartAt, start: u32) -> bool {
+    match part.kind {
+        PartKind::Instance => part.words_end.saturating_sub(start) > 1,
+        _ => false,
+    }
+}
+
 /// The end of a chain.
 const NO_PART: u32 = u32::MAX;
 
@@ -42,7 +62,6 @@ const NO_PART: u32 = u32::MAX;
 struct Chains {
     heads: Vec<u32>,
     next: Vec<u32>,
-    is_empty: bool,
 }
 
 impl Chains {
@@ -55,17 +74,14 @@ impl Chains {
         let mut chains = Chains {
             heads: vec![in alloc; NO_PART; models]?,
             next: Vec::with_capacity(alloc, parts.len())?,
-            is_empty: true,
         };
         let mut start = 0;
         for place in 0..parts.len() {
             let part = parts[place];
-            let kind = part.kind;
-            let before = match kind {
-                PartKind::Instance if part.words_end.saturating_sub(start) > 1 => {
-                    chains.put(place, units)
-                }
-                _ => NO_PART,
+            let before = if binds(part, start) {
+                chains.put(place, units)
+            } else {
+                NO_PART
             };
             chains.next.push(before)?;
             start = part.words_end;
@@ -81,7 +97,6 @@ impl Chains {
         };
         let before = *head;
         *head = u32::try_from(place).unwrap_or(NO_PART);
-        self.is_empty = false;
         before
     }
 

@@ -33,7 +33,8 @@ pub fn local_names(
     ensures refused { IfOk result (λ found. IfNone found (NothingRefuses (file_of file.now) 5 → ⊥)) }
 {
     let mut place = zeros(alloc, file.names().len())?;
-    let models = names_of_models(alloc, file, &mut place)?;
+    let mut words = Vec::with_capacity(alloc, file.words().len())?;
+    let models = names_of_models(alloc, file, &mut words, &mut place)?;
     let hints = formal_hints(alloc, file, units, &models, &mut place)?;
     let lookup = Lookup {
         models: &models,
@@ -41,7 +42,7 @@ pub fn local_names(
         hints: &hints,
     };
     file.is_in_order();
-    match place_all(alloc, file, lookup, &mut place)? {
+    match place_all(alloc, file, lookup, words, &mut place)? {
         Some(placed) => Ok(Some(LocalNames {
             models,
             inputs: placed.inputs,
@@ -60,10 +61,11 @@ pub struct Placed {
     pub words: Vec<u32>,
 }
 
-/// The names of each model, by their numbers.
+/// The names of each model, by their numbers. Those of one model are gathered in `kept`, which may have anything.
 fn names_of_models(
     alloc: Global,
     file: &NumberedFile<'_>,
+    kept: &mut Vec<u32>,
     place: &mut [u32],
 ) -> Result<NumberLists, OutOfMemory>
     requires { length place.old ≡ length file.now.names }
@@ -72,10 +74,9 @@ fn names_of_models(
     ensures length { length place.new ≡ length place.old }
 {
     let mut models = NumberLists::new(alloc);
-    let mut kept = Vec::new(alloc);
     for model in 0..file.models().len() {
-        names_of_model(file, model, &mut kept, place)?;
-        models.extend(&kept)?;
+        names_of_model(file, model, kept, place)?;
+        models.extend(kept)?;
         models.close()?;
     }
     Ok(models)
@@ -106,11 +107,13 @@ fn names_of_model(
     Ok(())
 }
 
-/// The places of all inputs, outputs and words among these names of all models; none where a formal is no name of its model.
+/// The places of all inputs, outputs and words among these names of all models; none where a formal is no name of its model. Those
+/// of the words take the room of `words`, which may have anything.
 fn place_all(
     alloc: Global,
     file: &NumberedFile<'_>,
     lookup: Lookup<'_>,
+    words: Vec<u32>,
     place: &mut [u32],
 ) -> Result<Option<Placed>, OutOfMemory>
     requires units { AreUnits file.now lookup.units.now }
@@ -120,8 +123,9 @@ fn place_all(
     let mut placed = Placed {
         inputs: Vec::with_capacity(alloc, file.inputs().len())?,
         outputs: Vec::with_capacity(alloc, file.outputs().len())?,
-        words: Vec::with_capacity(alloc, file.words().len())?,
+        words,
     };
+    placed.words.clear();
     file.is_in_order();
     let count = file.models().len();
     for model in 0..count {
