@@ -1,8 +1,9 @@
 -- The numbers of some nodes, wherever they stand.
 use Rattle.std.specs.Prelude.{ℕ, List}
 use Rattle.graph_order.specs.declared.order.Numbers.{Numbers}
-use Rattle.graph_order.specs.declared.order.Numbers.TheVariants.{Own, Lent}
+use Rattle.graph_order.specs.declared.order.Numbers.TheVariants.{One, Own, Lent}
 
 abbrev pub numbers_of : Numbers → List ℕ
+numbers_of (One number) = number
 numbers_of (Own numbers) = numbers.items
 numbers_of (Lent numbers) = numbers.now

@@ -1,5 +1,5 @@
 //! An order in which each node stands behind those that it leads to.
-ghost use Rattle.std.specs.Prelude.{◌≡◌, ◌<◌, ◌^◌, IfOk, length};
+ghost use Rattle.std.specs.Prelude.{◌≡◌, ◌<◌, ◌^◌, ◌∷◌, [], IfOk, length};
 ghost use Rattle.graph_order.specs.Orders.{IsAnswer, IsGraph};
 
 use crate::traversal::Traversal;
@@ -7,9 +7,10 @@ use dom_base::OutOfMemory;
 use std::alloc::Global;
 use std::marker::Model;
 
-/// The numbers of some nodes: a list of its own, or one that stands elsewhere.
+/// The numbers of some nodes: of one, for which no memory is taken, a list of its own, or one that stands elsewhere.
 #[derive(Drop)]
 pub enum Numbers<'a> {
+    One([u32; 1]),
     Own(Vec<u32>),
     Lent(&'a [u32]),
 }
@@ -30,6 +31,15 @@ impl<'a> Model for Node<'a> {
 }
 
 impl<'a> Node<'a> {
+    /// A node that leads to this one.
+    pub fn leading_to(next: u32) -> Node<'a>
+        ensures { result ≡ next ∷ [] }
+    {
+        Node {
+            numbers: Numbers::One([next]),
+        }
+    }
+
     /// A node that leads to these.
     pub fn owning(next: Vec<u32>) -> Node<'a>
         ensures { result ≡ next.items }
@@ -53,6 +63,7 @@ impl<'a> Node<'a> {
         ensures { result.now ≡ self.now }
     {
         match &self.numbers {
+            Numbers::One(number) => number.as_slice(),
             Numbers::Own(numbers) => numbers.as_slice(),
             Numbers::Lent(numbers) => numbers,
         }
