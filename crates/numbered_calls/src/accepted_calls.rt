@@ -79,6 +79,9 @@ fn call_graph(
 fn callees(alloc: Global, units: &[u32], places: &[u32]) -> Result<Node<'static>, OutOfMemory>
     ensures { IfOk result (λ node. node ≡ map (λ k. slice_index_or units.now k 0) places.now) }
 {
+    if let [place] = places {
+        return Ok(Node::leading_to(unit_at(units, *place)));
+    }
     let mut next = Vec::with_capacity(alloc, places.len())?;
     for place in places {
         next.push(unit_at(units, *place))?;
