@@ -17,11 +17,11 @@ use Rattle.numbered_file.specs.Numbered.{IsNumbered, Part, TablePart, LatchPart,
 use Rattle.blif_ast.specs.declared.instance.Binding.{Binding}
 use Rattle.dom_base.proofs.Lists.{drop_next, slice_get-there}
 use Rattle.numbered_file.proofs.PartLists.{bindings-short, take-get}
-use Rattle.numbered_file.specs.Places.{inputs_at, outputs_at, rows_at, words_at}
+use Rattle.numbered_file.specs.Places.{first_part, inputs_at, outputs_at, rows_at, words_at}
 use Rattle.numbered_file.proofs.Places.{last-of, model_there, part_there}
 use Rattle.local_names.specs.declared.model_numbers.CardKind.{CardKind}
 use Rattle.local_names.specs.declared.model_numbers.CardKind.TheVariants.{Table, Latch, Instance}
-use Rattle.local_names.specs.PartNames.{IsLatchForm, actuals_by, all_names, names_by, parts_at}
+use Rattle.local_names.specs.PartNames.{IsLatchForm, actuals_by, all_names, names_by, parts_at, with_cards}
 use Rattle.local_names.specs.Places.{AreKept, AreNoted, AreNotedOf, IsIndexed, IsNoted}
 use Rattle.local_names.proofs.KeptNumbers.{noted-both, noted-none, noted-one, noted-same}
 use Rattle.model_calls.specs.Occurrences.{actuals_of, names_of, names_of_latch, names_of_table}
@@ -205,21 +205,24 @@ gathered-all d kind first end index before now place g l m =
     by (inl n) = between-none index end (parts_of d) (omega (arith, l, n, m, g.least)) ∙ sym (between-none first end (parts_of d) (omega (arith, n)))
 
 -- the names of a model, once those of all its cards and ports have gone in
-pub all-noted : (d : NumberedData) (m : ℕ) (instances latches tables outputs inputs : List ℕ)
-    → AreNoted d.names (flat_map (names_by Instance) (parts_at d m)) [] instances
-    → AreNoted d.names (flat_map (names_by Latch) (parts_at d m)) instances latches
-    → AreNoted d.names (flat_map (names_by Table) (parts_at d m)) latches tables
+pub all-noted : (d : NumberedData) (m first end : ℕ) → first ≡ first_part d m → end ≡ first_part d (m + 1)
+    → (instances latches tables outputs inputs : List ℕ)
+    → AreNoted d.names (flat_map (names_by Instance) (between first end (parts_of d))) [] instances
+    → AreNoted d.names (flat_map (names_by Latch) (between first end (parts_of d))) instances latches
+    → AreNoted d.names (flat_map (names_by Table) (between first end (parts_of d))) latches tables
     → AreNoted d.names (named d.names (outputs_at d m)) tables outputs
     → AreNoted d.names (named d.names (inputs_at d m)) outputs inputs
     → AreKept d.names inputs (all_names d m)
-all-noted d m instances latches tables outputs inputs on_instances on_latches on_tables as_outputs as_inputs =
+all-noted d m first end first_is end_is instances latches tables outputs inputs on_instances on_latches on_tables as_outputs as_inputs =
+    let parts = between first end (parts_of d) in
     let ports = named d.names (inputs_at d m) ++ named d.names (outputs_at d m) in
-    let tables_of = flat_map (names_by Table) (parts_at d m) in
-    let latches_of = flat_map (names_by Latch) (parts_at d m) in
-    let instances_of = flat_map (names_by Instance) (parts_at d m) in
+    let tables_of = flat_map (names_by Table) parts in
+    let latches_of = flat_map (names_by Latch) parts in
+    let instances_of = flat_map (names_by Instance) parts in
     let cards = tables_of ++ (latches_of ++ instances_of) in
     let order : all_names d m ≡ named d.names (inputs_at d m) ++ (named d.names (outputs_at d m) ++ cards) =
-    append_assoc (ports ++ tables_of) latches_of instances_of ∙ append_assoc ports tables_of (latches_of ++ instances_of)
+    sym (λ i. with_cards ports (between (first_is i) (end_is i) (parts_of d)))
+    ∙ append_assoc (ports ++ tables_of) latches_of instances_of ∙ append_assoc ports tables_of (latches_of ++ instances_of)
     ∙ append_assoc (named d.names (inputs_at d m)) (named d.names (outputs_at d m)) cards in
     subst (AreKept d.names inputs) (sym order)
     (as_inputs (named d.names (outputs_at d m) ++ cards) (as_outputs cards (on_tables (latches_of ++ instances_of)

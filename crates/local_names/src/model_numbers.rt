@@ -1,9 +1,9 @@
 //! The names on the cards of a model by their numbers, each once.
 ghost use Rattle.std.specs.Prelude.{◌≡◌, ◌<◌, ◌+◌, ℕ, List, IsTrue, OnOk, drop, length, slice_get, true};
 ghost use Rattle.std.specs.List.{flat_map};
-ghost use Rattle.numbered_file.specs.Numbered.{named, part_by};
+ghost use Rattle.numbered_file.specs.Numbered.{between, named, part_by, parts_of};
 ghost use Rattle.numbered_file.specs.Places.{first_part, words_at};
-ghost use Rattle.local_names.specs.PartNames.{IsLatchForm, actuals_by, names_by, parts_at};
+ghost use Rattle.local_names.specs.PartNames.{IsLatchForm, actuals_by, names_by};
 ghost use Rattle.local_names.specs.Places.{AreNoted, AreNotedOf, IsIndexed};
 
 use crate::distinct::{note, note_all};
@@ -18,27 +18,25 @@ pub enum CardKind {
     Instance,
 }
 
-/// Appends to `kept` the numbers of the names on the cards of one kind of a model, each unless it is there, from the last one
-/// on. `place` has for each number that is there its place in the list. The one error is out of memory; a card that is not in its
-/// form, which no reader makes, is answered by it too.
+/// Appends to `kept` the numbers of the names on the cards of one kind from a place up to another, each unless it is there, from
+/// the last one on. `place` has for each number that is there its place in the list. The one error is out of memory; a card that
+/// is not in its form, which no reader makes, is answered by it too.
 pub fn note_kind(
     place: &mut [u32],
     kept: &mut Vec<u32>,
     file: &NumberedFile<'_>,
-    model: usize,
+    first: usize,
+    end: usize,
     kind: CardKind,
 ) -> Result<(), OutOfMemory>
-    requires within { model < length file.now.models }
     requires places { length place.old ≡ length file.now.names }
     requires indexed { IsIndexed kept.old.items place.old }
     ensures length { length place.new ≡ length place.old }
     ensures indexed { OnOk result (IsIndexed kept.new.items place.new) }
-    ensures noted { OnOk result
-        (AreNoted file.now.names (flat_map (names_by kind) (parts_at file.now model)) kept.old.items kept.new.items) }
+    ensures noted { OnOk result (AreNoted file.now.names (flat_map (names_by kind) (between first end (parts_of file.now)))
+        kept.old.items kept.new.items) }
 {
     file.is_in_order();
-    let first = file.first_part(model);
-    let end = parts_end(file, model);
     for index in (first..end).rev() {
         match part_at(file, index) {
             Some(part) => note_part(place, kept, file, index, part.kind, kind)?,

@@ -12,7 +12,7 @@ ghost use Rattle.part_numbers.specs.SignalNumbers.{model_names};
 
 use crate::distinct::{index, note_all, zeros};
 use crate::formals::formal_hints;
-use crate::model_numbers::{CardKind, note_kind};
+use crate::model_numbers::{CardKind, note_kind, parts_end};
 use crate::table::LocalNames;
 use crate::word_places::{Lookup, put_parts, put_words};
 use card_places::NumberLists;
@@ -98,9 +98,11 @@ fn names_of_model(
 {
     file.is_in_order();
     kept.clear();
-    note_kind(place, kept, file, model, CardKind::Instance)?;
-    note_kind(place, kept, file, model, CardKind::Latch)?;
-    note_kind(place, kept, file, model, CardKind::Table)?;
+    let first = file.first_part(model);
+    let end = parts_end(file, model);
+    note_kind(place, kept, file, first, end, CardKind::Instance)?;
+    note_kind(place, kept, file, first, end, CardKind::Latch)?;
+    note_kind(place, kept, file, first, end, CardKind::Table)?;
     note_all(place, kept, file.outputs_of(model))?;
     note_all(place, kept, file.inputs_of(model))?;
     kept.reverse();

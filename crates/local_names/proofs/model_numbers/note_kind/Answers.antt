@@ -7,8 +7,8 @@ pub loop-index-preserved : goal.loop-index-preserved
 loop-index-preserved c =
     let l = c.loop-index in
     let d = c.args.file.now in
-    let first = c.first_part-first.result in
-    let end = c.parts_end-end.result in
+    let first = c.args.first in
+    let end = c.args.end in
     let one : l.index ≡ l.index - 1 + 1 = omega (arith, c.loop-index-test.true) in
     let there : slice_get d.parts (l.index - 1) ≡ Some c.in-Some.part = sym c.part_at.ensures ∙ c.in-Some.is in
     gathered-more d c.args.kind first end (l.index - 1) c.args.kept.now.items l.kept.items c.note_part.new.kept.items l.place c.note_part.new.place c.in-Some.part
