@@ -166,6 +166,8 @@ pub fn assign(alloc: Global, gates: &Gates) -> Result<Vec<bool>, OutOfMemory>
         let before = search.needed.size;
         search.pass(alloc, &wiring)?;
         if search.needed.size == before {
+            // The largest list goes first: the allocator then keeps the pages of the smaller ones for the next step.
+            drop(wiring);
             return Ok(search.signs);
         }
     }
