@@ -86,7 +86,8 @@ fn is_less(sum: u32, other: u32) -> bool
     ensures less { result ≡ true → (0 < sum) × (0 < other → sum < other) }
     ensures not_less { result ≡ false → 0 < sum → (0 < other) × (other ≤ sum) }
 {
-    sum != 0 && (other == 0 || sum < other)
+    // Less one, 0 is the greatest number: one comparison serves.
+    sum.wrapping_sub(1) < other.wrapping_sub(1)
 }
 
 /// Puts the offers for an arm in place of these: to keep the pair that a free edge leads to in each of
