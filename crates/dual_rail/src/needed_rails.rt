@@ -44,6 +44,7 @@ fn forest_of(
     } = needed;
     let pairs = pairs_of(alloc, nodes, targets, places.as_slice(), origin.as_slice())?;
     let ends = ends_of(alloc, gates, signs, targets, places.as_slice())?;
+    drop(places);
     let uses = uses_of(alloc, pairs.as_slice(), ends.as_slice())?;
     Ok(Forest {
         leaves: gates.leaves,
