@@ -35,9 +35,10 @@ fn chain(alloc: Global, levels: u32) -> Result<Sp<ToVss>, OutOfMemory>
 fn deep_tree(rt: HostRuntime) -> Result<(), Fail> {
     let alloc = rt.alloc();
     let tree = chain(alloc, 10_000)?;
-    assert_eq!(rt; tree.leaves(), 10_001);
-    assert_eq!(rt; tree.width(), 1);
-    assert_eq!(rt; tree.height(), 10_001);
+    assert_eq!(rt;
+        (tree.leaves(), tree.width(), tree.height()),
+        (10_001, 1, 10_001)
+    );
     assert_eq!(rt; tree.conducts(&[Tri::One]), Tri::One);
     tree.dual(alloc)?;
     Ok(())

@@ -1,9 +1,17 @@
 //! Words that are names of nets, words that aren't, their escapes, and hashes of names.
 use deck::esc;
-use dom_base::{Name, NameHash, NetName};
+use dom_base::{Name, NameHash, NetName, OutOfMemory};
 use std::alloc::{AllocError, Global};
 use std::hash::BuildHasher;
 use std::test::Fail;
+
+/// Whether a word is the name of a net, of the same bytes.
+fn is_name_of_net(alloc: Global, word: &[u8]) -> Result<bool, OutOfMemory> {
+    Ok(match NetName::from_word(alloc, word)? {
+        Some(name) => name.as_bytes() == word,
+        None => false,
+    })
+}
 
 /// Words, and whether they are names of nets.
 const WORDS: &[(&str, bool)] = &[
@@ -25,11 +33,8 @@ const WORDS: &[(&str, bool)] = &[
 fn names_of_words(rt: HostRuntime) -> Result<(), Fail> {
     let alloc = rt.alloc();
     for (word, is_name) in WORDS {
-        let same = match NetName::from_word(alloc, word.as_bytes())? {
-            Some(name) => name.as_bytes() == word.as_bytes(),
-            None => false,
-        };
-        assert!(rt; same == *is_name, "at {word}");
+        let found = is_name_of_net(alloc, word.as_bytes())?;
+        assert!(rt; found == *is_name, "at {word}");
     }
     Ok(())
 }
@@ -52,19 +57,18 @@ fn escapes_of_names(rt: HostRuntime) -> Result<(), Fail> {
     Ok(())
 }
 
-/// A text of so many bytes, of this one each.
-fn text_of(alloc: Global, byte: u8, length: usize) -> Result<Vec<u8>, AllocError> {
-    vec![in alloc; byte; length]
+/// The hash of a name, with a key for the names of a text of so many bytes, of this one each.
+fn hash_in(alloc: Global, name: &Name, byte: u8, length: usize) -> Result<u64, AllocError> {
+    let text = vec![in alloc; byte; length]?;
+    Ok(NameHash::of_text(&text).hash_one(name))
 }
 
 #[test]
 fn hashes_of_texts(rt: HostRuntime) -> Result<(), Fail> {
     let alloc = rt.alloc();
     let name = Name::from_bytes(alloc, b"n1")?;
-    let first = NameHash::of_text(&text_of(alloc, b'a', 8192)?);
-    let same = NameHash::of_text(&text_of(alloc, b'a', 8192)?);
-    let second = NameHash::of_text(&text_of(alloc, b'b', 8192)?);
-    assert!(rt; first.hash_one(&name) == same.hash_one(&name));
-    assert!(rt; first.hash_one(&name) != second.hash_one(&name));
+    let first = hash_in(alloc, &name, b'a', 8192)?;
+    assert!(rt; first == hash_in(alloc, &name, b'a', 8192)?);
+    assert!(rt; first != hash_in(alloc, &name, b'b', 8192)?);
     Ok(())
 }

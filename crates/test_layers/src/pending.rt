@@ -1,9 +1,11 @@
 //! The pending nets of a cell that were worked by hand.
 
 use crate::targets::links_with_values;
+use deck::Circuit;
 use pending_nets::Pending;
 use spice_read::read;
 use std::alloc::{AllocError, Global};
+use std::process::Abort;
 use std::test::Fail;
 use worked_texts::AND_DECK;
 
@@ -14,6 +16,18 @@ fn numbers_of(alloc: Global, pending: &Pending) -> Result<Vec<u32>, AllocError> 
         numbers.push(pending.nth(place))?;
     }
     Ok(numbers)
+}
+
+/// The numbers of the nets of a circuit that are pending at these values.
+fn pending_at(
+    rt: &impl Abort,
+    alloc: Global,
+    circuit: &Circuit,
+    values: &str,
+) -> Result<Vec<u32>, Fail> {
+    let (mut links, values) = links_with_values(rt, alloc, circuit, values)?;
+    let pending = links.pending(&values)?;
+    Ok(numbers_of(alloc, &pending)?)
 }
 
 /// States of the cell, with the values of its nets and the numbers of those that are pending.
@@ -30,8 +44,7 @@ fn pending_nets_of_a_cell(rt: HostRuntime) -> Result<(), Fail> {
     let alloc = rt.alloc();
     let circuit = read(alloc, AND_DECK)?;
     for (what, values, want) in PENDING {
-        let (mut links, values) = links_with_values(&rt, alloc, &circuit, values)?;
-        let found = numbers_of(alloc, &links.pending(&values)?)?;
+        let found = pending_at(&rt, alloc, &circuit, values)?;
         assert!(rt; found.as_slice() == *want, "at {what}");
     }
     Ok(())

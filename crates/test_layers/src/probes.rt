@@ -14,36 +14,40 @@ fn rises(before: Tri, after: Tri) -> bool
     after == Tri::One && before != Tri::One
 }
 
+/// Events of a net, with whether a probe of rises of net 12 is hit.
+const EVENTS: &[(u32, Tri, Tri, bool)] = &[
+    (12, Tri::Zero, Tri::One, true),
+    (12, Tri::Unknown, Tri::One, true),
+    (12, Tri::One, Tri::Zero, false),
+    (12, Tri::Zero, Tri::Unknown, false),
+    (13, Tri::Zero, Tri::One, false),
+];
+
+#[test]
+fn probe_is_hit_by_its_edge(rt: HostRuntime) {
+    let probe = Probe::new(12, Edge::Rise, rises);
+    for (net, before, after, wanted) in EVENTS {
+        let event = Event {
+            step: 7,
+            net: *net,
+            before: *before,
+            after: *after,
+        };
+        assert_eq!(rt; probe.is_hit(&event), *wanted);
+    }
+}
+
 #[test]
 fn probe_is_taken_out_once(rt: HostRuntime) -> Result<(), Fail> {
     let mut probes = ProbeSet::new(rt.alloc());
-    let probe = Probe::new(12, Edge::Rise, rises);
-    for (net, before, after, wanted) in [
-        (12, Tri::Zero, Tri::One, true),
-        (12, Tri::Unknown, Tri::One, true),
-        (12, Tri::One, Tri::Zero, false),
-        (12, Tri::Zero, Tri::Unknown, false),
-        (13, Tri::Zero, Tri::One, false),
-    ] {
-        let event = Event {
-            step: 7,
-            net,
-            before,
-            after,
-        };
-        assert_eq!(rt; probe.is_hit(&event), wanted);
-    }
-    let key = match probes.add(probe) {
+    let key = match probes.add(Probe::new(12, Edge::Rise, rises)) {
         Ok(key) => key,
         Err((_, fault)) => return Err(Fail::from(fault)),
     };
     assert_eq!(rt; key, 0);
     let taken = probes.remove(0);
-    assert!(rt; taken.is_some());
-    if let Some(probe) = taken {
-        assert_eq!(rt; probe.net, 12);
-        assert!(rt; probe.edge == Edge::Rise);
-    }
+    let is_same = matches!(&taken, Some(probe) if (probe.net, probe.edge) == (12, Edge::Rise));
+    assert!(rt; is_same);
     assert!(rt; probes.remove(0).is_none());
     Ok(())
 }

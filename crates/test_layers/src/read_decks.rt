@@ -1,33 +1,58 @@
 //! Decks, and what is read of them.
-use deck::Circuit;
+use deck::{Circuit, Device, Phase};
+use dom_base::NetName;
 use spice_read::read;
-use std::alloc::Global;
+use std::alloc::{AllocError, Global};
 use std::test::Fail;
 use worked_texts::AND_DECK;
 
-/// The name and the phases, the number of ports and the nets, and the devices by the numbers of
-/// their nets.
-fn summary(alloc: Global, circuit: &Circuit) -> Result<Vec<u8>, Fail> {
-    let mut text = Vec::new(alloc);
-    text.extend_from_slice(circuit.name.as_bytes())?;
-    for phase in circuit.phases.as_slice() {
+/// The sign and the net of each phase.
+fn push_phases(text: &mut Vec<u8>, phases: &[Phase]) -> Result<(), AllocError> {
+    for phase in phases {
         text.push(if phase.plus { b'+' } else { b'-' })?;
         text.extend_from_slice(phase.net.as_bytes())?;
     }
-    let ports = format!(in alloc; " {}", circuit.ports)?;
-    text.extend_from_slice(ports.as_bytes())?;
-    for net in circuit.nets.as_slice() {
+    Ok(())
+}
+
+/// The names of nets, each behind a blank.
+fn push_nets(text: &mut Vec<u8>, nets: &[NetName]) -> Result<(), AllocError> {
+    for net in nets {
         text.push(b' ')?;
         text.extend_from_slice(net.as_bytes())?;
     }
-    for device in circuit.devices.as_slice() {
+    Ok(())
+}
+
+/// The kinds of devices and the numbers of their nets.
+fn push_devices(alloc: Global, text: &mut Vec<u8>, devices: &[Device]) -> Result<(), AllocError> {
+    for device in devices {
         let ends = format!(in alloc;
             ",{:?} {} {} {}",
             device.kind, device.drain, device.gate, device.source
         )?;
         text.extend_from_slice(ends.as_bytes())?;
     }
+    Ok(())
+}
+
+/// The name and the phases, the number of ports and the nets, and the devices by the numbers of
+/// their nets.
+fn summary(alloc: Global, circuit: &Circuit) -> Result<Vec<u8>, AllocError> {
+    let mut text = Vec::new(alloc);
+    text.extend_from_slice(circuit.name.as_bytes())?;
+    push_phases(&mut text, circuit.phases.as_slice())?;
+    let ports = format!(in alloc; " {}", circuit.ports)?;
+    text.extend_from_slice(ports.as_bytes())?;
+    push_nets(&mut text, circuit.nets.as_slice())?;
+    push_devices(alloc, &mut text, circuit.devices.as_slice())?;
     Ok(text)
+}
+
+/// The summary of the circuit of a deck.
+fn summary_of_deck(alloc: Global, deck: &[u8]) -> Result<Vec<u8>, Fail> {
+    let circuit = read(alloc, deck)?;
+    Ok(summary(alloc, &circuit)?)
 }
 
 /// Decks, with their circuits in words.
@@ -86,8 +111,7 @@ const CIRCUITS: &[(&[u8], &str)] = &[
 fn reads_circuits(rt: HostRuntime) -> Result<(), Fail> {
     let alloc = rt.alloc();
     for (text, wanted) in CIRCUITS {
-        let circuit = read(alloc, text)?;
-        let told = summary(alloc, &circuit)?;
+        let told = summary_of_deck(alloc, text)?;
         assert_eq!(rt; told.as_slice(), wanted.as_bytes());
     }
     Ok(())

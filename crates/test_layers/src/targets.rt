@@ -61,6 +61,17 @@ fn targets(alloc: Global, links: &mut Links, values: &[Tri]) -> Result<Vec<u8>, 
     Ok(all)
 }
 
+/// The targets of the nets of a circuit at these values.
+fn targets_at(
+    rt: &impl Abort,
+    alloc: Global,
+    circuit: &Circuit,
+    values: &str,
+) -> Result<Vec<u8>, Fail> {
+    let (mut links, values) = links_with_values(rt, alloc, circuit, values)?;
+    Ok(targets(alloc, &mut links, &values)?)
+}
+
 /// States of the cell, with the values of its nets and their targets.
 const TARGETS: &[(&str, &str, &str)] = &[
     ("power", "10001011000XXXXX", "X1XXX"),
@@ -78,8 +89,7 @@ fn targets_of_a_cell(rt: HostRuntime) -> Result<(), Fail> {
     let alloc = rt.alloc();
     let circuit = read(alloc, AND_DECK)?;
     for (what, values, want) in TARGETS {
-        let (mut links, values) = links_with_values(&rt, alloc, &circuit, values)?;
-        let found = targets(alloc, &mut links, &values)?;
+        let found = targets_at(&rt, alloc, &circuit, values)?;
         assert!(rt; found.as_slice() == want.as_bytes(), "at {what}");
     }
     Ok(())

@@ -36,12 +36,11 @@ fn dual_of_a_series(rt: HostRuntime) -> Result<(), Fail> {
     let alloc = rt.alloc();
     let series = series_of_two(alloc)?;
     let dual = series.dual(alloc)?;
-    assert_eq!(rt; series.leaves(), 2);
-    assert_eq!(rt; series.width(), 1);
-    assert_eq!(rt; series.height(), 2);
-    assert_eq!(rt; dual.leaves(), 2);
-    assert_eq!(rt; dual.width(), 2);
-    assert_eq!(rt; dual.height(), 1);
+    assert_eq!(rt;
+        (series.leaves(), series.width(), series.height()),
+        (2, 1, 2)
+    );
+    assert_eq!(rt; (dual.leaves(), dual.width(), dual.height()), (2, 2, 1));
     let values = [Tri::One, Tri::Zero];
     assert_eq!(rt; series.conducts(&values), Tri::Zero);
     assert_eq!(rt; dual.conducts(&values), Tri::One);

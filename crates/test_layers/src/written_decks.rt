@@ -2,7 +2,14 @@
 
 use spice_read::read;
 use spice_text::write;
+use std::alloc::Global;
 use std::test::Fail;
+
+/// The text of the circuit of a deck.
+fn rewritten(alloc: Global, deck: &[u8]) -> Result<Vec<u8>, Fail> {
+    let circuit = read(alloc, deck)?;
+    Ok(write(alloc, &circuit)?)
+}
 
 /// Decks, and how they are written.
 const DECKS: &[(&str, &str, &str)] = &[
@@ -34,8 +41,7 @@ const DECKS: &[(&str, &str, &str)] = &[
 fn ports_phases_and_devices_stand_on_lines(rt: HostRuntime) -> Result<(), Fail> {
     let alloc = rt.alloc();
     for (what, text, wanted) in DECKS {
-        let circuit = read(alloc, text.as_bytes())?;
-        let written = write(alloc, &circuit)?;
+        let written = rewritten(alloc, text.as_bytes())?;
         assert_eq!(rt; written.as_slice(), wanted.as_bytes(), "at {what}");
     }
     Ok(())
