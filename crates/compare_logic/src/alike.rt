@@ -36,6 +36,21 @@ fn append_items(
     Ok(())
 }
 
+/// Whether a plan at a level is this cell, for so many leaves.
+fn is_alike(
+    alloc: Global,
+    plan: &GatePlan,
+    level: u32,
+    leaves: u32,
+    cell: &PlainCell,
+) -> Result<bool, AllocError> {
+    let mut items = Vec::new(alloc);
+    append_items(&plan.tree, leaves, &mut items)?;
+    let same_tree = items.as_slice() == cell.tree.as_slice();
+    let same_level = level as usize == cell.level;
+    Ok(same_tree && same_level && plan.clock as usize == cell.clock)
+}
+
 /// Whether plans and levels are those of these cells, for so many leaves.
 pub fn are_alike(
     alloc: Global,
@@ -48,12 +63,7 @@ pub fn are_alike(
         return Ok(false);
     }
     for ((plan, level), cell) in plans.iter().zip(levels.iter()).zip(cells.iter()) {
-        let mut items = Vec::new(alloc);
-        append_items(&plan.tree, leaves, &mut items)?;
-        if items.as_slice() != cell.tree.as_slice()
-            || *level as usize != cell.level
-            || plan.clock as usize != cell.clock
-        {
+        if !is_alike(alloc, plan, *level, leaves, cell)? {
             return Ok(false);
         }
     }
