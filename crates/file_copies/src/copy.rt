@@ -232,12 +232,7 @@ fn input_names(alloc: Global, names: &Names<'_>, numbers: &[u32]) -> Result<Inpu
 }
 
 /// The rows of a table with so many inputs that begin at these places of the text. The one error is out of memory.
-pub fn rows_at(
-    alloc: Global,
-    text: &[u8],
-    width: usize,
-    places: &[u32],
-) -> Result<Rows, OutOfMemory>
+fn rows_at(alloc: Global, text: &[u8], width: usize, places: &[u32]) -> Result<Rows, OutOfMemory>
     ensures { IfOk result (λ rows. rows.items ≡ map (row_at text.now width) places.now) }
 {
     let mut rows = Rows::with_capacity(alloc, places.len())?;

@@ -8,6 +8,6 @@ mod model_parts;
 mod numbering;
 mod part_words;
 
-pub use copy::{rows_at, to_file};
+pub use copy::to_file;
 pub use letters::bytes_of;
 pub use numbering::number_file;

@@ -6,7 +6,7 @@ ghost use Rattle.part_numbers.specs.NumberedFaults.{IsPartWithin};
 
 use crate::table_order::LevelledTable;
 use dom_base::OutOfMemory;
-use network::{NetLatch, NetTables, Reads};
+use network::{NetLatch, NetTables};
 use part_numbers::{CardFile, NumberedPart, PartCard, card_of};
 use std::alloc::Global;
 
@@ -22,22 +22,22 @@ pub fn places_of(alloc: Global, places: &[u32], numbers: &[u32]) -> Result<Vec<u
     Ok(found)
 }
 
-/// The places of the numbers that a table reads. The one error is want of memory.
-fn places_read(alloc: Global, places: &[u32], numbers: &[u32]) -> Result<Reads, OutOfMemory>
+/// Makes `found` the places of the numbers that a table reads. The one error is want of memory.
+fn find_places(found: &mut Vec<u32>, places: &[u32], numbers: &[u32]) -> Result<(), OutOfMemory>
     requires within { All (λ number. number < length places.now) numbers.now }
-    ensures { IfOk result (λ found. found.items ≡ map (network_place places.now) numbers.now) }
+    ensures { OnOk result (found.new.items ≡ map (network_place places.now) numbers.now) }
 {
-    let mut found = Reads::with_capacity(alloc, numbers.len())?;
+    found.clear();
     for number in numbers {
         found.push(places[*number as usize])?;
     }
-    Ok(found)
+    Ok(())
 }
 
-/// Appends a table in the network. The one error is want of memory.
+/// Appends a table in the network, whose inputs are put together in `inputs`. The one error is want of memory.
 fn push_table(
     tables: &mut NetTables,
-    alloc: Global,
+    inputs: &mut Vec<u32>,
     file: &CardFile<'_>,
     part: &NumberedPart,
     places: &[u32],
@@ -47,9 +47,8 @@ fn push_table(
     ensures { OnOk result (map Some tables.new ≡ map Some tables.old ++ table_in_network file.now places.now part.now ∷ []) }
 {
     let card = card_of(file, part);
-    let rows = card.rows(alloc)?;
-    let inputs = places_read(alloc, places, part.reads.as_slice())?;
-    tables.push(&inputs, card.on(), &rows)
+    find_places(inputs, places, part.reads.as_slice())?;
+    tables.push_in_text(inputs, card.on(), &card.rows())
 }
 
 /// How many signals the tables of some parts read, if no more than there are bytes.
@@ -89,10 +88,11 @@ pub fn net_tables(
         ≡ map (levelled_in_network file.now places.now parts.now) ordered.now) }
 {
     let mut tables = NetTables::with_capacity(alloc, ordered.len(), count_reads(parts), 0, 0)?;
+    let mut inputs = Vec::new(alloc);
     for index in 0..ordered.len() {
         let table = ordered[index];
         let part = &parts[table.part];
-        push_table(&mut tables, alloc, file, part, places)?;
+        push_table(&mut tables, &mut inputs, file, part, places)?;
     }
     Ok(tables)
 }

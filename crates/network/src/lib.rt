@@ -6,5 +6,5 @@ mod net_tables;
 mod network;
 
 pub use list_pool::{LentLists, ListAt, ListPool};
-pub use net_tables::{NetTable, NetTables, TableAt, TableRows};
+pub use net_tables::{NetTable, NetTables, RowsInText, TableAt, TableRows};
 pub use network::{NetLatch, Network, Reads};

@@ -1,7 +1,10 @@
 //! Lists in one vector of all their items.
-ghost use Rattle.std.specs.Prelude.{◌≡◌, ◌≤◌, ◌<◌, ◌++◌, ◌∷◌, [], IfOk, OnOk, Some, length, slice_get};
+ghost use Rattle.std.specs.Prelude.{◌≡◌, ◌≤◌, ◌<◌, ◌++◌, ◌∷◌, [], IfOk, List, OnOk, Some, length, map, slice_get};
+ghost use Rattle.blif_ast.specs.Models.{row_letter};
+ghost use Rattle.blif_ast.specs.declared.letter.Letter.{Letter};
 ghost use Rattle.network.specs.ListPools.{IsPlaceWithin, list_in};
 
+use blif_ast::Letter;
 use dom_base::OutOfMemory;
 use std::alloc::Global;
 use std::marker::Model;
@@ -167,5 +170,40 @@ impl<T: Copy> ListPool<T> {
             items: self.items.as_slice(),
             places: at.of(self.places.as_slice()),
         }
+    }
+}
+
+impl ListPool<Letter> {
+    /// Appends the row of letters that these bytes are. The one error is out of memory.
+    pub fn push_row(&mut self, bytes: &[u8]) -> Result<(), OutOfMemory>
+        ensures list { OnOk result (self.new ≡ self.old ++ map row_letter bytes.now ∷ []) }
+        ensures longer { length self.old ≤ length self.new }
+    {
+        let at = ListAt::behind(self.items.len(), bytes.len())?;
+        extend_by_letters(&mut self.items, bytes)?;
+        self.places.push(at)?;
+        Ok(())
+    }
+}
+
+/// Appends the letters that these bytes are. The one error is out of memory.
+fn extend_by_letters(items: &mut Vec<Letter>, bytes: &[u8]) -> Result<(), OutOfMemory>
+    ensures items { OnOk result (items.new.items ≡ items.old.items ++ map row_letter bytes.now) }
+    ensures kept { (more : List Letter) × (items.new.items ≡ items.old.items ++ more) }
+{
+    for byte in bytes {
+        items.push(row_letter(*byte))?;
+    }
+    Ok(())
+}
+
+/// The letter of a byte `0`, `1` or `-`.
+fn row_letter(byte: u8) -> Letter
+    ensures { result ≡ row_letter byte }
+{
+    match byte {
+        b'0' => Letter::Zero,
+        b'1' => Letter::One,
+        _ => Letter::Any,
     }
 }

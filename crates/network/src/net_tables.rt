@@ -1,6 +1,7 @@
 //! The tables of a network.
-ghost use Rattle.std.specs.Prelude.{◌≡◌, ◌≤◌, ◌<◌, ◌++◌, ◌∷◌, [], IfOk, OnOk, Some, length, slice_get};
+ghost use Rattle.std.specs.Prelude.{◌≡◌, ◌≤◌, ◌<◌, ◌++◌, ◌∷◌, [], IfOk, OnOk, Some, drop, length, slice_get, take};
 ghost use Rattle.network.specs.ListPools.{list_in};
+ghost use Rattle.network.specs.TablePools.{rows_in_text};
 
 use crate::list_pool::{LentLists, ListAt, ListPool};
 use blif_ast::{Letter, Row};
@@ -27,6 +28,37 @@ impl<'a> Model for NetTable<'a> {
     ghost Value = { NetTableData };
 
     ghost view = { λ t. record { inputs = t.inputs.now; on = t.on; rows = t.rows } };
+}
+
+/// The rows of a table that stand in a text, each of so many letters at its place.
+#[derive(Debug, Drop)]
+pub struct RowsInText<'a> {
+    text: &'a [u8],
+    width: usize,
+    places: &'a [u32],
+}
+
+impl<'a> Model for RowsInText<'a> {
+    ghost use Rattle.std.specs.Prelude.{List};
+    ghost use Rattle.blif_ast.specs.declared.letter.Letter.{Letter};
+    ghost use Rattle.network.specs.TablePools.{rows_in_text};
+
+    ghost Value = { List (List Letter) };
+
+    ghost view = { λ r. rows_in_text r.text.now r.width r.places.now };
+}
+
+impl<'a> RowsInText<'a> {
+    /// The rows of so many letters that begin at these places of a text.
+    pub fn new(text: &'a [u8], width: usize, places: &'a [u32]) -> RowsInText<'a>
+        ensures { result ≡ rows_in_text text.now width places.now }
+    {
+        RowsInText {
+            text,
+            width,
+            places,
+        }
+    }
 }
 
 /// Where a table stands: its inputs among all that tables read, and its rows among all rows.
@@ -117,6 +149,28 @@ impl NetTables {
         }
     }
 
+    /// Appends a table whose rows stand in a text. The one error is out of memory.
+    pub fn push_in_text(
+        &mut self,
+        inputs: &[u32],
+        on: bool,
+        rows: &RowsInText<'_>,
+    ) -> Result<(), OutOfMemory>
+        ensures { OnOk result (self.new ≡ self.old
+            ++ record { inputs = inputs.now; on = on; rows = rows.now } ∷ []) }
+    {
+        let reads = ListAt::behind(self.reads.len(), inputs.len())?;
+        let rows_at = ListAt::behind(self.rows.len(), rows.places.len())?;
+        self.reads.extend_from_slice(inputs)?;
+        push_rows_in_text(&mut self.rows, rows)?;
+        self.tables.push(TableAt {
+            reads,
+            rows: rows_at,
+            on,
+        })?;
+        Ok(())
+    }
+
     /// Appends a table. The one error is out of memory.
     pub fn push(&mut self, inputs: &[u32], on: bool, rows: &[Row]) -> Result<(), OutOfMemory>
         ensures { OnOk result (self.new ≡ self.old ++ record { inputs = inputs.now; on = on; rows = rows.now } ∷ []) }
@@ -132,6 +186,25 @@ impl NetTables {
         })?;
         Ok(())
     }
+}
+
+/// Appends the rows that stand at these places of a text. The one error is out of memory.
+fn push_rows_in_text(pool: &mut ListPool<Letter>, rows: &RowsInText<'_>) -> Result<(), OutOfMemory>
+    ensures rows { OnOk result (pool.new ≡ pool.old ++ rows.now) }
+    ensures longer { length pool.old ≤ length pool.new }
+{
+    for place in rows.places {
+        pool.push_row(row_in_text(rows.text, rows.width, *place))?;
+    }
+    Ok(())
+}
+
+/// The bytes of the row at this place of a text.
+fn row_in_text(text: &[u8], width: usize, place: u32) -> &[u8]
+    ensures { result.now ≡ take width (drop place text.now) }
+{
+    let rest = &text[text.len().min(place as usize)..];
+    &rest[..rest.len().min(width)]
 }
 
 /// Appends rows. The one error is out of memory.

@@ -6,11 +6,9 @@ ghost use Rattle.model_calls.specs.Expanded.{card_line};
 ghost use Rattle.part_numbers.specs.WordCards.{card_by_words};
 ghost use Rattle.part_numbers.specs.PartCards.{card_control, card_edge, card_init, card_inputs, card_on, card_output, card_rows};
 
-use blif_ast::{Edge2, Rows};
-use dom_base::OutOfMemory;
-use file_copies::rows_at;
+use blif_ast::Edge2;
+use network::RowsInText;
 use numbered_file::{Names, PartKind};
-use std::alloc::Global;
 
 /// A card by its words, which are numbers of names, and by the places of the text at which its rows begin. `line` is
 /// its line, from 1.
@@ -116,17 +114,16 @@ impl<'a> WordCard<'a> {
         }
     }
 
-    /// The rows of a table. The one error is out of memory.
-    pub fn rows(&self, alloc: Global) -> Result<Rows, OutOfMemory>
-        ensures { IfOk result (λ rows. rows.items ≡ card_rows (card_by_words self.now)) }
+    /// The rows of a table.
+    pub fn rows(&self) -> RowsInText<'a>
+        ensures { result ≡ card_rows (card_by_words self.now) }
     {
         match self.kind {
             PartKind::Table { .. } => {
-                let width = self.words.len().saturating_sub(1);
-                rows_at(alloc, self.text, width, self.rows)
+                RowsInText::new(self.text, self.words.len().saturating_sub(1), self.rows)
             }
-            PartKind::Latch { .. } => Ok(Rows::new(alloc)),
-            PartKind::Instance => Ok(Rows::new(alloc)),
+            PartKind::Latch { .. } => RowsInText::new(self.text, 0, &[]),
+            PartKind::Instance => RowsInText::new(self.text, 0, &[]),
         }
     }
 }
