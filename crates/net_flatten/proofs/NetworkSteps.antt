@@ -24,26 +24,12 @@ image_next g ys xs x y e is = map-push Some ys y ∙ ap (λ l. l ++ Some y ∷ [
     ∙ sym (map-push g xs x)
 
 module _ (f : BlifFileData) (places : List ℕ) (parts : List NumberedPartData) where
-  levelled_there : (t : LevelledTable) → IsSome (levelled_in_network f places parts t) → t.part < length parts
-  levelled_there t some = by (slice_get parts t.part) refl some
-    where
-      by : (o : Option NumberedPartData) → slice_get parts t.part ≡ o → IsSome (option_and_then (table_in_network f places) o)
-          → t.part < length parts
-      by None e s = absurd (true≢false (sym s))
-      by (Some p) e s = slice_get_within parts t.part p e
-
-  pub part_of_levelled : (ordered : List LevelledTable) (index : ℕ) (t : LevelledTable)
-      → All (λ t. IsSome (levelled_in_network f places parts t)) ordered → slice_get ordered index ≡ Some t → t.part < length parts
-  part_of_levelled ordered index t all at = levelled_there t (All-at (λ u. IsSome (levelled_in_network f places parts u)) ordered index t all at)
-
-  pub tables_next : (ordered : List LevelledTable) (index : ℕ) (t : LevelledTable) (p : NumberedPartData) (tables more : List NetTableData)
-      → slice_get ordered index ≡ Some t → slice_get parts t.part ≡ Some p → map Some more ≡ map Some tables ++ table_in_network f places p ∷ []
+  pub tables_next : (ordered : List LevelledTable) (index : ℕ) (t : LevelledTable) (tables more : List NetTableData)
+      → slice_get ordered index ≡ Some t → map Some more ≡ map Some tables ++ levelled_in_network f places parts t ∷ []
       → map Some tables ≡ map (levelled_in_network f places parts) (take index ordered)
       → map Some more ≡ map (levelled_in_network f places parts) (take (index + 1) ordered)
-  tables_next ordered index t p tables more at part is e =
-      let front = map (levelled_in_network f places parts) (take index ordered) in
-      is ∙ ap (λ l. l ++ table_in_network f places p ∷ []) e
-      ∙ ap (λ o. front ++ o ∷ []) (sym (ap (option_and_then (table_in_network f places)) part))
+  tables_next ordered index t tables more at is e =
+      is ∙ ap (λ l. l ++ levelled_in_network f places parts t ∷ []) e
       ∙ sym (map-push (levelled_in_network f places parts) (take index ordered) t)
       ∙ ap (map (levelled_in_network f places parts)) (sym (take_next ordered index t at))
 

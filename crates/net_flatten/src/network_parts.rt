@@ -51,6 +51,23 @@ fn push_table(
     tables.push_in_text(inputs, card.on(), &card.rows())
 }
 
+/// Appends the table of a part in the network. The one error is want of memory.
+fn push_levelled(
+    tables: &mut NetTables,
+    inputs: &mut Vec<u32>,
+    file: &CardFile<'_>,
+    parts: &[NumberedPart],
+    table: LevelledTable,
+    places: &[u32],
+) -> Result<(), OutOfMemory>
+    requires within { All (IsPartWithin (length places.now)) parts.now }
+    requires there { IsSome (levelled_in_network file.now places.now parts.now table) }
+    ensures { OnOk result (map Some tables.new ≡ map Some tables.old ++ levelled_in_network file.now places.now parts.now table ∷ []) }
+{
+    let part = &parts[table.part];
+    push_table(tables, inputs, file, part, places)
+}
+
 /// How many signals the tables of some parts read, if no more than there are bytes.
 fn count_reads(parts: &[NumberedPart]) -> usize {
     let mut reads: usize = 0;
@@ -90,9 +107,7 @@ pub fn net_tables(
     let mut tables = NetTables::with_capacity(alloc, ordered.len(), count_reads(parts), 0, 0)?;
     let mut inputs = Vec::new(alloc);
     for index in 0..ordered.len() {
-        let table = ordered[index];
-        let part = &parts[table.part];
-        push_table(&mut tables, &mut inputs, file, part, places)?;
+        push_levelled(&mut tables, &mut inputs, file, parts, ordered[index], places)?;
     }
     Ok(tables)
 }
