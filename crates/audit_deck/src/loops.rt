@@ -210,7 +210,7 @@ impl<'a> Index<'a> {
         let mut nodes = Vec::with_capacity(alloc, count as usize)?;
         for net in 0..count {
             let next = self.reads_of(alloc, roles, marks, net, &mut nets, &mut places)?;
-            nodes.push(Node::owning(next))?;
+            nodes.push(Node::owning(alloc, next)?)?;
         }
         Ok(nodes)
     }

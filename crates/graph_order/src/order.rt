@@ -4,15 +4,18 @@ ghost use Rattle.graph_order.specs.Orders.{IsAnswer, IsGraph};
 
 use crate::traversal::Traversal;
 use dom_base::OutOfMemory;
+use smallvec::SmallVec;
 use std::alloc::Global;
 use std::marker::Model;
 
-/// The numbers of some nodes: of one, for which no memory is taken, a list of its own, or one that stands elsewhere.
+/// The numbers of some nodes: of none or one, for which no memory is taken, a list of its own, or one that stands
+/// elsewhere.
 #[derive(Drop)]
 pub enum Numbers<'a> {
+    None,
     One([u32; 1]),
-    Own(Vec<u32>),
-    Lent(&'a [u32]),
+    Own(Box<Vec<u32>>),
+    Lent(&'a SmallVec<u32, 4>),
 }
 
 /// A node: the numbers of the nodes that it leads to.
@@ -31,6 +34,15 @@ impl<'a> Model for Node<'a> {
 }
 
 impl<'a> Node<'a> {
+    /// A node that leads to none.
+    pub fn alone() -> Node<'a>
+        ensures { result ≡ [] }
+    {
+        Node {
+            numbers: Numbers::None,
+        }
+    }
+
     /// A node that leads to this one.
     pub fn leading_to(next: u32) -> Node<'a>
         ensures { result ≡ next ∷ [] }
@@ -40,18 +52,18 @@ impl<'a> Node<'a> {
         }
     }
 
-    /// A node that leads to these.
-    pub fn owning(next: Vec<u32>) -> Node<'a>
-        ensures { result ≡ next.items }
+    /// A node that leads to these. The one error is out of memory.
+    pub fn owning(alloc: Global, next: Vec<u32>) -> Result<Node<'a>, OutOfMemory>
+        ensures { IfOk result (λ node. node ≡ next.items) }
     {
-        Node {
-            numbers: Numbers::Own(next),
-        }
+        Ok(Node {
+            numbers: Numbers::Own(Box::new(alloc, next)?),
+        })
     }
 
     /// A node that leads to these, which stand elsewhere.
-    pub fn lending(next: &'a [u32]) -> Node<'a>
-        ensures { result ≡ next.now }
+    pub fn lending(next: &'a SmallVec<u32, 4>) -> Node<'a>
+        ensures { result ≡ next.now.items }
     {
         Node {
             numbers: Numbers::Lent(next),
@@ -63,9 +75,10 @@ impl<'a> Node<'a> {
         ensures { result.now ≡ self.now }
     {
         match &self.numbers {
+            Numbers::None => &[],
             Numbers::One(number) => number.as_slice(),
             Numbers::Own(numbers) => numbers.as_slice(),
-            Numbers::Lent(numbers) => numbers,
+            Numbers::Lent(numbers) => numbers.as_slice(),
         }
     }
 }

@@ -77,5 +77,5 @@ fn find_callees(
         };
         next.push(number as u32)?;
     }
-    Ok(Callees::Known(Node::owning(next)))
+    Ok(Callees::Known(Node::owning(alloc, next)?))
 }

@@ -5,6 +5,7 @@ ghost use Rattle.part_numbers.specs.NumberedFaults.{IsPartWithin};
 
 use dom_base::OutOfMemory;
 use graph_order::Node;
+use network::Reads;
 use part_numbers::{NumberedPart, PartCard};
 use std::alloc::Global;
 
@@ -14,15 +15,15 @@ fn lone_nodes<'a>(alloc: Global, bound: u32) -> Result<Vec<Node<'a>>, OutOfMemor
 {
     let mut nodes = Vec::with_capacity(alloc, bound as usize)?;
     for _ in 0..bound {
-        nodes.push(Node::lending(&[]))?;
+        nodes.push(Node::alone())?;
     }
     Ok(nodes)
 }
 
 /// Replaces what a node leads to.
-fn set_next<'a>(nodes: &mut Vec<Node<'a>>, number: u32, next: &'a [u32])
+fn set_next<'a>(nodes: &mut Vec<Node<'a>>, number: u32, next: &'a Reads)
     requires within { number < length nodes.old.items }
-    ensures { nodes.new.items ≡ slice_set nodes.old.items number next.now }
+    ensures { nodes.new.items ≡ slice_set nodes.old.items number next.now.items }
 {
     nodes[number as usize] = Node::lending(next);
 }
@@ -42,7 +43,7 @@ pub fn dependences<'a>(
     for index in 0..parts.len() {
         let part = &parts[index];
         if let PartCard::Table(_) = part.card {
-            set_next(&mut nodes, part.drives, part.reads.as_slice());
+            set_next(&mut nodes, part.drives, &part.reads);
         }
     }
     Ok(nodes)

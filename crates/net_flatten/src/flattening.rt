@@ -30,6 +30,9 @@ use numbered_signals::number;
 use part_numbers::{CardFile, check_counts};
 use std::alloc::Global;
 
+/// How many bytes a list may take whose room is kept when it is given back.
+const KEPT_ROOM: usize = 8 * 1024 * 1024;
+
 /// The network of a good file, or its refusal. What can refuse a file is looked for in order, each
 /// over the whole file: models, ports, instances, formals and recursion first, then the counts, of
 /// which nothing is expanded, and then drivers, readers, loops and the control of the latches. The
@@ -148,8 +151,15 @@ fn flatten_called(
         → IsRefusal (file_of file.now) (TooMany limit count) }
 {
     check_sizes(alloc, file, calls, names)?;
+    keep_rooms(alloc);
     let plans = plans(alloc, file, &calls.nodes)?;
     flatten_planned(alloc, file, places, names, calls, &plans)
+}
+
+/// Asks for a room and gives it back. From then on glibc keeps the rooms of up to that size that are given back, so that
+/// the pages of the lists to come need not be asked of the system anew. Where there is no such room, nothing changes.
+fn keep_rooms(alloc: Global) {
+    let _ = Vec::<u8>::with_capacity(alloc, KEPT_ROOM);
 }
 
 /// Looks for the first count of the file's network that is above its limit.

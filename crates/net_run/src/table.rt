@@ -75,5 +75,6 @@ fn stand_between(
 fn stands_for(letter: Letter, value: bool) -> bool
     ensures { (result ≡ true) ↔ StandsFor letter value }
 {
-    (letter == Letter::Any) | (value == (letter == Letter::One))
+    // `Zero` and `One` are 0 and 1, and `Any` differs from a value by more than the last bit.
+    (letter as u8) ^ (value as u8) != 1
 }

@@ -79,6 +79,9 @@ fn call_graph(
 fn callees(alloc: Global, units: &[u32], places: &[u32]) -> Result<Node<'static>, OutOfMemory>
     ensures { IfOk result (λ node. node ≡ map (λ k. slice_index_or units.now k 0) places.now) }
 {
+    if places.is_empty() {
+        return Ok(Node::alone());
+    }
     if let [place] = places {
         return Ok(Node::leading_to(unit_at(units, *place)));
     }
@@ -86,7 +89,7 @@ fn callees(alloc: Global, units: &[u32], places: &[u32]) -> Result<Node<'static>
     for place in places {
         next.push(unit_at(units, *place))?;
     }
-    Ok(Node::owning(next))
+    Node::owning(alloc, next)
 }
 
 fn unit_at(units: &[u32], place: u32) -> u32
