@@ -1,4 +1,5 @@
 pub mod OneAnswer
 pub mod PinLetters
+pub mod PlainLines
 pub mod ReadLines
 pub mod Rows

@@ -34,6 +34,13 @@ pub fn fault_of(letters: &[u8], width: u32) -> Option<StimKind>
     }
 }
 
+/// Whether letters are without fault for this number of pins.
+pub fn is_good(letters: &[u8], width: u32) -> bool
+    ensures { result ≡ is_good width letters.now }
+{
+    are_letters(letters, width) && has_width(letters, width)
+}
+
 fn are_letters(letters: &[u8], width: u32) -> bool
     ensures { result ≡ are_letters width letters.now }
 {

@@ -3,7 +3,7 @@ ghost use Rattle.std.specs.Prelude.{ℕ, ◌≡◌, ◌<◌, ◌+◌, IfOk, IsEr
 ghost use Rattle.stim_text.specs.Stimuli.{IsStimulusOf, IsStimFaultAt, letters_of};
 ghost use Rattle.stim_text.specs.LinesRead.{IsLineRead, IsLineFault};
 
-use crate::letters::{fault_of, push_pins, take_letters};
+use crate::letters::{fault_of, is_good, push_pins, take_letters};
 use crate::{StimFault, Stimulus};
 use dom_base::cut_line;
 use std::alloc::Global;
@@ -30,8 +30,8 @@ pub fn read_stim(alloc: Global, text: &[u8], width: u32) -> Result<Stimulus, Sti
     Ok(Stimulus::new(bits, width as usize, count))
 }
 
-/// Appends the bits of a line that is a cycle. It answers of how many cycles: of one where the line has letters. What stands in
-/// `letters` is overwritten.
+/// Appends the bits of a line that is a cycle. It answers of how many cycles: of one where the line has letters. Most lines
+/// are their letters; those of another line are put in `letters`.
 fn read_line(
     letters: &mut Vec<u8>,
     line: &[u8],
@@ -42,6 +42,10 @@ fn read_line(
     ensures cycle { IfOk result (λ cycles. IsLineRead width (letters_of line.now) bits.old.items cycles bits.new.items) }
     ensures fault { (n : ℕ) (k : _) → IsErrOf result (StimFault.At n k) → (n ≡ number) × IsLineFault width (letters_of line.now) k }
 {
+    if is_good(line, width) {
+        push_pins(bits, line, width)?;
+        return Ok(1);
+    }
     take_letters(letters, line)?;
     if letters.is_empty() {
         return Ok(0);
