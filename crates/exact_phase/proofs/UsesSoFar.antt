@@ -7,7 +7,7 @@ use Rattle.gate_decompose.specs.Needed.{HasSize}
 use Rattle.phase_assign.specs.Uses.{AreUses, HasFewRoots, IsSupplied, asked, asked_by_sinks, living, used}
 use Rattle.phase_assign.specs.Wiring.{AreWired, IsWiring}
 use Rattle.dual_rail.specs.declared.signed.Signed.{Signed}
-use Rattle.phase_assign.specs.declared.pairs.Arms.{Arms}
+use Rattle.phase_assign.specs.ArmsData.{ArmsData as Arms}
 use Rattle.dual_rail.specs.declared.signed.SignedNode.{SignedNode}
 use Rattle.phase_assign.proofs.Exchanges.{living_alike, roots_appended, sinks_few, uses_added, uses_alike}
 use Rattle.phase_assign.proofs.NeededUses.{uses_size, uses_within}

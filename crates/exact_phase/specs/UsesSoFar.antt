@@ -2,7 +2,7 @@
 use Rattle.std.specs.Prelude.{ℕ, ◌≡◌, Bool, List, [], length, Option}
 use Rattle.phase_assign.specs.Uses.{AreUses, asked_by_sinks, living, used}
 use Rattle.dual_rail.specs.declared.signed.Signed.{Signed}
-use Rattle.phase_assign.specs.declared.pairs.Arms.{Arms}
+use Rattle.phase_assign.specs.ArmsData.{ArmsData as Arms}
 use Rattle.dual_rail.specs.declared.signed.SignedNode.{SignedNode}
 
 -- the uses under the signs of the first sinks, and the number of used pairs

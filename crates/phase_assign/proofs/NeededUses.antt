@@ -13,7 +13,7 @@ use Rattle.gate_decompose.proofs.NeededLists.{gate_parts, marked_pairs_are_neede
 use Rattle.gate_decompose.proofs.NeededSets.{pass_is_needed}
 use Rattle.phase_assign.specs.Uses.{AreUses, asked, asked_by_pair, asked_by_sinks, is_live, living, one_if, times, total, uses_by_pairs}
 use Rattle.phase_assign.specs.Wiring.{AreWired, IsAskedBy, IsWiring}
-use Rattle.phase_assign.specs.declared.pairs.Arms.{Arms}
+use Rattle.phase_assign.specs.ArmsData.{ArmsData as Arms}
 use Rattle.dual_rail.specs.declared.signed.SignedNode.{SignedNode}
 use Rattle.phase_assign.proofs.Totals.{some_true, times-append, times_below, total_at, total_le, total_some, true_some}
 

@@ -10,7 +10,7 @@ use Rattle.phase_assign.specs.Signs.{Lowers, with_sign_changed}
 use Rattle.phase_assign.specs.Uses.{AreBelow, AreTried, AreUses, HasFewRoots, HasRoots, asked, asked_by_sinks, is_live, living, one_if, total, used, uses_by_pairs}
 use Rattle.phase_assign.specs.Wiring.{AreWired, IsWiring}
 use Rattle.dual_rail.specs.declared.signed.Signed.{Signed}
-use Rattle.phase_assign.specs.declared.pairs.Arms.{Arms}
+use Rattle.phase_assign.specs.ArmsData.{ArmsData as Arms}
 use Rattle.dual_rail.specs.declared.signed.SignedNode.{SignedNode}
 use Rattle.phase_assign.proofs.Exchanges.{few_without, living_alike, sinks_with, uses_alike, uses_without}
 use Rattle.phase_assign.proofs.NeededUses.{uses_size, uses_within}

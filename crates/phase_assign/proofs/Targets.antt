@@ -16,7 +16,7 @@ use Rattle.dual_rail.specs.SignedValues.{with_sign}
 use Rattle.phase_assign.specs.Uses.{AreBelow, asked, asked_by_arms, asked_by_pair, is_pair, one_if, times}
 use Rattle.dual_rail.specs.Targets.{asked_target, other_sign_of, pair_of}
 use Rattle.phase_assign.specs.Wiring.{AreArmsOf, AreWired, IsAskedBy, IsWiring}
-use Rattle.phase_assign.specs.declared.pairs.Arms.{Arms}
+use Rattle.phase_assign.specs.ArmsData.{ArmsData as Arms}
 use Rattle.dual_rail.specs.declared.signed.SignedNode.{SignedNode}
 use Rattle.phase_assign.proofs.Totals.{below_append, pair_is, pair_self}
 

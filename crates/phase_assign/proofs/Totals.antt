@@ -171,6 +171,14 @@ pub below_append : (n : ℕ) (xs ys : List SignedNode) → AreBelow n xs → Are
 below_append n [] ys a b = b
 below_append n (x ∷ xs) ys a b = (a.0, below_append n xs ys a.1 b)
 
+pub below_left : (n : ℕ) (xs ys : List SignedNode) → AreBelow n (xs ++ ys) → AreBelow n xs
+below_left n [] ys all = tt
+below_left n (x ∷ xs) ys all = (all.0, below_left n xs ys all.1)
+
+pub below_right : (n : ℕ) (xs ys : List SignedNode) → AreBelow n (xs ++ ys) → AreBelow n ys
+below_right n [] ys all = all
+below_right n (x ∷ xs) ys all = below_right n xs ys all.1
+
 -- uses that are taken away or added one after another
 pub item_next : (xs : List SignedNode) (i : ℕ) (d : SignedNode) → i < length xs → (n : ℕ) (s : Bool) → times n s (take (i + 1) xs) ≡ times n s (take i xs) + one_if (is_pair n s (get_or xs i d))
 item_next xs i d lt n s = times_next n s xs i (get_or xs i d) lt (get_or_default xs i d (get_or xs i d) lt)

@@ -1,10 +1,10 @@
 -- Lists of the pairs that a trial looked at, one after another.
-use Rattle.std.proofs.Common.{◌≡◌, ◌⊎◌, inl, inr, refl, sym, ap, subst, ◌∙◌, ℕ, ◌+◌, ◌≤◌, ◌<◌, Bool, true, false, List, length, take, set, get_or, get_or-set_other, get_or-set_same, arith}
+use Rattle.std.proofs.Common.{◌≡◌, ◌⊎◌, inl, inr, refl, sym, ap, subst, ◌∙◌, ℕ, zero, suc, ◌+◌, ◌≤◌, ◌<◌, Bool, true, false, List, ◌++◌, length, take, set, get_or, get_or-set_other, get_or-set_same, arith}
 use Rattle.std.proofs.lemmas.Bool.{cases_eq}
 use Rattle.std.proofs.lemmas.List.{take_all}
 use Rattle.phase_assign.specs.Uses.{AreBelow, is_pair, one_if, times}
 use Rattle.dual_rail.specs.declared.signed.SignedNode.{SignedNode}
-use Rattle.phase_assign.proofs.Totals.{below_at, item_next, pair_is}
+use Rattle.phase_assign.proofs.Totals.{below_at, item_next, pair_is, times-append}
 
 not_pair : (n : ℕ) (s : Bool) (p : SignedNode) → (p.node ≡ n → ⊥) → one_if (is_pair n s p) ≡ 0
 not_pair n s p other = by (is_pair n s p) refl
@@ -52,3 +52,29 @@ current_next looked i d changed size lt so_far own n s some = by (cases_eq (get_
 pub current_all : (looked : List SignedNode) (i : ℕ) (changed : List ℕ) (size : ℕ) → length looked ≤ i → ((n : ℕ) (s : Bool) → 0 < times n s (take i looked) → size ≤ get_or changed n 0)
     → (n : ℕ) (s : Bool) → 0 < times n s looked → size ≤ get_or changed n 0
 current_all looked i changed size le h = subst (λ xs. (n : ℕ) (s : Bool) → 0 < times n s xs → size ≤ get_or changed n 0) (take_all i looked le) h
+
+-- a change noted for the pairs of two lists
+pub noted_both : (gone come gone' come' : List SignedNode) (a b d size n : ℕ) → gone' ≡ gone → come' ≡ come → (b ≡ size) ⊎ ((b ≡ a) × ((s : Bool) → times n s gone' ≡ 0))
+    → (d ≡ size) ⊎ ((d ≡ b) × ((s : Bool) → times n s come' ≡ 0)) → (d ≡ size) ⊎ ((d ≡ a) × ((s : Bool) → times n s (gone ++ come) ≡ 0))
+noted_both gone come gone' come' a b d size n g h first (inl e) = inl e
+noted_both gone come gone' come' a b d size n g h (inl e) (inr (same, none)) = inl (same ∙ e)
+noted_both gone come gone' come' a b d size n g h (inr (same, none)) (inr (same', none')) =
+    inr (
+      same' ∙ same,
+      λ s.
+          let t = times-append n s gone come in
+          let x = ap (times n s) g in
+          let y = ap (times n s) h in
+          let k = none s in
+          let l = none' s in
+          omega arith,
+    )
+
+-- nothing has changed at the pairs of two lists
+pub current_both : (gone come gone' come' : List SignedNode) (changes : List ℕ) (size : ℕ) → gone' ≡ gone → come' ≡ come → ((n : ℕ) (s : Bool) → 0 < times n s gone' → size ≤ get_or changes n 0)
+    → ((n : ℕ) (s : Bool) → 0 < times n s come' → size ≤ get_or changes n 0) → (n : ℕ) (s : Bool) → 0 < times n s (gone ++ come) → size ≤ get_or changes n 0
+current_both gone come gone' come' changes size g h first second n s some = by (times n s gone') refl
+  where
+    by : (k : ℕ) → times n s gone' ≡ k → size ≤ get_or changes n 0
+    by zero e = second n s (let t = times-append n s gone come in let x = ap (times n s) g in let y = ap (times n s) h in omega arith)
+    by (suc k) e = first n s (omega arith)

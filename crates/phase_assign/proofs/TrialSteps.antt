@@ -5,6 +5,7 @@ use Rattle.std.proofs.lemmas.Option.{same_Some, slice_get-get_or}
 use Rattle.dom_base.proofs.Lists.{slice_get-push_cases, slice_get-set_other}
 use Rattle.gate_decompose.specs.GatesData.{GatesData}
 use Rattle.gate_decompose.specs.GatesOrder.{AreOrderedGates}
+use Rattle.phase_assign.specs.LookedPairs.{looked_pairs}
 use Rattle.phase_assign.specs.Refusals.{IsSignChangeRefused}
 use Rattle.phase_assign.specs.Search.{IsSearch}
 use Rattle.phase_assign.specs.Signs.{Lowers, with_sign_changed}
@@ -12,7 +13,7 @@ use Rattle.phase_assign.specs.Trials.{AreTrials, HasNoTrials, IsTrial}
 use Rattle.phase_assign.specs.Uses.{AreBelow, asked_by_sinks, times, used}
 use Rattle.phase_assign.specs.Wiring.{AreWired, IsWiring}
 use Rattle.dual_rail.specs.declared.signed.Signed.{Signed}
-use Rattle.phase_assign.specs.declared.pairs.Arms.{Arms}
+use Rattle.phase_assign.specs.ArmsData.{ArmsData as Arms}
 use Rattle.dual_rail.specs.declared.signed.SignedNode.{SignedNode}
 use Rattle.phase_assign.specs.declared.trials.Trial.{Trial}
 use Rattle.phase_assign.proofs.Exchanges.{sinks_with, uses_without}
@@ -45,21 +46,21 @@ refused_none gates order arms ends wiring wired signs uses size k is lt e b at o
 -- a sink whose trial still holds
 pub settled_none : (gates : GatesData) → AreOrderedGates gates → (arms : List Arms) (ends : List (Option SignedNode)) → IsWiring arms ends → AreWired gates arms ends → (signs : List Bool) (uses : List (Signed ℕ)) (size k : ℕ)
     → (changed : List ℕ) (trials : List (Option Trial)) → IsSearch arms ends signs uses size → AreTrials arms ends signs uses size changed trials → k < length ends → (trial : Trial) → slice_get trials k ≡ Some (Some trial)
-    → ((n : ℕ) (s : Bool) → 0 < times n s trial.looked.items → trial.size ≤ get_or changed n 0) → Lowers gates signs k → ⊥
+    → ((n : ℕ) (s : Bool) → 0 < times n s (looked_pairs trial.looked) → trial.size ≤ get_or changed n 0) → Lowers gates signs k → ⊥
 settled_none gates order arms ends wiring wired signs uses size k changed trials is are lt trial at current =
     let e : Option SignedNode = get_or ends k None in
     let b : Bool = get_or signs k true in
     let low : k < length signs = omega (arith, is.one_each) in
     let at_e = slice_get-get_or ends k None lt in
     let t = are.each k trial e b at at_e (slice_get-get_or signs k true low) in
-    refused_none gates order arms ends wiring wired signs uses size k is low e b at_e refl trial.looked.items
-    (refused_still arms t.count (used uses) trial.looked.items (λ n s some. t.same n s (current n s some)) e b t.refused)
+    refused_none gates order arms ends wiring wired signs uses size k is low e b at_e refl (looked_pairs trial.looked)
+    (refused_still arms t.count (used uses) (looked_pairs trial.looked) (λ n s some. t.same n s (current n s some)) e b t.refused)
 
 pub trial_below : (arms : List Arms) (ends : List (Option SignedNode)) (signs : List Bool) (uses : List (Signed ℕ)) (size k : ℕ) (changed : List ℕ) (trials : List (Option Trial)) → IsSearch arms ends signs uses size
-    → AreTrials arms ends signs uses size changed trials → k < length ends → (trial : Trial) → slice_get trials k ≡ Some (Some trial) → AreBelow (length changed) trial.looked.items
+    → AreTrials arms ends signs uses size changed trials → k < length ends → (trial : Trial) → slice_get trials k ≡ Some (Some trial) → AreBelow (length changed) (looked_pairs trial.looked)
 trial_below arms ends signs uses size k changed trials is are lt trial at =
     let t = are.each k trial (get_or ends k None) (get_or signs k true) at (slice_get-get_or ends k None lt) (slice_get-get_or signs k true (omega (arith, is.one_each))) in
-    subst (λ n. AreBelow n trial.looked.items) (sym are.changed_count) t.below
+    subst (λ n. AreBelow n (looked_pairs trial.looked)) (sym are.changed_count) t.below
 
 -- after a change of a sign
 pub trials_changed : (arms : List Arms) (ends : List (Option SignedNode)) (signs : List Bool) (uses new : List (Signed ℕ)) (size after k : ℕ) (changed noted : List ℕ) (trials : List (Option Trial)) (looked : List SignedNode) (c : Bool)
@@ -88,8 +89,8 @@ trials_changed arms ends signs uses new size after k changed noted trials looked
 
 -- after a trial that lowered nothing
 pub trials_kept : (arms : List Arms) (ends : List (Option SignedNode)) (signs : List Bool) (uses new : List (Signed ℕ)) (size after k : ℕ) (changed : List ℕ) (trials : List (Option Trial)) (own : Trial) (d : Option SignedNode) (c : Bool)
-    → AreTrials arms ends signs uses size changed trials → after ≤ size → own.size ≡ size → ((n : ℕ) (s : Bool) → used new n s ≡ used uses n s) → IsSignChangeRefused arms (used uses) d c own.looked.items
-    → AreBelow (length arms) own.looked.items → slice_get ends k ≡ Some d → slice_get signs k ≡ Some c → AreTrials arms ends signs new after changed (set trials k (Some own))
+    → AreTrials arms ends signs uses size changed trials → after ≤ size → own.size ≡ size → ((n : ℕ) (s : Bool) → used new n s ≡ used uses n s) → IsSignChangeRefused arms (used uses) d c (looked_pairs own.looked)
+    → AreBelow (length arms) (looked_pairs own.looked) → slice_get ends k ≡ Some d → slice_get signs k ≡ Some c → AreTrials arms ends signs new after changed (set trials k (Some own))
 trials_kept arms ends signs uses new size after k changed trials own d c are low at_size kept refused below at_d at_c = record {
   one_each = length-set trials k (Some own) ∙ are.one_each;
   changed_count = are.changed_count;

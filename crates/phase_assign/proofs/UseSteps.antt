@@ -2,7 +2,7 @@
 use Rattle.std.proofs.Common.{◌≡◌, refl, sym, ap, subst, ◌∙◌, ℕ, ◌+◌, ◌*◌, ◌≤◌, ◌<◌, ◌^◌, Bool, true, false, cond, List, [], ◌∷◌, ◌++◌, length, length-append, get_or, Option, Some, None, arith}
 use Rattle.phase_assign.specs.Uses.{AreUses, HasFewRoots, asked, asked_by_pair, is_live, is_pair, is_some_use, living, one_if, times, total, used, uses_by_pairs}
 use Rattle.dual_rail.specs.declared.signed.SignedNode.{SignedNode}
-use Rattle.phase_assign.specs.declared.pairs.Arms.{Arms}
+use Rattle.phase_assign.specs.ArmsData.{ArmsData as Arms}
 use Rattle.dual_rail.specs.declared.signed.Signed.{Signed}
 use Rattle.phase_assign.proofs.Totals.{none_false, pair_is, pair_self, some_true, times-append, times-le, total_changed, total_few}
 

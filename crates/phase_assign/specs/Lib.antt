@@ -1,3 +1,5 @@
+pub mod ArmsData
+pub mod LookedPairs
 pub mod Refusals
 pub mod Search
 pub mod Signs

@@ -1,7 +1,7 @@
 -- What a trial of a sink that lowered nothing has shown.
 use Rattle.std.specs.Prelude.{ℕ, ◌+◌, ◌≤◌, ◌≡◌, Bool, not, List, Option, length}
 use Rattle.phase_assign.specs.Uses.{asked, living, times, uses_by_pairs}
-use Rattle.phase_assign.specs.declared.pairs.Arms.{Arms}
+use Rattle.phase_assign.specs.ArmsData.{ArmsData as Arms}
 use Rattle.dual_rail.specs.declared.signed.SignedNode.{SignedNode}
 
 -- a sink's use with the other sign in place of that with this sign leaves no fewer pairs used, by counts that differ from

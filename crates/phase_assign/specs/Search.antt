@@ -5,7 +5,7 @@ use Rattle.gate_decompose.specs.GatesData.{GatesData}
 use Rattle.phase_assign.specs.Signs.{IsPassOf, IsTurnOf}
 use Rattle.phase_assign.specs.Uses.{AreUses, asked_by_sinks, living, used}
 use Rattle.dual_rail.specs.declared.signed.Signed.{Signed}
-use Rattle.phase_assign.specs.declared.pairs.Arms.{Arms}
+use Rattle.phase_assign.specs.ArmsData.{ArmsData as Arms}
 use Rattle.dual_rail.specs.declared.signed.SignedNode.{SignedNode}
 
 pub record IsSearch (arms : List Arms) (ends : List (Option SignedNode)) (signs : List Bool) (uses : List (Signed ℕ))

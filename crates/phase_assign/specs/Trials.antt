@@ -1,9 +1,10 @@
 -- Trials of sinks that lowered nothing, and which later states they still hold for.
 use Rattle.std.specs.Prelude.{ℕ, ◌≤◌, ◌≡◌, Bool, List, Option, Some, length, slice_get, get_or}
+use Rattle.phase_assign.specs.LookedPairs.{looked_pairs}
 use Rattle.phase_assign.specs.Refusals.{IsSignChangeRefused}
 use Rattle.phase_assign.specs.Uses.{AreBelow, used}
 use Rattle.dual_rail.specs.declared.signed.Signed.{Signed}
-use Rattle.phase_assign.specs.declared.pairs.Arms.{Arms}
+use Rattle.phase_assign.specs.ArmsData.{ArmsData as Arms}
 use Rattle.dual_rail.specs.declared.signed.SignedNode.{SignedNode}
 use Rattle.phase_assign.specs.declared.trials.Trial.{Trial}
 
@@ -11,10 +12,10 @@ use Rattle.phase_assign.specs.declared.trials.Trial.{Trial}
 pub record IsTrial (arms : List Arms) (target : Option SignedNode) (sign : Bool) (uses : List (Signed ℕ)) (changed : List ℕ) (size : ℕ)
     (trial : Trial) : Type 0 where
   pub count : ℕ → Bool → ℕ
-  pub refused : IsSignChangeRefused arms count target sign trial.looked.items
+  pub refused : IsSignChangeRefused arms count target sign (looked_pairs trial.looked)
   pub same : (n : ℕ) (s : Bool) → trial.size ≤ get_or changed n 0 → used uses n s ≡ count n s
   pub later : size ≤ trial.size
-  pub below : AreBelow (length arms) trial.looked.items
+  pub below : AreBelow (length arms) (looked_pairs trial.looked)
 
 -- trials of some sinks
 pub record AreTrials (arms : List Arms) (ends : List (Option SignedNode)) (signs : List Bool) (uses : List (Signed ℕ))

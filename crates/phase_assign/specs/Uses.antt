@@ -4,7 +4,7 @@ use Rattle.std.specs.Prelude.{ℕ, zero, suc, ◌+◌, ◌*◌, ◌<◌, ◌≤�
 use Rattle.std.specs.List.{AllByRecursion}
 use Rattle.dual_rail.specs.SignedValues.{of_node, same_sign, with_sign}
 use Rattle.dual_rail.specs.declared.signed.SignedNode.{SignedNode}
-use Rattle.phase_assign.specs.declared.pairs.Arms.{Arms}
+use Rattle.phase_assign.specs.ArmsData.{ArmsData as Arms}
 use Rattle.dual_rail.specs.declared.signed.Signed.{Signed}
 
 -- what is asked for with a sign, where this, if anything, is asked for with the sign plus

@@ -2,6 +2,7 @@
 #![tactic(auto)]
 
 mod laws;
+mod looked;
 mod needed;
 mod pairs;
 mod search;

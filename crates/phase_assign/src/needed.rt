@@ -1,10 +1,12 @@
 //! Needed pairs by counts of their uses: a pair is needed where it is used.
 ghost use Rattle.std.specs.Prelude.{IfOk, List, ℕ, Bool, true, false, not, cond, ◌++◌, ◌≡◌, ◌<◌, ◌≤◌, ◌+◌, ◌*◌, ◌^◌, [], length};
 ghost use Rattle.dual_rail.specs.declared.signed.SignedNode.{SignedNode as NodeData};
+ghost use Rattle.phase_assign.specs.LookedPairs.{looked_pairs};
 ghost use Rattle.phase_assign.specs.Refusals.{IsSignChangeRefused};
 ghost use Rattle.dual_rail.specs.SignedValues.{of_sign, same_sign};
 ghost use Rattle.phase_assign.specs.Uses.{AreArms, AreBelow, AreUses, HasFewRoots, HasRoots, IsSupplied, asked, is_pair, living, one_if, times, used};
 
+use crate::looked::Looked;
 use crate::pairs::{Arms, asked_for};
 use dom_base::OutOfMemory;
 use dual_rail::{Signed, SignedNode};
@@ -83,7 +85,7 @@ fn add_uses(uses: &mut [Signed<u32>], pairs: &[SignedNode])
 #[derive(Drop)]
 pub struct Exchange {
     pub fewer: bool,
-    pub looked: Vec<SignedNode>,
+    pub looked: Looked,
 }
 
 /// How often the pairs of each node are used, by arms of needed pairs and by sinks, and the number of pairs that are used.
@@ -227,8 +229,8 @@ impl Needed {
             × AreUses arms.now (used self.old.uses.items) others [] (asked target sign) }
         ensures count { IfOk result (λ x. length self.new.uses.items ≡ length arms.now) }
         ensures size { IfOk result (λ x. self.new.size ≡ living (used self.new.uses.items) (length arms.now)) }
-        ensures below { IfOk result (λ x. AreBelow (length arms.now) x.looked.items) }
-        ensures elsewhere { IfOk result (λ x. (n : ℕ) (s : Bool) → times n s x.looked.items ≡ 0
+        ensures below { IfOk result (λ x. AreBelow (length arms.now) (looked_pairs x.looked)) }
+        ensures elsewhere { IfOk result (λ x. (n : ℕ) (s : Bool) → times n s (looked_pairs x.looked) ≡ 0
             → used self.new.uses.items n s ≡ used self.old.uses.items n s) }
         ensures lower { IfOk result (λ x. x.fewer ≡ true → self.new.size < self.old.size) }
         ensures changed { IfOk result (λ x. x.fewer ≡ true → (others roots : List NodeData)
@@ -237,7 +239,7 @@ impl Needed {
         ensures kept { IfOk result (λ x. x.fewer ≡ false → (n : ℕ) (s : Bool)
             → used self.new.uses.items n s ≡ used self.old.uses.items n s) }
         ensures refused { IfOk result (λ x. x.fewer ≡ false
-            → IsSignChangeRefused arms.now (used self.old.uses.items) target sign x.looked.items) }
+            → IsSignChangeRefused arms.now (used self.old.uses.items) target sign (looked_pairs x.looked)) }
     {
         let before = self.size;
         let mut gone = asked_for(alloc, target, sign)?;
@@ -245,17 +247,15 @@ impl Needed {
         let mut come = asked_for(alloc, target, !sign)?;
         self.supply(arms, &mut come, before)?;
         if self.size < before {
-            gone.extend_from_slice(come.as_slice())?;
             return Ok(Exchange {
                 fewer: true,
-                looked: gone,
+                looked: Looked { gone, come },
             });
         }
         self.restore(gone.as_slice(), come.as_slice(), before);
-        gone.extend_from_slice(come.as_slice())?;
         Ok(Exchange {
             fewer: false,
-            looked: gone,
+            looked: Looked { gone, come },
         })
     }
 }

@@ -2,6 +2,7 @@
 ghost use Rattle.std.specs.Prelude.{IfOk, List, ℕ, Bool, ◌≡◌, ◌<◌, ◌≤◌, true, Some, slice_get, get_or, length, replicate};
 ghost use Rattle.gate_decompose.specs.GatesData.{GatesData};
 ghost use Rattle.gate_decompose.specs.GatesOrder.{AreOrderedGates};
+ghost use Rattle.phase_assign.specs.LookedPairs.{looked_pairs};
 ghost use Rattle.phase_assign.specs.Search.{IsSearch};
 ghost use Rattle.phase_assign.specs.Signs.{AreChosen, IsPassOf, IsTurnOf};
 ghost use Rattle.phase_assign.specs.declared.trials.Trial.{Trial as TrialData};
@@ -11,7 +12,7 @@ ghost use Rattle.phase_assign.specs.Wiring.{AreWired, IsWiring};
 
 use crate::needed::{NO_USES, Needed};
 use crate::pairs::push_asked;
-use crate::trials::{Trial, note_change};
+use crate::trials::Trial;
 use crate::wiring::{Wiring, wiring_of};
 use dom_base::OutOfMemory;
 use dual_rail::SignedNode;
@@ -25,7 +26,7 @@ use std::alloc::Global;
 struct Search {
     signs: Vec<bool>,
     needed: Needed,
-    changed: Vec<u64>,
+    changed: Vec<u32>,
     trials: Vec<Option<Trial>>,
 }
 
@@ -69,7 +70,7 @@ impl Search {
         let mut needed = Needed { uses, size: 0 };
         let mut work = asked_at_first(alloc, wiring.ends.as_slice())?;
         needed.supply(wiring.arms.as_slice(), &mut work, u64::MAX)?;
-        let changed = vec![in alloc; needed.size; wiring.arms.len()]?;
+        let changed = vec![in alloc; needed.size as u32; wiring.arms.len()]?;
         let trials = no_trials(alloc, wiring.ends.len())?;
         Ok(Search {
             signs,
@@ -83,12 +84,12 @@ impl Search {
     fn is_settled(&self, sink: usize) -> bool
         requires sink { sink < length self.now.trials.items }
         requires below { (trial : TrialData) → slice_get self.now.trials.items sink ≡ Some (Some trial)
-            → AreBelow (length self.now.changed.items) trial.looked.items }
+            → AreBelow (length self.now.changed.items) (looked_pairs trial.looked) }
         ensures { result ≡ true → (trial : TrialData) × (slice_get self.now.trials.items sink ≡ Some (Some trial))
-            × ((n : ℕ) (s : Bool) → 0 < times n s trial.looked.items → trial.size ≤ get_or self.now.changed.items n 0) }
+            × ((n : ℕ) (s : Bool) → 0 < times n s (looked_pairs trial.looked) → trial.size ≤ get_or self.now.changed.items n 0) }
     {
         match &self.trials[sink] {
-            Some(trial) => trial.is_current(self.changed.as_slice()),
+            Some(trial) => trial.looked.is_current(self.changed.as_slice(), trial.size),
             None => false,
         }
     }
@@ -118,12 +119,10 @@ impl Search {
         if exchange.fewer {
             self.signs[sink] = !sign;
             self.trials[sink] = None;
-            let size = self.needed.size;
-            note_change(
-                self.changed.as_mut_slice(),
-                exchange.looked.as_slice(),
-                size,
-            );
+            let size = self.needed.size as u32;
+            exchange
+                .looked
+                .note_change(self.changed.as_mut_slice(), size);
         } else {
             self.trials[sink] = Some(Trial {
                 size: before,

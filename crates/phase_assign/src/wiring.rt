@@ -26,14 +26,10 @@ fn arms_of(targets: &[Target], node: Node) -> Arms
     ensures { (nodes : List NodeData) → AreTargets nodes targets.now → AreArmsOf nodes node result }
 {
     match node {
-        Node::Not(_) => Arms {
-            left: None,
-            right: None,
-        },
-        Node::And(left, right) | Node::Or(left, right) => Arms {
-            left: asked_pair(targets, left),
-            right: asked_pair(targets, right),
-        },
+        Node::Not(_) => Arms::new(None, None),
+        Node::And(left, right) | Node::Or(left, right) => {
+            Arms::new(asked_pair(targets, left), asked_pair(targets, right))
+        }
     }
 }
 

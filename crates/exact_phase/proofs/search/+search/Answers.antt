@@ -1,7 +1,7 @@
 use Rattle.std.proofs.Common.{rules, inl, refl, sym, ap, subst, ◌∙◌, List, false, ◌++◌, ◌∷◌, [], ◌≡◌, ◌<◌, ◌+◌, length, length-append, Some, slice_get, arith}
 use Rattle.std.proofs.lemmas.Option.{slice_get-get_or}
 use Rattle.phase_assign.specs.Uses.{AreUses, HasFewRoots, asked_by_sinks, living, used}
-use Rattle.phase_assign.specs.declared.pairs.Arms.{Arms}
+use Rattle.phase_assign.specs.ArmsData.{ArmsData as Arms}
 use Rattle.dual_rail.specs.declared.signed.SignedNode.{SignedNode}
 use Rattle.exact_phase.specs.Search.{IsSearched}
 use Rattle.exact_phase.specs.UsesSoFar.{AreUsesSoFar}

@@ -1,6 +1,6 @@
 -- The uses that are taken away and added; where as many pairs are used, all is as before.
 use Rattle.std.proofs.Common.{◌≡◌, ◌++◌, ◌∙◌, ℕ, Bool, not, List, [], Option, length, ap, sym, subst, arith}
-use Rattle.phase_assign.specs.declared.pairs.Arms.{Arms}
+use Rattle.phase_assign.specs.ArmsData.{ArmsData as Arms}
 use Rattle.dual_rail.specs.declared.signed.SignedNode.{SignedNode}
 use Rattle.phase_assign.specs.Uses.{AreUses, HasRoots, IsSupplied, asked, times, used}
 use Rattle.phase_assign.proofs.Exchanges.{few_turned, living_alike, roots_appended, uses_added, uses_fit}
@@ -28,8 +28,8 @@ restore-requires-clause-room c = λ n s.
     let fit = uses_fit c.args.arms.now (used c.args.self.now.uses.items) c.requires.uses.0 (asked c.args.target c.args.sign) c.requires.uses.2 c.requires.uses.1 n s in
     let a = c.in_ok-withdraw.ensures.gone n s in
     let b = c.in_ok-supply.ensures.come n s in
-    let x : times n s c.as_slice-2.result.now ≡ times n s c.withdraw.new.work.items = ap (times n s) c.as_slice-2.ensures.value in
-    let y : times n s c.as_slice-3.result.now ≡ times n s c.supply.new.work.items = ap (times n s) c.as_slice-3.ensures.value in
+    let x : times n s c.as_slice.result.now ≡ times n s c.withdraw.new.work.items = ap (times n s) c.as_slice.ensures.value in
+    let y : times n s c.as_slice-2.result.now ≡ times n s c.supply.new.work.items = ap (times n s) c.as_slice-2.ensures.value in
     omega arith
 
 supplied : (arms : List Arms) (before middle after : ℕ → Bool → ℕ) (gone come : List SignedNode) (target : Option SignedNode) (sign : Bool) (size limit : ℕ) → gone ≡ asked target sign → come ≡ asked target (not sign)
@@ -48,10 +48,7 @@ returns-then-self-before-clause-changed c = λ e others roots u h.
 
 pub returns-then-self-before-clause-elsewhere : goal.returns-then-self-before-clause-elsewhere
 returns-then-self-before-clause-elsewhere c = λ n s none.
-    let items : c.extend_from_slice.new.self.items ≡ c.withdraw.new.work.items ++ c.as_slice.result.now = c.in_ok-extend_from_slice.ensures.items in
-    let all : times n s c.extend_from_slice.new.self.items ≡ times n s (c.withdraw.new.work.items ++ c.as_slice.result.now) = ap (times n s) items in
-    let split = times-append n s c.withdraw.new.work.items c.as_slice.result.now in
-    let y : times n s c.as_slice.result.now ≡ times n s c.supply.new.work.items = ap (times n s) c.as_slice.ensures.value in
+    let split = times-append n s c.withdraw.new.work.items c.supply.new.work.items in
     let a = c.in_ok-withdraw.ensures.gone n s in
     let b = c.in_ok-supply.ensures.come n s in
     omega arith
@@ -64,8 +61,8 @@ returns-clause-size c =
     let r = c.restore.ensures.uses n s in
     let a = c.in_ok-withdraw.ensures.gone n s in
     let b = c.in_ok-supply.ensures.come n s in
-    let x : times n s c.as_slice-2.result.now ≡ times n s c.withdraw.new.work.items = ap (times n s) c.as_slice-2.ensures.value in
-    let y : times n s c.as_slice-3.result.now ≡ times n s c.supply.new.work.items = ap (times n s) c.as_slice-3.ensures.value in
+    let x : times n s c.as_slice.result.now ≡ times n s c.withdraw.new.work.items = ap (times n s) c.as_slice.ensures.value in
+    let y : times n s c.as_slice-2.result.now ≡ times n s c.supply.new.work.items = ap (times n s) c.as_slice-2.ensures.value in
     omega arith)
 
 pub returns-clause-refused : goal.returns-clause-refused
@@ -77,7 +74,6 @@ returns-clause-refused c = λ e.
     let s = supplied c.args.arms.now (used c.args.self.now.uses.items) (used c.withdraw.new.self.uses.items) (used c.supply.new.self.uses.items) c.in_ok-gone.gone.items c.in_ok-come.come.items
     c.args.target c.args.sign c.supply.new.self.size c.args.self.now.size c.in_ok-gone.ensures c.in_ok-come.ensures c.in_ok-withdraw.ensures.uses c.in_ok-supply.ensures.uses others
     (others ++ asked c.args.target (not c.args.sign)) u (roots_appended others (asked c.args.target (not c.args.sign))) in
-    let items : c.extend_from_slice-2.new.self.items ≡ c.withdraw.new.work.items ++ c.as_slice-4.result.now = c.in_ok-extend_from_slice-2.ensures.items in
     record {
       without = used c.withdraw.new.self.uses.items;
       tried = used c.supply.new.self.uses.items;
@@ -90,9 +86,7 @@ returns-clause-refused c = λ e.
           omega arith;
       no_fewer = let low = c.if-self-before.false in omega (arith, c.requires.size, c.in_ok-supply.ensures.size);
       elsewhere = λ n t none.
-          let all : times n t c.extend_from_slice-2.new.self.items ≡ times n t (c.withdraw.new.work.items ++ c.as_slice-4.result.now) = ap (times n t) items in
-          let split = times-append n t c.withdraw.new.work.items c.as_slice-4.result.now in
-          let y : times n t c.as_slice-4.result.now ≡ times n t c.supply.new.work.items = ap (times n t) c.as_slice-4.ensures.value in
+          let split = times-append n t c.withdraw.new.work.items c.supply.new.work.items in
           let a = c.in_ok-withdraw.ensures.gone n t in
           let b = c.in_ok-supply.ensures.come n t in
           (omega arith, omega arith);

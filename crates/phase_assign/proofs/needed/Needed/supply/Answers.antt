@@ -1,6 +1,8 @@
 -- A use more, and those of the arms of a pair that wasn't used before.
-use Rattle.std.proofs.Common.{◌≡◌, ◌<◌, ◌∙◌, ◌+◌, ◌++◌, [], vec_len, length, length-append, drop, ap, sym, subst, arith, rules}
-use Rattle.phase_assign.specs.Uses.{AreBelow, AreUses, asked_by_pair, living, used}
+use Rattle.std.proofs.Common.{◌≡◌, ◌<◌, ◌∙◌, ◌+◌, ◌++◌, [], vec_len, length, length-append, drop, ap, sym, subst, arith, rules, None}
+use Rattle.std.proofs.lemmas.List.{get_or_default}
+use Rattle.phase_assign.specs.ArmsData.{ArmsData as Arms}
+use Rattle.phase_assign.specs.Uses.{AreBelow, AreUses, asked_by_arms, asked_by_pair, living, used}
 use Rattle.phase_assign.proofs.Totals.{below_append, below_item, below_more, queue_next, queue_pushed, times_next, times_pushed}
 use Rattle.phase_assign.proofs.UseSteps.{add_first, add_later, room_for}
 use Rattle.phase_assign.proofs.needed.Needed.supply.Goals as goal
@@ -30,7 +32,9 @@ uses-preserved-in-Continue-1 c =
     let len : vec_len c.uses.work ≡ length c.uses.work.items = search rules in
     let lt : c.uses.done < length c.uses.work.items = omega (arith, c.uses-test.true, c.len.ensures) in
     let there : c.index-pair.result.now.node < length c.args.arms.now = below_item (length c.args.arms.now) c.uses.work.items c.uses.done c.index-pair.result.now c.uses.invariant.below lt c.index-pair.ensures in
-    let pushed : c.push.new.work.items ≡ c.uses.work.items ++ asked_by_pair c.args.arms.now c.index-pair.result.now.node c.index-pair.result.now.plus = c.in_ok-push.ensures in
+    let own = c.index-arms-pair.is ∙ get_or_default c.args.arms.now c.index-pair.result.now.node c.index-arms-pair.result (record { left = None; right = None }) there in
+    let pushed : c.push.new.work.items ≡ c.uses.work.items ++ asked_by_pair c.args.arms.now c.index-pair.result.now.node c.index-pair.result.now.plus =
+    c.in_ok-push.ensures ∙ ap (λ (arms : Arms). c.uses.work.items ++ asked_by_arms arms c.index-pair.result.now.plus) own in
     let longer = ap length pushed ∙ length-append c.uses.work.items (asked_by_pair c.args.arms.now c.index-pair.result.now.node c.index-pair.result.now.plus) in
     record {
       within = omega arith;

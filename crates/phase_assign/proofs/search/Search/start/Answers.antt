@@ -2,7 +2,7 @@
 use Rattle.std.proofs.Common.{◌≡◌, ◌∙◌, true, Option, List, [], length, vec_len, replicate, ap, sym, subst, arith, rules}
 use Rattle.std.proofs.lemmas.List.{length-replicate}
 use Rattle.phase_assign.specs.Uses.{AreBelow, AreUses, asked_by_sinks, living, used}
-use Rattle.phase_assign.specs.declared.pairs.Arms.{Arms}
+use Rattle.phase_assign.specs.ArmsData.{ArmsData as Arms}
 use Rattle.dual_rail.specs.declared.signed.SignedNode.{SignedNode}
 use Rattle.dual_rail.proofs.SignedValues.{signed_same}
 use Rattle.phase_assign.proofs.Exchanges.{sinks_few}
@@ -31,6 +31,12 @@ supply-requires-clause-uses c =
       omega (arith, c.requires.few),
       none_counted c.as_slice-2.result.now c.in_ok-uses.uses.items _ c.in_ok-work.work.items (c.in_ok-uses.ensures.items_if_clones_equal (λ y e. signed_same y _ e)),
     )
+
+pub overflow_cast-needed : goal.overflow_cast-needed
+overflow_cast-needed c =
+    let arms : length c.as_slice-2.result.now ≡ length c.args.wiring.now.arms.items = ap length c.as_slice-2.ensures.value in
+    let small = few_living (used c.supply.new.self.uses.items) (length c.as_slice-2.result.now) in
+    omega (arith, c.requires.few, c.in_ok-supply.ensures.size)
 
 pub returns-clause-search : goal.returns-clause-search
 returns-clause-search c =

@@ -1,15 +1,16 @@
 -- A sink's use with the other sign, kept where fewer pairs are used; a sink that is settled stays.
-use Rattle.std.proofs.Common.{◌≡◌, ◌<◌, ◌++◌, ◌∙◌, ℕ, Bool, true, not, List, [], length, set, Some, None, slice_get, ap, sym, refl, subst, arith, rules}
+use Rattle.std.proofs.Common.{◌≡◌, ◌<◌, ◌++◌, ◌∙◌, ℕ, true, not, List, [], length, set, Some, None, slice_get, ap, sym, refl, subst, arith, rules}
 use Rattle.std.proofs.lemmas.List.{get_or_default}
 use Rattle.std.proofs.lemmas.Option.{slice_get-get_or}
 use Rattle.dual_rail.proofs.Marks.{written_over}
+use Rattle.phase_assign.specs.LookedPairs.{looked_pairs}
 use Rattle.phase_assign.specs.Refusals.{IsSignChangeRefused}
 use Rattle.phase_assign.specs.Trials.{AreTrials}
-use Rattle.phase_assign.specs.Uses.{AreBelow, AreUses, HasFewRoots, asked, asked_by_sinks, living, times, used}
-use Rattle.phase_assign.specs.declared.pairs.Arms.{Arms}
+use Rattle.phase_assign.specs.Uses.{AreBelow, AreUses, HasFewRoots, asked, asked_by_sinks, living, used}
+use Rattle.phase_assign.specs.ArmsData.{ArmsData as Arms}
 use Rattle.dual_rail.specs.declared.signed.SignedNode.{SignedNode}
 use Rattle.phase_assign.proofs.Exchanges.{living_alike, uses_alike}
-use Rattle.phase_assign.proofs.Searches.{search_size, turn_changed, turn_uses}
+use Rattle.phase_assign.proofs.Searches.{few_living, search_size, turn_changed, turn_uses}
 use Rattle.phase_assign.proofs.TrialSteps.{refused_none, settled_none, trial_below, trials_changed, trials_kept}
 use Rattle.phase_assign.proofs.Turns.{changed_is, turn_kept, turn_made}
 use Rattle.phase_assign.proofs.search.Search.turn.Goals as goal
@@ -38,6 +39,12 @@ exchange-requires-clause-uses c =
     (turn_uses c.args.wiring.now.arms.items c.args.wiring.now.ends.items c.requires.wiring c.args.self.now.signs.items c.args.self.now.needed.uses.items c.args.self.now.needed.size c.args.sink
     c.index.result.now c.index-sign.result.now _ c.requires.search at within c.index-sign.ensures)
 
+pub overflow_cast-size : goal.overflow_cast-size
+overflow_cast-size c =
+    let small = few_living (used c.exchange.new.self.uses.items) (length c.as_slice-arms.result.now) in
+    let arms : length c.as_slice-arms.result.now ≡ length c.args.wiring.now.arms.items = ap length c.as_slice-arms.ensures.value in
+    omega (arith, c.requires.wiring.few, c.in_ok-exchange.ensures.size)
+
 pub returns-then-exchange-clause-search : goal.returns-then-exchange-clause-search
 returns-then-exchange-clause-search c =
     let within : c.args.sink < length c.args.self.now.signs.items = omega (arith, c.requires.sink, c.requires.search.one_each) in
@@ -56,12 +63,11 @@ returns-then-exchange-clause-trials c =
     c.exchange.new.self.size ns (set c.args.self.now.trials.items c.args.sink None))
     (sym noted)
     (trials_changed c.args.wiring.now.arms.items c.args.wiring.now.ends.items c.args.self.now.signs.items c.args.self.now.needed.uses.items c.exchange.new.self.uses.items c.args.self.now.needed.size
-    c.exchange.new.self.size c.args.sink c.as_mut_slice.result.now c.note_change.new.changed c.args.self.now.trials.items c.as_slice.result.now (not c.index-sign.result.now)
+    c.exchange.new.self.size c.args.sink c.as_mut_slice.result.now c.note_change.new.changed c.args.self.now.trials.items (looked_pairs c.in_ok-exchange.exchange.looked) (not c.index-sign.result.now)
     (subst (λ (cs : List ℕ). AreTrials c.args.wiring.now.arms.items c.args.wiring.now.ends.items c.args.self.now.signs.items c.args.self.now.needed.uses.items c.args.self.now.needed.size cs c.args.self.now.trials.items)
     (sym c.as_mut_slice.ensures.value) c.requires.trials)
     (c.in_ok-exchange.ensures.lower c.if-exchange.true)
-    (subst (λ (ls : List SignedNode). (n : ℕ) (s : Bool) → times n s ls ≡ 0 → used c.exchange.new.self.uses.items n s ≡ used c.args.self.now.needed.uses.items n s) (sym c.as_slice.ensures.value)
-    c.in_ok-exchange.ensures.elsewhere)
+    c.in_ok-exchange.ensures.elsewhere
     c.note_change.ensures c.note_change.auto.changed)
 
 pub returns-then-exchange-clause-turn : goal.returns-then-exchange-clause-turn
@@ -101,9 +107,9 @@ returns-else-exchange-clause-trials c =
     trials_kept c.args.wiring.now.arms.items c.args.wiring.now.ends.items c.args.self.now.signs.items c.args.self.now.needed.uses.items c.exchange.new.self.uses.items c.args.self.now.needed.size c.exchange.new.self.size
     c.args.sink c.args.self.now.changed.items c.args.self.now.trials.items (record { size = c.args.self.now.needed.size; looked = c.in_ok-exchange.exchange.looked }) c.index.result.now
     c.index-sign.result.now c.requires.trials (omega (arith, c.requires.search.size_is)) refl (c.in_ok-exchange.ensures.kept c.if-exchange.false)
-    (subst (λ (arms : List Arms). IsSignChangeRefused arms (used c.args.self.now.needed.uses.items) c.index.result.now c.index-sign.result.now c.in_ok-exchange.exchange.looked.items)
+    (subst (λ (arms : List Arms). IsSignChangeRefused arms (used c.args.self.now.needed.uses.items) c.index.result.now c.index-sign.result.now (looked_pairs c.in_ok-exchange.exchange.looked))
     c.as_slice-arms.ensures.value (c.in_ok-exchange.ensures.refused c.if-exchange.false))
-    (subst (λ (arms : List Arms). AreBelow (length arms) c.in_ok-exchange.exchange.looked.items) c.as_slice-arms.ensures.value c.in_ok-exchange.ensures.below) at own
+    (subst (λ (arms : List Arms). AreBelow (length arms) (looked_pairs c.in_ok-exchange.exchange.looked)) c.as_slice-arms.ensures.value c.in_ok-exchange.ensures.below) at own
 
 pub returns-else-exchange-clause-turn : goal.returns-else-exchange-clause-turn
 returns-else-exchange-clause-turn c = λ gates order wired.
@@ -113,6 +119,6 @@ returns-else-exchange-clause-turn c = λ gates order wired.
     turn_kept gates c.args.self.now.signs.items c.args.self.now.signs.items c.args.sink
     (refused_none gates order c.args.wiring.now.arms.items c.args.wiring.now.ends.items c.requires.wiring wired c.args.self.now.signs.items c.args.self.now.needed.uses.items c.args.self.now.needed.size
     c.args.sink c.requires.search within c.index.result.now c.index-sign.result.now at
-    (c.index-sign.ensures ∙ get_or_default c.args.self.now.signs.items c.args.sink c.index-sign.result.now true within) c.in_ok-exchange.exchange.looked.items
-    (subst (λ (arms : List Arms). IsSignChangeRefused arms (used c.args.self.now.needed.uses.items) c.index.result.now c.index-sign.result.now c.in_ok-exchange.exchange.looked.items)
+    (c.index-sign.ensures ∙ get_or_default c.args.self.now.signs.items c.args.sink c.index-sign.result.now true within) (looked_pairs c.in_ok-exchange.exchange.looked)
+    (subst (λ (arms : List Arms). IsSignChangeRefused arms (used c.args.self.now.needed.uses.items) c.index.result.now c.index-sign.result.now (looked_pairs c.in_ok-exchange.exchange.looked))
     c.as_slice-arms.ensures.value (c.in_ok-exchange.ensures.refused c.if-exchange.false))) refl
