@@ -17,6 +17,9 @@ use dom_base::OutOfMemory;
 use network::{NetTable, Network};
 use std::alloc::Global;
 
+/// The most letters that the tables of a network have together.
+const MOST_LETTERS: usize = 400_000;
+
 /// Puts what the rows of a table come to, in order, in place of the items of rows.
 fn put_row_parts(
     nodes: &mut Vec<Node>,
@@ -107,7 +110,7 @@ pub fn decompose(alloc: Global, network: &Network) -> Result<Gates, OutOfMemory>
     refs.reserve(network.tables.len())?;
     let mut nodes = Vec::with_capacity(alloc, network.tables.len().saturating_mul(2))?;
     let mut rows = Vec::new(alloc);
-    let mut items = Vec::new(alloc);
+    let mut items = Vec::with_capacity(alloc, MOST_LETTERS)?;
     for k in 0..network.tables.len() {
         let table = network.tables.table(k);
         let part = table_part(&mut nodes, &mut rows, &mut items, refs.as_slice(), &table)?;
