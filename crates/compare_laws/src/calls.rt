@@ -3,7 +3,7 @@
 use crate::cases::{Case, DeckKind, drawn_case};
 use crate::laws::{Kept, Tally, breaks_law};
 use comparison::Trouble;
-use plain_calls::{
+use plain_circuits::{
     NamedDevice, Subckt, by_stack, by_substitution, numbered, read_subckts, same_devices,
     write_calls,
 };

@@ -3,7 +3,7 @@
 use crate::laws::{Kept, Tally};
 use comparison::Trouble;
 use dom_base::Kind;
-use plain_calls::{CallCard, NamedDevice, Subckt, by_stack, by_substitution, same_devices};
+use plain_circuits::{CallCard, NamedDevice, Subckt, by_stack, by_substitution, same_devices};
 use plain_texts::Draws;
 use std::alloc::{AllocError, Global};
 

@@ -1,7 +1,7 @@
 //! The devices of a text by substitution: those of each subcircuit in turn, where a call stands for the devices of
 //! what it calls with other names of nets.
-use crate::names::NamedDevice;
-use crate::subckts::{CallCard, Subckt, subckt_called};
+use crate::calls::names::NamedDevice;
+use crate::calls::subckts::{CallCard, Subckt, subckt_called};
 use dom_base::OutOfMemory;
 use std::alloc::Global;
 

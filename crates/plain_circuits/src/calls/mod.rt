@@ -1,7 +1,5 @@
 //! Plain and slow functions of decks whose subcircuits call one another, written from the format alone: such a
 //! text of a deck by its groups, what it says, and two ways to find the devices that it stands for.
-#![tactic(auto)]
-
 mod expansion;
 mod names;
 mod subckts;

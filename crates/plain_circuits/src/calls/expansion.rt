@@ -1,6 +1,6 @@
 //! The devices of a text by a stack of open calls, from the last subcircuit on.
-use crate::names::{NamedDevice, copied};
-use crate::subckts::{CallCard, Subckt, subckt_called};
+use crate::calls::names::{NamedDevice, copied};
+use crate::calls::subckts::{CallCard, Subckt, subckt_called};
 use dom_base::OutOfMemory;
 use std::alloc::Global;
 
