@@ -1,9 +1,11 @@
 //! Runs generated domino decks of each kind in random legal orders of events, with later clocks that rise at any
-//! moment, and holds each state against the laws; and runs decks that are changed so that they break one.
+//! moment, and holds each state against the laws; runs decks that are changed so that they break one; and holds pairs,
+//! signs and covers of generated gates against all sets, all signs and all plans.
 #![tactic(auto)]
 
 mod calls;
 mod cases;
+mod forests;
 mod laws;
 mod nested;
 mod wrong;
@@ -11,6 +13,7 @@ mod wrong;
 use calls::{calls_kept, lost_ports_found};
 use cases::DeckKind;
 use comparison::{Trouble, ended, printed};
+use forests::forests_are_alike;
 use laws::{Kept, found, laws_kept};
 use nested::{lost_nets_found, nested_kept};
 use std::alloc::Global;
@@ -117,7 +120,8 @@ fn all_alike(rt: &impl Print, alloc: Global) -> Result<bool, Trouble> {
         alike = alike && found;
     }
     let calls = calls_are_kept(rt, alloc)?;
-    Ok(alike && calls)
+    let forests = forests_are_alike(rt, alloc)?;
+    Ok(alike && calls && forests)
 }
 
 fn main(rt: HostRuntime) -> ExitCode {

@@ -1,7 +1,7 @@
 //! The comparison of covers: the tables hold the least sums over all plans, and the chosen plan costs no
 //! more than any plan.
-use crate::drawn::{chain, drawn_gates, wide_and, wide_or};
-use crate::trouble::Trouble;
+use crate::forests::drawn::{chain, drawn_gates, wide_and, wide_or};
+use comparison::Trouble;
 use plain_synthesis::{
     PlainBounds, PlainForest, PlainGates, all_plans, chosen_plan, chosen_signs, cover_tables,
     forest_of, plan_cost, sums_by_plans,
@@ -86,13 +86,13 @@ fn costs(
     let forest = forest_of(alloc, gates, &[true])?;
     let tables = cover_tables(alloc, &forest, bounds)?;
     let Some(kept) = chosen_plan(alloc, &forest, &tables)? else {
-        return Err(Trouble::NoPlan);
+        return Err(Trouble::Refused);
     };
     let (Some(cost), Some(all)) = (
         plan_cost(&forest, &kept, bounds),
         all_plans(alloc, &forest, bounds)?,
     ) else {
-        return Err(Trouble::NoPlan);
+        return Err(Trouble::Refused);
     };
     Ok((cost, all.least))
 }

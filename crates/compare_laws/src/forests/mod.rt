@@ -1,24 +1,13 @@
 //! Compares needed pairs, signs, covers and values of generated gates with their definitions, where all sets,
 //! all signs and all plans are tried.
-#![tactic(auto)]
-
 mod covers;
 mod drawn;
 mod rails;
-mod trouble;
 
+use comparison::{Trouble, printed};
 use covers::{CoverResult, covers, worked};
 use rails::{RailResult, rails};
 use std::alloc::Global;
-use std::io;
-use std::process::ExitCode;
-use trouble::Trouble;
-
-/// The status where a result differs.
-const DIFFERS: u8 = 1;
-
-/// The status where a case has no plan, memory doesn't suffice or a line isn't printed.
-const NOT_COMPARED: u8 = 2;
 
 /// How many networks have their rails compared.
 const NETWORKS: u64 = 3_000;
@@ -67,25 +56,10 @@ fn worked_are_alike(rt: &impl Print, alloc: Global) -> Result<bool, Trouble> {
     Ok(alike)
 }
 
-/// Whether a line was printed.
-fn printed(line: io::Result<()>) -> Result<(), Trouble> {
-    match line {
-        Ok(()) => Ok(()),
-        Err(_) => Err(Trouble::NotPrinted),
-    }
-}
-
-fn all_alike(rt: &impl Print, alloc: Global) -> Result<bool, Trouble> {
+/// Compares all and prints what came of it. It answers whether all are alike.
+pub fn forests_are_alike(rt: &impl Print, alloc: Global) -> Result<bool, Trouble> {
     let rails = rails_are_alike(rt, alloc)?;
     let covers = covers_are_alike(rt, alloc)?;
     let worked = worked_are_alike(rt, alloc)?;
     Ok(rails && covers && worked)
-}
-
-fn main(rt: HostRuntime) -> ExitCode {
-    match all_alike(&rt, rt.alloc()) {
-        Ok(true) => ExitCode::from(0),
-        Ok(false) => ExitCode::from(DIFFERS),
-        Err(_) => ExitCode::from(NOT_COMPARED),
-    }
 }

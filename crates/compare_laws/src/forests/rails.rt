@@ -1,5 +1,5 @@
 //! The comparison of needed pairs, signs and values.
-use crate::trouble::Trouble;
+use comparison::Trouble;
 use plain_networks::{Sizes, cycle, drawn_network, drawn_stream};
 use plain_synthesis::{
     PlainForest, PlainGates, all_plus, are_settled, chosen_signs, end_value, forest_of, gates_of,
