@@ -1,8 +1,10 @@
 //! Compares the decks of generated files, of all options, without and with chains of buffers, with those of plain
 //! and slow functions that were written from the rules alone, byte for byte; and runs decks, as they are read back,
-//! in random legal orders of events beside the runs of the networks. The files are the same each time.
+//! in random legal orders of events beside the runs of the networks; and does so with decks with compound cells, the
+//! costs of whose plans it compares with the least of all plans. The files are the same each time.
 #![tactic(auto)]
 
+mod compound;
 mod decks;
 mod divided;
 mod files;
@@ -11,6 +13,7 @@ mod product;
 mod tally;
 
 use comparison::{Trouble, ended, printed};
+use compound::compounds_are_alike;
 use decks::compare_decks;
 use orders::compare_orders;
 use std::alloc::Global;
@@ -56,7 +59,8 @@ fn orders_are_alike(rt: &impl Print, alloc: Global) -> Result<bool, Trouble> {
 fn all_alike(rt: &impl Print, alloc: Global) -> Result<bool, Trouble> {
     let decks = decks_are_alike(rt, alloc)?;
     let orders = orders_are_alike(rt, alloc)?;
-    Ok(decks && orders)
+    let compounds = compounds_are_alike(rt, alloc)?;
+    Ok(decks && orders && compounds)
 }
 
 fn main(rt: HostRuntime) -> ExitCode {

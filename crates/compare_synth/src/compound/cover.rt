@@ -1,5 +1,5 @@
 //! The cover with compound roots by tables: least sums joined up from what each pair reads, and the chosen plan.
-use crate::offers::{
+use crate::compound::offers::{
     COMPOUND, Choice, Offer, Root, SIMPLE, Shape, Table, add_shape, joined, offers,
 };
 use plain_synthesis::{PlainArm, PlainBounds, PlainForest};

@@ -1,5 +1,5 @@
 //! The costs of plans with compound roots, and the least of all, where all sets of kept edges are tried.
-use crate::offers::{COMPOUND, SIMPLE, Shape, joined};
+use crate::compound::offers::{COMPOUND, SIMPLE, Shape, joined};
 use plain_synthesis::{PlainArm, PlainBounds, PlainForest};
 use std::alloc::{AllocError, Global};
 

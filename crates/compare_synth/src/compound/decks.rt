@@ -1,7 +1,7 @@
 //! Decks with compound cells, made twice, and run.
-use crate::all_plans::{least_cost, plan_cost};
-use crate::cover::{Plan, chosen_plan, cover_tables};
-use crate::product::{compound_marks, deck_text, options_at};
+use crate::compound::all_plans::{least_cost, plan_cost};
+use crate::compound::cover::{Plan, chosen_plan, cover_tables};
+use crate::compound::product::{compound_marks, deck_text, options_at};
 use comparison::{Trouble, network_of};
 use legal_runs::{Clocking, Style, Terms, drawn_run, run_by};
 use network::Network;

@@ -2,24 +2,21 @@
 //! written from the rules alone, byte for byte; the costs of their plans with the least of all plans, where all are
 //! tried; and runs decks, as they are read back, in random legal orders of events beside the runs of the networks. The
 //! networks are the same ones each time.
-#![tactic(auto)]
-
 mod all_plans;
 mod cover;
 mod decks;
 mod offers;
 mod product;
 
-use comparison::{Trouble, ended, printed};
+use comparison::{Trouble, printed};
 use decks::{Tally, compare_decks};
 use std::alloc::Global;
-use std::process::ExitCode;
 
 /// How many networks are compared.
 const NETWORKS: u64 = 820;
 
 /// Compares decks and prints what came of it. It answers whether all are alike.
-fn all_alike(rt: &impl Print, alloc: Global) -> Result<bool, Trouble> {
+pub fn compounds_are_alike(rt: &impl Print, alloc: Global) -> Result<bool, Trouble> {
     let Tally {
         decks,
         compound,
@@ -36,8 +33,4 @@ fn all_alike(rt: &impl Print, alloc: Global) -> Result<bool, Trouble> {
         "{NETWORKS} networks, {decks} decks, {compound} with compound cells, {tried} by all plans, {runs} runs, {events} events, all alike"
     ))?;
     Ok(true)
-}
-
-fn main(rt: HostRuntime) -> ExitCode {
-    ended(all_alike(&rt, rt.alloc()))
 }
