@@ -1,7 +1,8 @@
 //! Compares what files are refused for, their counts, their networks and the runs of these with plain and slow functions that
-//! were written from the rules alone. The files are the same each time.
+//! were written from the rules alone; and how BLIF is read and printed. The files are the same each time.
 #![tactic(auto)]
 
+mod blif;
 mod cases;
 mod faults;
 mod parse;
@@ -10,6 +11,7 @@ mod same;
 mod shapes;
 mod tally;
 
+use blif::texts_are_alike;
 use cases::{compare_drawn, compare_faults, compare_shapes};
 use comparison::{Trouble, ended, printed};
 use std::alloc::Global;
@@ -43,7 +45,8 @@ fn all_alike(rt: &impl Print, alloc: Global) -> Result<bool, Trouble> {
     let drawn = print(rt, "hierarchies", &compare_drawn(alloc, HIERARCHIES)?)?;
     let faults = print(rt, "faults", &compare_faults(alloc)?)?;
     let shapes = print(rt, "shapes", &compare_shapes(alloc)?)?;
-    Ok(drawn && faults && shapes)
+    let texts = texts_are_alike(rt, alloc)?;
+    Ok(drawn && faults && shapes && texts)
 }
 
 fn main(rt: HostRuntime) -> ExitCode {

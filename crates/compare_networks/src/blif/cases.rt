@@ -1,6 +1,6 @@
 //! BLIF texts, read twice.
-use crate::same::same_file;
-use crate::texts::{ENDS, LINES, PARTS, PATTERNS, WHOLE, WORDS, WORKED, framed, wide};
+use crate::blif::same::same_file;
+use crate::blif::texts::{ENDS, LINES, PARTS, PATTERNS, WHOLE, WORDS, WORKED, framed, wide};
 use blif_ast::print;
 use blif_read::{BlifFault, BlifKind, accepted_file_is_good, read};
 use dom_base::OutOfMemory;
