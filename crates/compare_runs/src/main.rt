@@ -1,14 +1,19 @@
-//! Compares the targets and the traces of small circuits with plain and slow functions that were written
-//! from the rules alone. The circuits are generated, and the same ones each time.
+//! Compares the targets and the traces of small circuits, and texts of decks and stimuli, with plain and slow
+//! functions that were written from the rules alone, and simulates large and awkward circuits. What is
+//! generated is the same each time.
 #![tactic(auto)]
 
+mod large;
 mod targets;
+mod texts;
 mod traces;
 
 use comparison::{Trouble, ended, printed};
+use large::print_large;
 use std::alloc::Global;
 use std::process::ExitCode;
 use targets::{Outcome, targets};
+use texts::texts_are_alike;
 use traces::{Traced, traces};
 
 /// How many circuits have their targets compared.
@@ -48,7 +53,9 @@ fn traces_are_alike(rt: &impl Print, alloc: Global) -> Result<bool, Trouble> {
 fn all_alike(rt: &impl Print, alloc: Global) -> Result<bool, Trouble> {
     let targets = targets_are_alike(rt, alloc)?;
     let traces = traces_are_alike(rt, alloc)?;
-    Ok(targets && traces)
+    let texts = texts_are_alike(rt, alloc)?;
+    print_large(rt, alloc)?;
+    Ok(targets && traces && texts)
 }
 
 fn main(rt: HostRuntime) -> ExitCode {

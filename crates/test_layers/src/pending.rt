@@ -1,13 +1,13 @@
 //! The pending nets of a cell that were worked by hand.
 
 use crate::targets::links_with_values;
+use comparison::AND_DECK;
 use deck::Circuit;
 use pending_nets::Pending;
 use spice_read::read;
 use std::alloc::{AllocError, Global};
 use std::process::Abort;
 use std::test::Fail;
-use worked_texts::AND_DECK;
 
 /// The numbers of pending nets.
 fn numbers_of(alloc: Global, pending: &Pending) -> Result<Vec<u32>, AllocError> {

@@ -1,10 +1,10 @@
 //! Decks, and what is read of them.
+use comparison::AND_DECK;
 use deck::{Circuit, Device, Phase};
 use dom_base::NetName;
 use spice_read::read;
 use std::alloc::{AllocError, Global};
 use std::test::Fail;
-use worked_texts::AND_DECK;
 
 /// The sign and the net of each phase.
 fn push_phases(text: &mut Vec<u8>, phases: &[Phase]) -> Result<(), AllocError> {

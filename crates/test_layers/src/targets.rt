@@ -1,6 +1,7 @@
 //! Targets that were worked by hand.
 ghost use Rattle.std.specs.Prelude.{◌≡◌, ◌≤◌, IfOk, length};
 
+use comparison::AND_DECK;
 use deck::{Circuit, roles};
 use dom_base::{Kind, Tri};
 use spice_read::read;
@@ -8,7 +9,6 @@ use std::alloc::{AllocError, Global};
 use std::process::Abort;
 use std::test::Fail;
 use switch_model::{Links, Switch, conducts};
-use worked_texts::AND_DECK;
 
 fn tri_of(letter: u8) -> Tri {
     match letter {

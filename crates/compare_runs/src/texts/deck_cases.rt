@@ -1,12 +1,14 @@
 //! Decks, read twice.
-use crate::deck_texts::{ENDS, LINES, PARTS, PATTERNS, WORDS, WORKED, change, framed, nested};
+use crate::texts::deck_texts::{
+    ENDS, LINES, PARTS, PATTERNS, WORDS, WORKED, change, framed, nested,
+};
+use comparison::AND_DECK;
 use deck::{Circuit, Device, Phase};
 use dom_base::{NetName, OutOfMemory};
 use plain_texts::{DeckReading, Draws, PlainDeck, Tally, listed, read_deck, write_deck};
 use spice_read::{DeckFault, read};
 use spice_text::write;
 use std::alloc::Global;
-use worked_texts::AND_DECK;
 
 fn same_nets(nets: &[NetName], plain: &[Vec<u8>]) -> bool {
     nets.len() == plain.len()

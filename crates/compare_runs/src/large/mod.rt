@@ -1,19 +1,16 @@
 //! Networks and circuits about as large and as awkward as there may be: the gates and the forests of the first, and what comes of
 //! the others where they are simulated.
-#![tactic(auto)]
-
 mod decks;
 mod logic;
 mod networks;
 mod ring;
 
-use comparison::{Trouble, ended, printed};
+use comparison::{Trouble, printed};
 use decks::{AWKWARD, chain, fan, ring};
 use logic::{Counts, counts_of};
 use networks::{row_of_tables, wide_table};
 use ring::{Outcome, turned};
 use std::alloc::Global;
-use std::process::ExitCode;
 use trace_tool::{Order, TraceFault, TraceOptions, sim};
 
 /// The tables of the chain of tables.
@@ -123,12 +120,8 @@ fn print_circuits(rt: &impl Print, alloc: Global) -> Result<(), Trouble> {
     print_turned(rt, alloc, LARGE_RING, EVENTS)
 }
 
-fn print_all(rt: &impl Print, alloc: Global) -> Result<bool, Trouble> {
+/// Prints what comes of large and awkward cases.
+pub fn print_large(rt: &impl Print, alloc: Global) -> Result<(), Trouble> {
     print_networks(rt, alloc)?;
-    print_circuits(rt, alloc)?;
-    Ok(true)
-}
-
-fn main(rt: HostRuntime) -> ExitCode {
-    ended(print_all(&rt, rt.alloc()))
+    print_circuits(rt, alloc)
 }

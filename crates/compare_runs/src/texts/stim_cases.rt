@@ -1,5 +1,5 @@
 //! Stimuli, read twice.
-use crate::stim_texts::{WORKED, of_letters, of_lines};
+use crate::texts::stim_texts::{WORKED, of_letters, of_lines};
 use dom_base::OutOfMemory;
 use plain_texts::{Draws, StimReading, Tally};
 use std::alloc::Global;

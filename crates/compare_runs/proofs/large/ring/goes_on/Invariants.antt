@@ -1,5 +1,5 @@
 use Rattle.std.proofs.Common.{◌≡◌}
-use Rattle.large_cases.proofs.ring.goes_on.Given as goal
+use Rattle.compare_runs.proofs.large.ring.goes_on.Given as goal
 
 abbrev pub invariant-loop : goal.invariant-loop
 invariant-loop g l = l.sim.pick ≡ l.fn.sim.pick

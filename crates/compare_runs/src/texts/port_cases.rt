@@ -1,5 +1,5 @@
 //! Roles of ports, found twice.
-use crate::port_texts::{WORKED, deck_with, drawn};
+use crate::texts::port_texts::{WORKED, deck_with, drawn};
 use deck::roles;
 use dom_base::OutOfMemory;
 use plain_texts::{Draws, PlainRoles, Tally, find_roles};
