@@ -11,7 +11,7 @@ use deck::{Circuit, roles};
 use dom_base::Kind;
 use plain_texts::Draws;
 use spice_read::read;
-use std::alloc::Global;
+use std::alloc::{AllocError, Global};
 
 /// How many changed decks there are of each own one.
 const CHANGED: usize = 24;
@@ -29,34 +29,38 @@ fn same_nets(circuit: &Circuit, names: &[Vec<u8>]) -> bool {
             .all(|(net, name)| net.as_bytes() == name.as_slice())
 }
 
+/// The places of an order.
+fn places_of(alloc: Global, order: &[u32]) -> Result<Vec<usize>, AllocError> {
+    let mut places = Vec::new(alloc);
+    for place in order {
+        places.push(*place as usize)?;
+    }
+    Ok(places)
+}
+
 /// Whether a Yes with these numbers and this order is what the plain audit found.
 fn is_yes(
     alloc: Global,
     design: &Design,
     parts: &Parts,
     order: &[u32],
-    numbers: (u32, u32, u32),
+    (cells, width, height): (u32, u32, u32),
 ) -> Result<bool, Trouble> {
-    let mut places = Vec::new(alloc);
-    for place in order {
-        places.push(*place as usize)?;
-    }
-    let (cells, width, height) = numbers;
     let is_same = cells as usize == parts.cells.len()
         && width as usize == parts.width()
         && height as usize == parts.height();
+    let places = places_of(alloc, order)?;
     Ok(is_same && is_order(alloc, design, parts, &places)?)
 }
 
-/// Whether the audit of the deck of a circuit is what the plain one found.
-fn is_alike(alloc: Global, design: &Design, plain: &PlainAudit) -> Result<bool, Trouble> {
-    let circuit = read(alloc, &design.text(alloc)?)?;
-    if !same_nets(&circuit, &design.names) {
-        return Ok(false);
-    }
-    let found = roles(&circuit)?;
-    let answer = audit(alloc, &circuit, found)?;
-    match (&answer, plain) {
+/// Whether an audit is what the plain one found.
+fn same_audit(
+    alloc: Global,
+    design: &Design,
+    answer: &Audit,
+    plain: &PlainAudit,
+) -> Result<bool, Trouble> {
+    match (answer, plain) {
         (
             Audit::Yes {
                 order,
@@ -79,6 +83,28 @@ fn is_alike(alloc: Global, design: &Design, plain: &PlainAudit) -> Result<bool, 
     }
 }
 
+/// The circuit of a deck.
+fn circuit_of(alloc: Global, design: &Design) -> Result<Circuit, Trouble> {
+    let text = design.text(alloc)?;
+    Ok(read(alloc, &text)?)
+}
+
+/// What the audit of a circuit answers.
+fn audit_of(alloc: Global, circuit: &Circuit) -> Result<Audit, Trouble> {
+    let found = roles(circuit)?;
+    Ok(audit(alloc, circuit, found)?)
+}
+
+/// Whether the audit of the deck of a circuit is what the plain one found.
+fn is_alike(alloc: Global, design: &Design, plain: &PlainAudit) -> Result<bool, Trouble> {
+    let circuit = circuit_of(alloc, design)?;
+    if !same_nets(&circuit, &design.names) {
+        return Ok(false);
+    }
+    let answer = audit_of(alloc, &circuit)?;
+    same_audit(alloc, design, &answer, plain)
+}
+
 /// Audits a deck twice. It answers whether the answers are alike.
 fn compare(alloc: Global, tally: &mut Tally, design: &Design) -> Result<bool, Trouble> {
     let design = design.numbered(alloc)?;
@@ -87,16 +113,23 @@ fn compare(alloc: Global, tally: &mut Tally, design: &Design) -> Result<bool, Tr
     is_alike(alloc, &design, &plain)
 }
 
-/// Whether the order of the devices of a product's own deck is an order of a Yes.
-fn is_in_order(alloc: Global, own: &Design) -> Result<bool, Trouble> {
+/// The places of so many devices.
+fn first_places(alloc: Global, count: usize) -> Result<Vec<usize>, AllocError> {
     let mut places = Vec::new(alloc);
-    for place in 0..own.cards.len() {
+    for place in 0..count {
         places.push(place)?;
     }
-    Ok(match audited(alloc, own)? {
-        PlainAudit::Yes(parts) => is_order(alloc, own, &parts, &places)?,
-        PlainAudit::No(_, _) => false,
-    })
+    Ok(places)
+}
+
+/// Whether the order of the devices of a product's own deck is an order of a Yes.
+fn is_in_order(alloc: Global, own: &Design) -> Result<bool, Trouble> {
+    let plain = audited(alloc, own)?;
+    let PlainAudit::Yes(parts) = &plain else {
+        return Ok(false);
+    };
+    let places = first_places(alloc, own.cards.len())?;
+    Ok(is_order(alloc, own, parts, &places)?)
 }
 
 /// The numbers of cells, width and height that a product's own deck must have; nothing where it gets a No.
@@ -115,6 +148,50 @@ fn own_numbers(alloc: Global, design: &Design) -> Result<Option<(usize, usize, u
     })
 }
 
+/// Whether a product's own deck and the same one in another order are as they must be.
+fn compare_orders(
+    alloc: Global,
+    tally: &mut Tally,
+    own: &Design,
+    other: &Design,
+) -> Result<bool, Trouble> {
+    let numbers = own_numbers(alloc, own)?;
+    Ok(
+        is_in_order(alloc, own)?
+            && numbers.is_some()
+            && own_numbers(alloc, other)? == numbers
+            && compare(alloc, tally, own)?
+            && compare(alloc, tally, other)?,
+    )
+}
+
+/// Changes a deck once or twice.
+fn make_changes(
+    alloc: Global,
+    tally: &mut Tally,
+    draws: &mut Draws,
+    design: &mut Design,
+) -> Result<(), Trouble> {
+    let count = if draws.below(3) == 0 { 2 } else { 1 };
+    for _ in 0..count {
+        let number = change(alloc, draws, design)?;
+        tally.add_change(number);
+    }
+    Ok(())
+}
+
+/// Compares a changed deck. It answers whether the answers are alike.
+fn compare_changed(
+    alloc: Global,
+    tally: &mut Tally,
+    draws: &mut Draws,
+    own: &Design,
+) -> Result<bool, Trouble> {
+    let mut changed = own.copied(alloc)?;
+    make_changes(alloc, tally, draws, &mut changed)?;
+    compare(alloc, tally, &changed)
+}
+
 /// Compares a product's own deck as it is, in another order, and changed. It answers whether all are alike.
 fn compare_own(
     alloc: Global,
@@ -124,20 +201,23 @@ fn compare_own(
 ) -> Result<bool, Trouble> {
     let mut other = own.copied(alloc)?;
     shuffle(alloc, draws, &mut other)?;
-    let numbers = own_numbers(alloc, own)?;
-    let mut alike = is_in_order(alloc, own)?
-        && numbers.is_some()
-        && own_numbers(alloc, &other)? == numbers
-        && compare(alloc, tally, own)?
-        && compare(alloc, tally, &other)?;
+    let mut alike = compare_orders(alloc, tally, own, &other)?;
     for _ in 0..CHANGED {
-        let mut changed = other.copied(alloc)?;
-        let count = if draws.below(3) == 0 { 2 } else { 1 };
-        for _ in 0..count {
-            let number = change(alloc, draws, &mut changed)?;
-            tally.add_change(number);
-        }
-        alike = compare(alloc, tally, &changed)? && alike;
+        alike = compare_changed(alloc, tally, draws, &other)? && alike;
+    }
+    Ok(alike)
+}
+
+/// Compares the deck of a generated network, where it isn't too large. It answers whether all are alike.
+fn compare_case(alloc: Global, tally: &mut Tally, case: u64) -> Result<bool, Trouble> {
+    let mut draws = Draws::of_case(case.saturating_add(2_000_000));
+    let own = own_deck(alloc, &mut draws)?;
+    if own.cards.len() > MOST_DEVICES {
+        return Ok(true);
+    }
+    let alike = compare_own(alloc, tally, &mut draws, &own)?;
+    if alike {
+        tally.own = tally.own.saturating_add(1);
     }
     Ok(alike)
 }
@@ -146,14 +226,9 @@ fn compare_own(
 pub fn compare_audits(alloc: Global, networks: u64) -> Result<Tally, Trouble> {
     let mut tally = Tally::new();
     for case in 0..networks {
-        let mut draws = Draws::of_case(case.saturating_add(2_000_000));
-        let own = own_deck(alloc, &mut draws)?;
-        if own.cards.len() <= MOST_DEVICES {
-            if !compare_own(alloc, &mut tally, &mut draws, &own)? {
-                tally.differs = Some(case);
-                return Ok(tally);
-            }
-            tally.own = tally.own.saturating_add(1);
+        if !compare_case(alloc, &mut tally, case)? {
+            tally.differs = Some(case);
+            break;
         }
     }
     Ok(tally)

@@ -68,22 +68,38 @@ pub fn has_output(design: &Design, inputs: &[Option<usize>], front: Front) -> bo
     !design.ports.is_port(front.output) && input_of(inputs, front.output) == Some(front.dynamic)
 }
 
+/// The end of an `nch` device to which it leads from these nets, where that is none of them and no source.
+fn new_end(design: &Design, card: Card, nets: &[usize]) -> Option<usize> {
+    let end = match (nets.contains(&card.drain), nets.contains(&card.source)) {
+        (true, false) => card.source,
+        (false, true) => card.drain,
+        _ => return None,
+    };
+    if card.kind == Kind::N && !design.ports.is_source(end) {
+        Some(end)
+    } else {
+        None
+    }
+}
+
+/// A net to which an `nch` device leads from these nets, where that is none of them and no source.
+fn next_net(design: &Design, nets: &[usize]) -> Option<usize> {
+    for card in design.cards.iter() {
+        if let Some(net) = new_end(design, *card, nets) {
+            return Some(net);
+        }
+    }
+    None
+}
+
 /// The nets that `nch` devices lead to from a net, itself first, with no source among them.
 fn reached_nets(alloc: Global, design: &Design, start: usize) -> Result<Vec<usize>, AllocError> {
     let mut nets = Vec::new(alloc);
     nets.push(start)?;
     for _ in 0..design.names.len() {
-        let before = nets.len();
-        for card in design.cards.iter() {
-            for (from, to) in [(card.drain, card.source), (card.source, card.drain)] {
-                let leads = card.kind == Kind::N && nets.contains(&from);
-                if leads && !design.ports.is_source(to) && !nets.contains(&to) {
-                    nets.push(to)?;
-                }
-            }
-        }
-        if nets.len() == before {
-            break;
+        match next_net(design, &nets) {
+            Some(net) => nets.push(net)?,
+            None => break,
         }
     }
     Ok(nets)
@@ -153,31 +169,56 @@ fn links_of(alloc: Global, design: &Design, places: &[usize]) -> Result<Vec<Link
     Ok(links)
 }
 
+/// Whether all reached nets but the dynamic one are inside a cell.
+fn are_inside(design: &Design, dynamic: usize, nets: &[usize]) -> bool {
+    nets.iter()
+        .all(|net| *net == dynamic || is_inside(design, *net))
+}
+
+/// The places but one.
+fn without(alloc: Global, places: &[usize], one: usize) -> Result<Vec<usize>, AllocError> {
+    let mut left = Vec::new(alloc);
+    for place in places {
+        if *place != one {
+            left.push(*place)?;
+        }
+    }
+    Ok(left)
+}
+
+/// The cell of a front with these reached nets, where the devices at these places are its tree and its foot.
+fn cell_with(
+    alloc: Global,
+    design: &Design,
+    front: Front,
+    nets: Vec<usize>,
+    places: &[usize],
+) -> Result<Option<Cell>, AllocError> {
+    let Some((foot, bottom)) = foot_of(design, front, places) else {
+        return Ok(None);
+    };
+    let tree = without(alloc, places, foot)?;
+    let links = links_of(alloc, design, &tree)?;
+    Ok(match reduced(alloc, links, front.dynamic, bottom)? {
+        Some((width, height)) => Some(Cell {
+            front,
+            bottom,
+            foot,
+            nets,
+            tree,
+            width,
+            height,
+        }),
+        None => None,
+    })
+}
+
 /// The cell of a front that keeps the third rule.
 pub fn cell_of(alloc: Global, design: &Design, front: Front) -> Result<Option<Cell>, AllocError> {
     let nets = reached_nets(alloc, design, front.dynamic)?;
-    let mut tree = reached_places(alloc, design, &nets)?;
-    let Some((foot, bottom)) = foot_of(design, front, &tree) else {
-        return Ok(None);
-    };
-    let inside = nets
-        .iter()
-        .all(|net| *net == front.dynamic || is_inside(design, *net));
-    tree.retain(|place| *place != foot);
-    let links = links_of(alloc, design, &tree)?;
-    let Some((width, height)) = reduced(alloc, links, front.dynamic, bottom)? else {
-        return Ok(None);
-    };
-    if !inside {
+    if !are_inside(design, front.dynamic, &nets) {
         return Ok(None);
     }
-    Ok(Some(Cell {
-        front,
-        bottom,
-        foot,
-        nets,
-        tree,
-        width,
-        height,
-    }))
+    let places = reached_places(alloc, design, &nets)?;
+    cell_with(alloc, design, front, nets, &places)
 }

@@ -75,40 +75,61 @@ fn new_net(alloc: Global, design: &mut Design) -> Result<usize, AllocError> {
     Ok(number)
 }
 
+/// Gives the nets behind so many ports new names.
+fn rename(
+    alloc: Global,
+    draws: &mut Draws,
+    names: &mut [Vec<u8>],
+    ports: usize,
+) -> Result<(), AllocError> {
+    let shift = draws.below(7);
+    for (number, name) in names.iter_mut().enumerate().skip(ports) {
+        *name = new_name(alloc, draws, number.saturating_mul(7).saturating_add(shift))?;
+    }
+    Ok(())
+}
+
+/// A name with this number.
+fn new_name(alloc: Global, draws: &mut Draws, number: usize) -> Result<Vec<u8>, AllocError> {
+    let start = draws.pick(STARTS);
+    let text = format!(in alloc; "{start}{number}")?;
+    Vec::from_slice(alloc, text.as_bytes())
+}
+
+/// A device, or the same one with its ends exchanged.
+fn turned(draws: &mut Draws, card: Card) -> Card {
+    if draws.below(2) == 0 {
+        return card;
+    }
+    Card {
+        kind: card.kind,
+        drain: card.source,
+        gate: card.gate,
+        source: card.drain,
+    }
+}
+
+/// These devices in a drawn order, some with their ends exchanged.
+fn shuffled(
+    alloc: Global,
+    draws: &mut Draws,
+    old: &mut Vec<Card>,
+) -> Result<Vec<Card>, AllocError> {
+    let mut cards = Vec::new(alloc);
+    for _ in 0..old.len() {
+        let place = draws.below(old.len());
+        if place < old.len() {
+            cards.push(turned(draws, old.swap_remove(place)))?;
+        }
+    }
+    Ok(cards)
+}
+
 /// Gives the inner nets new names, puts the devices in a drawn order and exchanges the ends of some.
 pub fn shuffle(alloc: Global, draws: &mut Draws, design: &mut Design) -> Result<(), AllocError> {
     let ports = design.ports.count();
-    let shift = draws.below(7);
-    for (number, name) in design.names.iter_mut().enumerate().skip(ports) {
-        let start = draws.pick(STARTS);
-        let number = number.saturating_mul(7).saturating_add(shift);
-        let text = format!(in alloc; "{start}{number}")?;
-        *name = Vec::from_slice(alloc, text.as_bytes())?;
-    }
-    let mut cards = Vec::new(alloc);
-    for _ in 0..design.cards.len() {
-        let place = draws.below(design.cards.len());
-        if place < design.cards.len() {
-            let Card {
-                kind,
-                drain,
-                gate,
-                source,
-            } = design.cards.swap_remove(place);
-            let (drain, source) = if draws.below(2) == 0 {
-                (drain, source)
-            } else {
-                (source, drain)
-            };
-            cards.push(Card {
-                kind,
-                drain,
-                gate,
-                source,
-            })?;
-        }
-    }
-    design.cards = cards;
+    rename(alloc, draws, &mut design.names, ports)?;
+    design.cards = shuffled(alloc, draws, &mut design.cards)?;
     Ok(())
 }
 
@@ -190,29 +211,41 @@ fn use_output(draws: &mut Draws, design: &mut Design) {
     }
 }
 
+/// The gate of a drawn device, a pin or a drawn net.
+fn inverted_net(draws: &mut Draws, design: &Design) -> usize {
+    match draws.below(3) {
+        0 => {
+            let pin = draws.below(design.ports.pins);
+            design.ports.first_pin().saturating_add(pin)
+        }
+        1 => match drawn(draws, design, Wanted::Any) {
+            Some((_, card)) => card.gate,
+            None => VDD,
+        },
+        _ => net(draws, design),
+    }
+}
+
 /// Adds an inverter to a new net or a drawn one, of the gate of a drawn device, of a pin or of a drawn net.
 fn add_inverter(alloc: Global, draws: &mut Draws, design: &mut Design) -> Result<(), AllocError> {
-    let gate = match draws.below(3) {
-        0 => design
-            .ports
-            .first_pin()
-            .saturating_add(draws.below(design.ports.pins)),
-        1 => drawn(draws, design, Wanted::Any).map_or(VDD, |(_, card)| card.gate),
-        _ => net(draws, design),
-    };
+    let gate = inverted_net(draws, design);
     let drain = if draws.below(4) == 0 {
         net(draws, design)
     } else {
         new_net(alloc, design)?
     };
-    for (kind, source) in [(Kind::P, VDD), (Kind::N, VSS)] {
-        design.cards.push(Card {
-            kind,
-            drain,
-            gate,
-            source,
-        })?;
-    }
+    design.cards.push(Card {
+        kind: Kind::P,
+        drain,
+        gate,
+        source: VDD,
+    })?;
+    design.cards.push(Card {
+        kind: Kind::N,
+        drain,
+        gate,
+        source: VSS,
+    })?;
     Ok(())
 }
 

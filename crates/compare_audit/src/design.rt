@@ -114,80 +114,77 @@ impl Design {
         let DeckReading::Deck(deck) = read_deck(alloc, text)? else {
             return Err(Trouble::Refused);
         };
-        let PlainDeck {
-            ports,
-            nets,
-            devices,
-            ..
-        } = deck;
-        let PlainRoles::Roles(clocks, pins, outs) = find_roles(
-            alloc,
-            nets.get(..ports).unwrap_or(&[]),
-        )?
-        else {
-            return Err(Trouble::Refused);
-        };
-        let mut cards = Vec::new(alloc);
-        for device in devices.iter() {
-            cards.push(Card {
-                kind: device.kind,
-                drain: device.drain,
-                gate: device.gate,
-                source: device.source,
-            })?;
-        }
+        let ports = ports_of(alloc, deck.nets.get(..deck.ports).unwrap_or(&[]))?;
+        let cards = cards_of(alloc, &deck.devices)?;
         Ok(Design {
-            ports: Ports { clocks, pins, outs },
-            names: nets,
+            ports,
+            names: deck.nets,
             cards,
         })
     }
 
     /// The same circuit.
     pub fn copied(&self, alloc: Global) -> Result<Design, AllocError> {
-        let mut names = Vec::new(alloc);
-        for name in self.names.iter() {
-            names.push(name.to_vec(alloc)?)?;
-        }
+        let cards = self.cards.to_vec(alloc)?;
         Ok(Design {
             ports: self.ports,
-            names,
-            cards: self.cards.to_vec(alloc)?,
-        })
-    }
-
-    /// The circuit whose nets behind the ports are those of the devices alone, in order of first appearance.
-    pub fn numbered(&self, alloc: Global) -> Result<Design, AllocError> {
-        let mut olds = Vec::new(alloc);
-        for port in 0..self.ports.count() {
-            olds.push(port)?;
-        }
-        let mut cards = Vec::new(alloc);
-        for card in self.cards.iter() {
-            cards.push(Card {
-                kind: card.kind,
-                drain: number_of(&mut olds, card.drain)?,
-                gate: number_of(&mut olds, card.gate)?,
-                source: number_of(&mut olds, card.source)?,
-            })?;
-        }
-        let mut names = Vec::new(alloc);
-        for old in olds.iter() {
-            let name = self
-                .names
-                .get(*old)
-                .map_or(b"".as_slice(), |name| name.as_slice());
-            names.push(Vec::from_slice(alloc, name)?)?;
-        }
-        Ok(Design {
-            ports: self.ports,
-            names,
+            names: copied_names(alloc, &self.names)?,
             cards,
         })
     }
 
-    /// The text of its deck.
-    pub fn text(&self, alloc: Global) -> Result<Vec<u8>, Trouble> {
+    /// The numbers of the ports.
+    fn port_numbers(&self, alloc: Global) -> Result<Vec<usize>, AllocError> {
+        let mut numbers = Vec::new(alloc);
+        for port in 0..self.ports.count() {
+            numbers.push(port)?;
+        }
+        Ok(numbers)
+    }
+
+    /// The devices between nets by their places in a list, to which those that are new are added.
+    fn numbered_cards(
+        &self,
+        alloc: Global,
+        nets: &mut Vec<usize>,
+    ) -> Result<Vec<Card>, AllocError> {
+        let mut cards = Vec::new(alloc);
+        for card in self.cards.iter() {
+            cards.push(numbered_card(nets, *card)?)?;
+        }
+        Ok(cards)
+    }
+
+    /// The name of a net.
+    fn name(&self, net: usize) -> &[u8] {
+        match self.names.get(net) {
+            Some(name) => name.as_slice(),
+            None => b"",
+        }
+    }
+
+    /// The names of these nets.
+    fn names_of(&self, alloc: Global, nets: &[usize]) -> Result<Vec<Vec<u8>>, AllocError> {
+        let mut names = Vec::new(alloc);
+        for net in nets {
+            names.push(Vec::from_slice(alloc, self.name(*net))?)?;
+        }
+        Ok(names)
+    }
+
+    /// The circuit whose nets behind the ports are those of the devices alone, in order of first appearance.
+    pub fn numbered(&self, alloc: Global) -> Result<Design, AllocError> {
+        let mut nets = self.port_numbers(alloc)?;
+        let cards = self.numbered_cards(alloc, &mut nets)?;
+        Ok(Design {
+            ports: self.ports,
+            names: self.names_of(alloc, &nets)?,
+            cards,
+        })
+    }
+
+    /// Its devices as a deck has them.
+    fn devices(&self, alloc: Global) -> Result<Vec<PlainDevice>, AllocError> {
         let mut devices = Vec::new(alloc);
         for card in self.cards.iter() {
             devices.push(PlainDevice {
@@ -197,19 +194,63 @@ impl Design {
                 source: card.source,
             })?;
         }
-        let mut nets = Vec::new(alloc);
-        for name in self.names.iter() {
-            nets.push(name.to_vec(alloc)?)?;
-        }
+        Ok(devices)
+    }
+
+    /// The text of its deck.
+    pub fn text(&self, alloc: Global) -> Result<Vec<u8>, Trouble> {
+        let name = Vec::from_slice(alloc, b"t")?;
+        let devices = self.devices(alloc)?;
         let deck = PlainDeck {
-            name: Vec::from_slice(alloc, b"t")?,
+            name,
             phases: Vec::new(alloc),
             ports: self.ports.count(),
-            nets,
+            nets: copied_names(alloc, &self.names)?,
             devices,
         };
         Ok(write_deck(alloc, &deck)?)
     }
+}
+
+/// How many of ports of these names have which roles, where they have roles.
+fn ports_of(alloc: Global, names: &[Vec<u8>]) -> Result<Ports, Trouble> {
+    match find_roles(alloc, names)? {
+        PlainRoles::Roles(clocks, pins, outs) => Ok(Ports { clocks, pins, outs }),
+        _ => Err(Trouble::Refused),
+    }
+}
+
+/// The devices of a deck.
+fn cards_of(alloc: Global, devices: &[PlainDevice]) -> Result<Vec<Card>, AllocError> {
+    let mut cards = Vec::new(alloc);
+    for device in devices {
+        cards.push(Card {
+            kind: device.kind,
+            drain: device.drain,
+            gate: device.gate,
+            source: device.source,
+        })?;
+    }
+    Ok(cards)
+}
+
+/// The same names.
+fn copied_names(alloc: Global, names: &[Vec<u8>]) -> Result<Vec<Vec<u8>>, AllocError> {
+    let mut copied = Vec::new(alloc);
+    for name in names {
+        copied.push(name.to_vec(alloc)?)?;
+    }
+    Ok(copied)
+}
+
+/// The device between nets by their places in a list, to which those that are new are added.
+fn numbered_card(nets: &mut Vec<usize>, card: Card) -> Result<Card, AllocError> {
+    Ok(Card {
+        kind: card.kind,
+        drain: number_of(nets, card.drain)?,
+        gate: number_of(nets, card.gate)?,
+        source: number_of(nets, card.source)?,
+    })
 }
 
 /// The place of a net in a list, to which it is added where it is new.

@@ -1,5 +1,5 @@
 //! The latches of a circuit, by the fourth rule.
-use crate::design::{Design, VDD, VSS};
+use crate::design::{Card, Design, VDD, VSS};
 use dom_base::Kind;
 use std::alloc::{AllocError, Global};
 
@@ -23,13 +23,13 @@ struct Half {
 
 /// Nine devices of the form of a latch: its master, its output and its data, its four inner nets, and the places of its
 /// devices in order.
-#[derive(Drop)]
+#[derive(Clone, Copy)]
 pub struct Group {
     pub master: usize,
     pub output: usize,
     pub data: usize,
-    pub inner: Vec<usize>,
-    pub places: Vec<usize>,
+    pub inner: [usize; 4],
+    pub places: [usize; 9],
 }
 
 impl Group {
@@ -37,6 +37,27 @@ impl Group {
     pub fn owns(&self, net: usize) -> bool {
         net == self.master || net == self.output || self.inner.contains(&net)
     }
+}
+
+/// Adds the stacks from a net to a supply whose upper device stands at this place.
+fn push_stacks(
+    design: &Design,
+    (switch, card): (usize, Card),
+    (net, rail): (usize, usize),
+    found: &mut Vec<Stack>,
+) -> Result<(), AllocError> {
+    let inner = card.far(net);
+    for (end, other) in design.cards.iter().enumerate() {
+        if other.kind == card.kind && other.joins(inner, rail) {
+            found.push(Stack {
+                switch,
+                end,
+                inner,
+                data: other.gate,
+            })?;
+        }
+    }
+    Ok(())
 }
 
 /// The stacks of a kind from a net to a supply whose upper device has this gate.
@@ -51,39 +72,52 @@ fn stacks(
     let mut found = Vec::new(alloc);
     for (switch, card) in design.cards.iter().enumerate() {
         if card.kind == kind && card.gate == control && card.ends_at(net) {
-            let inner = card.far(net);
-            for (end, other) in design.cards.iter().enumerate() {
-                if other.kind == kind && other.joins(inner, rail) {
-                    found.push(Stack {
-                        switch,
-                        end,
-                        inner,
-                        data: other.gate,
-                    })?;
-                }
-            }
+            push_stacks(design, (switch, *card), (net, rail), &mut found)?;
         }
     }
     Ok(found)
+}
+
+/// Adds the halves of an upper stack of a net and these lower ones.
+fn push_halves(
+    net: usize,
+    up: Stack,
+    downs: &[Stack],
+    found: &mut Vec<Half>,
+) -> Result<(), AllocError> {
+    for down in downs {
+        if up.data == down.data {
+            found.push(Half {
+                net,
+                up,
+                down: *down,
+            })?;
+        }
+    }
+    Ok(())
+}
+
+/// Adds the halves of a net whose upper devices have the gates of a pair, of which the first is this one.
+fn push_halves_at(
+    alloc: Global,
+    design: &Design,
+    pair: usize,
+    net: usize,
+    found: &mut Vec<Half>,
+) -> Result<(), AllocError> {
+    let ups = stacks(alloc, design, Kind::P, pair.saturating_add(1), net, VDD)?;
+    let downs = stacks(alloc, design, Kind::N, pair, net, VSS)?;
+    for up in ups.iter() {
+        push_halves(net, *up, &downs, found)?;
+    }
+    Ok(())
 }
 
 /// The halves whose upper devices have the gates of a pair, of which the first is this one.
 fn halves(alloc: Global, design: &Design, pair: usize) -> Result<Vec<Half>, AllocError> {
     let mut found = Vec::new(alloc);
     for net in design.ports.sources()..design.names.len() {
-        let ups = stacks(alloc, design, Kind::P, pair.saturating_add(1), net, VDD)?;
-        let downs = stacks(alloc, design, Kind::N, pair, net, VSS)?;
-        for up in ups.iter() {
-            for down in downs.iter() {
-                if up.data == down.data {
-                    found.push(Half {
-                        net,
-                        up: *up,
-                        down: *down,
-                    })?;
-                }
-            }
-        }
+        push_halves_at(alloc, design, pair, net, &mut found)?;
     }
     Ok(found)
 }
@@ -96,44 +130,46 @@ fn differ(numbers: &[usize]) -> bool {
         .all(|other| other != number))
 }
 
-/// The group of two halves and a reset device, where its nets and its places differ and none of its nets is a source.
-fn group_of(
-    alloc: Global,
-    design: &Design,
-    master: Half,
-    output: Half,
-    reset: usize,
-) -> Result<Option<Group>, AllocError> {
-    let inner = [
-        master.up.inner,
-        master.down.inner,
-        output.up.inner,
-        output.down.inner,
-    ];
-    let places = [
-        master.up.switch,
-        master.up.end,
-        master.down.switch,
-        master.down.end,
-        output.up.switch,
-        output.up.end,
-        output.down.switch,
-        output.down.end,
-        reset,
-    ];
-    let mut nets = Vec::from_slice(alloc, &inner)?;
-    nets.extend_from_slice(&[master.net, output.net, master.up.data])?;
-    let free = nets.iter().all(|net| !design.ports.is_source(*net));
-    if !free || !differ(&nets) || !differ(&places) {
-        return Ok(None);
-    }
-    Ok(Some(Group {
+/// The form of a latch of two halves and a reset device.
+fn joined(master: Half, output: Half, reset: usize) -> Group {
+    Group {
         master: master.net,
         output: output.net,
         data: master.up.data,
-        inner: Vec::from_slice(alloc, &inner)?,
-        places: Vec::from_slice(alloc, &places)?,
-    }))
+        inner: [
+            master.up.inner,
+            master.down.inner,
+            output.up.inner,
+            output.down.inner,
+        ],
+        places: [
+            master.up.switch,
+            master.up.end,
+            master.down.switch,
+            master.down.end,
+            output.up.switch,
+            output.up.end,
+            output.down.switch,
+            output.down.end,
+            reset,
+        ],
+    }
+}
+
+/// Whether the nets and the places of a group differ and none of its nets is a source.
+fn is_apart(design: &Design, group: &Group) -> bool {
+    let [first, second, third, fourth] = group.inner;
+    let nets = [
+        first,
+        second,
+        third,
+        fourth,
+        group.master,
+        group.output,
+        group.data,
+    ];
+    let free = nets.iter().all(|net| !design.ports.is_source(*net));
+    free && differ(&nets) && differ(&group.places)
 }
 
 /// The places of the devices that can reset a latch of this output.
@@ -150,6 +186,38 @@ fn resets(alloc: Global, design: &Design, output: usize) -> Result<Vec<usize>, A
     Ok(places)
 }
 
+/// Adds the groups of an output and a reset device.
+fn push_groups(
+    design: &Design,
+    masters: &[Half],
+    output: Half,
+    reset: usize,
+    groups: &mut Vec<Group>,
+) -> Result<(), AllocError> {
+    for master in masters {
+        let group = joined(*master, output, reset);
+        if output.up.data == master.net && is_apart(design, &group) {
+            groups.push(group)?;
+        }
+    }
+    Ok(())
+}
+
+/// Adds the groups of an output.
+fn push_groups_of(
+    alloc: Global,
+    design: &Design,
+    masters: &[Half],
+    output: Half,
+    groups: &mut Vec<Group>,
+) -> Result<(), AllocError> {
+    let places = resets(alloc, design, output.net)?;
+    for reset in places.iter() {
+        push_groups(design, masters, output, *reset, groups)?;
+    }
+    Ok(())
+}
+
 /// All groups.
 pub fn groups_of(alloc: Global, design: &Design) -> Result<Vec<Group>, AllocError> {
     let first = design.ports.first_control();
@@ -157,15 +225,7 @@ pub fn groups_of(alloc: Global, design: &Design) -> Result<Vec<Group>, AllocErro
     let outputs = halves(alloc, design, first.saturating_add(2))?;
     let mut groups = Vec::new(alloc);
     for output in outputs.iter() {
-        for reset in resets(alloc, design, output.net)?.iter() {
-            for master in masters.iter() {
-                if output.up.data == master.net {
-                    if let Some(group) = group_of(alloc, design, *master, *output, *reset)? {
-                        groups.push(group)?;
-                    }
-                }
-            }
-        }
+        push_groups_of(alloc, design, &masters, *output, &mut groups)?;
     }
     Ok(groups)
 }

@@ -24,6 +24,24 @@ fn reads_leaves(design: &Design, parts: &Parts, cell: &Cell) -> bool {
     })
 }
 
+/// Whether a cell, or one of those with these outputs, reads a net.
+fn is_read(design: &Design, parts: &Parts, cell: &Cell, outputs: &[usize], net: usize) -> bool {
+    reads(design, cell, net)
+        || parts.cells.iter().any(|reader| outputs.contains(&reader.front.output)
+            && reads(design, reader, net))
+}
+
+/// The output of a cell that a cell, or one of those with these outputs, reads, where it is none of them.
+fn next_output(design: &Design, parts: &Parts, cell: &Cell, outputs: &[usize]) -> Option<usize> {
+    for other in parts.cells.iter() {
+        let output = other.front.output;
+        if !outputs.contains(&output) && is_read(design, parts, cell, outputs, output) {
+            return Some(output);
+        }
+    }
+    None
+}
+
 /// Whether a cell depends on itself through trees: the cells that it reads, those that they read and so on have it
 /// among them.
 fn depends_on_itself(
@@ -33,16 +51,10 @@ fn depends_on_itself(
     cell: &Cell,
 ) -> Result<bool, AllocError> {
     let mut outputs = Vec::new(alloc);
-    for _ in 0..parts.cells.len().saturating_add(1) {
-        for other in parts.cells.iter() {
-            let output = other.front.output;
-            let is_read = reads(design, cell, output)
-                || parts.cells.iter().any(|reader| {
-                    outputs.contains(&reader.front.output) && reads(design, reader, output)
-                });
-            if is_read && !outputs.contains(&output) {
-                outputs.push(output)?;
-            }
+    for _ in 0..parts.cells.len() {
+        match next_output(design, parts, cell, &outputs) {
+            Some(output) => outputs.push(output)?,
+            None => break,
         }
     }
     Ok(outputs.contains(&cell.front.output))

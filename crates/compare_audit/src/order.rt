@@ -68,16 +68,62 @@ fn behind<'a>(order: &'a [usize], wanted: &[usize]) -> Option<&'a [usize]> {
     }
 }
 
-/// The places of the inverter whose output is a net: its `pch` and then its `nch`.
-fn inverter(alloc: Global, design: &Design, net: usize) -> Result<Vec<usize>, AllocError> {
-    let mut places = Vec::new(alloc);
-    for (kind, rail) in [(Kind::P, VDD), (Kind::N, VSS)] {
-        for (place, card) in design.cards.iter().enumerate() {
-            if card.kind == kind && card.joins(net, rail) {
-                places.push(place)?;
-            }
+/// Adds the places of the devices of a kind between a net and a supply.
+fn push_devices(
+    design: &Design,
+    kind: Kind,
+    net: usize,
+    rail: usize,
+    places: &mut Vec<usize>,
+) -> Result<(), AllocError> {
+    for (place, card) in design.cards.iter().enumerate() {
+        if card.kind == kind && card.joins(net, rail) {
+            places.push(place)?;
         }
     }
+    Ok(())
+}
+
+/// Adds the places of the inverter whose output is a net: its `pch` and then its `nch`.
+fn push_inverter(design: &Design, net: usize, places: &mut Vec<usize>) -> Result<(), AllocError> {
+    push_devices(design, Kind::P, net, VDD, places)?;
+    push_devices(design, Kind::N, net, VSS, places)
+}
+
+/// The devices of a cell's tree in an order, as far as they are its first ones.
+fn tree_of(
+    alloc: Global,
+    design: &Design,
+    cell: &Cell,
+    order: &[usize],
+) -> Result<Vec<Card>, AllocError> {
+    let mut tree = Vec::new(alloc);
+    for place in order.iter().take(cell.tree.len()) {
+        if let (true, Some(card)) = (cell.tree.contains(place), design.cards.get(*place)) {
+            tree.push(*card)?;
+        }
+    }
+    Ok(tree)
+}
+
+/// Whether an order begins with the devices of a cell's tree, in the order of a deck.
+fn starts_with_tree(
+    alloc: Global,
+    design: &Design,
+    cell: &Cell,
+    order: &[usize],
+) -> Result<bool, AllocError> {
+    let count = cell.tree.len();
+    let tree = tree_of(alloc, design, cell, order)?;
+    let fuel = count.saturating_add(1).saturating_mul(4);
+    Ok(tree.len() == count && spells(&tree, cell.front.dynamic, cell.bottom, fuel))
+}
+
+/// The places of a cell's devices behind its tree: its foot and the inverter of its output.
+fn end_of(alloc: Global, design: &Design, cell: &Cell) -> Result<Vec<usize>, AllocError> {
+    let mut places = Vec::new(alloc);
+    places.push(cell.foot)?;
+    push_inverter(design, cell.front.output, &mut places)?;
     Ok(places)
 }
 
@@ -88,23 +134,49 @@ fn behind_cell<'a>(
     cell: &Cell,
     order: &'a [usize],
 ) -> Result<Option<&'a [usize]>, AllocError> {
-    let count = cell.tree.len();
     let Some(rest) = behind(order, &[cell.front.precharge, cell.front.keeper]) else {
         return Ok(None);
     };
-    let mut tree = Vec::new(alloc);
-    for place in rest.iter().take(count) {
-        if let (true, Some(card)) = (cell.tree.contains(place), design.cards.get(*place)) {
-            tree.push(*card)?;
-        }
-    }
-    let fuel = count.saturating_add(1).saturating_mul(4);
-    if tree.len() != count || !spells(&tree, cell.front.dynamic, cell.bottom, fuel) {
+    if !starts_with_tree(alloc, design, cell, rest)? {
         return Ok(None);
     }
-    let end = inverter(alloc, design, cell.front.output)?;
-    let rest = rest.get(count..).unwrap_or(&[]);
-    Ok(behind(rest, &[cell.foot]).and_then(|rest| behind(rest, &end)))
+    let end = end_of(alloc, design, cell)?;
+    Ok(behind(rest.get(cell.tree.len()..).unwrap_or(&[]), &end))
+}
+
+/// The cell whose precharge device is the first of an order, where it reads only cells with these dynamic nets.
+fn first_cell<'a>(
+    design: &Design,
+    parts: &'a Parts,
+    order: &[usize],
+    had: &[usize],
+) -> Option<&'a Cell> {
+    let first = *order.first()?;
+    let cell = parts
+        .cells
+        .iter()
+        .find(|cell| cell.front.precharge == first)?;
+    let reads_later = parts.cells.iter().any(|other| {
+        !had.contains(&other.front.dynamic) && reads(design, cell, other.front.output)
+    });
+    if reads_later { None } else { Some(cell) }
+}
+
+/// What is left of an order behind its first cell, whose dynamic net is added to those of the cells before it.
+fn behind_next<'a>(
+    alloc: Global,
+    design: &Design,
+    parts: &Parts,
+    order: &'a [usize],
+    had: &mut Vec<usize>,
+) -> Result<Option<&'a [usize]>, AllocError> {
+    match first_cell(design, parts, order, had) {
+        Some(cell) => {
+            had.push(cell.front.dynamic)?;
+            behind_cell(alloc, design, cell, order)
+        }
+        None => Ok(None),
+    }
 }
 
 /// What is left of an order behind the cells, each behind those that it reads.
@@ -114,101 +186,100 @@ fn behind_cells<'a>(
     parts: &Parts,
     order: &'a [usize],
 ) -> Result<Option<&'a [usize]>, AllocError> {
-    let mut rest = order;
+    let mut rest = Some(order);
     let mut had: Vec<usize> = Vec::new(alloc);
     for _ in 0..parts.cells.len() {
-        let first = rest.first().copied();
-        let next = parts
-            .cells
-            .iter()
-            .find(|cell| Some(cell.front.precharge) == first);
-        let Some(cell) = next else {
-            return Ok(None);
-        };
-        let reads_later = parts.cells.iter().any(|other| {
-            !had.contains(&other.front.dynamic) && reads(design, cell, other.front.output)
-        });
-        let Some(left) = behind_cell(alloc, design, cell, rest)? else {
-            return Ok(None);
-        };
-        if reads_later {
-            return Ok(None);
+        if let Some(left) = rest {
+            rest = behind_next(alloc, design, parts, left, &mut had)?;
         }
-        had.push(cell.front.dynamic)?;
-        rest = left;
     }
-    Ok(Some(rest))
+    Ok(rest)
 }
 
-/// The numbers of the groups in the order in which their first devices stand.
+/// The groups in the order in which their first devices stand.
 fn latches_in_order(
     alloc: Global,
     groups: &[Group],
     order: &[usize],
-) -> Result<Vec<usize>, AllocError> {
+) -> Result<Vec<Group>, AllocError> {
     let mut latches = Vec::new(alloc);
     for place in order {
-        for (number, group) in groups.iter().enumerate() {
+        for group in groups {
             if group.places.first() == Some(place) {
-                latches.push(number)?;
+                latches.push(*group)?;
             }
         }
     }
     Ok(latches)
 }
 
-/// The places of the complements' inverters by rising signal: those of pins, then those of the outputs of latches as they are listed.
-fn complements_in_order(
-    alloc: Global,
+/// Adds the places of the inverters of the complements of a net.
+fn push_complements(
     design: &Design,
     parts: &Parts,
-    latches: &[usize],
-) -> Result<Vec<usize>, AllocError> {
-    let mut inputs = Vec::new(alloc);
-    for pin in design.ports.first_pin()..design.ports.sources() {
-        inputs.push(pin)?;
-    }
-    for latch in latches {
-        if let Some(group) = parts.groups.get(*latch) {
-            inputs.push(group.output)?;
+    input: usize,
+    places: &mut Vec<usize>,
+) -> Result<(), AllocError> {
+    for net in parts.complements.iter() {
+        if input_of(&parts.inputs, *net) == Some(input) {
+            push_inverter(design, *net, places)?;
         }
     }
-    let mut places = Vec::new(alloc);
-    for input in inputs.iter() {
-        for net in parts.complements.iter() {
-            if input_of(&parts.inputs, *net) == Some(*input) {
-                places.extend_from_slice(&inverter(alloc, design, *net)?)?;
-            }
-        }
-    }
-    Ok(places)
+    Ok(())
 }
 
-/// The places behind the cells, where the complements' inverters and the latches stand in this order.
+/// Adds the places of the complements' inverters by rising signal: those of pins, then those of the outputs of latches as
+/// they are listed.
+fn push_all_complements(
+    design: &Design,
+    parts: &Parts,
+    latches: &[Group],
+    places: &mut Vec<usize>,
+) -> Result<(), AllocError> {
+    for pin in design.ports.first_pin()..design.ports.sources() {
+        push_complements(design, parts, pin, places)?;
+    }
+    for latch in latches {
+        push_complements(design, parts, latch.output, places)?;
+    }
+    Ok(())
+}
+
+/// Adds the places of the sinks' inverters: those of output ports, then those of the data of latches as they are listed.
+fn push_sinks(
+    design: &Design,
+    latches: &[Group],
+    places: &mut Vec<usize>,
+) -> Result<(), AllocError> {
+    for out in design.ports.sources()..design.ports.count() {
+        push_inverter(design, out, places)?;
+    }
+    for latch in latches {
+        push_inverter(design, latch.data, places)?;
+    }
+    Ok(())
+}
+
+/// The places behind the cells, where the latches stand in this order.
 fn places_behind(
     alloc: Global,
     design: &Design,
     parts: &Parts,
-    complements: &[usize],
-    latches: &[usize],
+    latches: &[Group],
 ) -> Result<Vec<usize>, AllocError> {
-    let mut own = Vec::new(alloc);
-    let mut sinks = Vec::new(alloc);
-    for out in design.ports.sources()..design.ports.count() {
-        sinks.push(out)?;
-    }
+    let mut places = Vec::new(alloc);
+    push_all_complements(design, parts, latches, &mut places)?;
     for latch in latches {
-        if let Some(group) = parts.groups.get(*latch) {
-            own.extend_from_slice(&group.places)?;
-            sinks.push(group.data)?;
-        }
+        places.extend_from_slice(&latch.places)?;
     }
-    let mut places = Vec::from_slice(alloc, complements)?;
-    places.extend_from_slice(&own)?;
-    for sink in sinks.iter() {
-        places.extend_from_slice(&inverter(alloc, design, *sink)?)?;
-    }
+    push_sinks(design, latches, &mut places)?;
     Ok(places)
+}
+
+/// Whether the places of an order are those of all devices, each once.
+fn has_all(design: &Design, order: &[usize]) -> bool {
+    let count = design.cards.len();
+    order.len() == count && (0..count).all(|place| order.contains(&place))
 }
 
 /// Whether the places of an order are those of all devices, each once, as they stand in a deck.
@@ -218,15 +289,13 @@ pub fn is_order(
     parts: &Parts,
     order: &[usize],
 ) -> Result<bool, AllocError> {
-    let all = (0..design.cards.len()).all(|place| order.contains(&place));
-    if !all || order.len() != design.cards.len() {
+    if !has_all(design, order) {
         return Ok(false);
     }
     let Some(rest) = behind_cells(alloc, design, parts, order)? else {
         return Ok(false);
     };
     let latches = latches_in_order(alloc, &parts.groups, rest)?;
-    let complements = complements_in_order(alloc, design, parts, &latches)?;
-    let wanted = places_behind(alloc, design, parts, &complements, &latches)?;
+    let wanted = places_behind(alloc, design, parts, &latches)?;
     Ok(rest == wanted.as_slice())
 }

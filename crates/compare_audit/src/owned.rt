@@ -37,13 +37,31 @@ fn drawn_options(draws: &mut Draws) -> SynthOptions
     }
 }
 
-/// The product's own deck of a generated network.
-pub fn own_deck(alloc: Global, draws: &mut Draws) -> Result<Design, Trouble> {
+/// The text of a generated network.
+fn drawn_text(alloc: Global, draws: &mut Draws) -> Result<String, Trouble> {
     let drawn = drawn_network(alloc, draws, SIZES)?;
     let mut file = one_model(alloc, &drawn)?;
-    let text = written(alloc, &mut file)?;
-    let network = network_of(alloc, text.as_bytes())?;
-    let options = drawn_options(draws);
+    Ok(written(alloc, &mut file)?)
+}
+
+/// The deck of the network of a text.
+fn deck_text(alloc: Global, text: &[u8], options: SynthOptions) -> Result<Vec<u8>, Trouble>
+    requires some_width { 2 ≤ options.bounds.w }
+    requires few_wide { options.bounds.w ≤ 8 }
+    requires some_height { 2 ≤ options.bounds.h }
+    requires few_high { options.bounds.h ≤ 6 }
+    requires some_phase { 1 ≤ options.phases }
+    requires few_phases { options.phases ≤ 4 }
+{
+    let network = network_of(alloc, text)?;
     let circuit = synth(alloc, &network, options)?;
-    Design::read(alloc, &write(alloc, &circuit)?)
+    Ok(write(alloc, &circuit)?)
+}
+
+/// The product's own deck of a generated network.
+pub fn own_deck(alloc: Global, draws: &mut Draws) -> Result<Design, Trouble> {
+    let text = drawn_text(alloc, draws)?;
+    let options = drawn_options(draws);
+    let deck = deck_text(alloc, text.as_bytes(), options)?;
+    Design::read(alloc, &deck)
 }

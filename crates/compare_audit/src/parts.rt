@@ -63,36 +63,60 @@ pub enum PlainAudit {
     No(usize, usize),
 }
 
-/// The fronts of dynamic nets, or the first net that breaks the first rule.
-fn fronts_of(
-    alloc: Global,
-    design: &Design,
-    dynamic: &[usize],
-) -> Result<Result<Vec<Front>, usize>, AllocError> {
+/// The fronts of dynamic nets up to the first one that breaks the first rule.
+fn fronts_of(alloc: Global, design: &Design, dynamic: &[usize]) -> Result<Vec<Front>, AllocError> {
     let mut fronts = Vec::new(alloc);
     for net in dynamic {
         match front_of(design, *net) {
             Some(front) => fronts.push(front)?,
-            None => return Ok(Err(*net)),
+            None => break,
         }
     }
-    Ok(Ok(fronts))
+    Ok(fronts)
 }
 
-/// The cells of fronts, or the first dynamic net that breaks the third rule.
-fn cells_of(
-    alloc: Global,
-    design: &Design,
-    fronts: &[Front],
-) -> Result<Result<Vec<Cell>, usize>, AllocError> {
+/// The cells of fronts up to the first one that breaks the third rule.
+fn cells_of(alloc: Global, design: &Design, fronts: &[Front]) -> Result<Vec<Cell>, AllocError> {
     let mut cells = Vec::new(alloc);
     for front in fronts {
         match cell_of(alloc, design, *front)? {
             Some(cell) => cells.push(cell)?,
-            None => return Ok(Err(front.dynamic)),
+            None => break,
         }
     }
-    Ok(Ok(cells))
+    Ok(cells)
+}
+
+/// The first front that breaks the second rule.
+fn broken_output<'a>(
+    design: &Design,
+    inputs: &[Option<usize>],
+    fronts: &'a [Front],
+) -> Option<&'a Front> {
+    fronts
+        .iter()
+        .find(|front| !has_output(design, inputs, **front))
+}
+
+/// The first broken one of the rules on latches, on other nets and on the gates of trees, with its smallest net. The groups
+/// and the complements are put beside the cells.
+fn broken_rule(
+    alloc: Global,
+    design: &Design,
+    parts: &mut Parts,
+) -> Result<Option<(usize, usize)>, AllocError> {
+    parts.groups = groups_of(alloc, design)?;
+    if let Some(net) = broken_latch(design, &parts.groups) {
+        return Ok(Some((4, net)));
+    }
+    parts.complements = complements_of(alloc, design, parts)?;
+    if let Some(net) = broken_use(design, parts) {
+        return Ok(Some((5, net)));
+    }
+    Ok(match broken_leaf(alloc, design, parts)? {
+        Some(net) => Some((6, net)),
+        None => None,
+    })
 }
 
 /// What the rules on latches, on other nets and on the gates of trees answer.
@@ -102,42 +126,37 @@ fn with_cells(
     inputs: Vec<Option<usize>>,
     cells: Vec<Cell>,
 ) -> Result<PlainAudit, AllocError> {
-    let groups = groups_of(alloc, design)?;
-    if let Some(net) = broken_latch(design, &groups) {
-        return Ok(PlainAudit::No(4, net));
-    }
     let mut parts = Parts {
         inputs,
         cells,
-        groups,
+        groups: Vec::new(alloc),
         complements: Vec::new(alloc),
     };
-    parts.complements = complements_of(alloc, design, &parts)?;
-    if let Some(net) = broken_use(design, &parts) {
-        return Ok(PlainAudit::No(5, net));
-    }
-    Ok(match broken_leaf(alloc, design, &parts)? {
-        Some(net) => PlainAudit::No(6, net),
+    Ok(match broken_rule(alloc, design, &mut parts)? {
+        Some((rule, net)) => PlainAudit::No(rule, net),
         None => PlainAudit::Yes(parts),
     })
 }
 
-/// Audits a circuit.
-pub fn audited(alloc: Global, design: &Design) -> Result<PlainAudit, AllocError> {
+/// What all rules but the first one answer.
+fn with_fronts(alloc: Global, design: &Design, fronts: &[Front]) -> Result<PlainAudit, AllocError> {
     let inputs = inputs_of(alloc, design)?;
-    let dynamic = dynamic_nets(alloc, design)?;
-    let fronts = match fronts_of(alloc, design, &dynamic)? {
-        Ok(fronts) => fronts,
-        Err(net) => return Ok(PlainAudit::No(1, net)),
-    };
-    let without = fronts
-        .iter()
-        .find(|front| !has_output(design, &inputs, **front));
-    if let Some(front) = without {
+    if let Some(front) = broken_output(design, &inputs, fronts) {
         return Ok(PlainAudit::No(2, front.dynamic));
     }
-    match cells_of(alloc, design, &fronts)? {
-        Ok(cells) => with_cells(alloc, design, inputs, cells),
-        Err(net) => Ok(PlainAudit::No(3, net)),
+    let cells = cells_of(alloc, design, fronts)?;
+    match fronts.get(cells.len()) {
+        Some(front) => Ok(PlainAudit::No(3, front.dynamic)),
+        None => with_cells(alloc, design, inputs, cells),
+    }
+}
+
+/// Audits a circuit.
+pub fn audited(alloc: Global, design: &Design) -> Result<PlainAudit, AllocError> {
+    let dynamic = dynamic_nets(alloc, design)?;
+    let fronts = fronts_of(alloc, design, &dynamic)?;
+    match dynamic.get(fronts.len()) {
+        Some(net) => Ok(PlainAudit::No(1, *net)),
+        None => with_fronts(alloc, design, &fronts),
     }
 }

@@ -31,17 +31,33 @@ impl Link {
     }
 }
 
-/// The net at which two links are in series: both end at it once, no other link does, and it is neither end of the
-/// whole.
+/// Whether two links are in series at a net: both end at it once, no other link does, and it is neither end of the whole.
+fn are_in_series(
+    links: &[Link],
+    one: Link,
+    other: Link,
+    outer: (usize, usize),
+    net: usize,
+) -> bool {
+    let at_net = links.iter().filter(|link| link.ends_at(net)).count();
+    let is_outer = net == outer.0 || net == outer.1;
+    !is_outer
+        && one.ends_at(net)
+        && other.ends_at(net)
+        && at_net == 2
+        && !one.is_loop()
+        && !other.is_loop()
+}
+
+/// The net at which two links are in series.
 fn series_net(links: &[Link], one: Link, other: Link, outer: (usize, usize)) -> Option<usize> {
-    for net in [one.ends.0, one.ends.1] {
-        let at_net = links.iter().filter(|link| link.ends_at(net)).count();
-        let is_outer = net == outer.0 || net == outer.1;
-        if !is_outer && other.ends_at(net) && at_net == 2 && !one.is_loop() && !other.is_loop() {
-            return Some(net);
-        }
+    if are_in_series(links, one, other, outer, one.ends.0) {
+        Some(one.ends.0)
+    } else if are_in_series(links, one, other, outer, one.ends.1) {
+        Some(one.ends.1)
+    } else {
+        None
     }
-    None
 }
 
 /// Two links as one, where they are in parallel or in series.
@@ -53,7 +69,8 @@ fn merged(links: &[Link], one: Link, other: Link, outer: (usize, usize)) -> Opti
             height: one.height.max(other.height),
         });
     }
-    series_net(links, one, other, outer).map(|net| Link {
+    let net = series_net(links, one, other, outer)?;
+    Some(Link {
         ends: (one.far(net), other.far(net)),
         width: one.width.max(other.width),
         height: one.height.saturating_add(other.height),
@@ -72,6 +89,23 @@ fn first_step(links: &[Link], outer: (usize, usize)) -> Option<(usize, usize, Li
     None
 }
 
+/// The links but those at two places, and behind them one more.
+fn with_link(
+    alloc: Global,
+    links: &[Link],
+    (before, place): (usize, usize),
+    link: Link,
+) -> Result<Vec<Link>, AllocError> {
+    let mut next = Vec::new(alloc);
+    for (other, kept) in links.iter().enumerate() {
+        if other != before && other != place {
+            next.push(*kept)?;
+        }
+    }
+    next.push(link)?;
+    Ok(next)
+}
+
 /// The width and the height of links that reduce to one between a top and a bottom.
 pub fn reduced(
     alloc: Global,
@@ -81,17 +115,12 @@ pub fn reduced(
 ) -> Result<Option<(usize, usize)>, AllocError> {
     let mut left = links;
     for _ in 0..left.len() {
-        let Some((before, place, link)) = first_step(&left, (top, bottom)) else {
-            break;
-        };
-        let mut next = Vec::new(alloc);
-        for (other, kept) in left.iter().enumerate() {
-            if other != before && other != place {
-                next.push(*kept)?;
+        match first_step(&left, (top, bottom)) {
+            Some((before, place, link)) => {
+                left = with_link(alloc, &left, (before, place), link)?;
             }
+            None => break,
         }
-        next.push(link)?;
-        left = next;
     }
     Ok(match left.as_slice() {
         [link] if link.joins(top, bottom) => Some((link.width, link.height)),

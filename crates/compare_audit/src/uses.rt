@@ -5,6 +5,19 @@ use crate::parts::Parts;
 use crate::words::{ends_none, gates_none, input_of};
 use std::alloc::{AllocError, Global};
 
+/// Whether a net is an inverter output that is neither an output port nor latch data, whose input is a pin or a latch output,
+/// and none of these nets has that input.
+fn is_complement(design: &Design, parts: &Parts, nets: &[usize], net: usize) -> bool {
+    let Some(input) = input_of(&parts.inputs, net) else {
+        return false;
+    };
+    let of_signal = design.ports.is_pin(input) || parts.is_latch_output(input);
+    let is_new = nets
+        .iter()
+        .all(|other| input_of(&parts.inputs, *other) != Some(input));
+    of_signal && is_new && !design.ports.is_out(net) && !parts.is_data(net)
+}
+
 /// The complements: inverter outputs that are neither output ports nor latch data, whose inputs are pins or latch outputs,
 /// for each input the smallest one.
 pub fn complements_of(
@@ -14,13 +27,7 @@ pub fn complements_of(
 ) -> Result<Vec<usize>, AllocError> {
     let mut nets: Vec<usize> = Vec::new(alloc);
     for net in 0..design.names.len() {
-        let input = input_of(&parts.inputs, net);
-        let of_signal = input.is_some_and(|input| design.ports.is_pin(input)
-            || parts.is_latch_output(input));
-        let is_new = nets
-            .iter()
-            .all(|other| input_of(&parts.inputs, *other) != input);
-        if of_signal && is_new && !design.ports.is_out(net) && !parts.is_data(net) {
+        if is_complement(design, parts, &nets, net) {
             nets.push(net)?;
         }
     }
