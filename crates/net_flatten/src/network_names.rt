@@ -1,13 +1,17 @@
 //! The names of a network's signals: those of the main model, and for the other signals a prefix and a number.
-ghost use Rattle.std.specs.Prelude.{ℕ, ◌≡◌, ◌≢◌, ◌≤◌, ◌<◌, ◌++◌, ◌==◌, All, IfOk, MatchOption, Some, length, map, not, position, slice_get, true};
+ghost use Rattle.std.specs.Prelude.{ℕ, ◌≡◌, ◌≢◌, ◌≤◌, ◌<◌, ◌++◌, ◌∷◌, ◌==◌, [], All, IfOk, MatchOption, OnOk, Some, length, map, not, position, slice_get, true};
 ghost use Rattle.std.specs.Char.{is_ascii_digit};
 ghost use Rattle.std.specs.Fmt.{decimal};
 ghost use Rattle.std.specs.List.{list_all};
 ghost use Rattle.net_flatten.specs.NetworkNames.{AreNetworkNames, IsNoLongerTaking, MarksTaken, network_name};
 ghost use Rattle.model_calls.specs.Numbering.{IsLeastPrefixAmong, IsPrefixedNumber, letters_w};
 
-use dom_base::{Name, NameBytes, OutOfMemory, append_number_to_name};
+use dom_base::{NameBytes, OutOfMemory, append_number_to_name};
+use network::ListPool;
 use std::alloc::Global;
+
+/// The most digits of a signal's index, as there are at most 200,000 signals.
+const MOST_DIGITS: usize = 6;
 
 /// The place of the first byte that is no `w`.
 fn first_other(name: &[u8]) -> Option<usize>
@@ -96,28 +100,43 @@ pub fn least_prefix(alloc: Global, names: &[&[u8]]) -> Result<usize, OutOfMemory
 }
 
 /// So many letters `w` and a number.
-fn prefixed_number(alloc: Global, width: usize, number: usize) -> Result<Name, OutOfMemory>
-    ensures { IfOk result (λ name. name ≡ letters_w width ++ decimal number) }
+fn prefixed_number(alloc: Global, width: usize, number: usize) -> Result<NameBytes, OutOfMemory>
+    ensures { IfOk result (λ name. name.items ≡ letters_w width ++ decimal number) }
 {
     let mut bytes = NameBytes::from_elem(alloc, b'w', width)?;
     append_number_to_name(&mut bytes, number as u64)?;
-    Ok(Name(bytes))
+    Ok(bytes)
 }
 
-/// The name at an index of a network of the signal of this number in the file.
-fn signal_name(
+/// Appends the name at an index of a network of the signal of this number in the file.
+fn push_name(
     alloc: Global,
+    names: &mut ListPool<u8>,
     main_names: &[&[u8]],
     width: usize,
     index: usize,
     number: u32,
-) -> Result<Name, OutOfMemory>
-    ensures { IfOk result (λ name. name ≡ network_name (map (λ k. k.now) main_names.now) (letters_w width) index number) }
+) -> Result<(), OutOfMemory>
+    ensures { OnOk result (names.new
+        ≡ names.old ++ network_name (map (λ k. k.now) main_names.now) (letters_w width) index number ∷ []) }
 {
     match main_names.get(number as usize) {
-        Some(name) => Name::from_bytes(alloc, name),
-        None => prefixed_number(alloc, width, index),
+        Some(name) => names.push(name),
+        None => names.push(&prefixed_number(alloc, width, index)?),
     }
+}
+
+/// How many bytes of room the names of these signals want.
+fn room_of(main_names: &[&[u8]], width: usize, numbers: &[u32]) -> usize {
+    let prefixed = width.saturating_add(MOST_DIGITS);
+    let mut room: usize = 0;
+    for number in numbers {
+        room = room.saturating_add(match main_names.get(*number as usize) {
+            Some(name) => name.len(),
+            None => prefixed,
+        });
+    }
+    room
 }
 
 /// The names of the signals that have these numbers in the file, where names of the main model have the first numbers:
@@ -126,13 +145,14 @@ pub fn names_of_network(
     alloc: Global,
     main_names: &[&[u8]],
     numbers: &[u32],
-) -> Result<Vec<Name>, OutOfMemory>
-    ensures { IfOk result (λ names. AreNetworkNames (map (λ k. k.now) main_names.now) numbers.now names.items) }
+) -> Result<ListPool<u8>, OutOfMemory>
+    ensures { IfOk result (λ names. AreNetworkNames (map (λ k. k.now) main_names.now) numbers.now names) }
 {
     let width = least_prefix(alloc, main_names)?;
-    let mut names = Vec::with_capacity(alloc, numbers.len())?;
+    let room = room_of(main_names, width, numbers);
+    let mut names = ListPool::with_capacity(alloc, numbers.len(), room)?;
     for index in 0..numbers.len() {
-        names.push(signal_name(alloc, main_names, width, index, numbers[index])?)?;
+        push_name(alloc, &mut names, main_names, width, index, numbers[index])?;
     }
     Ok(names)
 }

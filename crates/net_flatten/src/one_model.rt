@@ -31,13 +31,24 @@ fn model_of(alloc: Global, network: &Network) -> Result<BlifModel, OutOfMemory>
 {
     Ok(BlifModel {
         name: network.name.clone()?,
-        inputs: network.names[..network.inputs as usize].to_vec(alloc)?,
+        inputs: names_of_inputs(alloc, network)?,
         outputs: names_of(alloc, network, &network.outputs)?,
         tables: tables_of(alloc, network)?,
         latches: latches_of(alloc, network)?,
         instances: Vec::new(alloc),
         line: 1,
     })
+}
+
+/// The names of the inputs.
+pub fn names_of_inputs(alloc: Global, network: &Network) -> Result<Vec<Name>, OutOfMemory>
+    ensures { IfOk result (λ names. names.items ≡ take network.now.inputs network.now.names) }
+{
+    let mut names = Vec::with_capacity(alloc, network.inputs as usize)?;
+    for k in 0..network.inputs as usize {
+        names.push(name_of(alloc, network, k)?)?;
+    }
+    Ok(names)
 }
 
 /// The names of the signals of these numbers.
@@ -47,7 +58,7 @@ pub fn names_of(alloc: Global, network: &Network, signals: &[u32]) -> Result<Vec
 {
     let mut names = Vec::with_capacity(alloc, signals.len())?;
     for signal in signals {
-        names.push(name_of(network, *signal as usize)?)?;
+        names.push(name_of(alloc, network, *signal as usize)?)?;
     }
     Ok(names)
 }
@@ -59,17 +70,17 @@ fn names_read(alloc: Global, network: &Network, signals: &[u32]) -> Result<Input
 {
     let mut names = InputNames::with_capacity(alloc, signals.len())?;
     for signal in signals {
-        names.push(name_of(network, *signal as usize)?)?;
+        names.push(name_of(alloc, network, *signal as usize)?)?;
     }
     Ok(names)
 }
 
 /// The name of the signal of a number.
-fn name_of(network: &Network, signal: usize) -> Result<Name, OutOfMemory>
+fn name_of(alloc: Global, network: &Network, signal: usize) -> Result<Name, OutOfMemory>
     requires { signal < length network.now.names }
     ensures { IfOk result (λ name. name ≡ name_at network.now signal) }
 {
-    Ok(network.names[signal].clone()?)
+    Name::from_bytes(alloc, network.names.list(signal))
 }
 
 fn tables_of(alloc: Global, network: &Network) -> Result<Vec<Table>, OutOfMemory>
@@ -92,7 +103,7 @@ fn table_of(alloc: Global, network: &Network, k: usize) -> Result<Table, OutOfMe
     let first = network.inputs as usize + network.latches.len();
     Ok(Table {
         inputs: names_read(alloc, network, table.inputs)?,
-        output: name_of(network, first + k)?,
+        output: name_of(alloc, network, first + k)?,
         on: table.on,
         rows: copies(alloc, &table.rows)?,
         line: 2 + k as u64,
@@ -118,20 +129,20 @@ pub fn latches_of(alloc: Global, network: &Network) -> Result<Vec<Latch>, OutOfM
 {
     let mut latches = Vec::with_capacity(alloc, network.latches.len())?;
     for k in 0..network.latches.len() {
-        latches.push(latch_of(network, k)?)?;
+        latches.push(latch_of(alloc, network, k)?)?;
     }
     Ok(latches)
 }
 
 /// The latch at this place.
-fn latch_of(network: &Network, k: usize) -> Result<Latch, OutOfMemory>
+fn latch_of(alloc: Global, network: &Network, k: usize) -> Result<Latch, OutOfMemory>
     requires { k < length network.now.latches }
     ensures { IfOk result (λ latch. (l : NetLatch) → slice_get network.now.latches k ≡ Some l → latch ≡ latch_at network.now k l) }
 {
     let latch = network.latches[k];
     Ok(Latch {
-        input: name_of(network, latch.input as usize)?,
-        output: name_of(network, network.inputs as usize + k)?,
+        input: name_of(alloc, network, latch.input as usize)?,
+        output: name_of(alloc, network, network.inputs as usize + k)?,
         control: None,
         init: if latch.init { 1 } else { 0 },
         line: 2 + network.tables.len() as u64 + k as u64,

@@ -6,10 +6,10 @@ ghost use Rattle.network.specs.NetworkData.{NetTableData};
 ghost use Rattle.net_flatten.specs.OneModel.{file_of, name_at, table_at};
 ghost use Rattle.net_flatten.specs.OneModelParts.{tables_here};
 
-use crate::one_model::{latches_of, names_of};
+use crate::one_model::{latches_of, names_of, names_of_inputs};
 use blif_ast::{Letter, end_line, put_head, put_latches, put_ports};
-use dom_base::{Name, OutOfMemory, append, append_word};
-use network::{Network, TableRows};
+use dom_base::{OutOfMemory, append, append_word};
+use network::{ListPool, Network, TableRows};
 use std::alloc::Global;
 
 /// The most bytes of a text besides those of its names and rows.
@@ -28,11 +28,7 @@ pub fn print_network(alloc: Global, network: &Network) -> Result<Vec<u8>, OutOfM
 {
     let mut text = Vec::with_capacity(alloc, room_of(network))?;
     put_head(&mut text, network.name.as_bytes())?;
-    put_ports(
-        &mut text,
-        b".inputs",
-        &network.names[..network.inputs as usize],
-    )?;
+    put_ports(&mut text, b".inputs", &names_of_inputs(alloc, network)?)?;
     put_ports(
         &mut text,
         b".outputs",
@@ -143,7 +139,7 @@ fn name_in(network: &Network, signal: usize) -> &[u8]
     requires { signal < length network.now.names }
     ensures { result.now ≡ name_at network.now signal }
 {
-    network.names[signal].as_bytes()
+    network.names.list(signal)
 }
 
 /// How many bytes of room the text wants.
@@ -163,18 +159,18 @@ fn room_of(network: &Network) -> usize {
 }
 
 /// How many bytes of room the names want where they are ports or stand behind the word of a card.
-fn room_of_names(names: &[Name]) -> usize {
+fn room_of_names(names: &ListPool<u8>) -> usize {
     let mut room: usize = 0;
-    for name in names {
+    for k in 0..names.len() {
         room = room
             .saturating_add(AROUND_NAME)
-            .saturating_add(name.as_bytes().len());
+            .saturating_add(names.list(k).len());
     }
     room
 }
 
 /// How many bytes of room the names of these signals want.
-fn room_of_reads(names: &[Name], signals: &[u32]) -> usize {
+fn room_of_reads(names: &ListPool<u8>, signals: &[u32]) -> usize {
     let mut room: usize = 0;
     for signal in signals {
         room = room.saturating_add(room_of_read(names, *signal));
@@ -182,9 +178,11 @@ fn room_of_reads(names: &[Name], signals: &[u32]) -> usize {
     room
 }
 
-fn room_of_read(names: &[Name], signal: u32) -> usize {
-    match names.get(signal as usize) {
-        Some(name) => name.as_bytes().len().saturating_add(1),
-        None => 0,
+fn room_of_read(names: &ListPool<u8>, signal: u32) -> usize {
+    let signal = signal as usize;
+    if signal < names.len() {
+        names.list(signal).len().saturating_add(1)
+    } else {
+        0
     }
 }

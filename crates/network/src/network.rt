@@ -1,4 +1,5 @@
 //! Networks.
+use crate::list_pool::ListPool;
 use crate::net_tables::NetTables;
 use dom_base::Name;
 use smallvec::SmallVec;
@@ -25,7 +26,7 @@ pub struct NetLatch {
 #[derive(Drop)]
 pub struct Network {
     pub name: Name,
-    pub names: Vec<Name>,
+    pub names: ListPool<u8>,
     pub inputs: u32,
     pub outputs: Vec<u32>,
     pub latches: Vec<NetLatch>,
@@ -38,7 +39,7 @@ impl Model for Network {
 
     ghost Value = { NetworkData };
 
-    ghost view = { λ n. record { name = n.name; names = n.names.items; inputs = n.inputs; outputs = n.outputs.items; latches = n.latches.items; tables = n.tables } };
+    ghost view = { λ n. record { name = n.name; names = n.names; inputs = n.inputs; outputs = n.outputs.items; latches = n.latches.items; tables = n.tables } };
 
-    ghost invariant = { λ n. IsNetwork (record { name = n.name; names = n.names.items; inputs = n.inputs; outputs = n.outputs.items; latches = n.latches.items; tables = n.tables }) };
+    ghost invariant = { λ n. IsNetwork (record { name = n.name; names = n.names; inputs = n.inputs; outputs = n.outputs.items; latches = n.latches.items; tables = n.tables }) };
 }

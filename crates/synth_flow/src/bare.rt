@@ -15,19 +15,19 @@ use crate::groups::push_deck;
 use crate::names::{escaped_name, out_names, pin_names};
 use crate::sinks::{phases, sink_names};
 use deck::Circuit;
-use dom_base::{Name, NetName, OutOfMemory};
+use dom_base::{NetName, OutOfMemory};
 use domino_cell::Style;
 use dual_rail::End;
-use network::Network;
+use network::{ListPool, Network};
 use sp_network::GatePlan;
 use std::alloc::Global;
 
 /// The bytes of names are below 256.
-pub fn see_names(names: &[Name])
+pub fn see_names(names: &ListPool<u8>)
     ensures { All (λ name. All (λ b. b < 256) name) names.now }
 {
-    'names: for name in names {
-        see_bytes(name.as_bytes());
+    'names: for k in 0..names.len() {
+        see_bytes(names.list(k));
     }
 }
 
@@ -62,14 +62,15 @@ pub fn bare_deck(
     ensures sinks { IfOk result (λ d. d.sinks.items ≡ sinks_of network.now) }
     ensures names { IfOk result (λ _. All (λ name. All (λ b. b < 256) name) network.now.names) }
 {
-    let names = network.names.as_slice();
+    let names = &network.names;
     see_names(names);
-    see_bytes(network.name.as_bytes());
+    let title = network.name.as_bytes();
+    see_bytes(title);
     let pins = pin_names(alloc, names, network.inputs)?;
     let outs = out_names(alloc, names, network.outputs.as_slice())?;
     let sinks = sink_names(alloc, outs.as_slice(), network.latches.len() as u32)?;
     let phases = phases(alloc, sinks.as_slice(), signs)?;
-    let name = escaped_name(alloc, b"", &network.name)?;
+    let name = escaped_name(alloc, b"", title)?;
     let circuit = Circuit::new(
         alloc,
         name,

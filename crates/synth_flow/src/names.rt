@@ -8,31 +8,51 @@ ghost use Rattle.deck_form.specs.DeckNets.{complement_net, named_gate, own_net};
 ghost use Rattle.synth_flow.specs.MadeDecks.{port_net};
 
 use deck::{copied, esc, numbered_name};
-use dom_base::{Name, NameBytes, NetName, OutOfMemory, append_to_name};
+use dom_base::{NameBytes, NetName, OutOfMemory, append_to_name};
+use network::ListPool;
 use std::alloc::Global;
 
 /// A net with the name of a signal: a front, and the escaped name.
 #[tactic(auto, using(deck::proofs::EscapedNames::escaped_names))]
-pub fn escaped_name(alloc: Global, front: &[u8], name: &Name) -> Result<NetName, OutOfMemory>
+pub fn escaped_name(alloc: Global, front: &[u8], name: &[u8]) -> Result<NetName, OutOfMemory>
     requires front { All IsNetByte front.now }
     requires name { IsByteName name.now }
     ensures { IfOk result (λ net. net ≡ front.now ++ escaped name.now) }
 {
     let mut bytes = NameBytes::new(alloc);
     append_to_name(&mut bytes, front)?;
-    append_to_name(&mut bytes, esc(alloc, name.as_bytes())?.as_slice())?;
+    append_to_name(&mut bytes, esc(alloc, name)?.as_slice())?;
     Ok(NetName(bytes))
 }
 
+/// The net of a signal that is a port: a front, and the escaped name of the signal.
+fn port_name(
+    alloc: Global,
+    front: &[u8],
+    names: &ListPool<u8>,
+    signal: u32,
+) -> Result<NetName, OutOfMemory>
+    requires front { All IsNetByte front.now }
+    requires within { signal < length names.now }
+    requires names { All IsByteName names.now }
+    ensures { IfOk result (λ net. net ≡ port_net front.now names.now signal) }
+{
+    escaped_name(alloc, front, names.list(signal as usize))
+}
+
 /// The nets of the first signals, so many, which are inputs.
-pub fn pin_names(alloc: Global, names: &[Name], inputs: u32) -> Result<Vec<NetName>, OutOfMemory>
+pub fn pin_names(
+    alloc: Global,
+    names: &ListPool<u8>,
+    inputs: u32,
+) -> Result<Vec<NetName>, OutOfMemory>
     requires within { inputs ≤ length names.now }
     requires names { All IsByteName names.now }
     ensures { IfOk result (λ pins. pins.items ≡ map (port_net (codes "i_") names.now) (range_with_len 0 inputs)) }
 {
     let mut pins = Vec::with_capacity(alloc, inputs as usize)?;
     'pins: for signal in 0..inputs {
-        pins.push(escaped_name(alloc, b"i_", &names[signal as usize])?)?;
+        pins.push(port_name(alloc, b"i_", names, signal)?)?;
     }
     Ok(pins)
 }
@@ -40,7 +60,7 @@ pub fn pin_names(alloc: Global, names: &[Name], inputs: u32) -> Result<Vec<NetNa
 /// The nets of the signals that are outputs.
 pub fn out_names(
     alloc: Global,
-    names: &[Name],
+    names: &ListPool<u8>,
     outputs: &[u32],
 ) -> Result<Vec<NetName>, OutOfMemory>
     requires within { All (λ signal. signal < length names.now) outputs.now }
@@ -49,7 +69,7 @@ pub fn out_names(
 {
     let mut outs = Vec::with_capacity(alloc, outputs.len())?;
     'outs: for signal in outputs {
-        outs.push(escaped_name(alloc, b"o_", &names[*signal as usize])?)?;
+        outs.push(port_name(alloc, b"o_", names, *signal)?)?;
     }
     Ok(outs)
 }

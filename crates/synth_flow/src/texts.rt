@@ -47,10 +47,11 @@ fn deck_names(alloc: Global, network: &Network) -> Result<DeckNames, OutOfMemory
     ensures plain { IfOk result (λ n. IsNetName n.name) }
     ensures names { IfOk result (λ _. All (λ name. All (λ b. b < 256) name) network.now.names) }
 {
-    let names = network.names.as_slice();
+    let names = &network.names;
     see_names(names);
-    see_bytes(network.name.as_bytes());
-    let name = escaped_name(alloc, b"", &network.name)?;
+    let title = network.name.as_bytes();
+    see_bytes(title);
+    let name = escaped_name(alloc, b"", title)?;
     name.as_bytes();
     Ok(DeckNames {
         name,

@@ -1,5 +1,5 @@
 //! The ports of a deck beside those of a network.
-ghost use Rattle.std.specs.Prelude.{◌≡◌, ◌<◌, ◌≤◌, ◌+◌, ◌++◌, ◌^◌, IfOk, IfSome, MatchOption, drop, length};
+ghost use Rattle.std.specs.Prelude.{◌≡◌, ◌<◌, ◌≤◌, ◌+◌, ◌++◌, ◌^◌, [], IfOk, IfSome, MatchOption, drop, length, slice_index_or};
 ghost use Rattle.deck.specs.Escapes.{escaped};
 ghost use Rattle.deck.specs.Roles.{AreRoles, ports_of};
 ghost use Rattle.trace_tool.specs.PortDifferences.{ComparesPorts};
@@ -8,6 +8,7 @@ ghost use Rattle.trace_tool.specs.Verdicts.{DifferFirstAt, network_ports};
 use deck::{Circuit, Roles, esc};
 use dom_base::{Name, NameBytes, NetName, OutOfMemory, append_to_name};
 use net_flatten::Network;
+use network::ListPool;
 use std::alloc::Global;
 
 /// The first place, from 0 over all ports of a circuit, at which its ports from the first pin on aren't
@@ -44,22 +45,35 @@ fn port_names(alloc: Global, network: &Network) -> Result<Vec<Name>, OutOfMemory
     ensures { IfOk result (λ names. names.items ≡ network_ports network.now) }
 {
     let mut ports = Vec::new(alloc);
-    for name in &network.names[..network.inputs as usize] {
-        ports.push(port_name(alloc, b"i_", name)?)?;
+    for input in 0..network.inputs {
+        ports.push(port_of(alloc, b"i_", &network.names, input)?)?;
     }
     for signal in &network.outputs {
-        ports.push(port_name(alloc, b"o_", &network.names[*signal as usize])?)?;
+        ports.push(port_of(alloc, b"o_", &network.names, *signal)?)?;
     }
     Ok(ports)
 }
 
+/// The name of the port of a signal: the letters of its kind, and the signal's escaped name.
+fn port_of(
+    alloc: Global,
+    front: &[u8],
+    names: &ListPool<u8>,
+    signal: u32,
+) -> Result<Name, OutOfMemory>
+    requires { signal < length names.now }
+    ensures { IfOk result (λ port. port ≡ front.now ++ escaped (slice_index_or names.now signal [])) }
+{
+    port_name(alloc, front, names.list(signal as usize))
+}
+
 /// The name of a port: the letters of its kind, and the escaped name of its signal.
-fn port_name(alloc: Global, front: &[u8], name: &Name) -> Result<Name, OutOfMemory>
+fn port_name(alloc: Global, front: &[u8], name: &[u8]) -> Result<Name, OutOfMemory>
     ensures { IfOk result (λ port. port ≡ front.now ++ escaped name.now) }
 {
     let mut port = NameBytes::new(alloc);
     append_to_name(&mut port, front)?;
-    append_to_name(&mut port, &esc(alloc, name.as_bytes())?)?;
+    append_to_name(&mut port, &esc(alloc, name)?)?;
     Ok(Name(port))
 }
 

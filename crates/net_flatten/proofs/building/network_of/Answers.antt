@@ -1,7 +1,9 @@
-use Rattle.std.proofs.Common.{◌≡◌, ◌<◌, ◌++◌, length, map, ap, sym, ◌∙◌, subst, rules}
+use Rattle.std.proofs.Common.{◌≡◌, ◌<◌, ℕ, List, ◌++◌, length, map, ap, sym, ◌∙◌, subst, rules}
 use Rattle.std.specs.Prelude.{All, IsSome}
 use Rattle.net_flatten.specs.declared.table_order.LevelledTable.{LevelledTable}
 use Rattle.network.specs.NetworkData.{NetworkData}
+use Rattle.network.specs.Networks.{IsNetwork}
+use Rattle.net_flatten.specs.Flattening.{IsNetworkOf}
 use Rattle.net_flatten.specs.NetworkNames.{AreNetworkNames}
 use Rattle.net_flatten.specs.NetworkNumbers.{IsRenumbering, latches_among, pin_numbers}
 use Rattle.net_flatten.specs.NetworkParts.{latch_in_network, levelled_in_network, network_place}
@@ -69,8 +71,8 @@ net_tables-requires-clause-there c =
     subst (All (λ t. IsSome (levelled_in_network c.args.file.now c.deref-7.result.now c.parts-parts.result.now t)))
     (sym c.deref-6.ensures.value) (levelled_there c.requires.numbers g c.deref-7.result.now)
 
-pub invariant_of-result : goal.invariant_of-result
-invariant_of-result c =
+pub invariant_of-result-2 : goal.invariant_of-result-2
+invariant_of-result-2 c =
     let pins : c.add_pins.new.numbers.items ≡ pin_numbers c.control_of.result c.inputs.result.now =
     c.in_ok-add_pins.ensures {u = tt} ∙ ap (λ l. l ++ pin_numbers c.control_of.result c.inputs.result.now) c.in_ok-numbers.ensures.items in
     let count : c.len-inputs.result ≡ length c.add_pins.new.numbers.items = search rules in
@@ -81,7 +83,7 @@ invariant_of-result c =
     (c.in_ok-add_outputs.ensures {u = tt}) in
     let network : NetworkData = record {
       name = c.in_ok-main_name.field-0;
-      names = c.in_ok-names.names.items;
+      names = c.in_ok-names.names;
       inputs = c.len-inputs.result;
       outputs = c.in_ok-places_of.field-0.items;
       latches = c.in_ok-net_latches.field-0.items;
@@ -104,7 +106,15 @@ invariant_of-result c =
           ∙ ap (λ l. map (levelled_in_network c.args.file.now l c.parts-parts.result.now) c.deref-6.result.now) c.deref-7.ensures.value
           ∙ ap (map (levelled_in_network c.args.file.now c.in_ok-places.places.items c.parts-parts.result.now)) c.deref-6.ensures.value;
     }) in
-    network_kept c.args.file.now network c.requires.good is
+    subst (λ (names : List (List ℕ)). IsNetwork (record {
+      name = c.in_ok-main_name.field-0;
+      names = names;
+      inputs = c.len-inputs.result;
+      outputs = c.in_ok-places_of.field-0.items;
+      latches = c.in_ok-net_latches.field-0.items;
+      tables = c.in_ok-net_tables.field-0;
+    }))
+    (sym c.names-2.view_is) (network_kept c.args.file.now network c.requires.good is)
 
 pub returns : goal.returns
 returns c =
@@ -118,7 +128,7 @@ returns c =
     (c.in_ok-add_outputs.ensures {u = tt}) in
     let network : NetworkData = record {
       name = c.in_ok-main_name.field-0;
-      names = c.in_ok-names.names.items;
+      names = c.in_ok-names.names;
       inputs = c.len-inputs.result;
       outputs = c.in_ok-places_of.field-0.items;
       latches = c.in_ok-net_latches.field-0.items;
@@ -141,4 +151,12 @@ returns c =
           ∙ ap (λ l. map (levelled_in_network c.args.file.now l c.parts-parts.result.now) c.deref-6.result.now) c.deref-7.ensures.value
           ∙ ap (map (levelled_in_network c.args.file.now c.in_ok-places.places.items c.parts-parts.result.now)) c.deref-6.ensures.value;
     }) in
-    is
+    subst (λ (names : List (List ℕ)). IsNetworkOf c.args.file.now (record {
+      name = c.in_ok-main_name.field-0;
+      names = names;
+      inputs = c.len-inputs.result;
+      outputs = c.in_ok-places_of.field-0.items;
+      latches = c.in_ok-net_latches.field-0.items;
+      tables = c.in_ok-net_tables.field-0;
+    }))
+    (sym c.names-2.view_is) is

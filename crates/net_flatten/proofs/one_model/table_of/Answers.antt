@@ -9,7 +9,7 @@ use Rattle.net_flatten.proofs.one_model.table_of.Goals as goal
 
 pub names_read-requires : goal.names_read-requires
 names_read-requires c =
-    let n : NetworkData = record { name = c.network.inside.name; names = c.network.inside.names.items; inputs = c.network.inside.inputs; outputs = c.network.inside.outputs.items; latches = c.network.inside.latches.items; tables = c.network.inside.tables } in
+    let n : NetworkData = record { name = c.network.inside.name; names = c.network.inside.names; inputs = c.network.inside.inputs; outputs = c.network.inside.outputs.items; latches = c.network.inside.latches.items; tables = c.network.inside.tables } in
     let inputs = ap (λ (t : NetTableData). t.inputs) c.table.view_is in
     let reads = reads_within n c.network.invariant c.args.k c.table-table.result c.table-table.ensures in
     subst (λ signals. All (λ signal. signal < length c.args.network.now.names) signals) (sym inputs)

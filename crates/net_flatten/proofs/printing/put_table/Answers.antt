@@ -13,7 +13,7 @@ use Rattle.net_flatten.proofs.printing.put_table.Goals as goal
 
 pub put_card-requires-clause-inputs : goal.put_card-requires-clause-inputs
 put_card-requires-clause-inputs c =
-    let n : NetworkData = record { name = c.network.inside.name; names = c.network.inside.names.items; inputs = c.network.inside.inputs; outputs = c.network.inside.outputs.items; latches = c.network.inside.latches.items; tables = c.network.inside.tables } in
+    let n : NetworkData = record { name = c.network.inside.name; names = c.network.inside.names; inputs = c.network.inside.inputs; outputs = c.network.inside.outputs.items; latches = c.network.inside.latches.items; tables = c.network.inside.tables } in
     let inputs = ap (λ (t : NetTableData). t.inputs) c.table.view_is in
     let reads = reads_within n c.network.invariant c.args.k c.table-table.result c.table-table.ensures in
     subst (λ signals. All (λ signal. signal < length c.args.network.now.names) signals) (sym inputs)

@@ -19,10 +19,9 @@ phases-requires c =
     let same = c.network.view_is in
     let network = c.args.network.now in
     let is = subst IsNetwork same c.network.invariant in
-    let names = c.as_slice-names.ensures.value in
-    let bytes = subst (λ l. All (λ name. All (λ b. b < 256) name) l) (names ∙ ap (λ (n : NetworkData). n.names) same) c.see_names.ensures in
-    let pins = c.in_ok-pins.ensures ∙ ap (λ l. map (port_net (codes "i_") l) (range_with_len 0 c.network.inside.inputs)) names ∙ ap pins_of same in
-    let outs = c.in_ok-outs.ensures ∙ ap₂ (λ l s. map (port_net (codes "o_") l) s) names c.as_slice.ensures.value ∙ ap outs_of same in
+    let bytes = subst (λ l. All (λ name. All (λ b. b < 256) name) l) (ap (λ (n : NetworkData). n.names) same) c.see_names.ensures in
+    let pins = c.in_ok-pins.ensures ∙ ap pins_of same in
+    let outs = c.in_ok-outs.ensures ∙ ap (map (port_net (codes "o_") c.network.inside.names)) c.as_slice.ensures.value ∙ ap outs_of same in
     let counted : vec_len c.network.inside.latches ≡ length c.network.inside.latches.items = search rules in
     let latches = c.len.ensures ∙ counted ∙ ap (λ (n : NetworkData). length n.latches) same in
     let sinks = c.in_ok-sinks.ensures ∙ ap₂ (λ l n. l ++ map data_net (range_with_len 0 n)) (c.as_slice-2.ensures.value ∙ outs) latches in
@@ -33,10 +32,9 @@ new-requires-clause-pins_begin c =
     let same = c.network.view_is in
     let network = c.args.network.now in
     let is = subst IsNetwork same c.network.invariant in
-    let names = c.as_slice-names.ensures.value in
-    let bytes = subst (λ l. All (λ name. All (λ b. b < 256) name) l) (names ∙ ap (λ (n : NetworkData). n.names) same) c.see_names.ensures in
-    let pins = c.in_ok-pins.ensures ∙ ap (λ l. map (port_net (codes "i_") l) (range_with_len 0 c.network.inside.inputs)) names ∙ ap pins_of same in
-    let outs = c.in_ok-outs.ensures ∙ ap₂ (λ l s. map (port_net (codes "o_") l) s) names c.as_slice.ensures.value ∙ ap outs_of same in
+    let bytes = subst (λ l. All (λ name. All (λ b. b < 256) name) l) (ap (λ (n : NetworkData). n.names) same) c.see_names.ensures in
+    let pins = c.in_ok-pins.ensures ∙ ap pins_of same in
+    let outs = c.in_ok-outs.ensures ∙ ap (map (port_net (codes "o_") c.network.inside.names)) c.as_slice.ensures.value ∙ ap outs_of same in
     let counted : vec_len c.network.inside.latches ≡ length c.network.inside.latches.items = search rules in
     let latches = c.len.ensures ∙ counted ∙ ap (λ (n : NetworkData). length n.latches) same in
     let sinks = c.in_ok-sinks.ensures ∙ ap₂ (λ l n. l ++ map data_net (range_with_len 0 n)) (c.as_slice-2.ensures.value ∙ outs) latches in
@@ -47,10 +45,9 @@ new-requires-clause-outs_begin c =
     let same = c.network.view_is in
     let network = c.args.network.now in
     let is = subst IsNetwork same c.network.invariant in
-    let names = c.as_slice-names.ensures.value in
-    let bytes = subst (λ l. All (λ name. All (λ b. b < 256) name) l) (names ∙ ap (λ (n : NetworkData). n.names) same) c.see_names.ensures in
-    let pins = c.in_ok-pins.ensures ∙ ap (λ l. map (port_net (codes "i_") l) (range_with_len 0 c.network.inside.inputs)) names ∙ ap pins_of same in
-    let outs = c.in_ok-outs.ensures ∙ ap₂ (λ l s. map (port_net (codes "o_") l) s) names c.as_slice.ensures.value ∙ ap outs_of same in
+    let bytes = subst (λ l. All (λ name. All (λ b. b < 256) name) l) (ap (λ (n : NetworkData). n.names) same) c.see_names.ensures in
+    let pins = c.in_ok-pins.ensures ∙ ap pins_of same in
+    let outs = c.in_ok-outs.ensures ∙ ap (map (port_net (codes "o_") c.network.inside.names)) c.as_slice.ensures.value ∙ ap outs_of same in
     let counted : vec_len c.network.inside.latches ≡ length c.network.inside.latches.items = search rules in
     let latches = c.len.ensures ∙ counted ∙ ap (λ (n : NetworkData). length n.latches) same in
     let sinks = c.in_ok-sinks.ensures ∙ ap₂ (λ l n. l ++ map data_net (range_with_len 0 n)) (c.as_slice-2.ensures.value ∙ outs) latches in
@@ -61,10 +58,9 @@ new-requires-clause-apart c =
     let same = c.network.view_is in
     let network = c.args.network.now in
     let is = subst IsNetwork same c.network.invariant in
-    let names = c.as_slice-names.ensures.value in
-    let bytes = subst (λ l. All (λ name. All (λ b. b < 256) name) l) (names ∙ ap (λ (n : NetworkData). n.names) same) c.see_names.ensures in
-    let pins = c.in_ok-pins.ensures ∙ ap (λ l. map (port_net (codes "i_") l) (range_with_len 0 c.network.inside.inputs)) names ∙ ap pins_of same in
-    let outs = c.in_ok-outs.ensures ∙ ap₂ (λ l s. map (port_net (codes "o_") l) s) names c.as_slice.ensures.value ∙ ap outs_of same in
+    let bytes = subst (λ l. All (λ name. All (λ b. b < 256) name) l) (ap (λ (n : NetworkData). n.names) same) c.see_names.ensures in
+    let pins = c.in_ok-pins.ensures ∙ ap pins_of same in
+    let outs = c.in_ok-outs.ensures ∙ ap (map (port_net (codes "o_") c.network.inside.names)) c.as_slice.ensures.value ∙ ap outs_of same in
     let counted : vec_len c.network.inside.latches ≡ length c.network.inside.latches.items = search rules in
     let latches = c.len.ensures ∙ counted ∙ ap (λ (n : NetworkData). length n.latches) same in
     let sinks = c.in_ok-sinks.ensures ∙ ap₂ (λ l n. l ++ map data_net (range_with_len 0 n)) (c.as_slice-2.ensures.value ∙ outs) latches in
@@ -76,10 +72,9 @@ new-requires-clause-few c =
     let same = c.network.view_is in
     let network = c.args.network.now in
     let is = subst IsNetwork same c.network.invariant in
-    let names = c.as_slice-names.ensures.value in
-    let bytes = subst (λ l. All (λ name. All (λ b. b < 256) name) l) (names ∙ ap (λ (n : NetworkData). n.names) same) c.see_names.ensures in
-    let pins = c.in_ok-pins.ensures ∙ ap (λ l. map (port_net (codes "i_") l) (range_with_len 0 c.network.inside.inputs)) names ∙ ap pins_of same in
-    let outs = c.in_ok-outs.ensures ∙ ap₂ (λ l s. map (port_net (codes "o_") l) s) names c.as_slice.ensures.value ∙ ap outs_of same in
+    let bytes = subst (λ l. All (λ name. All (λ b. b < 256) name) l) (ap (λ (n : NetworkData). n.names) same) c.see_names.ensures in
+    let pins = c.in_ok-pins.ensures ∙ ap pins_of same in
+    let outs = c.in_ok-outs.ensures ∙ ap (map (port_net (codes "o_") c.network.inside.names)) c.as_slice.ensures.value ∙ ap outs_of same in
     let counted : vec_len c.network.inside.latches ≡ length c.network.inside.latches.items = search rules in
     let latches = c.len.ensures ∙ counted ∙ ap (λ (n : NetworkData). length n.latches) same in
     let sinks = c.in_ok-sinks.ensures ∙ ap₂ (λ l n. l ++ map data_net (range_with_len 0 n)) (c.as_slice-2.ensures.value ∙ outs) latches in
@@ -90,34 +85,30 @@ returns-clause-circuit c =
     let same = c.network.view_is in
     let network = c.args.network.now in
     let is = subst IsNetwork same c.network.invariant in
-    let names = c.as_slice-names.ensures.value in
-    let bytes = subst (λ l. All (λ name. All (λ b. b < 256) name) l) (names ∙ ap (λ (n : NetworkData). n.names) same) c.see_names.ensures in
-    let pins = c.in_ok-pins.ensures ∙ ap (λ l. map (port_net (codes "i_") l) (range_with_len 0 c.network.inside.inputs)) names ∙ ap pins_of same in
-    let outs = c.in_ok-outs.ensures ∙ ap₂ (λ l s. map (port_net (codes "o_") l) s) names c.as_slice.ensures.value ∙ ap outs_of same in
+    let bytes = subst (λ l. All (λ name. All (λ b. b < 256) name) l) (ap (λ (n : NetworkData). n.names) same) c.see_names.ensures in
+    let pins = c.in_ok-pins.ensures ∙ ap pins_of same in
+    let outs = c.in_ok-outs.ensures ∙ ap (map (port_net (codes "o_") c.network.inside.names)) c.as_slice.ensures.value ∙ ap outs_of same in
     let counted : vec_len c.network.inside.latches ≡ length c.network.inside.latches.items = search rules in
     let latches = c.len.ensures ∙ counted ∙ ap (λ (n : NetworkData). length n.latches) same in
     let sinks = c.in_ok-sinks.ensures ∙ ap₂ (λ l n. l ++ map data_net (range_with_len 0 n)) (c.as_slice-2.ensures.value ∙ outs) latches in
     let circuit = c.in_ok-circuit.ensures
     ∙ ap₂ (λ l r. new_circuit c.in_ok-name.name c.in_ok-phases.phases.items c.args.clocks l r) (c.as_slice-4.ensures.value ∙ pins) (c.as_slice-5.ensures.value ∙ outs) in
-    let name = c.in_ok-name.ensures ∙ ap (λ (n : NetworkData). escaped n.name) same in
+    let name = c.in_ok-name.ensures ∙ ap escaped c.as_bytes-title.ensures ∙ ap (λ (n : NetworkData). escaped n.name) same in
     let phases = c.in_ok-phases.ensures ∙ ap (λ l. map phase_of_sink (zip l c.args.signs.now)) (c.as_slice-3.ensures.value ∙ sinks) in
     circuit ∙ (λ i. new_circuit (name i) (phases i) c.args.clocks (pins_of network) (outs_of network))
 
 pub returns-clause-pins : goal.returns-clause-pins
 returns-clause-pins c =
-    let names = c.as_slice-names.ensures.value in
-    c.in_ok-pins.ensures ∙ ap (λ l. map (port_net (codes "i_") l) (range_with_len 0 c.network.inside.inputs)) names ∙ ap pins_of c.network.view_is
+    c.in_ok-pins.ensures ∙ ap pins_of c.network.view_is
 
 pub returns-clause-sinks : goal.returns-clause-sinks
 returns-clause-sinks c =
     let same = c.network.view_is in
-    let names = c.as_slice-names.ensures.value in
-    let outs = c.in_ok-outs.ensures ∙ ap₂ (λ l s. map (port_net (codes "o_") l) s) names c.as_slice.ensures.value ∙ ap outs_of same in
+    let outs = c.in_ok-outs.ensures ∙ ap (map (port_net (codes "o_") c.network.inside.names)) c.as_slice.ensures.value ∙ ap outs_of same in
     let counted : vec_len c.network.inside.latches ≡ length c.network.inside.latches.items = search rules in
     let latches = c.len.ensures ∙ counted ∙ ap (λ (n : NetworkData). length n.latches) same in
     c.in_ok-sinks.ensures ∙ ap₂ (λ l n. l ++ map data_net (range_with_len 0 n)) (c.as_slice-2.ensures.value ∙ outs) latches
 
 pub returns-clause-names : goal.returns-clause-names
 returns-clause-names c =
-    let names = c.as_slice-names.ensures.value in
-    subst (λ l. All (λ name. All (λ b. b < 256) name) l) (names ∙ ap (λ (n : NetworkData). n.names) c.network.view_is) c.see_names.ensures
+    subst (λ l. All (λ name. All (λ b. b < 256) name) l) (ap (λ (n : NetworkData). n.names) c.network.view_is) c.see_names.ensures

@@ -7,7 +7,7 @@ pub invariant_of-result : goal.invariant_of-result
 invariant_of-result c =
     let outputs : c.in_ok-outputs.outputs.items ≡ c.network.inside.outputs.items = search rules in
     runner_of_network
-    (record { name = c.network.inside.name; names = c.network.inside.names.items; inputs = c.network.inside.inputs; outputs = c.network.inside.outputs.items; latches = c.network.inside.latches.items; tables = c.network.inside.tables })
+    (record { name = c.network.inside.name; names = c.network.inside.names; inputs = c.network.inside.inputs; outputs = c.network.inside.outputs.items; latches = c.network.inside.latches.items; tables = c.network.inside.tables })
     (record { inputs = c.network.inside.inputs; outputs = c.in_ok-outputs.outputs.items; latches = c.in_ok-latches.latches.items; tables = c.in_ok-copy.field-0; state = c.in_ok-state.state.items })
     (record {
       network = c.network.invariant;
