@@ -107,7 +107,14 @@ pub fn net_tables(
     let mut tables = NetTables::with_capacity(alloc, ordered.len(), count_reads(parts), 0, 0)?;
     let mut inputs = Vec::new(alloc);
     for index in 0..ordered.len() {
-        push_levelled(&mut tables, &mut inputs, file, parts, ordered[index], places)?;
+        push_levelled(
+            &mut tables,
+            &mut inputs,
+            file,
+            parts,
+            ordered[index],
+            places,
+        )?;
     }
     Ok(tables)
 }
