@@ -17,8 +17,8 @@ loop-index-preserved c =
     elim c.match-part.branch [
       | in-Table w ↦
           subst (AreDependences c.args.signals (take (c.loop-index.index + 1) c.args.parts.now))
-          (ap (set c.loop-index.nodes.items c.index-parts-index.result.drives) (sym reads ∙ sym w.as_slice.ensures)
-          ∙ ap (λ k. set c.loop-index.nodes.items k w.as_slice.result.now) (sym drives) ∙ sym w.set_next.ensures ∙ ap (λ v. v.items) (sym w.nodes-is))
+          (ap (set c.loop-index.nodes.items c.index-parts-index.result.drives) (sym reads)
+          ∙ ap (λ k. set c.loop-index.nodes.items k c.part.inside.reads.items) (sym drives) ∙ sym w.set_next.ensures ∙ ap (λ v. v.items) (sym w.nodes-is))
           (dependences_at_table c.args.parts.now c.loop-index.index c.index-parts-index.result at c.args.signals c.loop-index.nodes.items c.loop-index.invariant
           (ap is_table (sym card ∙ w.in-Table.is)) (All-at (IsPartWithin c.args.signals) c.args.parts.now c.loop-index.index c.index-parts-index.result c.requires.parts at).drives c.requires.once)
       | in_default w ↦
