@@ -6,6 +6,8 @@ mod deep;
 #[cfg(test)]
 mod generation;
 #[cfg(test)]
+mod logic;
+#[cfg(test)]
 mod names;
 #[cfg(test)]
 mod orders;

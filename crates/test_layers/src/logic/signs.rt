@@ -1,5 +1,5 @@
 //! Signs of sinks.
-use crate::cover_words::sign_words;
+use crate::logic::cover_words::sign_words;
 use comparison::gates_of;
 use phase_assign::assign;
 use std::test::Fail;

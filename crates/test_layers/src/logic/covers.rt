@@ -1,6 +1,6 @@
 //! Covers of forests.
-use crate::cover_words::plan_words;
 use crate::logic::chosen_forest;
+use crate::logic::cover_words::plan_words;
 use dom_base::ToVss;
 use dual_rail::Forest;
 use sp_network::{GatePlan, Sp};

@@ -1,5 +1,15 @@
-//! The forests of gates.
-use crate::words::forest_words;
+//! Tests of the gates of networks, of their needed pairs, signs, covers, clocks and chains of buffers, on networks that were worked by
+//! hand; and the forests of gates.
+mod buffers;
+mod chains;
+mod clocks;
+mod cover_words;
+mod covers;
+mod forests;
+mod gates;
+mod signs;
+mod words;
+
 use comparison::gates_of;
 use dual_rail::{Forest, rails, size};
 use gate_decompose::Gates;
@@ -7,6 +17,7 @@ use phase_assign::assign;
 use std::alloc::Global;
 use std::process::Abort;
 use std::test::Fail;
+use words::forest_words;
 
 /// The forest of gates under signs, one `+` or `-` for each sink.
 pub fn forest_of(

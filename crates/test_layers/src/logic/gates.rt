@@ -1,5 +1,5 @@
 //! Gates of tables, of constants and of wires.
-use crate::words::gates_words;
+use crate::logic::words::gates_words;
 use comparison::gates_of;
 use std::alloc::Global;
 use std::process::Abort;

@@ -1,6 +1,6 @@
 //! Chains of buffers behind the cells of decks.
-use crate::cover_words::{clock_words, number_words, plan_words};
 use crate::logic::chosen_forest;
+use crate::logic::cover_words::{clock_words, number_words, plan_words};
 use clock_phase::assign_clocks;
 use comparison::read_earlier;
 use dual_rail::End;

@@ -1,6 +1,6 @@
 //! Levels and clocks of cells.
-use crate::cover_words::{clock_words, number_words};
 use crate::logic::chosen_forest;
+use crate::logic::cover_words::{clock_words, number_words};
 use clock_phase::assign_clocks;
 use comparison::read_earlier;
 use std::alloc::Global;
