@@ -1,10 +1,9 @@
 //! The branches of clocked inverters, and the reset of a latch.
 ghost use Rattle.std.specs.Prelude.{◌≡◌, ◌<◌, ◌+◌, ◌^◌, IfNone, IfSome, false, length, true, ℕ};
-ghost use Rattle.std.specs.Prelude.{Contains, Some, slice_get};
+ghost use Rattle.std.specs.Prelude.{Some};
 ghost use Rattle.deck.specs.PortLayout.{first_output};
 ghost use Rattle.audit_deck.specs.declared.branches.Branch.{Branch as BranchData};
 ghost use Rattle.audit_deck.specs.declared.branches.Reset.{Reset as ResetData};
-ghost use Rattle.audit_deck.specs.Indexes.{AreInRange};
 ghost use Rattle.audit_deck.specs.Latches.{HasFew, IsBranchAt, IsOnlyBranch, IsOnlyReset, IsResetAt, Suits, SuitsAt};
 
 use crate::index::Index;

@@ -1,5 +1,5 @@
 //! An order of cells, each behind those that it reads.
-ghost use Rattle.std.specs.Prelude.{◌≡◌, ◌<◌, ◌^◌, IfOk};
+ghost use Rattle.std.specs.Prelude.{◌<◌, ◌^◌, IfOk};
 ghost use Rattle.graph_order.specs.Orders.{IsOrder};
 ghost use Rattle.audit_deck.specs.Broken.{IsKept};
 ghost use Rattle.audit_deck.specs.Indexes.{AreInRange};

@@ -1,17 +1,17 @@
 //! Rule 4: the latches.
-ghost use Rattle.std.specs.Prelude.{◌≡◌, ◌<◌, ◌≤◌, ◌∷◌, ◌^◌, All, Contains, IfNone, IfOk, IfSome, OnOk, Some, false, length, slice_get, true, ℕ};
+ghost use Rattle.std.specs.Prelude.{◌≡◌, ◌<◌, ◌^◌, All, Contains, IfNone, IfOk, IfSome, OnOk, Some, false, length, slice_get, true, ℕ};
 ghost use Rattle.std.specs.List.{AllByRecursion};
 ghost use Rattle.circuit_law.specs.Counts.{Distinct};
 ghost use Rattle.deck.specs.PortLayout.{first_output};
 ghost use Rattle.audit_deck.specs.Broken.{IsKept, IsSmallest};
-ghost use Rattle.audit_deck.specs.Groups.{AreGroups, IsAlone, KeepsLatches};
-ghost use Rattle.audit_deck.specs.Indexes.{AreInRange, EndingAt};
+ghost use Rattle.audit_deck.specs.Groups.{AreGroups, KeepsLatches};
+ghost use Rattle.audit_deck.specs.Indexes.{AreInRange};
 ghost use Rattle.audit_deck.specs.Latches.{AreParts, Covers, GatesNone, HasControl, HasNoLatch, IsLatchAt, StandsAlone};
 ghost use Rattle.audit_deck.specs.LeafOrders.{with_option};
 ghost use Rattle.audit_deck.specs.Numberings.{IsMet};
 ghost use Rattle.audit_deck.specs.Walks.{MeetsThose};
 ghost use Rattle.deck_audit.specs.Rules.{IsAtControl};
-ghost use Rattle.deck_audit.specs.Words.{IsInner, StandsAt, own_nets};
+ghost use Rattle.deck_audit.specs.Words.{IsInner, own_nets};
 
 use crate::branches::{Branch, Reset};
 use crate::index::Index;

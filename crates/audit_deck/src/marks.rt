@@ -1,5 +1,5 @@
 //! What each net is in an audit, as marks by net.
-ghost use Rattle.std.specs.Prelude.{◌≡◌, ◌<◌, ◌^◌, All, IfOk, OnOk, false, length, true, ℕ};
+ghost use Rattle.std.specs.Prelude.{◌≡◌, ◌<◌, ◌^◌, All, IfOk, OnOk, false, length, true};
 ghost use Rattle.deck.specs.PortLayout.{first_output};
 ghost use Rattle.audit_deck.specs.Groups.{AreAllGroups};
 ghost use Rattle.audit_deck.specs.Indexes.{AreInRange};

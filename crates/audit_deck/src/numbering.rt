@@ -1,5 +1,5 @@
 //! Nets that are met, by number.
-ghost use Rattle.std.specs.Prelude.{◌≡◌, ◌<◌, ◌≤◌, ◌^◌, [], All, IfNone, IfOk, IfSome, OnOk, Some, length, slice_get, ℕ};
+ghost use Rattle.std.specs.Prelude.{◌≡◌, ◌<◌, ◌≤◌, ◌^◌, [], All, IfNone, IfOk, IfSome, OnOk, Some, length, slice_get};
 ghost use Rattle.link_reduce.specs.Parts.{IsOnce};
 ghost use Rattle.audit_deck.specs.Numberings.{AddsOne, IsMet};
 

@@ -3,10 +3,10 @@ ghost use Rattle.std.specs.Prelude.{◌≡◌, ◌+◌, ◌<◌, ◌≤◌, ◌^
 ghost use Rattle.audit_deck.specs.Uses.{KeepsUses};
 ghost use Rattle.deck.specs.PortLayout.{first_output};
 ghost use Rattle.audit_deck.specs.Broken.{IsKept};
-ghost use Rattle.audit_deck.specs.DeckOrders.{AddsBlock, AddsBlocks, AddsCell, AddsCells, AreDataPlaces, AreLatchPlaces, IsDeckOrder, empty};
+ghost use Rattle.audit_deck.specs.DeckOrders.{AddsBlock, AddsBlocks, AddsCell, AddsCells, AreDataPlaces, AreLatchPlaces, IsDeckOrder};
 ghost use Rattle.audit_deck.specs.Indexes.{AreInRange};
 ghost use Rattle.deck_audit.specs.Words.{IsDynamic, IsInverterOutput, IsOutPort};
-ghost use Rattle.found_decks.specs.FoundDecks.{AreFound, AreInverterPlaces, FoundLatch, numbers_from};
+ghost use Rattle.found_decks.specs.FoundDecks.{AreFound, AreInverterPlaces, numbers_from};
 
 use crate::index::Index;
 use crate::latches::LatchGroup;

@@ -1,9 +1,9 @@
 //! The nets and the devices of a cell below its dynamic net.
-ghost use Rattle.std.specs.Prelude.{◌≡◌, ◌<◌, ◌^◌, All, OnOk, length, ℕ};
+ghost use Rattle.std.specs.Prelude.{◌≡◌, ◌<◌, ◌^◌, All, OnOk, length};
 ghost use Rattle.deck.specs.PortLayout.{first_output};
 ghost use Rattle.dom_base.specs.declared.kind.Kind.TheVariants.{N as nch};
 ghost use Rattle.audit_deck.specs.Indexes.{AreThose, EndingAt, HasKind};
-ghost use Rattle.deck_audit.specs.Words.{IsFree, Reached};
+ghost use Rattle.deck_audit.specs.Words.{Reached};
 ghost use Rattle.audit_deck.specs.Walks.{IsChannelAmong, IsChannelAt, IsNext, IsNextBy, MeetsThose};
 
 use crate::index::Index;

@@ -1,5 +1,5 @@
 -- The models that the lines of a BLIF text say (Berkeley Logic Interchange Format).
-use Rattle.std.specs.Prelude.{ℕ, ◌-◌, Bool, true, ◌==◌, ◌||◌, not, if◌then◌else◌, List, [], ◌∷◌, map, filter, drop, slice_index, slice_index_or, Option, Some, None, codes}
+use Rattle.std.specs.Prelude.{ℕ, ◌-◌, Bool, true, ◌==◌, ◌||◌, not, if◌then◌else◌, List, [], ◌∷◌, map, filter, drop, take, slice_index, slice_index_or, Option, Some, None, codes}
 use Rattle.std.specs.List.{flat_map, filter_map, take_while}
 use Rattle.blif_ast.specs.declared.letter.Letter.{Letter}
 use Rattle.blif_ast.specs.declared.letter.Letter.TheVariants.{Zero, One, Any}
@@ -18,6 +18,10 @@ use Rattle.blif_ast.specs.Cards.{same, begins, is_row, last_word, last_letter, f
 -- the letter of a byte `0`, `1` or `-`
 abbrev pub row_letter : ℕ → Letter
 row_letter b = if b == 48 then Zero else (if b == 49 then One else Any)
+
+-- the row of so many letters that begins at this place of a text
+abbrev pub row_at : List ℕ → ℕ → ℕ → List Letter
+row_at text width place = map row_letter (take width (drop place text))
 
 -- the letters of a row by its words: a row of one word has none
 abbrev pub row_letters : List (List ℕ) → List Letter

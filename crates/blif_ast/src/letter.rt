@@ -1,5 +1,6 @@
 //! Rows of a table.
 ghost use Rattle.std.specs.Prelude.{◌≡◌, []};
+ghost use Rattle.blif_ast.specs.Models.{row_letter};
 
 use smallvec::SmallVec;
 use std::alloc::{AllocError, Global};
@@ -13,6 +14,19 @@ pub enum Letter {
     One,
     #[default]
     Any,
+}
+
+impl Letter {
+    /// The letter of a byte `0`, `1` or `-`.
+    pub fn from_byte(byte: u8) -> Letter
+        ensures { result ≡ row_letter byte }
+    {
+        match byte {
+            b'0' => Letter::Zero,
+            b'1' => Letter::One,
+            _ => Letter::Any,
+        }
+    }
 }
 
 /// The letters of a row. The row itself has room for 16; more stand in an allocation.

@@ -1,5 +1,5 @@
 //! The forms of cards and rows, by their words.
-ghost use Rattle.std.specs.Prelude.{◌≡◌, ◌&&◌, map, nat_lt, length, slice_index_or, []};
+ghost use Rattle.std.specs.Prelude.{◌≡◌, ◌&&◌, map, []};
 ghost use Rattle.std.specs.List.{list_all};
 ghost use Rattle.blif_ast.specs.Cards.{
   is_form,

@@ -1,5 +1,5 @@
 //! The open model and its open table.
-ghost use Rattle.std.specs.Prelude.{◌≡◌, Some, None, length, map, nat_lt};
+ghost use Rattle.std.specs.Prelude.{◌≡◌, Some, None, length};
 ghost use Rattle.blif_numbers.specs.BuilderData.{is_on, opened_table, value_after};
 ghost use Rattle.numbered_file.specs.declared.parts.PartKind.TheVariants as at;
 

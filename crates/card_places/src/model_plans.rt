@@ -1,8 +1,8 @@
 //! The cards of models by numbers, in order of their lines.
-ghost use Rattle.std.specs.Prelude.{◌≡◌, ◌<◌, ◌+◌, ◌^◌, IfOk, IfSome, IsTrue, List, Some, length, map, slice_get, slice_index_or};
+ghost use Rattle.std.specs.Prelude.{◌≡◌, ◌<◌, ◌+◌, ◌^◌, IfOk, IfSome, IsTrue, Some, length, map, slice_index_or};
 ghost use Rattle.blif_ast.specs.BlifModelData.{BlifModelData};
 ghost use Rattle.numbered_file.specs.Numbered.{between, models_in, parts_of};
-ghost use Rattle.card_places.specs.PartCards.{HasModelParts, RisesFrom, card_by, part_card, counted, part_line};
+ghost use Rattle.card_places.specs.PartCards.{HasModelParts, RisesFrom, card_by, part_card, counted};
 ghost use Rattle.model_calls.specs.CallNumbers.{AreCalls, names_of_models};
 ghost use Rattle.model_calls.specs.LinedCards.{AreNumberedCards};
 ghost use Rattle.model_calls.specs.ModelCalls.{HavePlans};

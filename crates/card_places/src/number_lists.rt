@@ -1,5 +1,5 @@
 //! Lists of numbers that stand one behind the other.
-ghost use Rattle.std.specs.Prelude.{◌≡◌, ◌<◌, [], IfOk, OnOk, IsSome, Some, length, slice_get, slice_index_or, take};
+ghost use Rattle.std.specs.Prelude.{◌≡◌, ◌<◌, [], OnOk, IsSome, Some, length, slice_get, slice_index_or, take};
 ghost use Rattle.card_places.specs.NumberLists.{closed, last_end, lists_from, no_number_lists, with_number, with_numbers};
 
 use dom_base::OutOfMemory;

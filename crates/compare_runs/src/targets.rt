@@ -1,5 +1,4 @@
 //! The comparison of targets.
-ghost use Rattle.std.specs.Prelude.{◌≡◌, length};
 ghost use Rattle.deck.specs.Roles.{AreRoles, ports_of};
 
 use comparison::Trouble;

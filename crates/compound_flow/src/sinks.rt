@@ -1,10 +1,9 @@
 //! The static gates of sinks, one after the other.
-ghost use Rattle.std.specs.Prelude.{◌≡◌, ◌≤◌, ◌+◌, ◌*◌, ◌++◌, All, IfOk, List, MatchOption, OnOk, codes, length, map, slice_get, ℕ};
+ghost use Rattle.std.specs.Prelude.{◌≡◌, ◌≤◌, ◌+◌, ◌*◌, ◌++◌, All, List, MatchOption, OnOk, codes, length, map, slice_get, ℕ};
 ghost use Rattle.std.specs.Fmt.{decimal};
 ghost use Rattle.deck.specs.Limits.{most_devices};
 ghost use Rattle.deck.specs.NamedDevices.{with_devices};
 ghost use Rattle.sp_network.specs.Tree.{Leaf, Series};
-ghost use Rattle.sp_network.specs.TypedTree.{tree_of};
 ghost use Rattle.domino_cell.specs.PushedNames.{HasRoomForGate, static_gate};
 ghost use Rattle.dual_rail.specs.Uses.{IsEndThere};
 ghost use Rattle.deck_form.specs.DeckNets.{dynamic_net, sink_gate};

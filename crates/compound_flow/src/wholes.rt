@@ -1,6 +1,5 @@
 //! The plans of the whole trees of cells: those of both trees of a compound cell side by side.
 ghost use Rattle.std.specs.Prelude.{◌≡◌, IfOk, length, map};
-ghost use Rattle.std.specs.List.{zip};
 ghost use Rattle.sp_network.specs.TypedTree.{tree_of};
 ghost use Rattle.clock_phase.specs.Plans.{clocks_of};
 ghost use Rattle.tree_map.specs.MappedCover.{plan_trees};

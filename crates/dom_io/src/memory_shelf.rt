@@ -1,5 +1,5 @@
 //! A shelf in memory.
-ghost use Rattle.std.specs.Prelude.{◌≡◌, ◌≤◌, ◌+◌, ◌↔◌, ◌⊎◌, ℕ, List, [], ◌∷◌, Some};
+ghost use Rattle.std.specs.Prelude.{◌≡◌, ◌≤◌, ◌+◌, ◌⊎◌, [], ◌∷◌, Some};
 ghost use Rattle.std.specs.Prelude.{None, IfOk, OnOk, OnErr, IsErr, IsErrOf, Contains, MatchOption, is_some, length, map, take};
 ghost use Rattle.std.specs.Option.{option_map};
 ghost use Rattle.std.specs.String.{string_bytes};

@@ -1,5 +1,5 @@
 //! A sink in memory.
-ghost use Rattle.std.specs.Prelude.{◌≡◌, ◌≢◌, ◌≤◌, ◌<◌, ◌-◌, ◌↔◌, ◌++◌, ◌⊎◌, ℕ, [], Some, IfOk, OnOk, OnErr, IsErr, Contains, length, min, take};
+ghost use Rattle.std.specs.Prelude.{◌≡◌, ◌≢◌, ◌≤◌, ◌<◌, ◌-◌, ◌⊎◌, [], Some, IfOk, OnOk, OnErr, IsErr, Contains, length, min};
 ghost use Rattle.std.specs.Io.KnownBytes.{WriteAppends};
 ghost use Rattle.dom_io.specs.Faults.{next_count};
 ghost use Rattle.dom_io.specs.Memory.{IsFullFor};

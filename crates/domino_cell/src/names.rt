@@ -1,7 +1,7 @@
 //! Names of the nets of a cell.
 ghost use Rattle.std.specs.Prelude.{◌≡◌, ◌++◌, All, IfOk, OnOk, codes};
 ghost use Rattle.std.specs.Fmt.{decimal};
-ghost use Rattle.dom_base.specs.Names.{IsNetByte, IsNetName};
+ghost use Rattle.dom_base.specs.Names.{IsNetByte};
 ghost use Rattle.domino_cell.specs.HeldNames.{AreNamesOfCell, AreNamesOfGate, AreNetsOfCell, StandInCircuit};
 ghost use Rattle.domino_cell.specs.PushedNames.{inner_front};
 

@@ -1,5 +1,5 @@
 //! Files that are refused.
-ghost use Rattle.std.specs.Prelude.{ℕ, ◌≡◌, ◌++◌, IfOk, OnOk, codes};
+ghost use Rattle.std.specs.Prelude.{◌≡◌, ◌++◌, IfOk, OnOk, codes};
 ghost use Rattle.std.specs.Fmt.{decimal};
 ghost use Rattle.domsyn.specs.Refusals.{count_text, named_text, refusal_text, subject};
 ghost use Rattle.stim_text.specs.Stimuli.{stim_kind_word};

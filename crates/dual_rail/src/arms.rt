@@ -1,5 +1,5 @@
 //! Pairs over arms.
-ghost use Rattle.std.specs.Prelude.{IfOk, All, List, ℕ, Bool, cond, ◌≡◌, ◌<◌, length, true};
+ghost use Rattle.std.specs.Prelude.{IfOk, All, List, ℕ, Bool, ◌≡◌, ◌<◌, length, true};
 ghost use Rattle.std.specs.List.{AllZip};
 ghost use Rattle.gate_decompose.specs.GatesOrder.{is_operator};
 ghost use Rattle.dual_rail.specs.ArmPlaces.{HasGates, HasPlace, HasPlacesOf, IsArmFor, IsOperation};

@@ -1,5 +1,5 @@
 //! The needed pairs in order, and the place of each.
-ghost use Rattle.std.specs.Prelude.{IfOk, Bool, ℕ, true, ◌≡◌, ◌≤◌, ◌+◌, ◌*◌, ◌++◌, ◌^◌, ◌&&◌, Some, slice_get, length, count_by};
+ghost use Rattle.std.specs.Prelude.{IfOk, Bool, true, ◌≡◌, ◌≤◌, ◌+◌, ◌*◌, ◌++◌, ◌^◌, ◌&&◌, Some, slice_get, length, count_by};
 ghost use Rattle.gate_decompose.specs.GatesOrder.{is_operator};
 ghost use Rattle.gate_decompose.specs.NeededPass.{marked_pairs, signs_at};
 ghost use Rattle.dual_rail.specs.Places.{ArePlaces};

@@ -16,7 +16,8 @@ use Rattle.blif_ast.specs.TableData.{TableData}
 use Rattle.numbered_file.specs.declared.parts.PartKind.{PartKind}
 use Rattle.numbered_file.specs.declared.parts.PartKind.TheVariants as at
 use Rattle.numbered_file.specs.OpenLists.{with_parts, OpenLists, with_part, with_words}
-use Rattle.numbered_file.specs.Numbered.{InstancePart, LatchPart, TablePart, bindings_by, latch_by, part_by, row_at, table_by}
+use Rattle.blif_ast.specs.Models.{row_at}
+use Rattle.numbered_file.specs.Numbered.{InstancePart, LatchPart, TablePart, bindings_by, latch_by, part_by, table_by}
 use Rattle.file_copies.specs.Pushing.{HasRows, edge_of, pair_words, signal_words}
 use Rattle.numbered_file.proofs.ListSteps.{part-taken}
 

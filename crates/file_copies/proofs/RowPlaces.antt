@@ -7,10 +7,9 @@ use Rattle.std.proofs.Math.Seq.{drop-append_seam, take-append_seam}
 use Rattle.dom_base.proofs.Lists.{All-at, drop_next, map-push}
 use Rattle.blif_ast.specs.declared.letter.Letter.{Letter}
 use Rattle.blif_ast.specs.declared.letter.Letter.TheVariants.{Zero, One, Any}
-use Rattle.blif_ast.specs.Models.{row_letter}
+use Rattle.blif_ast.specs.Models.{row_at, row_letter}
 use Rattle.blif_ast.specs.Printed.{letter_byte}
 use Rattle.file_copies.specs.FileLetters.{rows_letters}
-use Rattle.numbered_file.specs.Numbered.{row_at}
 use Rattle.numbered_file.specs.OpenLists.{OpenLists, with_row}
 use Rattle.blif_lines.specs.TextPlaces.{IsFrontOf, IsRestOf}
 use Rattle.file_copies.specs.Pushing.{HasRows}

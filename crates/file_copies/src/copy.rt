@@ -1,6 +1,6 @@
 //! A file with names of its own, out of a file by numbers.
 ghost use Rattle.std.specs.Prelude.{◌≡◌, ◌<◌, [], IfOk, OnOk, Some, length, map, slice_get, slice_index_or};
-ghost use Rattle.blif_ast.specs.Models.{row_letter};
+ghost use Rattle.blif_ast.specs.Models.{row_at, row_letter};
 ghost use Rattle.file_copies.specs.Copied.{model_with_all, model_with_part};
 ghost use Rattle.numbered_file.specs.Numbered.{
   between,
@@ -13,7 +13,6 @@ ghost use Rattle.numbered_file.specs.Numbered.{
   named,
   part_by,
   parts_of,
-  row_at,
   table_by,
 };
 
@@ -249,19 +248,9 @@ fn letters_of(alloc: Global, bytes: &[u8]) -> Result<Letters, AllocError>
 {
     let mut letters = Letters::with_capacity(alloc, bytes.len())?;
     for byte in bytes {
-        letters.push(row_letter(*byte))?;
+        letters.push(Letter::from_byte(*byte))?;
     }
     Ok(letters)
-}
-
-fn row_letter(byte: u8) -> Letter
-    ensures { result ≡ row_letter byte }
-{
-    match byte {
-        b'0' => Letter::Zero,
-        b'1' => Letter::One,
-        _ => Letter::Any,
-    }
 }
 
 fn latch_by(

@@ -1,5 +1,5 @@
 //! A file by numbers, out of a file with names of its own.
-ghost use Rattle.std.specs.Prelude.{◌≡◌, [], ℕ, List, ◌++◌, All, IfOk, OnOk, length};
+ghost use Rattle.std.specs.Prelude.{◌≡◌, ℕ, List, ◌++◌, All, IfOk, OnOk, length};
 ghost use Rattle.blif_ast.specs.Good.{IsGoodFile, IsGoodModel};
 ghost use Rattle.file_copies.specs.FileLetters.{file_letters, models_letters, tables_letters};
 ghost use Rattle.numbered_file.specs.Numbered.{file_of};

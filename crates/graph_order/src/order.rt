@@ -8,8 +8,8 @@ use smallvec::SmallVec;
 use std::alloc::Global;
 use std::marker::Model;
 
-/// The numbers of some nodes: of none or one, for which no memory is taken, a list of its own, or one that stands
-/// elsewhere.
+/// The numbers of the nodes that a node leads to: none or one, for which no memory is taken, a list of its own, or one
+/// that stands elsewhere.
 #[derive(Drop)]
 pub enum Numbers<'a> {
     None,
@@ -52,13 +52,16 @@ impl<'a> Node<'a> {
         }
     }
 
-    /// A node that leads to these. The one error is out of memory.
+    /// A node that leads to these; of none or one it keeps no list. The one error is out of memory.
     pub fn owning(alloc: Global, next: Vec<u32>) -> Result<Node<'a>, OutOfMemory>
         ensures { IfOk result (λ node. node ≡ next.items) }
     {
-        Ok(Node {
-            numbers: Numbers::Own(Box::new(alloc, next)?),
-        })
+        let numbers = match next.as_slice() {
+            [] => Numbers::None,
+            [number] => Numbers::One([*number]),
+            _ => Numbers::Own(Box::new(alloc, next)?),
+        };
+        Ok(Node { numbers })
     }
 
     /// A node that leads to these, which stand elsewhere.

@@ -1,5 +1,5 @@
 //! Names of the nets of a latch.
-ghost use Rattle.std.specs.Prelude.{◌≡◌, ◌++◌, All, IfOk, codes};
+ghost use Rattle.std.specs.Prelude.{◌≡◌, ◌++◌, All, IfOk};
 ghost use Rattle.std.specs.Fmt.{decimal};
 ghost use Rattle.dom_base.specs.Names.{IsNetByte, IsNetName};
 ghost use Rattle.latch_bind.specs.HeldNames.{AreLatchPorts, AreNamesOfStage, AreSupplies};

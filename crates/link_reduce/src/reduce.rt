@@ -1,5 +1,5 @@
 //! Whether links are a series-parallel network, and how wide and how high it is.
-ghost use Rattle.std.specs.Prelude.{◌≡◌, ◌<◌, ◌≤◌, ◌^◌, All, IfNone, IfOk, IfSome, length, ℕ};
+ghost use Rattle.std.specs.Prelude.{◌<◌, ◌≤◌, ◌^◌, All, IfNone, IfOk, IfSome, length, ℕ};
 ghost use Rattle.link_reduce.specs.Parts.{IsSpelled, links_of};
 ghost use Rattle.sp_reduction.specs.Reduction.{IsNetwork};
 

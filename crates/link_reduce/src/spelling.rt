@@ -1,6 +1,6 @@
 //! The order in which a tree spells its links.
-ghost use Rattle.std.specs.Prelude.{◌≡◌, ◌≤◌, ◌*◌, ◌+◌, ◌++◌, ◌∷◌, ◌<◌, [], IfNone, IfOk, IfSome, OnOk, Some, length, slice_get, ℕ};
-ghost use Rattle.link_reduce.specs.Parts.{PartEndsAt, PartJoins, numbers_of};
+ghost use Rattle.std.specs.Prelude.{◌≡◌, ◌+◌, ◌++◌, ◌∷◌, ◌<◌, [], IfNone, IfOk, IfSome, OnOk, Some, length, slice_get, ℕ};
+ghost use Rattle.link_reduce.specs.Parts.{PartEndsAt, numbers_of};
 ghost use Rattle.link_reduce.specs.Reductions.{Unfolds};
 ghost use Rattle.link_reduce.specs.Spellings.{AreProper, HasShortTree, HasTree, IsTakenApart, JoinsFrom};
 ghost use Rattle.link_reduce.specs.declared.part.Part.{Part as PartData};

@@ -9,8 +9,9 @@ use Rattle.dom_base.proofs.Lists.{map-push, slice_get-there}
 use Rattle.blif_ast.specs.BlifModelData.{BlifModelData}
 use Rattle.numbered_file.specs.declared.parts.ModelAt.{ModelAt}
 use Rattle.numbered_file.specs.declared.parts.PartAt.{PartAt}
+use Rattle.blif_ast.specs.Models.{row_at}
 use Rattle.numbered_file.specs.NumberedData.{NumberedData}
-use Rattle.numbered_file.specs.Numbered.{Part, TablePart, LatchPart, InstancePart, between, file_of, latch_in, model_by, models_in, name_of, named, part_by, parts_of, row_at, table_by, table_in}
+use Rattle.numbered_file.specs.Numbered.{Part, TablePart, LatchPart, InstancePart, between, file_of, latch_in, model_by, models_in, name_of, named, part_by, parts_of, table_by, table_in}
 use Rattle.numbered_file.specs.Places.{inputs_at, outputs_at, rows_at, words_at}
 use Rattle.numbered_file.proofs.Places.{length-models_in, length-parts_of, model_there, part_there}
 use Rattle.numbered_file.proofs.PartLists.{take-get}

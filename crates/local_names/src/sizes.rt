@@ -8,8 +8,7 @@ ghost use Rattle.graph_order.specs.WalkSums.{largest_u64};
 ghost use Rattle.local_names.specs.LocalNames.{AreLocalNames};
 ghost use Rattle.local_names.specs.PartWeights.{model_part_weight, part_weight};
 ghost use Rattle.model_calls.specs.ModelCalls.{AreModelCalls};
-ghost use Rattle.model_calls.specs.Occurrences.{main_model};
-ghost use Rattle.part_numbers.specs.NetworkSizes.{AreSizes, model_weight, model_weights, path_weights};
+ghost use Rattle.part_numbers.specs.NetworkSizes.{AreSizes, limit_count, model_weight, model_weights, path_weights};
 
 use crate::model_numbers::{part_at, parts_end};
 use crate::table::LocalNames;
@@ -33,12 +32,31 @@ pub fn count(
     requires planned { AreModelCalls (file_of file.now) calls.now }
     ensures { IfOk result (AreSizes (file_of file.now)) }
 {
-    let latches = count_over_paths(alloc, file, calls, names, Limit::Sinks)?;
     Ok(Sizes {
-        signals: count_over_paths(alloc, file, calls, names, Limit::Signals)?,
-        instances: count_over_paths(alloc, file, calls, names, Limit::Instances)?,
-        letters: count_over_paths(alloc, file, calls, names, Limit::Letters)?,
-        sinks: latches.saturating_add(file.outputs_of(0).len() as u64),
+        signals: count_for(alloc, file, calls, names, Limit::Signals)?,
+        instances: count_for(alloc, file, calls, names, Limit::Instances)?,
+        letters: count_for(alloc, file, calls, names, Limit::Letters)?,
+        sinks: count_for(alloc, file, calls, names, Limit::Sinks)?,
+    })
+}
+
+/// What a file counts for one limit; or 2^64 - 1 where that is larger.
+pub fn count_for(
+    alloc: Global,
+    file: &NumberedFile<'_>,
+    calls: &ModelCalls,
+    names: &LocalNames,
+    limit: Limit,
+) -> Result<u64, OutOfMemory>
+    requires good { IsGoodFile (file_of file.now) }
+    requires named { AreLocalNames file.now names.now }
+    requires planned { AreModelCalls (file_of file.now) calls.now }
+    ensures { IfOk result (λ count. count ≡ min (limit_count limit (file_of file.now)) largest_u64) }
+{
+    let paths = count_over_paths(alloc, file, calls, names, limit)?;
+    Ok(match limit {
+        Limit::Sinks => paths.saturating_add(file.outputs_of(0).len() as u64),
+        Limit::Signals | Limit::Instances | Limit::Letters => paths,
     })
 }
 

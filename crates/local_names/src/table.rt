@@ -1,5 +1,5 @@
 //! The names of each model, and a place for each input, output and word.
-ghost use Rattle.std.specs.Prelude.{◌≡◌, [], length, slice_index_or};
+ghost use Rattle.std.specs.Prelude.{◌≡◌, length};
 ghost use Rattle.local_names.specs.LocalNames.{names_in};
 
 use card_places::NumberLists;

@@ -1,5 +1,5 @@
 //! The calls of the models of a file, or what is wrong with its models.
-ghost use Rattle.std.specs.Prelude.{◌≡◌, ◌≤◌, ◌<◌, ◌^◌, ℕ, List, IfOk, IsErrOf, IsTrue, length};
+ghost use Rattle.std.specs.Prelude.{◌≤◌, ◌<◌, ◌^◌, ℕ, List, IfOk, IsErrOf, IsTrue, length};
 ghost use Rattle.blif_ast.specs.Good.{IsGoodFile};
 ghost use Rattle.graph_order.specs.Orders.{IsGraph};
 ghost use Rattle.model_calls.specs.CallNumbers.{AreCalls, names_of_models};

@@ -1,5 +1,5 @@
 //! What clocks the latches of a file.
-ghost use Rattle.std.specs.Prelude.{◌≡◌, ◌∷◌, ◌++◌, [], Contains, false, true};
+ghost use Rattle.std.specs.Prelude.{◌≡◌, [], Contains, false, true};
 ghost use Rattle.net_flatten.specs.ClockSearches.{IsAtNumber, IsControlFound, IsOtherClockFound, differs_from_clock, joined_clock};
 ghost use Rattle.net_flatten.specs.FoundFirst.{IsFoundFirst};
 ghost use Rattle.part_numbers.specs.NumberedFiles.{HasNumbers};

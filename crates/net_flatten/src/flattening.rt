@@ -22,12 +22,12 @@ use crate::signal_checks::check_signals;
 use blif_ast::BlifFile;
 use card_places::{CardPlaces, plans};
 use file_copies::{bytes_of, number_file, to_file};
-use local_names::{LocalNames, count};
+use local_names::{LocalNames, check_counts};
 use model_calls::{FlatFault, ModelCalls, Plan, file_calls};
 use network::Network;
 use numbered_file::NumberedFile;
 use numbered_signals::number;
-use part_numbers::{CardFile, check_counts};
+use part_numbers::CardFile;
 use std::alloc::Global;
 
 /// How many bytes a list may take whose room is kept when it is given back.
@@ -150,7 +150,7 @@ fn flatten_called(
     ensures too_many { (limit : Limit) (count : ℕ) → IsErrOf result (FlatFault.TooMany limit count)
         → IsRefusal (file_of file.now) (TooMany limit count) }
 {
-    check_sizes(alloc, file, calls, names)?;
+    check_counts(alloc, file, calls, names)?;
     keep_rooms(alloc);
     let plans = plans(alloc, file, &calls.nodes)?;
     flatten_planned(alloc, file, places, names, calls, &plans)
@@ -160,23 +160,6 @@ fn flatten_called(
 /// the pages of the lists to come need not be asked of the system anew. Where there is no such room, nothing changes.
 fn keep_rooms(alloc: Global) {
     let _ = Vec::<u8>::with_capacity(alloc, KEPT_ROOM);
-}
-
-/// Looks for the first count of the file's network that is above its limit.
-fn check_sizes(
-    alloc: Global,
-    file: &NumberedFile<'_>,
-    calls: &ModelCalls,
-    names: &LocalNames,
-) -> Result<(), FlatFault>
-    requires good { IsGoodFile (file_of file.now) }
-    requires names { AreLocalNames file.now names.now }
-    requires calls { AreModelCalls (file_of file.now) calls.now }
-    ensures check { IsSizeCheck (file_of file.now) result }
-    ensures few { OnOk result (signal_count (file_of file.now) ≤ most_signals) }
-{
-    let sizes = count(alloc, file, calls, names)?;
-    check_counts(sizes)
 }
 
 /// The network of a file within the limits by the plans of its models, or what is wrong with its signals.

@@ -1,5 +1,5 @@
 //! The levels of the signals of a file.
-ghost use Rattle.std.specs.Prelude.{◌≡◌, ◌<◌, ◌≤◌, All, IfOk, length, map, max, replicate};
+ghost use Rattle.std.specs.Prelude.{◌≡◌, ◌<◌, All, IfOk, length, map, max, replicate};
 ghost use Rattle.std.specs.List.{fold};
 ghost use Rattle.graph_order.specs.Orders.{IsGraph, IsOrder};
 ghost use Rattle.net_flatten.specs.Dependences.{AreDependences, AreTableLevels, level_at};

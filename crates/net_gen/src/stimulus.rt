@@ -1,6 +1,5 @@
 //! Stimuli of networks that are generated.
 ghost use Rattle.std.specs.Prelude.{◌≡◌, ◌++◌, ◌∷◌, [], IfOk, OnOk, map};
-ghost use Rattle.std.specs.List.{range_with_len};
 ghost use Rattle.stim_text.specs.CycleLines.{bit_letter, pin_letters};
 ghost use Rattle.net_gen.specs.Stimulus.{stimulus_bit, stimulus_cycle, stimulus_text};
 

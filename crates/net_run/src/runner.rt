@@ -1,9 +1,9 @@
 //! A run of a network, cycle by cycle.
-ghost use Rattle.std.specs.Prelude.{◌≡◌, ◌+◌, ◌++◌, ◌↔◌, All, IfOk, List, length, map, ⊤};
+ghost use Rattle.std.specs.Prelude.{◌≡◌, IfOk, length, map, ⊤};
 ghost use Rattle.std.specs.Borrow.{sem, follows_so};
 ghost use mathlib.Core.Option.{none};
 ghost use Rattle.network.specs.declared.network.NetLatch.{NetLatch as Latch};
-ghost use Rattle.network.specs.NetworkData.{NetTableData, NetworkData};
+ghost use Rattle.network.specs.NetworkData.{NetworkData};
 ghost use Rattle.net_run.specs.contracts.runner.Runner.{the_row};
 ghost use Rattle.net_run.specs.RunnerData.{RunsNetwork};
 ghost use Rattle.net_run.specs.Runs.{IsNetworkCycle, start};

@@ -1,5 +1,5 @@
 //! The value of a table.
-ghost use Rattle.std.specs.Prelude.{◌≡◌, ◌<◌, ◌≤◌, ◌↔◌, All, IsTrue, length, map, true};
+ghost use Rattle.std.specs.Prelude.{◌≡◌, ◌<◌, ◌≤◌, ◌↔◌, All, length, map, true};
 ghost use Rattle.blif_ast.specs.TableValue.{IsOneAt, Matches};
 ghost use Rattle.net_run.specs.RunnerData.{StandBetween, StandsFor};
 ghost use Rattle.net_run.specs.Runs.{value_at};

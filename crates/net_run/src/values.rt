@@ -1,5 +1,5 @@
 //! Values of signals by their numbers.
-ghost use Rattle.std.specs.Prelude.{◌≡◌, ◌+◌, ◌<◌, ◌≤◌, ◌++◌, ℕ, Bool, List, All, IfOk, length, map, take, drop};
+ghost use Rattle.std.specs.Prelude.{◌≡◌, ◌+◌, ◌<◌, ◌≤◌, ◌++◌, All, length, map, take, drop};
 ghost use Rattle.net_run.specs.RunnerData.{AreTablesFrom, AreValuesOf};
 ghost use Rattle.net_run.specs.Runs.{value_at};
 

@@ -1,7 +1,7 @@
 -- The tables of a network by the lists of all that they read and of all their rows.
-use Rattle.std.specs.Prelude.{ℕ, List, All, map, take, drop}
+use Rattle.std.specs.Prelude.{ℕ, List, All, map}
 use Rattle.blif_ast.specs.declared.letter.Letter.{Letter}
-use Rattle.blif_ast.specs.Models.{row_letter}
+use Rattle.blif_ast.specs.Models.{row_at}
 use Rattle.network.specs.declared.net_tables.TableAt.{TableAt}
 use Rattle.network.specs.ListPools.{IsPlaceWithin, list_in}
 use Rattle.network.specs.NetworkData.{NetTableData}
@@ -21,6 +21,6 @@ pub record IsTableWithin (read_count row_count : ℕ) (at : TableAt) : Type 0 wh
 abbrev pub AreTablesWithin : ℕ → ℕ → List TableAt → Type 0
 AreTablesWithin read_count row_count tables = All (IsTableWithin read_count row_count) tables
 
--- the rows at these places of a text, of so many letters each
+-- the rows of so many letters each, or as many as there are up to the text's end, that begin at these places of a text
 abbrev pub rows_in_text : List ℕ → ℕ → List ℕ → List (List Letter)
-rows_in_text text width places = map (λ place. map row_letter (take width (drop place text))) places
+rows_in_text text width places = map (row_at text width) places

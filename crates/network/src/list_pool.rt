@@ -17,7 +17,7 @@ pub struct ListAt {
 }
 
 impl ListAt {
-    /// The place of so many items behind so many others. The one error is out of memory: there is room for 2^32 items.
+    /// The place of so many items behind so many others. The one error is out of memory, where either count is 2^32 or more.
     pub fn behind(start: usize, count: usize) -> Result<ListAt, OutOfMemory>
         ensures start { IfOk result (λ at. at.start ≡ start) }
         ensures count { IfOk result (λ at. at.count ≡ count) }
@@ -192,18 +192,7 @@ fn extend_by_letters(items: &mut Vec<Letter>, bytes: &[u8]) -> Result<(), OutOfM
     ensures kept { (more : List Letter) × (items.new.items ≡ items.old.items ++ more) }
 {
     for byte in bytes {
-        items.push(row_letter(*byte))?;
+        items.push(Letter::from_byte(*byte))?;
     }
     Ok(())
-}
-
-/// The letter of a byte `0`, `1` or `-`.
-fn row_letter(byte: u8) -> Letter
-    ensures { result ≡ row_letter byte }
-{
-    match byte {
-        b'0' => Letter::Zero,
-        b'1' => Letter::One,
-        _ => Letter::Any,
-    }
 }

@@ -1,6 +1,5 @@
 //! The tables of a network.
 ghost use Rattle.std.specs.Prelude.{◌≡◌, ◌≤◌, ◌<◌, ◌++◌, ◌∷◌, [], IfOk, OnOk, Some, drop, length, slice_get, take};
-ghost use Rattle.network.specs.ListPools.{list_in};
 ghost use Rattle.network.specs.TablePools.{rows_in_text};
 
 use crate::list_pool::{LentLists, ListAt, ListPool};
@@ -30,7 +29,7 @@ impl<'a> Model for NetTable<'a> {
     ghost view = { λ t. record { inputs = t.inputs.now; on = t.on; rows = t.rows } };
 }
 
-/// The rows of a table that stand in a text, each of so many letters at its place.
+/// The rows of a table that stand in a text, each of so many letters at its place, or of those that are left there.
 #[derive(Debug, Drop)]
 pub struct RowsInText<'a> {
     text: &'a [u8],

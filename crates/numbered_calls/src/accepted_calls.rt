@@ -1,9 +1,8 @@
 //! The calls of the models of a file, where nothing is wrong with the models.
-ghost use Rattle.std.specs.Prelude.{◌≡◌, ◌<◌, ◌^◌, IfNone, IfOk, IfSome, length, map, slice_index_or};
+ghost use Rattle.std.specs.Prelude.{◌≡◌, ◌<◌, IfNone, IfOk, IfSome, map, slice_index_or};
 ghost use Rattle.blif_ast.specs.Good.{IsGoodFile};
 ghost use Rattle.numbered_file.specs.Numbered.{file_of, models_in};
 ghost use Rattle.card_places.specs.CardPlaces.{AreCardPlaces};
-ghost use Rattle.graph_order.specs.Orders.{IsGraph};
 ghost use Rattle.local_names.specs.LocalNames.{AreLocalNames};
 ghost use Rattle.local_names.specs.Units.{AreUnits};
 ghost use Rattle.model_calls.specs.CallNumbers.{AreCalls, names_of_models};
@@ -79,9 +78,6 @@ fn call_graph(
 fn callees(alloc: Global, units: &[u32], places: &[u32]) -> Result<Node<'static>, OutOfMemory>
     ensures { IfOk result (λ node. node ≡ map (λ k. slice_index_or units.now k 0) places.now) }
 {
-    if places.is_empty() {
-        return Ok(Node::alone());
-    }
     if let [place] = places {
         return Ok(Node::leading_to(unit_at(units, *place)));
     }

@@ -2,7 +2,6 @@
 use Rattle.std.specs.Prelude.{ℕ, ◌-◌, ◌≤◌, ◌<◌, Bool, List, [], ◌∷◌, length, map, take, drop, slice_get, slice_index_or, Option, Some, None}
 use Rattle.std.specs.List.{filter_map, AllByRecursion, IsDistinct}
 use Rattle.std.specs.Option.{option_map}
-use Rattle.blif_ast.specs.declared.letter.Letter.{Letter}
 use Rattle.blif_ast.specs.declared.latch.Latch.{Latch}
 use Rattle.blif_ast.specs.declared.latch.Control.{Control}
 use Rattle.blif_ast.specs.declared.latch.Edge2.{Edge2}
@@ -12,7 +11,7 @@ use Rattle.blif_ast.specs.InstanceData.{InstanceData}
 use Rattle.blif_ast.specs.BlifModelData.{BlifModelData}
 use Rattle.blif_ast.specs.BlifFileData.{BlifFileData}
 use Rattle.blif_ast.specs.Cards.{same, last_word}
-use Rattle.blif_ast.specs.Models.{row_letter}
+use Rattle.blif_ast.specs.Models.{row_at}
 use Rattle.numbered_file.specs.declared.parts.ModelAt.{ModelAt}
 use Rattle.numbered_file.specs.declared.parts.PartAt.{PartAt}
 use Rattle.numbered_file.specs.declared.parts.PartKind.{PartKind}
@@ -35,10 +34,6 @@ pub data Part : Type 0 where
   TablePart : TableData → Part
   LatchPart : Latch → Part
   InstancePart : InstanceData → Part
-
--- the row of a table with so many inputs that begins at this place of the text
-abbrev pub row_at : List ℕ → ℕ → ℕ → List Letter
-row_at text width place = map row_letter (take width (drop place text))
 
 -- a table by its words, the last of which is its output, and by the places of its rows
 abbrev pub table_by : List ℕ → Bool → ℕ → List (List ℕ) → List ℕ → TableData

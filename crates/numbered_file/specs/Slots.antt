@@ -9,8 +9,8 @@ use Rattle.numbered_file.specs.declared.slots.Lookup.TheVariants as look
 unfoldable pub marked : ℕ → ℕ → ℕ
 marked mark letter = (mark * 75 % 2 ^ 64 + letter) % 2 ^ 64
 
-abbrev pub mark_of : List ℕ → ℕ
-mark_of name = fold marked 0 name
+abbrev pub letters_mark : List ℕ → ℕ
+letters_mark name = fold marked 0 name
 
 -- of so many slots, those of a mark
 unfoldable pub first_slot : ℕ → ℕ → ℕ
@@ -21,7 +21,7 @@ second_slot count mark = bit_and (mark * 11400714819323198485 % 2 ^ 64 / 2 ^ 32)
 
 -- of so many slots, those in which a name is looked for, in turn
 abbrev pub slots_of : ℕ → List ℕ → List ℕ
-slots_of count name = first_slot count (mark_of name) ∷ second_slot count (mark_of name) ∷ []
+slots_of count name = first_slot count (letters_mark name) ∷ second_slot count (letters_mark name) ∷ []
 
 -- a slot that isn't free, and that has the number of another name
 abbrev pub IsTaken : List (List ℕ) → List ℕ → List ℕ → ℕ → Type 0

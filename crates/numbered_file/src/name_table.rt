@@ -13,14 +13,15 @@ use dom_base::{NameHash, OutOfMemory};
 use std::alloc::Global;
 use std::marker::Model;
 
-/// How many slots there are at first: one for so many bytes of the text, or this many, a power of two.
+/// At first there is a slot for so many bytes of the text.
 const BYTES: usize = 16;
 
+/// The fewest slots.
 const FEW: usize = 1024;
 
 /// Names that differ, in the order in which they were first seen: a name's number is its index. Each is a part of the text.
-/// A name is found by its letters: in one of two `slots`, of which at least half are free, or where other names have both,
-/// among the `others`. `bytes` is the length of the text.
+/// A name is found by its letters: in one of two `slots`, or where other names had both when it came, among the `others`. At
+/// most half of the slots are taken. `bytes` is the length of the text.
 #[derive(Drop)]
 pub struct NameTable<'t> {
     names: Vec<Word<'t>>,
@@ -71,7 +72,7 @@ impl<'t> NameTable<'t> {
         number_in(&mut self.names, &mut self.slots, &mut self.others, name)
     }
 
-    /// Makes at least twice as many slots as there are names, and finds them anew. The one error is out of memory, or names
+    /// Makes more than twice as many slots as there are names, and gives each name a slot anew, or puts it among the others. The one error is out of memory, or names
     /// that are crowded.
     fn make_room(&mut self) -> Result<(), OutOfMemory>
         ensures { self.new ≡ self.old }
@@ -169,7 +170,7 @@ fn number_beside<'t>(
     }
 }
 
-/// How many slots are made for so many names, in a text of so many bytes.
+/// How many slots are made for so many names, in a text of so many bytes: a power of two.
 fn slots_for(names: usize, bytes: usize) -> usize {
     names
         .saturating_add(1)

@@ -8,7 +8,7 @@ use indexmap::IndexSet;
 use std::alloc::Global;
 use std::marker::Model;
 
-/// Names that differ, in the order in which they were first seen: a name's number is its index. Each is a part of the text.
+/// Names that differ, once no more come: a name's number is its index. Each is a part of the text.
 #[derive(Drop)]
 pub struct Names<'t> {
     pub(crate) names: Vec<Word<'t>>,

@@ -1,11 +1,11 @@
 //! Slots, in which names are found by their letters.
 ghost use Rattle.std.specs.Prelude.{◌≡◌, ◌≢◌, ◌∷◌, [], IsFalse, IsTrue, Some, length, slice_get};
-ghost use Rattle.numbered_file.specs.Slots.{first_slot, mark_of, second_slot, slots_of, IsLookup};
+ghost use Rattle.numbered_file.specs.Slots.{first_slot, letters_mark, second_slot, slots_of, IsLookup};
 
 use crate::word::{Word, is_same};
 
-/// What slots say of a name: that it is the one of this number, that it isn't there, since this slot is free, or nothing,
-/// since other names have them.
+/// What its two slots say of a name: that it is the one of this number, that no slot has it, since this one is free, or
+/// nothing, since other names have both.
 #[derive(Clone, Copy, Debug)]
 pub enum Lookup {
     Known(u32),
@@ -59,9 +59,10 @@ fn has_number(names: &[Word<'_>], number: u32, name: &[u8]) -> bool
     }
 }
 
-/// A number out of all letters, as digits of 75: names that differ in their last letters alone have slots side by side.
+/// A number out of all letters, as digits of base 75, modulo 2^64: names that differ in the last letter alone have first slots
+/// near each other.
 fn letters_mark(name: &[u8]) -> usize
-    ensures { result ≡ mark_of name.now }
+    ensures { result ≡ letters_mark name.now }
 {
     let mut mark: usize = 0;
     for letter in name {

@@ -6,7 +6,7 @@ use Rattle.std.proofs.lemmas.List.Sums.{sum_by-cons}
 use Rattle.blif_ast.specs.BlifFileData.{BlifFileData}
 use Rattle.dom_base.proofs.Lists.{AllByRecursion-contains, Contains-slice_get}
 use Rattle.network.proofs.Lists.{get_take}
-use Rattle.part_numbers.specs.declared.size_checks.Sizes.{Sizes}
+use Rattle.part_numbers.specs.declared.sizes.Sizes.{Sizes}
 use Rattle.model_calls.specs.declared.fault.Limit.{Limit}
 use Rattle.model_calls.specs.declared.fault.Limit.TheVariants.{Signals, Instances, Letters, Sinks}
 use Rattle.model_calls.specs.Counts.{Counted, counts, instance_count, letter_count, signal_count, sink_count}

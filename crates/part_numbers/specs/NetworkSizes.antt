@@ -8,7 +8,7 @@ use Rattle.blif_ast.specs.BlifModelData.{BlifModelData}
 use Rattle.blif_ast.specs.Cards.{same}
 use Rattle.blif_ast.specs.TableData.{TableData}
 use Rattle.graph_order.specs.WalkSums.{largest_u64}
-use Rattle.part_numbers.specs.declared.size_checks.Sizes.{Sizes}
+use Rattle.part_numbers.specs.declared.sizes.Sizes.{Sizes}
 use Rattle.model_calls.specs.declared.fault.FlatFault.{FlatFault}
 use Rattle.model_calls.specs.declared.fault.FlatFault.TheVariants.{At, TooMany, Memory}
 use Rattle.model_calls.specs.declared.fault.Limit.{Limit}
@@ -34,6 +34,13 @@ model_weight Signals m = distinct_count same (names_of m)
 model_weight Instances m = 1
 model_weight Letters m = sum_by letters_of_table m.tables
 model_weight Sinks m = length m.latches
+
+-- what a file counts for a limit
+abbrev pub limit_count : Limit → BlifFileData → ℕ
+limit_count Signals f = signal_count f
+limit_count Instances f = instance_count f
+limit_count Letters f = letter_count f
+limit_count Sinks f = sink_count f
 
 -- of each model what it counts, or the largest number of 64 bits where that is larger
 abbrev pub model_weights : Limit → List BlifModelData → List ℕ

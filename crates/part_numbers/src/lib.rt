@@ -5,7 +5,7 @@
 mod card_file;
 mod numbered;
 mod part_cards;
-mod size_checks;
+mod sizes;
 mod walk;
 mod word_card;
 
@@ -15,6 +15,6 @@ pub use part_cards::{
     card_of, edge_of, fault_at_control, fault_at_input, fault_at_main_control,
     fault_at_main_output, fault_at_output,
 };
-pub use size_checks::{Sizes, check_counts};
+pub use sizes::Sizes;
 pub use walk::{Expansion, Frame, Scope, ScopedPart, expand};
 pub use word_card::WordCard;

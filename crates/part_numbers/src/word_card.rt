@@ -1,5 +1,5 @@
 //! Cards of a file by numbers.
-ghost use Rattle.std.specs.Prelude.{◌≡◌, ◌<◌, IfOk, IsSome, Some, [], length, slice_get, slice_index_or};
+ghost use Rattle.std.specs.Prelude.{◌≡◌, ◌<◌, IsSome, Some, [], length, slice_get, slice_index_or};
 ghost use Rattle.blif_ast.specs.Cards.{last_word};
 ghost use Rattle.numbered_file.specs.Numbered.{named};
 ghost use Rattle.model_calls.specs.Expanded.{card_line};

@@ -3,7 +3,6 @@ ghost use Rattle.std.specs.Prelude.{IfOk, List, ℕ, Bool, true, false, not, con
 ghost use Rattle.dual_rail.specs.declared.signed.SignedNode.{SignedNode as NodeData};
 ghost use Rattle.phase_assign.specs.LookedPairs.{looked_pairs};
 ghost use Rattle.phase_assign.specs.Refusals.{IsSignChangeRefused};
-ghost use Rattle.dual_rail.specs.SignedValues.{of_sign, same_sign};
 ghost use Rattle.phase_assign.specs.Uses.{AreArms, AreBelow, AreUses, HasFewRoots, HasRoots, IsSupplied, asked, is_pair, living, one_if, times, used};
 
 use crate::looked::Looked;

@@ -1,5 +1,5 @@
 //! The search for signs: a sink's sign is changed where fewer pairs are needed then.
-ghost use Rattle.std.specs.Prelude.{IfOk, List, ℕ, Bool, ◌≡◌, ◌<◌, ◌≤◌, true, Some, slice_get, get_or, length, replicate};
+ghost use Rattle.std.specs.Prelude.{IfOk, ℕ, Bool, ◌≡◌, ◌<◌, ◌≤◌, true, Some, slice_get, get_or, length, replicate};
 ghost use Rattle.gate_decompose.specs.GatesData.{GatesData};
 ghost use Rattle.gate_decompose.specs.GatesOrder.{AreOrderedGates};
 ghost use Rattle.phase_assign.specs.LookedPairs.{looked_pairs};

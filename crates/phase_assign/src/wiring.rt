@@ -1,7 +1,6 @@
 //! The pairs that gate nodes and sinks ask for.
-ghost use Rattle.std.specs.Prelude.{IfOk, All, List, ◌≡◌, ◌≤◌, ◌<◌, ◌^◌, Some, slice_get, length};
+ghost use Rattle.std.specs.Prelude.{IfOk, All, List, ◌≡◌, ◌<◌, length};
 ghost use Rattle.gate_decompose.specs.declared.gates.Node.{Node as NodeData};
-ghost use Rattle.gate_decompose.specs.declared.gates.Ref.{Ref as RefData};
 ghost use Rattle.gate_decompose.specs.GatesOrder.{AreOrderedGates, NodeReadsEarlier, ReadsEarlier};
 ghost use Rattle.dual_rail.specs.Targets.{AreTargets};
 ghost use Rattle.phase_assign.specs.Wiring.{AreArmsOf, AreEnds, AreNodeArms, AreWired, IsAskedBy, IsWiring};

@@ -1,6 +1,5 @@
 //! The chains of buffers that follow cells.
-ghost use Rattle.std.specs.Prelude.{◌≡◌, ◌≤◌, ◌<◌, ◌+◌, ◌*◌, ◌^◌, ◌++◌, IfOk, OnOk, length, map};
-ghost use Rattle.clock_phase.specs.Plans.{cell_plan};
+ghost use Rattle.std.specs.Prelude.{◌≡◌, ◌<◌, ◌+◌, ◌*◌, IfOk, map};
 ghost use Rattle.phase_buffer.specs.Chains.{chain_length, end_at, place};
 ghost use Rattle.phase_buffer.specs.Unbuffered.{IsChainable, old_cells, old_numbers};
 

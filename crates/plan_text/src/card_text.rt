@@ -2,7 +2,6 @@
 ghost use Rattle.std.specs.Prelude.{◌≡◌, ◌≤◌, ◌<◌, ◌+◌, ◌++◌, ◌∷◌, [], IfSome, OnOk, codes, length};
 ghost use Rattle.std.specs.Fmt.{decimal};
 ghost use Rattle.deck.specs.DeckText.{model_word};
-ghost use Rattle.domino_cell.specs.Cell.{inverter};
 ghost use Rattle.plan_text.specs.CardTexts.{named_card, with_named_cards};
 ghost use Rattle.plan_text.specs.Nets.{net_text};
 ghost use Rattle.plan_text.specs.ShortTexts.{short_bytes};

@@ -3,7 +3,6 @@ ghost use Rattle.std.specs.Prelude.{◌≡◌, ◌≤◌, ◌<◌, ◌++◌, ◌
 ghost use Rattle.std.specs.Fmt.{decimal};
 ghost use Rattle.deck.specs.Nets.{net_number, with_net};
 ghost use Rattle.plan_text.specs.CalledTexts.{GroupTextData, no_groups, with_group_devices, with_group_end};
-ghost use Rattle.plan_text.specs.NameLists.{name_words};
 ghost use Rattle.plan_text.specs.Nets.{net_text};
 ghost use Rattle.spice_text.specs.Cells.{cell_name, supplies};
 

@@ -5,7 +5,6 @@ ghost use Rattle.deck.specs.Ports.{clock_ports, leading_ports};
 ghost use Rattle.spice_text.specs.Parts.{subckt_with};
 ghost use Rattle.spice_text.specs.Text.{deck_line, phase_line, plus_lines};
 ghost use Rattle.plan_text.specs.DeckTexts.{deck_head};
-ghost use Rattle.plan_text.specs.Nets.{net_text};
 ghost use Rattle.plan_text.specs.PutGroups.{nth_sink, signed_phases};
 
 use crate::buffered::BufferedText;

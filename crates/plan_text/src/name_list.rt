@@ -1,5 +1,5 @@
 //! Names, each once, as the words of a line.
-ghost use Rattle.std.specs.Prelude.{◌≡◌, ◌<◌, ◌+◌, ◌≤◌, ◌^◌, drop, take, false, true, [], ◌++◌, ◌∷◌, IfOk, MatchOption, OnOk, length, nat_eq};
+ghost use Rattle.std.specs.Prelude.{◌≡◌, ◌<◌, ◌+◌, ◌≤◌, drop, take, false, true, [], IfOk, MatchOption, OnOk, length, nat_eq};
 ghost use Rattle.std.specs.List.{list_any};
 ghost use Rattle.std.specs.Cmp.Lexicographic.{pointwise};
 ghost use Rattle.deck.specs.Nets.{net_number, with_net};

@@ -1,12 +1,12 @@
 //! The subcircuits of a deck, made card by card.
-ghost use Rattle.std.specs.Prelude.{◌≡◌, ◌<◌, ◌≤◌, ◌+◌, ◌^◌, ◌++◌, ◌∷◌, ℕ, [], All, IfOk, OnOk, IsErrOf, MatchOption, Some, None, false, length, map, not};
+ghost use Rattle.std.specs.Prelude.{◌≡◌, ◌<◌, ◌+◌, ◌++◌, ◌∷◌, [], All, IfOk, OnOk, Some, None, false, map, not};
 ghost use Rattle.std.specs.Str.{str_to_ascii_lowercase};
 ghost use Rattle.dom_base.specs.Names.{IsNetName};
 ghost use Rattle.deck.specs.DeckCards.{port_names, unit_word, word_at};
 ghost use Rattle.deck.specs.DeckText.{bare_circuit};
 ghost use Rattle.deck.specs.Nets.{IsCircuit};
 ghost use Rattle.deck.specs.Numbers.{with_all};
-ghost use Rattle.spice_read.specs.FlatSubckts.{LastFits, closed_with, definition_of};
+ghost use Rattle.spice_read.specs.FlatSubckts.{LastFits, closed_with};
 ghost use Rattle.spice_read.specs.ReadSubckts.{AnswersFault, CanClose, HasNames, IsCalledUnit, IsClosable, IsFinished, IsWordedCard, SubcktsData};
 ghost use Rattle.spice_read.specs.ReadSubckts.{after_call, after_device, after_ends, after_opening, call_fault, called, calling_fault, end_fault, ending_fault};
 ghost use Rattle.spice_read.specs.ReadSubckts.{fault_in, has_room_for, is_closed_name, next_fault, opening_fault, ports_fault, room_fault};

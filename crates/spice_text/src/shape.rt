@@ -1,5 +1,5 @@
 //! Shapes of groups of devices.
-ghost use Rattle.std.specs.Prelude.{◌≡◌, ◌++◌, ◌∷◌, [], OnErr, OnOk};
+ghost use Rattle.std.specs.Prelude.{◌≡◌, ◌++◌, ◌∷◌, [], OnOk};
 ghost use Rattle.spice_text.specs.Cells.{same_cell_shape};
 ghost use Rattle.spice_text.specs.Shapes.{device_number, shape_alike, shape_equiv, shape_per, shape_writes};
 

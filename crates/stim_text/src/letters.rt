@@ -34,7 +34,7 @@ pub fn fault_of(letters: &[u8], width: u32) -> Option<StimKind>
     }
 }
 
-/// Whether letters are without fault for this number of pins.
+/// Whether bytes are letters without fault for this number of pins, and no others.
 pub fn is_good(letters: &[u8], width: u32) -> bool
     ensures { result ≡ is_good width letters.now }
 {

@@ -30,8 +30,8 @@ pub fn read_stim(alloc: Global, text: &[u8], width: u32) -> Result<Stimulus, Sti
     Ok(Stimulus::new(bits, width as usize, count))
 }
 
-/// Appends the bits of a line that is a cycle. It answers of how many cycles: of one where the line has letters. Most lines
-/// are their letters; those of another line are put in `letters`.
+/// Appends the bits of a line, if it is a cycle, and answers how many cycles it is: one, or none where it has no letters. Most
+/// lines have no other bytes than their letters; those of another line are put in `letters`.
 fn read_line(
     letters: &mut Vec<u8>,
     line: &[u8],

@@ -1,10 +1,9 @@
 //! The subcircuits that were closed.
-ghost use Rattle.std.specs.Prelude.{◌≡◌, ◌<◌, ◌≤◌, ◌+◌, ◌++◌, ◌∷◌, [], IfOk, OnOk, MatchOption, length, false, nat_eq};
+ghost use Rattle.std.specs.Prelude.{◌≡◌, ◌<◌, ◌+◌, ◌++◌, ◌∷◌, [], OnOk, MatchOption, length, false, nat_eq};
 ghost use Rattle.std.specs.Cmp.Lexicographic.{pointwise};
-ghost use Rattle.std.specs.List.{AllByRecursion, list_any};
-ghost use Rattle.deck.specs.Limits.{most_devices, most_ports};
+ghost use Rattle.std.specs.List.{list_any};
 ghost use Rattle.deck.specs.Nets.{net_number};
-ghost use Rattle.subckt_expand.specs.Units.{IsCallBelow, IsClosed, definition_at, names_of};
+ghost use Rattle.subckt_expand.specs.Units.{IsClosed, definition_at, names_of};
 
 use crate::definition::Definition;
 use crate::net::number;

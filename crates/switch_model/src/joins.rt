@@ -1,5 +1,5 @@
 //! Nets that are joined, as a forest: of each net the one above it, of a smaller number, or itself at the top.
-ghost use Rattle.std.specs.Prelude.{◌≡◌, ◌<◌, ◌≤◌, ◌^◌, ◌↔◌, ◌⊎◌, ℕ, length, All};
+ghost use Rattle.std.specs.Prelude.{◌≡◌, ◌<◌, ◌^◌, ◌↔◌, ◌⊎◌, ℕ, length, All};
 ghost use Rattle.switch_model.specs.Joins.{AreJoined, AreTopsOf, IsJoinForest, IsTopMoved, above, top_of};
 
 /// The top above a net.

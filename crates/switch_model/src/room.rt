@@ -1,6 +1,5 @@
 //! Room for the classes of nets that paths of one sort join.
-ghost use Rattle.std.specs.Prelude.{◌≡◌, ◌≢◌, ◌<◌, ◌↔◌, ◌⊎◌, ℕ, All, Bool, Contains, IfOk, length, true};
-ghost use Rattle.deck.specs.Nets.{IsInRange};
+ghost use Rattle.std.specs.Prelude.{◌≡◌, ◌≢◌, ◌<◌, ◌↔◌, ◌⊎◌, ℕ, All, Contains, IfOk, length};
 ghost use Rattle.deck.specs.Switches.{value_of};
 ghost use Rattle.switch_model.specs.Found.{IsUnited, IsWith, class_at, class_of};
 ghost use Rattle.switch_model.specs.FourDrives.{no_drives};

@@ -1,5 +1,5 @@
 //! What a sweep over a component finds, by each sort of paths.
-ghost use Rattle.std.specs.Prelude.{◌≡◌, ◌<◌, ℕ, IfOk, length};
+ghost use Rattle.std.specs.Prelude.{◌≡◌, ◌<◌, ℕ, IfOk};
 ghost use Rattle.switch_model.specs.Found.{class_of};
 ghost use Rattle.switch_model.specs.FourDrives.{target_by_drives};
 ghost use Rattle.switch_model.specs.Sweeps.{AreRooms, drives_in, target_in};

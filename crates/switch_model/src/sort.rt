@@ -1,5 +1,5 @@
 //! Sorts of paths.
-ghost use Rattle.std.specs.Prelude.{◌↔◌, ◌≡◌, ◌≢◌, ◌<◌, IsTrue, false, length, true};
+ghost use Rattle.std.specs.Prelude.{◌↔◌, ◌≡◌, ◌≢◌, IsTrue, false, length, true};
 ghost use Rattle.dom_base.specs.Conduction.{conduction};
 ghost use Rattle.dom_base.specs.declared.kind.Kind.TheVariants.{Keep};
 ghost use Rattle.dom_base.specs.declared.tri.Tri.TheVariants.{Unknown, Zero};

@@ -1,5 +1,5 @@
 //! What four sorts of paths say of the nets of a component.
-ghost use Rattle.std.specs.Prelude.{◌≡◌, ◌<◌, ◌+◌, ◌*◌, ◌≤◌, ℕ, All, Contains, length};
+ghost use Rattle.std.specs.Prelude.{◌<◌, ◌+◌, ◌*◌, ◌≤◌, ℕ, All, Contains, length};
 ghost use Rattle.deck.specs.Nets.{IsInRange};
 ghost use Rattle.switch_model.specs.Components.{IsClosedPart};
 ghost use Rattle.switch_model.specs.LinksData.{is_first};

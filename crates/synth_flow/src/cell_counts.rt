@@ -1,5 +1,5 @@
 //! The cells of a cover, counted without their trees.
-ghost use Rattle.std.specs.Prelude.{ℕ, ◌≡◌, ◌≤◌, ◌<◌, ◌+◌, ◌*◌, ◌^◌, ◌==◌, ◌||◌, List, length};
+ghost use Rattle.std.specs.Prelude.{ℕ, ◌≡◌, ◌<◌, ◌+◌, ◌*◌, ◌^◌, ◌==◌, ◌||◌, List, length};
 ghost use Rattle.std.specs.List.{list_any};
 ghost use Rattle.clock_phase.specs.Levels.{AreLevels};
 ghost use Rattle.dual_rail.specs.ForestOrder.{IsForest};

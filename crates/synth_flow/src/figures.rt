@@ -1,5 +1,5 @@
 //! The figures of the deck of a network, and their text.
-ghost use Rattle.std.specs.Prelude.{ℕ, ◌≡◌, ◌++◌, OnOk, length};
+ghost use Rattle.std.specs.Prelude.{◌≡◌, ◌++◌, OnOk};
 ghost use Rattle.std.specs.List.{enumerate_from, flat_map};
 ghost use Rattle.synth_flow.specs.SummaryLines.{clock_line, figure_line, number_line, summary_lines};
 

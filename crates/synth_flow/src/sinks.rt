@@ -1,5 +1,5 @@
 //! The nets of sinks, and the nets that gate their inverters.
-ghost use Rattle.std.specs.Prelude.{◌≡◌, ◌≤◌, ◌<◌, ◌+◌, ◌^◌, ◌++◌, All, IfOk, length, map};
+ghost use Rattle.std.specs.Prelude.{◌≡◌, ◌<◌, ◌+◌, ◌++◌, All, IfOk, length, map};
 ghost use Rattle.std.specs.List.{range_with_len, zip};
 ghost use Rattle.deck_form.specs.DeckNets.{data_net, sink_gate};
 ghost use Rattle.dual_rail.specs.Uses.{IsEndThere};

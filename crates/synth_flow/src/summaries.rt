@@ -1,6 +1,5 @@
 //! The figures of the deck of a network, without the deck.
 ghost use Rattle.std.specs.Prelude.{◌≡◌, ◌≤◌, ◌<◌, ◌*◌, ◌^◌, All, IfOk, count_by, length};
-ghost use Rattle.network.specs.NetworkData.{NetworkData};
 ghost use Rattle.synth_flow.specs.ChosenForests.{IsChosenForest};
 ghost use Rattle.synth_flow.specs.Summaries.{IsSummaryOf};
 ghost use Rattle.style_costs.specs.Styles.{is_series};

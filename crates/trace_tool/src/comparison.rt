@@ -1,14 +1,12 @@
 //! The run of a circuit over its cycles beside that of a network.
-ghost use Rattle.std.specs.Prelude.{ℕ, ◌≡◌, ◌<◌, All, Bool, IfOk, List, MatchOption, length};
+ghost use Rattle.std.specs.Prelude.{ℕ, ◌≡◌, ◌<◌, All, IfOk, List, length};
 ghost use Rattle.deck.specs.Roles.{AreRoles, ports_of};
 ghost use Rattle.event_sim.specs.Choices.{Chooses};
 ghost use Rattle.event_sim.specs.Orders.{By, Follows};
-ghost use Rattle.network.specs.NetworkData.{NetworkData};
-ghost use Rattle.net_run.specs.RunnerData.{RunsNetwork};
-ghost use Rattle.net_run.specs.Runs.{Cycle, IsNetworkRun, IsNetworkRunFrom};
+ghost use Rattle.net_run.specs.Runs.{Cycle, IsNetworkRun};
 ghost use Rattle.trace_tool.specs.Comparisons.{ComparesAll, ComparesBits, ComparesCycle, ComparesReading, IsBeside, StopsAt};
 ghost use Rattle.trace_tool.specs.Traces.{outputs as outputs_of};
-ghost use Rattle.trace_tool.specs.Verdicts.{IsRunVerdict, IsVerdictFrom};
+ghost use Rattle.trace_tool.specs.Verdicts.{IsRunVerdict};
 
 use crate::Verdict;
 use crate::halt::Halt;

@@ -1,5 +1,5 @@
 //! The least sums of all pairs, joined up pair by pair (Zhao, Sapatnekar 1998).
-ghost use Rattle.std.specs.Prelude.{ℕ, Option, ◌≡◌, ◌+◌, ◌≤◌, ◌*◌, ◌^◌, IfOk, IfSome, MatchOption, OnOk, length, map, option_map};
+ghost use Rattle.std.specs.Prelude.{Option, ◌≡◌, ◌+◌, ◌≤◌, ◌*◌, ◌^◌, IfOk, IfSome, MatchOption, OnOk, length, map, option_map};
 ghost use Rattle.std.specs.List.{range_with_len};
 ghost use Rattle.cover_plan.specs.CoverTables.{combined, lower_both, split_cost};
 ghost use Rattle.tree_map.specs.CoverRows.{AreFewCosts, AreSmall, IsRow, cut_number, entry_of, sum_or_zero};

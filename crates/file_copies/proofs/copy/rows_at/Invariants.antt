@@ -1,5 +1,5 @@
 use Rattle.std.proofs.Common.{◌≡◌, map, take}
-use Rattle.numbered_file.specs.Numbered.{row_at}
+use Rattle.blif_ast.specs.Models.{row_at}
 use Rattle.file_copies.proofs.copy.rows_at.Given as goal
 
 abbrev pub invariant-loop-place : goal.invariant-loop-place
