@@ -12,13 +12,13 @@ use Rattle.domino_law.specs.Shape.{Shape}
 use Rattle.domino_law.proofs.PortRunLaws.{power, power_set}
 use Rattle.event_sim.specs.Orders.{By}
 use Rattle.trace_tool.specs.Moves.{latching_moves, overlapping_moves}
-use Rattle.trace_tool.proofs.CycleMoves.{from_reading, latching_allowed}
+use Rattle.trace_tool.proofs.CycleMoves.{falls_end, from_reading, latching_allowed, overlapping_is, overlapping_reading}
 use Rattle.trace_tool.proofs.FailedCourses.{Fails, fails}
 use Rattle.trace_tool.proofs.PortWalks.{AreAllowed, after_moves, allowed-append, settings-append, settings_from}
 use Rattle.chosen_law.specs.Chosen.{IsReadyForPins}
 use Rattle.chosen_law.specs.Overlapping.{OverlappingCycleNeverUnsettled}
 use Rattle.chosen_law.proofs.NeverUnsettled.{never_fails}
-use Rattle.chosen_law.proofs.Overlapping.{falls_end, overlapping_allowed, overlapping_came, overlapping_is, overlapping_reading}
+use Rattle.chosen_law.proofs.Overlapping.{overlapping_allowed, overlapping_came}
 
 module _ (roles : Roles) (links : LinksData) (net : Net → ℕ) (s : Shape) (ports : HasPorts roles links net s)
     (overlap : s.clocking ≡ Overlapping)
@@ -27,7 +27,7 @@ module _ (roles : Roles) (links : LinksData) (net : Net → ℕ) (s : Shape) (po
       ≡ overlapping_moves roles pins ++ latching_moves roles
   cycle_is =
       settings-append roles (overlapping_reading pins (roles.clocks - 1)) from_reading w
-      ∙ ap (λ l. l ++ latching_moves roles) (overlapping_is roles links net s ports overlap pins w)
+      ∙ ap (λ l. l ++ latching_moves roles) (overlapping_is roles pins w)
 
   pub cycle_allowed : IsReadyForPins links net s w → length pins ≡ s.pins
       → AreAllowed (clocked_deck links s) (overlapping_reading pins (roles.clocks - 1) ++ from_reading) w

@@ -1,3 +1,6 @@
+pub mod NetworkReadings
 pub mod PortCycles
+pub mod RightDecks
+pub mod RightTraces
 pub mod RightVerdicts
 pub mod SameVerdicts

@@ -1,4 +1,5 @@
--- Power and the cycles of a trace, as legal runs by ports: to each reading, and on to where the slaves have been closed.
+-- Power and the cycles of a trace, as legal runs by ports, where all clocks fall together and where they overlap: to each reading, and on
+-- to where the slaves have been closed.
 use Rattle.std.proofs.Common.{◌≡◌, ℕ, suc, Bool, List, [], ◌∷◌, ◌++◌, length, refl, sym, subst, ap, ◌∙◌, arith, append-nil, inl, inr}
 use Rattle.dom_base.specs.declared.tri.Tri.{Tri}
 use Rattle.deck.specs.CircuitData.{CircuitData}
@@ -6,28 +7,28 @@ use Rattle.deck.specs.declared.role.Roles.{Roles}
 use Rattle.switch_model.specs.LinksData.{links_of}
 use Rattle.switch_model.specs.Power.{power_values}
 use Rattle.event_sim.specs.declared.event.Event.{Event}
-use Rattle.port_runs.specs.Environment.{Evaluation, Open, Released, Step, Take, World, after_move, stream_of}
-use Rattle.port_runs.specs.declared.clocking.Clocking.TheVariants.{Together}
+use Rattle.port_runs.specs.Environment.{Open, Released, Step, World, stream_of}
+use Rattle.port_runs.specs.declared.clocking.Clocking.{Clocking}
 use Rattle.port_runs.specs.LegalSteps.{ClockedLinks}
-use Rattle.port_runs.specs.PortRuns.{Rests, Runs, SetsPorts, clocked_ports, power_world}
+use Rattle.port_runs.specs.PortRuns.{Rests, RunsBy, SetsPorts, clocked_ports, power_world}
 use Rattle.port_runs.specs.Readings.{IsReading}
 use Rattle.port_runs.proofs.Steps.{leads_on, stream_of-append}
 use Rattle.trace_tool.specs.Courses.{LeadsTo, State}
-use Rattle.trace_tool.specs.Moves.{evaluation_moves, latching_moves, power_moves}
-use Rattle.trace_tool.proofs.CycleMoves.{IsBetween, evaluation_allowed, evaluation_is, from_reading, latching_allowed, release_allowed, rises_end, rises_take_none, to_reading}
+use Rattle.trace_tool.specs.Moves.{evaluation_by, latching_moves, power_moves}
+use Rattle.trace_tool.proofs.CycleMoves.{IsBetween, from_reading, latching_allowed, reading_allowed, reading_by, reading_evaluates, reading_is, reading_rises, reading_takes, release_allowed}
 use Rattle.trace_tool.proofs.FailedCourses.{Fails}
 use Rattle.trace_tool.proofs.PortWalks.{AreFew, after_moves, at_values, settled_walk, settled_walk_never, walk, walk_never}
 
-module _ (c : CircuitData) (roles : Roles) where
+module _ (clocking : Clocking) (c : CircuitData) (roles : Roles) where
   abbrev k : ClockedLinks
-  k = clocked_ports Together c roles
+  k = clocked_ports clocking c roles
 
   module _ (order : ℕ → ℕ → ℕ → Type 0) where
     -- a legal run that took this stream and rests between two cycles
     pub record IsReady (stream : List (List Bool)) (values : List Tri) : Type 0 where
       pub steps : List Step
       pub world : World
-      pub run : Runs c roles steps (at_values world values)
+      pub run : RunsBy clocking c roles steps (at_values world values)
       pub stream_is : stream_of steps ≡ stream
       pub between : IsBetween world
       pub rests : Rests c roles (at_values world values)
@@ -36,7 +37,7 @@ module _ (c : CircuitData) (roles : Roles) where
     pub record IsReadAt (stream : List (List Bool)) (values : List Tri) : Type 0 where
       pub steps : List Step
       pub world : World
-      pub run : Runs c roles steps (at_values world values)
+      pub run : RunsBy clocking c roles steps (at_values world values)
       pub stream_is : stream_of steps ≡ stream
       pub reading : IsReading c roles (at_values world values)
 
@@ -58,26 +59,25 @@ module _ (c : CircuitData) (roles : Roles) where
     pub evaluates : (stream : List (List Bool)) (pins : List Bool) (more : ℕ) (values : List Tri) (step : ℕ) (events : List Event)
         (t : State)
         → roles.clocks ≡ suc more → length pins ≡ roles.pins → IsReady stream values
-        → LeadsTo order (links_of c roles) (record { values = values; step = step }) (evaluation_moves roles pins) events t
+        → LeadsTo order (links_of c roles) (record { values = values; step = step }) (evaluation_by clocking roles pins) events t
         → IsReadAt (stream ++ pins ∷ []) t.values
     evaluates stream pins more values step events t clocks long ready l =
         let w = ready.world in
-        let next = walk order k roles (to_reading pins more) w values step events t
-        (evaluation_allowed k pins more w clocks ready.between long) ready.rests
+        let next = walk order k roles (reading_by clocking pins more) w values step events t
+        (reading_allowed k clocking refl pins more w clocks ready.between long) ready.rests
         (subst (λ moves. LeadsTo order (links_of c roles) (record { values = values; step = step }) moves events t)
-        (sym (evaluation_is roles pins more w clocks)) l) in
-        let end = rises_end more (after_move (Open Evaluation) (after_move (Take pins) w)) in
+        (sym (reading_is roles clocking pins more w clocks)) l) in
         record {
           steps = ready.steps ++ next.0;
-          world = after_moves (to_reading pins more) w;
+          world = after_moves (reading_by clocking pins more) w;
           run = leads_on k (SetsPorts roles) ready.steps next.0 _ _ _ ready.run next.1;
           stream_is =
               stream_of-append ready.steps next.0
               ∙ (ap (λ x. x ++ stream_of next.0) ready.stream_is ∙ ap (λ x. stream ++ x)
-              (next.3 ∙ ap (λ x. pins ∷ x) (rises_take_none more)));
+              (next.3 ∙ reading_takes clocking pins more));
           reading = record {
-            place = ap (λ (u : World). u.place) end;
-            risen = ap (λ (u : World). u.risen) end ∙ omega (arith, clocks);
+            place = reading_evaluates clocking pins more w;
+            risen = reading_rises clocking pins more w ∙ omega (arith, clocks);
             rests = next.2;
           };
         }
@@ -109,14 +109,14 @@ module _ (c : CircuitData) (roles : Roles) where
 
       pub evaluates_never : (stream : List (List Bool)) (pins : List Bool) (more : ℕ) (values : List Tri) (step : ℕ)
           → roles.clocks ≡ suc more → length pins ≡ roles.pins
-          → IsReady stream values → Fails order (links_of c roles) (record { values = values; step = step }) (evaluation_moves roles pins)
+          → IsReady stream values → Fails order (links_of c roles) (record { values = values; step = step }) (evaluation_by clocking roles pins)
           → ⊥
       evaluates_never stream pins more values step clocks long ready f =
           let w = ready.world in
-          walk_never order k roles (power_world c roles) few (to_reading pins more) w values step ready.steps ready.run
-          (evaluation_allowed k pins more w clocks ready.between long) ready.rests
+          walk_never order k roles (power_world c roles) few (reading_by clocking pins more) w values step ready.steps ready.run
+          (reading_allowed k clocking refl pins more w clocks ready.between long) ready.rests
           (subst (Fails order (links_of c roles) (record { values = values; step = step }))
-          (sym (evaluation_is roles pins more w clocks)) f)
+          (sym (reading_is roles clocking pins more w clocks)) f)
 
       pub latches_never : (stream : List (List Bool)) (values : List Tri) (step : ℕ) → IsReadAt stream values
           → Fails order (links_of c roles) (record { values = values; step = step }) (latching_moves roles) → ⊥

@@ -1,6 +1,6 @@
 -- The verdict of a deck that realises the network of a text of BLIF, the Berkeley Logic Interchange Format: all is the same, in every
 -- order of events.
-use Rattle.std.specs.Prelude.{ℕ, ◌++◌, ◌≡◌, ◌≤◌, All, Bool, List, length, map, take}
+use Rattle.std.specs.Prelude.{ℕ, ◌++◌, ◌≡◌, ◌≤◌, Bool, List, length, map, take}
 use Rattle.dom_base.specs.declared.tri.Tri.{Tri}
 use Rattle.deck.specs.CircuitData.{CircuitData}
 use Rattle.deck.specs.DeckText.{IsDeckOf}
@@ -14,8 +14,9 @@ use Rattle.network.specs.NetworkData.{NetworkData}
 use Rattle.network.specs.Networks.{IsNetwork}
 use Rattle.net_run.specs.Runs.{Cycle, IsNetworkRun}
 use Rattle.port_runs.specs.Environment.{Happens, Step, World, bit, stream_of}
-use Rattle.port_runs.specs.PortRuns.{Leads, Runs}
+use Rattle.port_runs.specs.PortRuns.{LeadsBy, RunsBy}
 use Rattle.port_runs.specs.Readings.{IsReading}
+use Rattle.port_runs.specs.declared.clocking.Clocking.{Clocking}
 use Rattle.port_runs.specs.declared.clocking.Clocking.TheVariants.{Together}
 use Rattle.stim_text.specs.Stimuli.{IsStimulusOf}
 use Rattle.trace_tool.specs.CosimRefusals.{HasNetworkOf, IsCosimRefused}
@@ -35,23 +36,26 @@ pub record HasOutputs (network : NetworkData) (roles : Roles) (steps : List Step
   pub is_cycle : IsCycleOf network (stream_of steps) cycle
   pub outputs_are : outputs roles values ≡ map bit cycle.outputs
 
--- A circuit realises a network in time: in every legal run there are at most so many events between two moves, and at each reading the
--- outputs are the network's.
-pub record RealisesInTime (network : NetworkData) (c : CircuitData) (roles : Roles) : Type 0 where
-  pub few_events : (steps : List Step) (events : List ℕ) (w w' : World) → Runs c roles steps w
-      → Leads c roles (map (λ n. Happens n) events) w w' → length events ≤ most_events (links_of c roles)
-  pub reads : (steps : List Step) (w : World) → Runs c roles steps w → IsReading c roles w → HasOutputs network roles steps w.values
+-- A circuit whose clocks fall so realises a network in time: in every legal run there are at most so many events between two moves, and at
+-- each reading the outputs are the network's.
+pub record RealisesInTime (clocking : Clocking) (network : NetworkData) (c : CircuitData) (roles : Roles) : Type 0 where
+  pub few_events : (steps : List Step) (events : List ℕ) (w w' : World) → RunsBy clocking c roles steps w
+      → LeadsBy clocking c roles (map (λ n. Happens n) events) w w' → length events ≤ most_events (links_of c roles)
+  pub reads : (steps : List Step) (w : World) → RunsBy clocking c roles steps w → IsReading c roles w
+      → HasOutputs network roles steps w.values
 
 -- all is the same over so many cycles
 pub record IsSame (verdict : Verdict) (cycles : ℕ) : Type 0 where
   pub events : ℕ
   pub verdict_is : verdict ≡ Same cycles events
 
--- a circuit that has a network's ports and realises it in time has this verdict over each stream, in each order of events
+-- a circuit that has a network's ports and realises it in time where all clocks fall together has this verdict over each stream, in each
+-- order of events
 abbrev pub RealisedIsSame : Type 0
 RealisedIsSame =
     (order : ℕ → ℕ → ℕ) (network : NetworkData) (c : CircuitData) (roles : Roles) (stream : List (List Bool)) (cycles : List Cycle) (verdict : Verdict)
-    → IsNetwork network → AreRoles (ports_of c) roles → pins_and_outputs c roles ≡ network_ports network → RealisesInTime network c roles
+    → IsNetwork network → AreRoles (ports_of c) roles → pins_and_outputs c roles ≡ network_ports network
+    → RealisesInTime Together network c roles
     → IsNetworkRun network stream cycles
     → IsVerdict (By order) network c roles stream cycles verdict → IsSame verdict (length stream)
 
@@ -64,8 +68,8 @@ pub record IsSameOver (blif stim : List ℕ) (verdict : Verdict) : Type 0 where
   pub is_same : IsSame verdict (length stream)
 
 -- The bytes of a deck on so many clocks, for the bytes of a text: they read back as a circuit with the ports of the text's network that
--- is right in every run in which all clocks fall together, whatever its cells are.
-pub record IsRightTogether (blif : List ℕ) (phases : ℕ) (deck : List ℕ) : Type 0 where
+-- is right in every run in which its clocks fall so, whatever its cells are.
+pub record IsRightWhere (clocking : Clocking) (blif : List ℕ) (phases : ℕ) (deck : List ℕ) : Type 0 where
   pub network : NetworkData
   pub has : HasNetworkOf blif network
   pub circuit : CircuitData
@@ -74,7 +78,11 @@ pub record IsRightTogether (blif : List ℕ) (phases : ℕ) (deck : List ℕ) : 
   pub some_clock : 1 ≤ phases
   pub few_clocks : phases ≤ 4
   pub ports : take circuit.ports circuit.nets ≡ leading_ports phases ++ input_ports network ++ output_ports network
-  pub right : IsRightInEveryRun Together network circuit (roles_of network phases)
+  pub right : IsRightInEveryRun clocking network circuit (roles_of network phases)
+
+-- where all fall together
+abbrev pub IsRightTogether : (blif : List ℕ) (phases : ℕ) (deck : List ℕ) → Type 0
+IsRightTogether blif phases deck = IsRightWhere Together blif phases deck
 
 -- as each right deck is
 abbrev pub right_together : {blif : List ℕ} {options : DeckOptions} {deck : List ℕ} → IsRightDeck blif options deck
