@@ -7,6 +7,8 @@ pub mod CommandFaults
 pub mod CosimThere
 pub mod DeckCauses
 pub mod FetchedFiles
+pub mod FlatPorts
+pub mod FlatTexts
 pub mod FlatThere
 pub mod HeadlineClauses
 pub mod KnownFiles
@@ -14,9 +16,11 @@ pub mod NetworkCauses
 pub mod NetworksThere
 pub mod OneOutcome
 pub mod OutcomeThere
+pub mod OtherLines
 pub mod OwnAnswers
 pub mod OwnAudits
 pub mod OwnDecks
+pub mod PrintedLines
 pub mod ReportThere
 pub mod ReportedFailures
 pub mod ReportedFetches

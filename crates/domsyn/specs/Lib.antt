@@ -3,6 +3,7 @@ pub mod AuditedDecks
 pub mod Benches
 pub mod Failures
 pub mod Fetches
+pub mod FlatTexts
 pub mod Headline
 pub mod Laws
 pub mod Outcomes

@@ -1,4 +1,5 @@
 //! What holds of each command and its outcomes.
+ghost use Rattle.domsyn.specs.FlatTexts.{FlatReadsBack};
 ghost use Rattle.domsyn.specs.Laws.{OutcomeIsOne, OutcomeIsThere};
 ghost use Rattle.domsyn.specs.OwnAudits.{OwnDeckGetsYes};
 ghost use Rattle.domsyn.specs.OwnDecks.{OwnDeckIsSame};
@@ -14,6 +15,12 @@ pub fn outcome_is_one()
 /// isn't shown to be there.
 pub fn outcome_is_there()
     ensures { OutcomeIsThere }
+{}
+
+/// The text of the file of one model of the network of bytes is accepted and refused for nothing, and its network has the name of its
+/// model, the inputs, the outputs and the runs of that network.
+pub fn flat_reads_back()
+    ensures { FlatReadsBack }
 {}
 
 /// Over files that are known `cosim` of a text, of a right deck of it and of a stimulus for the inputs of its network has the

@@ -12,5 +12,7 @@ mod refusal;
 mod status;
 
 pub use command_words::{asked_is_in_range, asked_is_one};
-pub use laws::{outcome_is_one, outcome_is_there, own_deck_gets_yes, own_deck_is_same};
+pub use laws::{
+    flat_reads_back, outcome_is_one, outcome_is_there, own_deck_gets_yes, own_deck_is_same,
+};
 pub use program::top;
