@@ -12,6 +12,7 @@ ghost use Rattle.domsyn.specs.Answered.{AnswersOutcome};
 ghost use Rattle.domsyn.specs.AuditedDecks.{GivesAuditedDeck};
 ghost use Rattle.domsyn.specs.Benches.{GivesSameBench};
 ghost use Rattle.domsyn.specs.Fetches.{AsksAll, AsksAtRefusal, AsksFirst, AsksUpTo};
+ghost use Rattle.domsyn.specs.FlatTexts.{GivesFlatText};
 ghost use Rattle.domsyn.specs.Headline.{GivesRightDeck};
 ghost use Rattle.domsyn.specs.Outcomes.{Outcome, Refused, Printed, status_of};
 ghost use Rattle.domsyn.specs.OwnAudits.{SaysYes};
@@ -93,6 +94,11 @@ pub fn top<S: Shelf, K: Sink, E: Sink>(
 
     // Where the words ask for the deck of a file, what was put out is a right deck of that file, in every order of events.
     ensures headline { result ≡ 0 → GivesRightDeck (S.files shelf.old) (map string_bytes words.now)
+        (Appends (K.taken out.old) (K.taken out.new)) }
+
+    // Where the words ask for a file as one model, what was put out is a text that is accepted and refused for nothing, and whose
+    // network has the inputs, the outputs and the runs of that of the file.
+    ensures flat_reads_back { result ≡ 0 → GivesFlatText (S.files shelf.old) (map string_bytes words.now)
         (Appends (K.taken out.old) (K.taken out.new)) }
 
     // `bench` refuses nothing and reads nothing, and what it puts out says that its deck does what the network does.

@@ -12,6 +12,7 @@ use Rattle.domsyn.proofs.AuditClauses.{finished_audited}
 use Rattle.domsyn.proofs.OwnAnswers.{finished_own, reported_own}
 use Rattle.domsyn.proofs.OwnAudits.{finished_yes, reported_yes}
 use Rattle.domsyn.proofs.BenchClauses.{finished_bench, finished_same, reported_bench}
+use Rattle.domsyn.proofs.FlatTexts.{finished_flat}
 use Rattle.domsyn.proofs.HeadlineClauses.{finished_right}
 use Rattle.domsyn.proofs.TopClauses.{asks_found, asks_none, asks_some, finished_complete}
 use Rattle.domsyn.proofs.Rooms.{room_for_failure, room_of}
@@ -80,6 +81,14 @@ returns-in-Ok-clause-headline g c zero =
     let words = map string_bytes c.args.words.now in
     let asks = asks_found words c.in-Ok-Some.field-0 c.in-Ok-Some.command c.in-Ok-Some.field-0-is c.in-Ok-Some.ensures.command in
     finished_right (g.S.Shelf.files c.args.shelf.now) words (asked_command c.in-Ok-Some.command) asks _ c.in-Ok.answer.text.items c.in-Ok.ensures.right _ _ zero c.finish.ensures.done
+
+pub returns-in-Ok-clause-flat_reads_back : goal.returns-in-Ok-clause-flat_reads_back
+returns-in-Ok-clause-flat_reads_back g c zero =
+    let words = map string_bytes c.args.words.now in
+    let asks = asks_found words c.in-Ok-Some.field-0 c.in-Ok-Some.command c.in-Ok-Some.field-0-is c.in-Ok-Some.ensures.command in
+    let Puts = Appends (g.K.Sink.taken c.args.out.now) (g.K.Sink.taken c.finish.new.out) in
+    finished_flat (g.S.Shelf.files c.args.shelf.now) words _ c.in-Ok.answer.text.items
+    (record { command = asked_command c.in-Ok-Some.command; asks = asks; outcome_is = c.in-Ok.ensures.text }) _ Puts zero c.finish.ensures.done
 
 pub returns-in-Ok-clause-same : goal.returns-in-Ok-clause-same
 returns-in-Ok-clause-same g c zero =
