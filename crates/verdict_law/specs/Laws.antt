@@ -1,6 +1,6 @@
 -- The verdict of a deck that realises the network of a text of BLIF, the Berkeley Logic Interchange Format: all is the same, in every
 -- order of events.
-use Rattle.std.specs.Prelude.{ℕ, ◌++◌, ◌≡◌, ◌≤◌, Bool, List, length, map, take}
+use Rattle.std.specs.Prelude.{ℕ, ◌++◌, ◌≡◌, ◌≤◌, All, Bool, List, length, map, take}
 use Rattle.dom_base.specs.declared.tri.Tri.{Tri}
 use Rattle.deck.specs.CircuitData.{CircuitData}
 use Rattle.deck.specs.DeckText.{IsDeckOf}
