@@ -20,6 +20,7 @@ pub mod OtherLines
 pub mod OwnAnswers
 pub mod OwnAudits
 pub mod OwnDecks
+pub mod OwnTraces
 pub mod PrintedLines
 pub mod ReportThere
 pub mod ReportedFailures

@@ -9,6 +9,7 @@ pub mod Laws
 pub mod Outcomes
 pub mod OwnAudits
 pub mod OwnDecks
+pub mod OwnTraces
 pub mod Refusals
 pub mod Top
 pub mod Traced

@@ -3,6 +3,7 @@ ghost use Rattle.domsyn.specs.FlatTexts.{FlatReadsBack};
 ghost use Rattle.domsyn.specs.Laws.{OutcomeIsOne, OutcomeIsThere};
 ghost use Rattle.domsyn.specs.OwnAudits.{OwnDeckGetsYes};
 ghost use Rattle.domsyn.specs.OwnDecks.{OwnDeckIsSame};
+ghost use Rattle.domsyn.specs.OwnTraces.{OwnDeckHasOutputs};
 
 /// Over files that are known, a command has at most one outcome: a text with its status, or the file
 /// that is refused and the cause.
@@ -33,4 +34,11 @@ pub fn own_deck_is_same()
 /// yes, with the number of its cells and the greatest width and height of their trees.
 pub fn own_deck_gets_yes()
     ensures { OwnDeckGetsYes }
+{}
+
+/// Over files that are known each outcome of `sim` of a right deck of a text and of a stimulus for the inputs of its network is a
+/// trace with the outputs of the network's run, whose settlings all end, with all options; or a probe names no net of the deck.
+/// Clocks overlap where the deck is one whose clocks may.
+pub fn own_deck_has_outputs()
+    ensures { OwnDeckHasOutputs }
 {}

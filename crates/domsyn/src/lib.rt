@@ -13,6 +13,7 @@ mod status;
 
 pub use command_words::{asked_is_in_range, asked_is_one};
 pub use laws::{
-    flat_reads_back, outcome_is_one, outcome_is_there, own_deck_gets_yes, own_deck_is_same,
+    flat_reads_back, outcome_is_one, outcome_is_there, own_deck_gets_yes, own_deck_has_outputs,
+    own_deck_is_same,
 };
 pub use program::top;

@@ -17,6 +17,7 @@ ghost use Rattle.domsyn.specs.Headline.{GivesRightDeck};
 ghost use Rattle.domsyn.specs.Outcomes.{Outcome, Refused, Printed, status_of};
 ghost use Rattle.domsyn.specs.OwnAudits.{SaysYes};
 ghost use Rattle.domsyn.specs.OwnDecks.{SaysSame};
+ghost use Rattle.domsyn.specs.OwnTraces.{SaysOutputs};
 ghost use Rattle.domsyn.specs.Refusals.{refusal_line};
 ghost use Rattle.domsyn.specs.Top.{HasOutcome, HasRoomFor, IsRefusalLine, IsText, MeetsUnread, Reports, line_of, unread_line};
 
@@ -110,6 +111,8 @@ pub fn top<S: Shelf, K: Sink, E: Sink>(
 
     // `cosim` of a right deck of a text says that all is the same.
     ensures own { SaysSame (S.files shelf.old) (map string_bytes words.now) result (Appends (K.taken out.old) (K.taken out.new)) }
+    // `sim` of it puts out a trace with the outputs of the text's network, each of whose settlings ends.
+    ensures own_sim { SaysOutputs (S.files shelf.old) (map string_bytes words.now) result (Appends (K.taken out.old) (K.taken out.new)) }
 
     // Where the words ask for the audit of a deck and it says yes, the deck that was read is one of domino cells, and right in
     // every order of events. And it says yes of a right deck with keepers, in each order of its devices.

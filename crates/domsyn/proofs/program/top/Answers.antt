@@ -11,6 +11,7 @@ use Rattle.domsyn.proofs.Answered.{answers_memory, answers_nothing, answers_outc
 use Rattle.domsyn.proofs.AuditClauses.{finished_audited}
 use Rattle.domsyn.proofs.OwnAnswers.{finished_own, reported_own}
 use Rattle.domsyn.proofs.OwnAudits.{finished_yes, reported_yes}
+use Rattle.domsyn.proofs.OwnTraces.{finished_sim, reported_sim}
 use Rattle.domsyn.proofs.BenchClauses.{finished_bench, finished_same, reported_bench}
 use Rattle.domsyn.proofs.FlatTexts.{finished_flat}
 use Rattle.domsyn.proofs.HeadlineClauses.{finished_right}
@@ -181,6 +182,21 @@ returns-clause-own g c =
     let asks = asks_found words c.in-Ok-Some.field-0 c.in-Ok-Some.command c.in-Ok-Some.field-0-is c.in-Ok-Some.ensures.command in
     let Puts = Appends (g.K.Sink.taken c.args.out.now) (g.K.Sink.taken c.args.out.now) in
     reported_own {words = words} Puts (failure_reported (asked_command c.in-Ok-Some.command) c.in-Err-outcome_of.failure asks (c.in-Err-outcome_of.ensures.failed c.in-Err-outcome_of.failure refl) c.report_failure.ensures.reported)
+
+pub returns-in-Ok-clause-own_sim : goal.returns-in-Ok-clause-own_sim
+returns-in-Ok-clause-own_sim g c =
+    let words = map string_bytes c.args.words.now in
+    let asks = asks_found words c.in-Ok-Some.field-0 c.in-Ok-Some.command c.in-Ok-Some.field-0-is c.in-Ok-Some.ensures.command in
+    let Puts = Appends (g.K.Sink.taken c.args.out.now) (g.K.Sink.taken c.finish.new.out) in
+    finished_sim (g.S.Shelf.files c.args.shelf.now) words _ c.in-Ok.answer.text.items
+    (record { command = asked_command c.in-Ok-Some.command; asks = asks; outcome_is = c.in-Ok.ensures.text }) _ Puts c.finish.ensures.known c.finish.ensures.done
+
+pub returns-clause-own_sim : goal.returns-clause-own_sim
+returns-clause-own_sim g c =
+    let words = map string_bytes c.args.words.now in
+    let asks = asks_found words c.in-Ok-Some.field-0 c.in-Ok-Some.command c.in-Ok-Some.field-0-is c.in-Ok-Some.ensures.command in
+    let Puts = Appends (g.K.Sink.taken c.args.out.now) (g.K.Sink.taken c.args.out.now) in
+    reported_sim {words = words} Puts (failure_reported (asked_command c.in-Ok-Some.command) c.in-Err-outcome_of.failure asks (c.in-Err-outcome_of.ensures.failed c.in-Err-outcome_of.failure refl) c.report_failure.ensures.reported)
 
 pub returns-in-Ok-clause-audited : goal.returns-in-Ok-clause-audited
 returns-in-Ok-clause-audited g c zero =
