@@ -1,6 +1,8 @@
 pub mod AuditedDecks
 pub mod Benches
+pub mod ByteNames
 pub mod ExactDecks
+pub mod FewPairs
 pub mod LeastDecks
 pub mod MethodTexts
 pub mod Methods
