@@ -14,3 +14,4 @@ pub mod OwnVerdicts
 pub mod RightTexts
 pub mod RightTogether
 pub mod TextNetworks
+pub mod WholeDecks

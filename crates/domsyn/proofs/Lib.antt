@@ -28,6 +28,7 @@ pub mod ReportedFetches
 pub mod Rooms
 pub mod RunThere
 pub mod SimThere
+pub mod SynthTexts
 pub mod SynthThere
 pub mod TopClauses
 pub mod Traced

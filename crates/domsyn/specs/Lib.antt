@@ -11,5 +11,6 @@ pub mod OwnAudits
 pub mod OwnDecks
 pub mod OwnTraces
 pub mod Refusals
+pub mod SynthTexts
 pub mod Top
 pub mod Traced

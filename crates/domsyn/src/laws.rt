@@ -4,6 +4,7 @@ ghost use Rattle.domsyn.specs.Laws.{OutcomeIsOne, OutcomeIsThere};
 ghost use Rattle.domsyn.specs.OwnAudits.{OwnDeckGetsYes};
 ghost use Rattle.domsyn.specs.OwnDecks.{OwnDeckIsSame};
 ghost use Rattle.domsyn.specs.OwnTraces.{OwnDeckHasOutputs};
+ghost use Rattle.domsyn.specs.SynthTexts.{ReportTellsDeck, VersionsReadAlike};
 
 /// Over files that are known, a command has at most one outcome: a text with its status, or the file
 /// that is refused and the cause.
@@ -41,4 +42,15 @@ pub fn own_deck_gets_yes()
 /// Clocks overlap where the deck is one whose clocks may.
 pub fn own_deck_has_outputs()
     ensures { OwnDeckHasOutputs }
+{}
+
+/// Over files that are known, the texts that `synth` of a file writes with the same options in two versions read as the same circuit.
+pub fn versions_read_alike()
+    ensures { VersionsReadAlike }
+{}
+
+/// Over files that are known, the text that `synth` of a file writes with options, in either version, reads as the circuit whose figures
+/// `report` of the file tells with them.
+pub fn report_tells_deck()
+    ensures { ReportTellsDeck }
 {}
