@@ -17,12 +17,12 @@ use Rattle.blif_ast.specs.InstanceData.{InstanceData}
 use Rattle.blif_ast.specs.BlifModelData.{BlifModelData}
 use Rattle.blif_ast.specs.LogicalLines.{LogicalLine}
 use Rattle.blif_ast.specs.Cards.{formal_of, actual_of, is_letter, is_row_form, is_value, last_letter}
-use Rattle.blif_ast.specs.Models.{binding_of, row_letter, row_letters}
+use Rattle.blif_ast.specs.Models.{binding_of, row_letter, row_letters, row_at}
 use Rattle.blif_numbers.specs.Build.{Built, built_by, closed_models, first_letter_in, model_after_card, model_with_card, model_with_table, on_after, opened_by, table_after_card, table_with_row}
 use Rattle.blif_numbers.specs.declared.open_model.OpenModel.{OpenModel}
 use Rattle.blif_numbers.specs.declared.open_model.OpenTable.{OpenTable}
 use Rattle.numbered_file.specs.declared.parts.PartKind.TheVariants as at
-use Rattle.numbered_file.specs.Numbered.{Part, TablePart, LatchPart, InstancePart, bindings_by, instance_in, latch_in, model_by, name_of, row_at, table_in}
+use Rattle.numbered_file.specs.Numbered.{Part, TablePart, LatchPart, InstancePart, bindings_by, instance_in, latch_in, model_by, name_of, table_in}
 use Rattle.numbered_file.specs.OpenLists.{OpenLists, with_words, with_row, with_part, with_model}
 use Rattle.blif_lines.specs.TextPlaces.{StandsAt}
 use Rattle.blif_numbers.specs.BuilderData.{binding_words, built_of, card_taken, is_on, model_closed, model_of, open_table, table_closed, table_of_open, value_after, value_letter, width_and_letter, HasValue, IsInner, InnerInputs, InnerOutputs, InnerNames, InnerLatch, InnerSubckt, InnerClock, IsOpenModel, IsOpenTable}

@@ -14,7 +14,8 @@ use Rattle.blif_ast.specs.TableData.{TableData}
 use Rattle.file_copies.specs.declared.model_parts.Due.{Due}
 use Rattle.file_copies.specs.declared.model_parts.Due.TheVariants as due
 use Rattle.file_copies.specs.FileLetters.{tables_letters}
-use Rattle.numbered_file.specs.Numbered.{table_in, latch_in, instance_in, row_at}
+use Rattle.blif_ast.specs.Models.{row_at}
+use Rattle.numbered_file.specs.Numbered.{table_in, latch_in, instance_in}
 use Rattle.numbered_file.specs.OpenLists.{OpenLists}
 use Rattle.blif_lines.specs.TextPlaces.{IsFrontOf, IsRestOf}
 
