@@ -1,5 +1,5 @@
--- What is proved of the text that `flat` puts out: read as Berkeley Logic Interchange Format, it is accepted and refused for nothing, and
--- its network does what the network of the file does.
+-- What is proved of the text that `flat` puts out: read as Berkeley Logic Interchange Format, however long it is, it is accepted and refused
+-- for nothing, and its network does what the network of the file does. (The program refuses a file that is too long.)
 use Rattle.std.specs.Prelude.{ℕ, ◌≡◌, ◌↔◌, Bool, List, map, take}
 use Rattle.blif_ast.specs.Printed.{printed}
 use Rattle.command_answers.specs.Networks.{HasNetwork}
@@ -11,7 +11,7 @@ use Rattle.trace_tool.specs.CosimRefusals.{HasNetworkOf}
 use Rattle.domsyn.specs.Outcomes.{Files, IsFile}
 
 -- a network does what another does: the names of its model, of its inputs and of its outputs in order are the same, and over each stream
--- it has the same runs, with the same values of the latches
+-- it has the same runs, with the same values of the latches after each cycle
 pub record DoesTheSame (network other : NetworkData) : Type 0 where
   pub name_is : other.name ≡ network.name
   pub inputs_are : take other.inputs other.names ≡ take network.inputs network.names

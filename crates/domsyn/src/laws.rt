@@ -19,8 +19,8 @@ pub fn outcome_is_there()
     ensures { OutcomeIsThere }
 {}
 
-/// The text of the file of one model of the network of bytes is accepted and refused for nothing, and its network has the name of its
-/// model, the inputs, the outputs and the runs of that network.
+/// The text of the file of one model of the network of bytes is accepted and refused for nothing, however long it is, and its network
+/// has the name of the model, the inputs, the outputs and the runs of that network.
 pub fn flat_reads_back()
     ensures { FlatReadsBack }
 {}
@@ -39,18 +39,19 @@ pub fn own_deck_gets_yes()
 
 /// Over files that are known each outcome of `sim` of a right deck of a text and of a stimulus for the inputs of its network is a
 /// trace with the outputs of the network's run, whose settlings all end, with all options; or a probe names no net of the deck.
-/// Clocks overlap where the deck is one whose clocks may.
+/// Where clocks overlap, the deck is one whose clocks may.
 pub fn own_deck_has_outputs()
     ensures { OwnDeckHasOutputs }
 {}
 
-/// Over files that are known, the texts that `synth` of a file writes with the same options in two versions read as the same circuit.
+/// Over files that are known, the texts that `synth` of a file writes with the same options, within their ranges, in two versions read
+/// as the same circuit.
 pub fn versions_read_alike()
     ensures { VersionsReadAlike }
 {}
 
-/// Over files that are known, the text that `synth` of a file writes with options, in either version, reads as the circuit whose figures
-/// `report` of the file tells with them.
+/// Over files that are known, the text that `synth` of a file writes with options within their ranges, in either version, reads as the
+/// circuit whose figures `report` of the file tells with them.
 pub fn report_tells_deck()
     ensures { ReportTellsDeck }
 {}

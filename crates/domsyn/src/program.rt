@@ -97,8 +97,8 @@ pub fn top<S: Shelf, K: Sink, E: Sink>(
     ensures headline { result ≡ 0 → GivesRightDeck (S.files shelf.old) (map string_bytes words.now)
         (Appends (K.taken out.old) (K.taken out.new)) }
 
-    // Where the words ask for a file as one model, what was put out is a text that is accepted and refused for nothing, and whose
-    // network has the inputs, the outputs and the runs of that of the file.
+    // Where the words ask for a file as one model, what was put out is a text that is accepted and refused for nothing, unless it is
+    // longer than a file may be, and whose network has the names of model, inputs and outputs and the runs of that of the file.
     ensures flat_reads_back { result ≡ 0 → GivesFlatText (S.files shelf.old) (map string_bytes words.now)
         (Appends (K.taken out.old) (K.taken out.new)) }
 
@@ -111,7 +111,8 @@ pub fn top<S: Shelf, K: Sink, E: Sink>(
 
     // `cosim` of a right deck of a text says that all is the same.
     ensures own { SaysSame (S.files shelf.old) (map string_bytes words.now) result (Appends (K.taken out.old) (K.taken out.new)) }
-    // `sim` of it puts out a trace with the outputs of the text's network, each of whose settlings ends.
+    // `sim` of it, and with clocks that overlap of one that is a deck for that, is refused only for a probe that names no net, and
+    // puts out a trace with the outputs of the text's network, each of whose settlings ends.
     ensures own_sim { SaysOutputs (S.files shelf.old) (map string_bytes words.now) result (Appends (K.taken out.old) (K.taken out.new)) }
 
     // Where the words ask for the audit of a deck and it says yes, the deck that was read is one of domino cells, and right in

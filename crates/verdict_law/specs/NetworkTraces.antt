@@ -28,8 +28,9 @@ abbrev pub network_line : (number : ℕ) (pins : List Bool) (cycle : Cycle) (eve
 network_line number pins cycle events =
     cycle_line (record { cycle = number; pins = pins; outs = map bit cycle.outputs; events = Some events })
 
--- The text of cycles, numbered from a number on, with these pins and in which the network does this: of each cycle the lines of those of its
--- events that are told, and its own line, with the network's outputs and the number of its events.
+-- The text of cycles, numbered from a number on, with these pins and in which the network does this: of each cycle the lines of those of some
+-- events that are told, and its own line, with the network's outputs and the number of these events. That they are the events of the run
+-- says `IsTrace`.
 abbrev pub AreNetworkLines : SetupData → (number : ℕ) (stream : List (List Bool)) (cycles : List Cycle) (text : List ℕ) → Type 0
 AreNetworkLines setup number [] [] text = text ≡ []
 AreNetworkLines setup number (pins ∷ stream) (cycle ∷ cycles) text =
@@ -78,7 +79,7 @@ RightDeckHasTrace =
     → IsDeckOf deck circuit → AreNets circuit.nets options.probes
     → (trace : TraceData) × IsTraceBy clocking deck stim options trace
 
--- and nothing is refused but for a probe that names none
+-- and nothing is refused but for a probe that names none, or where memory runs out
 abbrev pub RightDeckIsRefusedForNets : Type 0
 RightDeckIsRefusedForNets =
     (clocking : Clocking) (blif deck stim : List ℕ) (phases : ℕ) (network : NetworkData) (stream : List (List Bool))
