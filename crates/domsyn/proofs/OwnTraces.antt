@@ -60,7 +60,7 @@ module _ (known : List (List ℕ × List ℕ)) (deck stim bytes : List ℕ) (opt
       by : (fault : TraceFault) → refusal_of fault ≡ Some why → IsRefused bytes own.stim_bytes options.probes fault
           → (fault ≡ trace_fault.Memory) ⊎ ((net : List ℕ) × (fault ≡ trace_fault.NoNet net))
           → (net : List ℕ) × HasNoNet bytes options.probes net × (why ≡ NoNet net)
-      by fault cause refused (inl memory) = absurd (reported_fault fault why cause memory)
+      by fault cause refused (inl lack) = absurd (reported_fault fault why cause lack)
       by fault cause refused (inr (net, is)) = (
         net,
         subst (λ (f : TraceFault). IsRefused bytes own.stim_bytes options.probes f) is refused,
