@@ -23,9 +23,9 @@ const MOST_LETTERS: u64 = 400_000;
 
 const MOST_SINKS: u64 = 8_192;
 
-/// Looks for the first of a file's counts that is above its limit: signals, instances, letters and sinks, in this order. What
-/// comes behind it isn't counted. `names` has the names of the file's models. It takes a time that is linear in the file. The
-/// other error is out of memory.
+/// Refuses a file for the first of its counts that is above its limit: signals, instances, letters and sinks, in this order.
+/// Where it ends well, none is. `names` has the names of the file's models. The other error is out of memory. That what comes
+/// behind such a count isn't counted, and that the time is linear in the file, is no clause.
 pub fn check_counts(
     alloc: Global,
     file: &NumberedFile<'_>,

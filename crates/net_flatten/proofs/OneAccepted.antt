@@ -35,7 +35,7 @@ use Rattle.part_numbers.specs.Ranges.{row}
 use Rattle.model_calls.proofs.Rising.{Rising}
 
 -- what rises is in order
-rising_is_in_order : {X : Type 0} (n : X → ℕ) (xs : List X) → Rising n xs → in_order n xs ≡ xs
+pub rising_is_in_order : {X : Type 0} (n : X → ℕ) (xs : List X) → Rising n xs → in_order n xs ≡ xs
 rising_is_in_order n [] r = refl
 rising_is_in_order n (x ∷ xs) r = ap (with_element n x) (rising_is_in_order n xs r.1) ∙ at_front n x xs r.0
   where
@@ -43,7 +43,7 @@ rising_is_in_order n (x ∷ xs) r = ap (with_element n x) (rising_is_in_order n 
     at_front n x [] h = refl
     at_front n x (y ∷ ys) h = ap (λ b. if b then y ∷ with_element n x ys else x ∷ y ∷ ys) (le-ltb (n y) (n x) h.0)
 
-rising_by : {X : Type 0} (n : X → ℕ) (xs : List X) → Rising (λ (k : ℕ). k) (map n xs) → Rising n xs
+pub rising_by : {X : Type 0} (n : X → ℕ) (xs : List X) → Rising (λ (k : ℕ). k) (map n xs) → Rising n xs
 rising_by n [] r = tt
 rising_by n (x ∷ xs) r = (AllByRecursion-unmap (λ k. n x ≤ k) n xs r.0, rising_by n xs r.1)
 

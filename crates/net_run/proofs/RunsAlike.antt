@@ -71,7 +71,7 @@ window : (a m : ℕ) (v : List Bool) → a + m ≤ length v → take m (drop a v
 window a m v l = take_by_row false (drop a v) m (omega (arith, length-drop a v, l)) ∙ each_value_drop a v (row 0 m) ∙ row_shift (value_at v) a 0 m
     ∙ ap (λ k. map (value_at v) (row k m)) (let z : a + 0 ≡ a = omega arith in z)
 
-keep_all : {X : Type 0} (xs : List X) → filter (λ x. not false) xs ≡ xs
+pub keep_all : {X : Type 0} (xs : List X) → filter (λ x. not false) xs ≡ xs
 keep_all [] = refl
 keep_all (x ∷ xs) = ap (λ l. x ∷ l) (keep_all xs)
 
@@ -85,7 +85,7 @@ module _ (n m : NetworkData) (is : IsNetwork n) (of : IsNetworkOf (file_of n) m)
   abbrev signals_m : List Signal
   signals_m = signals_by_number f by
 
-  pins_are : pins f ≡ take n.inputs n.names
+  pub pins_are : pins f ≡ take n.inputs n.names
   pins_are = ap (λ (c : List End). filter (λ name. not (is_control_name (slice_get c 0) name)) (take n.inputs n.names)) (ap (filter_map (λ (c : Clocking). c.signal)) (no_clockings n is))
       ∙ keep_all (take n.inputs n.names)
 
@@ -245,7 +245,7 @@ module _ (n m : NetworkData) (is : IsNetwork n) (of : IsNetworkOf (file_of n) m)
   same_next v = same_map (numbered_latch signals_m) net_latch (λ (l : NetLatch). value_at (image v) l.input) (λ (l : NetLatch). value_at v l.input) (λ (l : NetLatch). l.input < length n.names)
       (λ l k e small. same_value v l.input k.input small (ap (λ (b : LatchBySignals). b.input) e)) m.latches n.latches placed_are (recursion_from_All (λ (l : NetLatch). l.input < length n.names) n.latches is.latches)
 
-  same_start : start m ≡ start n
+  pub same_start : start m ≡ start n
   same_start = same_map (numbered_latch signals_m) net_latch (λ (l : NetLatch). l.init) (λ (l : NetLatch). l.init) (λ (l : NetLatch). l.input < length n.names)
       (λ l k e small. ap (λ (b : LatchBySignals). b.init) e ∙ bit k.init) m.latches n.latches placed_are (recursion_from_All (λ (l : NetLatch). l.input < length n.names) n.latches is.latches)
     where

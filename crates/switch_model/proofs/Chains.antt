@@ -1,10 +1,9 @@
 -- Lists by their last entries.
-use Rattle.std.proofs.Common.{◌≡◌, ◌≢◌, ℕ, zero, suc, ◌+◌, ◌<◌, ◌≤◌, All, List, [], ◌∷◌, ◌++◌, length, length-set, nat_eq, replicate, reverse, set, get_or, true, false, refl, sym, ap, subst, ◌∙◌, inl, inr, arith}
-use Rattle.std.proofs.lemmas.List.{append_assoc, get_or-map, get_or-set_same, get_or-set_other, get_or_append_left, get_or_past, get_or_push, length-map, length_push, map-set, reverse-append}
+use Rattle.std.proofs.Common.{◌≡◌, ◌≢◌, ℕ, zero, suc, ◌+◌, ◌<◌, ◌≤◌, All, List, [], ◌∷◌, ◌++◌, length, nat_eq, replicate, reverse, set, get_or, true, false, refl, sym, ap, subst, ◌∙◌, arith}
+use Rattle.std.proofs.lemmas.List.{append_assoc, get_or-map, get_or_append_left, get_or_push, length-map, length_push, map-set, reverse-append}
 use Rattle.std.proofs.lemmas.Bool.{eq-eqb, eqb-true}
 use Rattle.std.proofs.lemmas.List.Elements.{Contains-push}
 use Rattle.std.specs.Prelude.{Contains}
-use Rattle.dom_base.proofs.Decided.{dec_nat, lt_or_ge}
 use Rattle.switch_model.specs.ComponentLists.{list_at, with_number}
 use Rattle.switch_model.specs.Chains.{AreBackward, chain, chains, entry_at}
 use Rattle.switch_model.specs.declared.lists.Entry.{Entry}
@@ -30,16 +29,6 @@ module _ (entries : List Entry) (back : AreBackward entries) (number before : �
 
   new : entry_at (entries ++ entry ∷ []) (length entries) ≡ entry
   new = get_or_push entries entry (record { number = 0; before = 0 }) (length entries) refl
-
-  pub backward-push : AreBackward (entries ++ entry ∷ [])
-  backward-push k = elim (lt_or_ge k (length entries)) [
-    | inl lt ↦ omega (arith, ap (λ (e : Entry). e.before) (old k lt), back k)
-    | inr ge ↦ elim (dec_nat k (length entries)) [
-      | inl e ↦ omega (arith, ap (λ i. (entry_at (entries ++ entry ∷ []) i).before) e, ap (λ (e : Entry). e.before) new, le, e)
-      | inr ne ↦
-          omega (arith, ap (λ (e : Entry). e.before) (get_or_past (entries ++ entry ∷ []) k (record { number = 0; before = 0 }) (omega (arith, length_push entries entry, ge, ne))))
-    ]
-  ]
 
   -- the lists that were there stay
   pub chain-push : (n end : ℕ) → end ≤ length entries → chain (entries ++ entry ∷ []) n end ≡ chain entries n end
@@ -70,13 +59,6 @@ module _ (entries : List Entry) (back : AreBackward entries) (number before : �
       ∙ ap (λ ls. set ls list (chain (entries ++ entry ∷ []) (length entries + 1) (length entries + 1))) (chains-push ends within)
       ∙ ap (set (chains entries ends) list)
       (chain-new ∙ ap (λ l. l ++ number ∷ []) (ap (λ n. chain entries n n) is ∙ sym (get_or-map (λ end. chain entries end end) ends list 0 [] lt)))
-
-  pub within-add : (ends : List ℕ) (list : ℕ) → list < length ends → All (λ end. end ≤ length entries) ends
-      → All (λ end. end ≤ length (entries ++ entry ∷ [])) (set ends list (length entries + 1))
-  within-add ends list lt within k d few = elim (dec_nat k list) [
-    | inl e ↦ omega (arith, ap (λ i. get_or (set ends list (length entries + 1)) i d) e, get_or-set_same ends list (length entries + 1) d lt, length_push entries entry)
-    | inr ne ↦ omega (arith, get_or-set_other ends list k (length entries + 1) d ne, within k d (omega (arith, few, length-set ends list (length entries + 1))), length_push entries entry)
-  ]
 
 -- a list by its last entry
 pub chain-last : (entries : List Entry) → AreBackward entries → (k : ℕ)
