@@ -1,13 +1,13 @@
 -- The network of the file of one model of a network has the inputs and the outputs of that network.
-use Rattle.std.proofs.Common.{◌≡◌, ℕ, zero, suc, ◌+◌, false, not, List, [], ◌∷◌, ◌++◌, map, filter, length, take, Some, refl, ap, sym, ◌∙◌, subst, append_assoc}
+use Rattle.std.proofs.Common.{◌≡◌, ℕ, zero, suc, ◌+◌, List, [], ◌∷◌, ◌++◌, map, length, take, Some, refl, ap, sym, ◌∙◌, subst, append_assoc}
 use Rattle.std.specs.Prelude.{slice_get, slice_index_or}
-use Rattle.std.specs.List.{AllByRecursion, enumerate_from, filter_map}
+use Rattle.std.specs.List.{AllByRecursion, enumerate_from}
 use Rattle.std.proofs.lemmas.List.{map-append}
 use Rattle.std.proofs.Math.Seq.{take-append_seam}
 use Rattle.dom_base.proofs.Lists.{AllByRecursion-append, AllByRecursion-every, AllByRecursion-map}
-use Rattle.model_calls.specs.Ends.{Clocking, End, output_of, state_of}
+use Rattle.model_calls.specs.Ends.{output_of, state_of}
 use Rattle.model_calls.specs.Expanded.{PlacedTable, latches, tables}
-use Rattle.model_calls.specs.Numbering.{by_level, is_control_name, letters_w, name_by_number, pins, signals_by_number}
+use Rattle.model_calls.specs.Numbering.{by_level, letters_w, name_by_number, pins, signals_by_number}
 use Rattle.model_calls.specs.Signals.{Signal, signal_of}
 use Rattle.model_calls.proofs.Apart.{each_in_order}
 use Rattle.network.specs.NetworkData.{NetworkData}
@@ -15,7 +15,8 @@ use Rattle.network.specs.Networks.{IsNetwork}
 use Rattle.net_flatten.specs.Flattening.{IsNetworkOf}
 use Rattle.net_flatten.specs.OneModel.{file_of, name_at}
 use Rattle.net_flatten.proofs.OneAccepted as one
-use Rattle.domsyn.proofs.OtherLines.{map_map}
+use Rattle.part_numbers.proofs.Ranges.{map_map}
+use Rattle.net_run.proofs.RunsAlike.{pins_are}
 
 abbrev IsMain : Signal → Type 0
 IsMain s = s.path ≡ []
@@ -26,10 +27,6 @@ own_names prefix k [] h = refl
 own_names prefix k (s ∷ all) h =
     ap (λ path. name_by_number prefix k (record { path = path; name = s.name }) ∷ map (λ (p : ℕ × Signal). name_by_number prefix p.0 p.1) (enumerate_from (k + 1) all)) h.0
     ∙ ap (λ l. s.name ∷ l) (own_names prefix (k + 1) all h.1)
-
-keep_all : {X : Type 0} (xs : List X) → filter (λ x. not false) xs ≡ xs
-keep_all [] = refl
-keep_all (x ∷ xs) = ap (λ l. x ∷ l) (keep_all xs)
 
 map_itself : (names : List (List ℕ)) → map (λ (name : List ℕ). name) names ≡ names
 map_itself [] = refl
@@ -78,10 +75,6 @@ module _ (n : NetworkData) (is : IsNetwork n) (k : NetworkData) (of : IsNetworkO
   names_are : k.names ≡ map name_of all
   names_are = of.network.names_are ∙ own_names (letters_w of.width) 0 all all_main
 
-  pins_are : pins (file_of n) ≡ take n.inputs n.names
-  pins_are = ap (λ (c : List End). filter (λ name. not (is_control_name (slice_get c 0) name)) (take n.inputs n.names)) (ap (filter_map (λ (c : Clocking). c.signal)) (one.no_clockings n is))
-      ∙ keep_all (take n.inputs n.names)
-
   pub same_inputs : take k.inputs k.names ≡ take n.inputs n.names
   same_inputs =
       let states = map name_of (map state_of (latches (file_of n))) in
@@ -95,7 +88,7 @@ module _ (n : NetworkData) (is : IsNetwork n) (k : NetworkData) (of : IsNetworkO
       ap (λ count. take count k.names) of.network.inputs_are
       ∙ ap (take (length (pins (file_of n)))) (names_are ∙ split)
       ∙ take-append_seam (pins (file_of n)) (states ++ outputs)
-      ∙ pins_are
+      ∙ pins_are n k is of
 
   pub same_outputs : map (name_at k) k.outputs ≡ map (name_at n) n.outputs
   same_outputs =

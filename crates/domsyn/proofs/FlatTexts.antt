@@ -14,7 +14,7 @@ use Rattle.net_flatten.specs.OneModelParts.{latches_here, tables_here}
 use Rattle.net_flatten.proofs.Kept.{network_kept}
 use Rattle.net_flatten.proofs.OneModel.{good_one_model}
 use Rattle.net_flatten.proofs.OneUnrefused.{unrefused}
-use Rattle.net_run.proofs.RunsAlike.{runs_alike}
+use Rattle.net_run.proofs.RunsAlike.{runs_alike, same_start}
 use Rattle.network_law.specs.Laws.{HasAnswer}
 use Rattle.network_law.proofs.Answered.{has_answer}
 use Rattle.command_words.specs.Commands.{Command, Flat}
@@ -75,6 +75,7 @@ module _ (n : NetworkData) (is : IsNetwork n) where
     name_is = same_name n is some_network.0 some_network.1;
     inputs_are = same_inputs n is some_network.0 some_network.1;
     outputs_are = same_outputs n is some_network.0 some_network.1;
+    starts_are = same_start n some_network.0 is some_network.1;
     runs = λ stream cycles. runs_alike n some_network.0 is some_network.1 stream cycles;
   }
 

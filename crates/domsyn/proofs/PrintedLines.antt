@@ -4,7 +4,6 @@ use Rattle.std.specs.Prelude.{IfSome}
 use Rattle.std.specs.Cmp.Lexicographic.{same_text}
 use Rattle.std.specs.List.{AllByRecursion, cons_option, filter_map, flat_map, prefix_len, take_while}
 use Rattle.std.proofs.lemmas.List.Elements.{recursion_from_All}
-use Rattle.dom_base.specs.LineFaults.{NumbersRise}
 use Rattle.dom_base.specs.Lines.{first_word}
 use Rattle.dom_base.proofs.Lists.{AllByRecursion-append, AllByRecursion-take, AllByRecursion-weaker, head_same, tail_same}
 use Rattle.blif_ast.specs.declared.latch.Latch.{Latch}
@@ -22,6 +21,7 @@ use Rattle.blif_read.proofs.PrintReadsBackFiles.{reads_back}
 use Rattle.blif_read.proofs.PrintReadsBackNames.{models_names}
 use Rattle.blif_read.proofs.PrintReadsBackLines.{line_at, numbered, printed_lines}
 use Rattle.blif_read.proofs.PrintReadsBackParts.{by_rows, inner_lines, instances_all, instances_lines, latches_all, latches_lines, model_lines-inner, ports_all, tables_all, tables_lines}
+use Rattle.blif_numbers.proofs.LineNumbers.{Rises, Rises-take, logical_lines-rise}
 use Rattle.model_calls.proofs.Rising.{Rising}
 
 abbrev IsLatch : List (List ℕ) → Type 0
@@ -79,15 +79,6 @@ take_last : (count : ℕ) (all : List LogicalLine) → LinesLast all → LinesLa
 take_last zero all last = tt
 take_last (suc count) [] last = tt
 take_last (suc count) (line ∷ more) last = ((λ is. AllByRecursion-take (λ l. begins names_card l ≡ false) count more (last.0 is)), take_last count more last.1)
-
--- numbers of lines that rise
-abbrev Rises : ℕ → List LogicalLine → Type 0
-Rises = NumbersRise (λ line. line.number)
-
-take_rises : (n count : ℕ) (all : List LogicalLine) → Rises n all → Rises n (take count all)
-take_rises n zero all h = tt
-take_rises n (suc count) [] h = tt
-take_rises n (suc count) (line ∷ more) h = (h.0, take_rises (line.number + 1) count more h.1)
 
 -- the lines of tables and then of latches
 abbrev pub lines_of : List TableData → List Latch → List ℕ
@@ -161,10 +152,6 @@ rising_parts n (line ∷ more) rises last = by (begins names_card line) (begins 
         let latches = latches_no line more d in
         subst (IsRisingFrom n) (sym (λ i. lines_of (tables i) (latches i))) (lower n (line.number + 1) (lines_of (tables_of more) (latches_of more)) (omega (arith, rises.0)) rest)
 
-numbered_rises : (number : ℕ) (all : List (List (List ℕ))) → Rises number (numbered number all)
-numbered_rises number [] = tt
-numbered_rises number (words ∷ more) = (omega arith, numbered_rises (number + 1) more)
-
 pub none_of : {X Y : Type 0} (g : X → Y) (xs : List X) → map g xs ≡ [] → xs ≡ []
 none_of g [] e = refl
 none_of g (x ∷ xs) e = absurd cc
@@ -216,7 +203,7 @@ read_back m good = record { model = model; accepted = accepted; same = head_same
     count = prefix_len is_inside (numbered 2 words)
 
     inside_rises : Rises 2 inside
-    inside_rises = take_rises 2 count (numbered 2 words) (numbered_rises 2 words)
+    inside_rises = Rises-take 2 count (numbered 2 words) (subst (Rises 1) lines_are (logical_lines-rise text)).1
 
     inside_last : LinesLast inside
     inside_last = take_last count (numbered 2 words) (numbered_last 2 words (before (inner_lines m) ((end_card ∷ []) ∷ []) (inner_last m) (refl, tt)))

@@ -5,17 +5,18 @@ use Rattle.blif_ast.specs.Printed.{printed}
 use Rattle.command_answers.specs.Networks.{HasNetwork}
 use Rattle.command_words.specs.Commands.{Asks, Flat}
 use Rattle.net_flatten.specs.OneModel.{file_of, name_at}
-use Rattle.net_run.specs.Runs.{Cycle, IsNetworkRun}
+use Rattle.net_run.specs.Runs.{Cycle, IsNetworkRun, start}
 use Rattle.network.specs.NetworkData.{NetworkData}
 use Rattle.trace_tool.specs.CosimRefusals.{HasNetworkOf}
 use Rattle.domsyn.specs.Outcomes.{Files, IsFile}
 
--- a network does what another does: the names of its model, of its inputs and of its outputs in order are the same, and over each stream
--- it has the same runs, with the same values of the latches after each cycle
+-- a network does what another does: the names of its model, of its inputs and of its outputs in order are the same, so are the start values
+-- of its latches, and over each stream it has the same runs, with the same values of the latches after each cycle
 pub record DoesTheSame (network other : NetworkData) : Type 0 where
   pub name_is : other.name ≡ network.name
   pub inputs_are : take other.inputs other.names ≡ take network.inputs network.names
   pub outputs_are : map (name_at other) other.outputs ≡ map (name_at network) network.outputs
+  pub starts_are : start other ≡ start network
   pub runs : (stream : List (List Bool)) (cycles : List Cycle) → IsNetworkRun network stream cycles ↔ IsNetworkRun other stream cycles
 
 -- the text is accepted and refused for nothing, as it has a network, which does what this one does
