@@ -20,7 +20,7 @@ pub fn outcome_is_there()
 {}
 
 /// The text of the file of one model of the network of bytes is accepted and refused for nothing, however long it is, and its network
-/// has the name of the model, the inputs, the outputs and the runs of that network.
+/// has the name of the model, the inputs, the outputs, the start values and the runs of that network.
 pub fn flat_reads_back()
     ensures { FlatReadsBack }
 {}

@@ -98,7 +98,8 @@ pub fn top<S: Shelf, K: Sink, E: Sink>(
         (Appends (K.taken out.old) (K.taken out.new)) }
 
     // Where the words ask for a file as one model, what was put out is a text that is accepted and refused for nothing, unless it is
-    // longer than a file may be, and whose network has the names of model, inputs and outputs and the runs of that of the file.
+    // longer than a file may be, and whose network has the names of model, inputs and outputs, the start values and the runs of that
+    // of the file.
     ensures flat_reads_back { result ≡ 0 → GivesFlatText (S.files shelf.old) (map string_bytes words.now)
         (Appends (K.taken out.old) (K.taken out.new)) }
 
