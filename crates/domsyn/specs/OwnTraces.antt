@@ -1,6 +1,6 @@
 -- What `sim` says of a deck that `synth` wrote of a text, by any method, over files that are known, where all clocks fall together, and with
--- `--skew` of a deck whose clocks may overlap.
-use Rattle.std.specs.Prelude.{ℕ, ◌≡◌, ◌≢◌, Bool, List, IfSome, Some}
+-- `--skew` of a deck whose clocks may overlap or that has one clock.
+use Rattle.std.specs.Prelude.{ℕ, ◌≡◌, ◌≢◌, ◌⊎◌, Bool, List, IfSome, Some}
 use Rattle.deck_form.specs.declared.options.SynthOptions.{SynthOptions}
 use Rattle.command_words.specs.Commands.{Asks, Sim}
 use Rattle.command_words.specs.declared.command.Method.{Method}
@@ -18,7 +18,7 @@ use Rattle.domsyn.specs.Outcomes.{Files, IsFile, IsOutcome, Outcome, Printed, Re
 use Rattle.domsyn.specs.declared.refusal.Refusal.TheVariants.{NoNet}
 
 -- The bytes of a right deck, by a method and with options, of a text with this network, and a stimulus of these cycles for its inputs, as
--- files that are known, neither too long. Where the clocks overlap the method is that of decks whose clocks may.
+-- files that are known, neither too long. Where the clocks overlap the method is that of decks whose clocks may, or there is one clock.
 pub record AreOwnDeckAndStimulus (known : List (List ℕ × List ℕ)) (clocking : Clocking) (deck stim bytes : List ℕ) (network : NetworkData)
     (stream : List (List Bool)) : Type 0 where
   pub blif : List ℕ
@@ -26,7 +26,7 @@ pub record AreOwnDeckAndStimulus (known : List (List ℕ × List ℕ)) (clocking
   pub options : SynthOptions
   pub method : Method
   pub right : IsRightBy method blif options bytes
-  pub suited : clocking ≡ Overlapping → method ≡ Skew
+  pub suited : clocking ≡ Overlapping → (method ≡ Skew) ⊎ (options.phases ≡ 1)
   pub is_deck : IsFile (Some known) deck bytes
   pub stim_bytes : List ℕ
   pub is_stim : IsFile (Some known) stim stim_bytes

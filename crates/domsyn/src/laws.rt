@@ -39,7 +39,7 @@ pub fn own_deck_gets_yes()
 
 /// Over files that are known each outcome of `sim` of a right deck of a text and of a stimulus for the inputs of its network is a
 /// trace with the outputs of the network's run, whose settlings all end, with all options; or a probe names no net of the deck.
-/// Where clocks overlap, the deck is one whose clocks may.
+/// Where clocks overlap, the deck is one whose clocks may, or it has one clock.
 pub fn own_deck_has_outputs()
     ensures { OwnDeckHasOutputs }
 {}

@@ -112,7 +112,7 @@ pub fn top<S: Shelf, K: Sink, E: Sink>(
 
     // `cosim` of a right deck of a text says that all is the same.
     ensures own { SaysSame (S.files shelf.old) (map string_bytes words.now) result (Appends (K.taken out.old) (K.taken out.new)) }
-    // `sim` of it, and with clocks that overlap of one that is a deck for that, is refused only for a probe that names no net, and
+    // `sim` of it, and with clocks that overlap of one for that or on one clock, is refused only for a probe that names no net, and
     // puts out a trace with the outputs of the text's network, each of whose settlings ends.
     ensures own_sim { SaysOutputs (S.files shelf.old) (map string_bytes words.now) result (Appends (K.taken out.old) (K.taken out.new)) }
 

@@ -1,4 +1,5 @@
 pub mod NetworkReadings
+pub mod OneClock
 pub mod PortCycles
 pub mod RightDecks
 pub mod RightTraces

@@ -84,7 +84,11 @@ pub record IsRightWhere (clocking : Clocking) (blif : List ℕ) (phases : ℕ) (
 abbrev pub IsRightTogether : (blif : List ℕ) (phases : ℕ) (deck : List ℕ) → Type 0
 IsRightTogether blif phases deck = IsRightWhere Together blif phases deck
 
--- as each right deck is
+-- On one clock, where none can fall before another, what is right where all clocks fall together is right in each clocking.
+abbrev pub OneClockIsRight : Type 0
+OneClockIsRight = (clocking : Clocking) (blif deck : List ℕ) → IsRightTogether blif 1 deck → IsRightWhere clocking blif 1 deck
+
+-- each right deck is right where all fall together
 abbrev pub right_together : {blif : List ℕ} {options : DeckOptions} {deck : List ℕ} → IsRightDeck blif options deck
     → IsRightTogether blif options.phases deck
 right_together right = record {

@@ -1,5 +1,5 @@
 //! Laws of the verdicts and the traces of decks beside the networks of texts of BLIF.
-ghost use Rattle.verdict_law.specs.Laws.{RealisedIsSame, RightDeckIsAccepted, RightDeckIsSame};
+ghost use Rattle.verdict_law.specs.Laws.{OneClockIsRight, RealisedIsSame, RightDeckIsAccepted, RightDeckIsSame};
 ghost use Rattle.verdict_law.specs.NetworkTraces.{RightDeckHasOutputs, RightDeckHasTrace, RightDeckIsRefusedForNets};
 
 /// A circuit that has a network's ports, whose legal runs read the network's outputs and have few enough events between two
@@ -22,4 +22,10 @@ pub fn right_deck_has_outputs()
     ensures outputs { RightDeckHasOutputs }
     ensures there { RightDeckHasTrace }
     ensures refused { RightDeckIsRefusedForNets }
+{}
+
+/// The bytes of a deck on one clock that is right where all clocks fall together, as right decks are, are right where they overlap: no
+/// clock can fall before another.
+pub fn one_clock_is_right()
+    ensures { OneClockIsRight }
 {}

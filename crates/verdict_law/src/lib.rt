@@ -3,4 +3,4 @@
 
 mod laws;
 
-pub use laws::{realised_is_same, right_deck_has_outputs, right_deck_is_same};
+pub use laws::{one_clock_is_right, realised_is_same, right_deck_has_outputs, right_deck_is_same};
