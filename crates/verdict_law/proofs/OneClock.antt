@@ -1,5 +1,5 @@
 -- A circuit on one clock that is right where all clocks fall together is right where they overlap: no clock can fall before another.
-use Rattle.std.proofs.Common.{◌≡◌, ◌≤◌, ◌+◌, ℕ, Bool, List, [], ◌∷◌, ◌++◌, map, refl, subst, arith}
+use Rattle.std.proofs.Common.{◌≡◌, ℕ, Bool, List, [], ◌∷◌, ◌++◌, map, refl, subst, arith}
 use Rattle.std.specs.List.{AllByRecursion}
 use Rattle.dom_base.proofs.Lists.{AllByRecursion-weaker}
 use Rattle.deck.specs.CircuitData.{CircuitData}
