@@ -5,40 +5,38 @@ use Rattle.dom_base.proofs.Lists.{AllByRecursion-weaker}
 use Rattle.deck.specs.CircuitData.{CircuitData}
 use Rattle.deck.specs.declared.role.Roles.{Roles}
 use Rattle.network.specs.NetworkData.{NetworkData}
-use Rattle.port_runs.specs.Environment.{Evaluation, Fall, Happens, Move, Moves, Open, Rise, Step, Take, World, stream_of}
+use Rattle.port_runs.specs.Environment.{Evaluation, Fall, Happens, Moves, Open, Rise, Step, Take, World, stream_of}
 use Rattle.port_runs.specs.Order.{StandsAfter}
 use Rattle.port_runs.specs.Periods.{IsInPeriod, IsInPeriodOf}
-use Rattle.port_runs.specs.PortRuns.{DoesBy, LeadsBy, MayMoveBy, RunsBy, power_world}
+use Rattle.port_runs.specs.PortRuns.{DoesBy, LeadsBy, RunsBy, SetsPorts, clocked_ports, power_world}
 use Rattle.port_runs.specs.Readings.{HasResetBy, IsLaunchedBy, IsReadBy}
 use Rattle.port_runs.specs.declared.clocking.Clocking.{Clocking}
 use Rattle.port_runs.specs.declared.clocking.Clocking.TheVariants.{Overlapping, Together}
 use Rattle.port_runs.proofs.RunOrder.{runs_stand_in_order}
+use Rattle.port_runs.proofs.Steps.{leads_as, leads_widen}
 use Rattle.domino_law.specs.EveryRun.{ClocksAlike, IsEvaluating, ReachesRest, RunsAsDomino}
 use Rattle.deck_law.specs.Headline.{IsRightInEveryRun, roles_of}
 use Rattle.verdict_law.specs.Laws.{IsRightTogether, IsRightWhere, OneClockIsRight}
 
--- the legal runs on one clock are the same in both clockings
-module _ (from to : Clocking) (c : CircuitData) (roles : Roles) (one : roles.clocks ≡ 1) where
-  may_move : (move : Move) (w : World) → MayMoveBy from c roles move w → MayMoveBy to c roles move w
-  may_move (Open place) w h = h
-  may_move (Take pins) w h = h
-  may_move Rise w h = h
-  may_move (Fall i) w h = absurd (omega (arith, one, h.5))
-
-  does : (step : Step) (w w' : World) → DoesBy from c roles step w w' → DoesBy to c roles step w w'
-  does (Happens n) w w' h = h
-  does (Moves move) w w' h = (may_move move w h.0, h.1)
-
-  leads : (steps : List Step) (w w' : World) → LeadsBy from c roles steps w w' → LeadsBy to c roles steps w w'
-  leads [] w w' h = h
-  leads (step ∷ steps) w w' h = (h.0, does step w h.0 h.1, leads steps h.0 w' h.2)
-
 module _ (c : CircuitData) (roles : Roles) (one : roles.clocks ≡ 1) where
+  -- the legal runs on one clock are the same in both clockings
+  does : (step : Step) (w w' : World) → DoesBy Overlapping c roles step w w' → DoesBy Together c roles step w w'
+  does (Happens n) w w' h = h
+  does (Moves (Open place)) w w' h = h
+  does (Moves (Take pins)) w w' h = h
+  does (Moves Rise) w w' h = h
+  does (Moves (Fall i)) w w' h = absurd (omega (arith, one, h.0.5))
+
+  leads : (steps : List Step) (w w' : World) → LeadsBy Overlapping c roles steps w w' → LeadsBy Together c roles steps w w'
+  leads steps w w' h =
+      (leads_as (clocked_ports Overlapping c roles) (SetsPorts roles) (clocked_ports Together c roles) (SetsPorts roles) (λ u. Unit {0})
+      (λ step u v d kept. (does step u v d, tt)) steps w w' h tt).0
+
   runs : (steps : List Step) (w : World) → RunsBy Overlapping c roles steps w → RunsBy Together c roles steps w
-  runs steps w h = leads Overlapping Together c roles one steps (power_world c roles) w h
+  runs steps w h = leads steps (power_world c roles) w h
 
   runs_back : (steps : List Step) (w : World) → RunsBy Together c roles steps w → RunsBy Overlapping c roles steps w
-  runs_back steps w h = leads Together Overlapping c roles one steps (power_world c roles) w h
+  runs_back steps w h = leads_widen Overlapping c roles steps (power_world c roles) w h
 
   within : (i : ℕ) (steps : List Step) → AllByRecursion (IsInPeriodOf i) steps → AllByRecursion IsInPeriod steps
   within i steps h = AllByRecursion-weaker (IsInPeriodOf i) IsInPeriod (λ step p. p.0) steps h
@@ -67,7 +65,7 @@ module _ (c : CircuitData) (roles : Roles) (one : roles.clocks ≡ 1) where
   reaches w h = record {
     events = h.events;
     end = h.end;
-    leads = leads Together Overlapping c roles one (map (λ n. Happens n) h.events) w h.end h.leads;
+    leads = leads_widen Overlapping c roles (map (λ n. Happens n) h.events) w h.end h.leads;
     rests = h.rests;
     few = h.few;
   }
@@ -86,7 +84,7 @@ module _ (c : CircuitData) (roles : Roles) (one : roles.clocks ≡ 1) where
     no_short = λ w a b reset. h.no_short w a b (has_reset w reset);
     no_contest = λ w p reset. h.no_contest w p (has_reset w reset);
     few_events = λ steps events w w' run more.
-        h.few_events steps events w w' (runs steps w run) (leads Overlapping Together c roles one (map (λ n. Happens n) events) w w' more);
+        h.few_events steps events w w' (runs steps w run) (leads (map (λ n. Happens n) events) w w' more);
     reaches_rest = λ steps w run. reaches w (h.reaches_rest steps w (runs steps w run));
     rests_alike = λ steps steps' w w' n run run' stream place clocks.
         h.rests_alike steps steps' w w' n (runs steps w run) (runs steps' w' run') stream place (clocks_alike steps steps' w w' run run' place);

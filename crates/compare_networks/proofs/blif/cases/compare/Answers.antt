@@ -1,4 +1,0 @@
-use Rattle.compare_networks.proofs.blif.cases.compare.Goals as goal
-
-pub print-requires : goal.print-requires
-print-requires c = c.accepted_file_is_good.ensures _ _ c.in-Ok.ensures.file

@@ -1,5 +1,0 @@
-use Rattle.model_calls.specs.Refusal.{At}
-use Rattle.compare_networks.proofs.cases.compare_accepted.Goals as goal
-
-pub same_sizes-requires-clause-accepted : goal.same_sizes-requires-clause-accepted
-same_sizes-requires-clause-accepted c kind line name few has = c.requires.network.accepted (At kind line name) has
