@@ -2,7 +2,5 @@
 #![tactic(auto)]
 
 mod sure;
-#[cfg(test)]
-mod tests;
 
 pub use sure::top_over_sure;

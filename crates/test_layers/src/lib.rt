@@ -20,6 +20,8 @@ mod probes;
 #[cfg(test)]
 mod read_decks;
 #[cfg(test)]
+mod sure;
+#[cfg(test)]
 mod targets;
 #[cfg(test)]
 mod trees;

@@ -1,14 +1,7 @@
-//! A shelf and sinks that never fail: what they give and take, and a call over them.
-
-use crate::top_over_sure;
+//! The shelf and the sink that never fail.
 use dom_io::{FetchFault, Shelf, Sink, SureShelf, SureSink, put_all};
 use std::alloc::Global;
 use std::test::Fail;
-
-/// The line of status 2.
-const USAGE: &[u8] =
-    b"usage: domsyn synth FILE | flat FILE | run FILE STIM | sim DECK STIM | cosim FILE DECK STIM | report FILE | bench SEED SIZE \
-    | audit DECK\n";
 
 /// The bytes of a file that is held.
 fn fetched(
@@ -49,19 +42,5 @@ fn a_sink_with_room(rt: HostRuntime) -> Result<(), Fail> {
     assert_eq!(rt; put_all(&mut sink, b"inputs 2\n"), Ok(()));
     assert_eq!(rt; sink.taken.as_slice(), b"model and2\ninputs 2\n".as_slice());
     assert_eq!(rt; sink.size, 20);
-    Ok(())
-}
-
-#[test]
-fn words_that_ask_for_nothing(rt: HostRuntime) -> Result<(), Fail> {
-    let alloc = rt.alloc();
-    let words = Vec::new(alloc);
-    let files = Vec::new(alloc);
-    let mut shelf = SureShelf { files };
-    let mut out = SureSink::new(alloc, 0)?;
-    let mut err = SureSink::new(alloc, 256)?;
-    let status = top_over_sure(alloc, words.as_slice(), &mut shelf, &mut out, &mut err);
-    assert_eq!(rt; status, 2);
-    assert_eq!(rt; err.taken.as_slice(), USAGE);
     Ok(())
 }
