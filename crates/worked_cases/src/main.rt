@@ -5,13 +5,14 @@
 mod answer;
 mod reader;
 mod run;
+mod sure;
 mod text;
 
 use run::Tally;
 use std::process::ExitCode;
 use std::{env, fs};
 
-/// What came of the cases of each file that a word names.
+/// What came of the cases of each file that a word names, and of a call over a shelf and sinks that never fail.
 fn run_all(rt: &HostRuntime) -> Option<Tally> {
     let alloc = rt.alloc();
     let mut tally = Tally::default();
@@ -19,6 +20,7 @@ fn run_all(rt: &HostRuntime) -> Option<Tally> {
         let text = fs::read_to_string(rt, name.as_str()).ok()?;
         tally.run_file(alloc, name.as_str(), text.as_str())?;
     }
+    tally.run_sure(alloc)?;
     Some(tally)
 }
 
