@@ -2,9 +2,11 @@
 //! alone: files and networks, gates and covers, decks. The designs are the same each time.
 #![tactic(auto)]
 
+mod divided;
 mod logic;
 mod networks;
 mod synth;
+mod texts;
 
 use comparison::{Trouble, ended};
 use std::alloc::Global;

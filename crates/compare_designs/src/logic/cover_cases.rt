@@ -1,9 +1,9 @@
 //! The cases: generated networks, each with its gates, signs and forest, and those by plain functions.
+use crate::texts::DrawnText;
 use comparison::{Trouble, gates_of};
 use dual_rail::{Forest, rails};
 use gate_decompose::Gates;
 use phase_assign::assign;
-use plain_hierarchies::{network_of, one_model, written};
 use plain_networks::{Sizes, drawn_network};
 use plain_synthesis::{PlainForest, PlainGates, chosen_signs, forest_of};
 use plain_texts::Draws;
@@ -46,12 +46,10 @@ fn drawn_sizes(draws: &mut Draws) -> Sizes {
 pub fn drawn_case(alloc: Global, number: u64) -> Result<Case, Trouble> {
     let mut draws = Draws::of_case(number);
     let sizes = drawn_sizes(&mut draws);
-    let drawn = drawn_network(alloc, &mut draws, sizes)?;
-    let mut file = one_model(alloc, &drawn)?;
-    let text = written(alloc, &mut file)?;
-    let network = network_of(alloc, &file)?;
+    let drawn = DrawnText::of(alloc, &drawn_network(alloc, &mut draws, sizes)?)?;
+    let network = drawn.network(alloc)?;
     Ok(Case {
-        gates: gates_of(alloc, text.as_str())?,
+        gates: gates_of(alloc, drawn.text.as_str())?,
         plain: plain_synthesis::gates_of(alloc, &network)?,
     })
 }

@@ -1,16 +1,15 @@
 //! Networks of generated ones, and their plain forms.
+use crate::texts::DrawnText;
 use blif_ast::Letter;
 use comparison::{Trouble, network_of};
 use net_flatten::{NetTable, Network};
-use plain_hierarchies::{one_model, written};
 use plain_networks::{PlainLatch, PlainNetwork, PlainTable};
 use std::alloc::{AllocError, Global};
 
 /// The network of the text of a generated one. Its tables stand in order of level.
 pub fn flattened(alloc: Global, drawn: &PlainNetwork) -> Result<Network, Trouble> {
-    let mut file = one_model(alloc, drawn)?;
-    let text = written(alloc, &mut file)?;
-    network_of(alloc, text.as_bytes())
+    let drawn = DrawnText::of(alloc, drawn)?;
+    network_of(alloc, drawn.text.as_bytes())
 }
 
 fn letters(alloc: Global, row: &[Letter]) -> Result<Vec<u8>, AllocError> {

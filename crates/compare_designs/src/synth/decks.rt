@@ -1,7 +1,7 @@
 //! Decks, made twice.
-use crate::synth::files::drawn_text;
 use crate::synth::product::{OPTIONS, deck_text, options_at, skew_deck_text};
 use crate::synth::tally::DeckTally;
+use crate::texts::drawn_text;
 use comparison::{Trouble, network_of};
 use network::Network;
 use plain_hierarchies::refusal;
@@ -24,7 +24,7 @@ const SIZES: Sizes = Sizes {
 /// How many files have to be compared for each of all options once.
 const STEP: u64 = 3;
 
-fn plain_options(options: SynthOptions) -> PlainOptions {
+pub fn plain_options(options: SynthOptions) -> PlainOptions {
     PlainOptions {
         bounds: PlainBounds {
             width: options.bounds.w as usize,
@@ -42,7 +42,7 @@ fn plain_style(style: Style) -> PlainStyle {
 }
 
 /// What the decks of a network have in common by all options: its signs and its forest.
-fn in_common(alloc: Global, network: &PlainNetwork) -> Result<Synthesis, Trouble> {
+pub fn in_common(alloc: Global, network: &PlainNetwork) -> Result<Synthesis, Trouble> {
     let gates = gates_of(alloc, network)?;
     let signs = chosen_signs(alloc, &gates)?;
     Ok(Synthesis {

@@ -4,8 +4,6 @@
 //! costs of whose plans it compares with the least of all plans. The files are the same each time.
 mod compound;
 mod decks;
-mod divided;
-mod files;
 mod orders;
 mod product;
 mod tally;

@@ -1,7 +1,7 @@
 //! Decks in random legal orders of events, beside the runs of their networks.
-use crate::synth::files::{DrawnText, drawn_text};
 use crate::synth::product::{OPTIONS, deck_text, options_at};
 use crate::synth::tally::OrderTally;
+use crate::texts::{DrawnText, drawn_text};
 use comparison::{Trouble, network_of};
 use legal_runs::{Clocking, Terms, drawn_run, run_by};
 use network::Network;

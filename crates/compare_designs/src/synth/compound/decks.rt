@@ -1,15 +1,17 @@
 //! Decks with compound cells, made twice, and run.
 use crate::synth::compound::all_plans::{least_cost, plan_cost};
 use crate::synth::compound::cover::{Plan, chosen_plan, cover_tables};
-use crate::synth::compound::product::{compound_marks, deck_text, options_at};
+use crate::synth::compound::product::{compound_marks, deck_text};
+use crate::synth::decks::{in_common, plain_options};
+use crate::synth::product::options_at;
+use crate::texts::DrawnText;
 use comparison::{Trouble, network_of};
 use legal_runs::{Clocking, Style, Terms, drawn_run, run_by};
 use network::Network;
-use plain_hierarchies::{one_model, written};
 use plain_networks::{PlainNetwork, Sizes, drawn_network};
 use plain_synthesis::{
-    PlainCell, PlainForest, PlainStyle, Synthesis, cards_of, cells_of, chosen_signs, deck_of,
-    divide, forest_of, gates_of,
+    PlainCell, PlainForest, PlainOptions, PlainStyle, Synthesis, cards_of, cells_of, deck_of,
+    divide,
 };
 use plain_texts::{DeckReading, Draws, read_deck, write_deck};
 use spice_read::read;
@@ -47,28 +49,19 @@ pub struct Tally {
 /// What the decks of a network have in common by all options.
 #[derive(Drop)]
 struct Case {
-    text: String,
+    drawn: DrawnText,
     network: Network,
     plain: PlainNetwork,
     synthesis: Synthesis,
 }
 
 fn drawn_case(alloc: Global, draws: &mut Draws) -> Result<Case, Trouble> {
-    let drawn = drawn_network(alloc, draws, SIZES)?;
-    let mut file = one_model(alloc, &drawn)?;
-    let text = written(alloc, &mut file)?;
-    let plain = plain_hierarchies::network_of(alloc, &file)?;
-    let gates = gates_of(alloc, &plain)?;
-    let signs = chosen_signs(alloc, &gates)?;
+    let drawn = DrawnText::of(alloc, &drawn_network(alloc, draws, SIZES)?)?;
+    let plain = drawn.network(alloc)?;
     Ok(Case {
-        network: network_of(alloc, text.as_bytes())?,
-        text,
-        synthesis: Synthesis {
-            forest: forest_of(alloc, &gates, &signs)?,
-            signs,
-            kept: Vec::new(alloc),
-            cells: Vec::new(alloc),
-        },
+        network: network_of(alloc, drawn.text.as_bytes())?,
+        drawn,
+        synthesis: in_common(alloc, &plain)?,
         plain,
     })
 }
@@ -116,9 +109,7 @@ impl Tally {
         case: &mut Case,
         number: u32,
     ) -> Result<Option<Vec<u8>>, Trouble> {
-        let options = options_at(number);
-        let bounds = options.plain_bounds();
-        let clocks = options.clocks as usize;
+        let PlainOptions { bounds, clocks } = plain_options(options_at(number));
         let forest = &case.synthesis.forest;
         let Some(tables) = cover_tables(alloc, forest, bounds)? else {
             return Ok(None);
@@ -133,7 +124,10 @@ impl Tally {
             }
         }
         let cells = compound_cells(alloc, forest, &plan, clocks)?;
-        if !have_marks(&cells, &compound_marks(alloc, case.text.as_str(), number)?) {
+        if !have_marks(
+            &cells,
+            &compound_marks(alloc, case.drawn.text.as_str(), number)?,
+        ) {
             return Ok(None);
         }
         if cells.iter().any(|cell| cell.right.is_some()) {
@@ -166,7 +160,7 @@ impl Tally {
             return Err(Trouble::Refused);
         };
         let terms = Terms {
-            clocks: options_at(number).clocks as usize,
+            clocks: options_at(number).phases as usize,
             pins: case.plain.inputs,
             style: Style::Precharge,
             clocking: Clocking::Together,

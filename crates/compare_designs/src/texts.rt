@@ -1,6 +1,6 @@
 //! Generated texts.
-use crate::synth::divided::divided_file;
-use plain_hierarchies::{PlainFile, drawn_file, network_of, written};
+use crate::divided::divided_file;
+use plain_hierarchies::{PlainFile, drawn_file, network_of, one_model, written};
 use plain_networks::{PlainNetwork, Sizes};
 use plain_texts::Draws;
 use std::alloc::{AllocError, Global};
@@ -18,6 +18,13 @@ pub struct DrawnText {
 }
 
 impl DrawnText {
+    /// A network as a file of one model, with its text.
+    pub fn of(alloc: Global, network: &PlainNetwork) -> Result<DrawnText, AllocError> {
+        let mut file = one_model(alloc, network)?;
+        let text = written(alloc, &mut file)?;
+        Ok(DrawnText { file, text })
+    }
+
     /// The network of the file.
     pub fn network(&self, alloc: Global) -> Result<PlainNetwork, AllocError> {
         network_of(alloc, &self.file)
