@@ -11,6 +11,7 @@ mod text;
 use run::Tally;
 use std::process::ExitCode;
 use std::{env, fs};
+use sure::wrong_usage;
 
 /// What came of the cases of each file that a word names, and of a call over a shelf and sinks that never fail.
 fn run_all(rt: &HostRuntime) -> Option<Tally> {
@@ -20,7 +21,7 @@ fn run_all(rt: &HostRuntime) -> Option<Tally> {
         let text = fs::read_to_string(rt, name.as_str()).ok()?;
         tally.run_file(alloc, name.as_str(), text.as_str())?;
     }
-    tally.run_sure(alloc)?;
+    tally.count(wrong_usage(alloc)?);
     Some(tally)
 }
 

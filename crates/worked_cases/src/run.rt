@@ -1,7 +1,6 @@
 //! Files of cases, run one case after the other.
 use crate::answer::call;
 use crate::reader::{Reader, bounds};
-use crate::sure::usage_is_told;
 use crate::text::{filled, words};
 use std::alloc::Global;
 
@@ -15,21 +14,10 @@ pub struct Tally {
 
 impl Tally {
     /// Counts a call, or a case that isn't understood.
-    fn count(&mut self, wrong: Option<String>) {
+    pub fn count(&mut self, wrong: Option<String>) {
         self.all = self.all.saturating_add(1);
         self.right = self.right.saturating_add(wrong.is_none() as u64);
         self.wrong = self.wrong.take().or(wrong);
-    }
-
-    /// Runs a call over a shelf and sinks that never fail.
-    pub fn run_sure(&mut self, alloc: Global) -> Option<()> {
-        let wrong = if usage_is_told(alloc).ok()? {
-            None
-        } else {
-            Some(String::from_str(alloc, "no words over sinks that never fail").ok()?)
-        };
-        self.count(wrong);
-        Some(())
     }
 
     /// Runs the calls of a case, which has some, and keeps what `out` got in the last.
