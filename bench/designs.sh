@@ -193,7 +193,7 @@ one_way() {
     fi
     figures=$(texts figures "$deck")
     case "$*" in
-        *--deck*) columns="$columns $(grep -c '^\.subckt cell-' "$deck"), $(grep -c '^x' "$deck") |" ;;
+        *--deck*) columns="$columns $(grep -c '^\.subckt cell-' "$deck" || true), $(grep -c '^x' "$deck" || true) |" ;;
         *) columns="$columns $figures |" ;;
     esac
     "$domsyn" cosim "$folder/yosys.blif" "$deck" "$folder/stim" --order seed --seed 7 >"$folder/said" || true
