@@ -2,6 +2,8 @@
 ghost use Rattle.std.specs.Prelude.{◌≡◌};
 ghost use Rattle.blif_ast.specs.Cards.{card_named};
 
+use dom_base::is_same;
+
 /// A card that is known, by the first word of its line.
 #[derive(Clone, Copy, Debug, PartialEq, Eq)]
 pub enum Card {
@@ -30,21 +32,21 @@ impl Card {
     fn dotted(word: &[u8]) -> Option<Card>
         ensures { result ≡ card_named word.now }
     {
-        if word == b".names".as_slice() {
+        if is_same(word, b".names") {
             Some(Card::Names)
-        } else if word == b".model".as_slice() {
+        } else if is_same(word, b".model") {
             Some(Card::Model)
-        } else if word == b".inputs".as_slice() {
+        } else if is_same(word, b".inputs") {
             Some(Card::Inputs)
-        } else if word == b".outputs".as_slice() {
+        } else if is_same(word, b".outputs") {
             Some(Card::Outputs)
-        } else if word == b".latch".as_slice() {
+        } else if is_same(word, b".latch") {
             Some(Card::Latch)
-        } else if word == b".subckt".as_slice() {
+        } else if is_same(word, b".subckt") {
             Some(Card::Subckt)
-        } else if word == b".clock".as_slice() {
+        } else if is_same(word, b".clock") {
             Some(Card::Clock)
-        } else if word == b".end".as_slice() {
+        } else if is_same(word, b".end") {
             Some(Card::End)
         } else {
             None

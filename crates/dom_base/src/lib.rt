@@ -26,4 +26,4 @@ pub use name_mark::mark_of;
 pub use polarity::{Polarity, Supply, ToVdd, ToVss};
 pub use text::{append, append_number, append_number_to_name, append_to_name, append_word};
 pub use tri::Tri;
-pub use words::{cut_words, first_word, has_control, have_control};
+pub use words::{cut_words, first_word, has_control, have_control, is_same};

@@ -8,6 +8,7 @@ ghost use Rattle.std.proofs.Common.{rules};
 ghost use Rattle.dom_base.specs.Names.{IsNetName, is_net_byte, is_net_name};
 
 use crate::OutOfMemory;
+use crate::words::is_same;
 use smallvec::SmallVec;
 use std::alloc::{AllocError, Global};
 use std::default::MadeWith;
@@ -83,7 +84,7 @@ impl PartialEq for Name {
     ghost laws = { Prim.search (comparing, rules) };
 
     fn eq(&self, other: &Name) -> bool {
-        self.0.as_slice() == other.0.as_slice()
+        is_same(self.0.as_slice(), other.0.as_slice())
     }
 }
 
@@ -177,7 +178,7 @@ impl PartialEq for NetName {
     ghost laws = { Prim.search (comparing, rules) };
 
     fn eq(&self, other: &NetName) -> bool {
-        self.0.as_slice() == other.0.as_slice()
+        is_same(self.0.as_slice(), other.0.as_slice())
     }
 }
 

@@ -1,5 +1,6 @@
 //! Words of a line.
-ghost use Rattle.std.specs.Prelude.{◌≡◌, IfOk, map};
+ghost use Rattle.std.specs.Prelude.{◌≡◌, IfOk, map, nat_eq};
+ghost use Rattle.std.specs.Cmp.Lexicographic.{pointwise};
 ghost use Rattle.std.specs.List.{list_any};
 ghost use Rattle.dom_base.specs.Lines.{first_word, is_control, words};
 
@@ -22,6 +23,22 @@ pub fn first_word<'a>(words: &[&'a [u8]]) -> &'a [u8]
         Some(word) => word,
         None => &[],
     }
+}
+
+/// Whether two words have the same bytes, which are compared one by one: most words are short.
+#[inline(always)]
+pub fn is_same(word: &[u8], other: &[u8]) -> bool
+    ensures { result ≡ pointwise nat_eq word.now other.now }
+{
+    if word.len() != other.len() {
+        return false;
+    }
+    for index in 0..word.len() {
+        if word[index] != other[index] {
+            return false;
+        }
+    }
+    true
 }
 
 fn is_control(b: u8) -> bool

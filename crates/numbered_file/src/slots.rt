@@ -2,7 +2,8 @@
 ghost use Rattle.std.specs.Prelude.{◌≡◌, ◌≢◌, ◌∷◌, [], IsFalse, IsTrue, Some, length, slice_get};
 ghost use Rattle.numbered_file.specs.Slots.{first_slot, letters_mark, second_slot, slots_of, IsLookup};
 
-use crate::word::{Word, is_same};
+use crate::word::Word;
+use dom_base::is_same;
 
 /// What its two slots say of a name: that it is the one of this number, that no slot has it, since this one is free, or
 /// nothing, since other names have both.

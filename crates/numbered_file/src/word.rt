@@ -3,7 +3,6 @@ ghost use Rattle.std.specs.Prelude.{◌≡◌, ◌==◌, ◌∷◌, []};
 ghost use Rattle.std.specs.Cmp.Lexicographic.{pointwise};
 ghost use Rattle.std.specs.Cmp.Rules.{comparing, hashing};
 ghost use Rattle.std.proofs.Common.{rules};
-ghost use Rattle.blif_ast.specs.Cards.{same};
 
 use std::hash::{Hash, Hasher};
 use std::marker::Model;
@@ -42,19 +41,4 @@ impl<'t> Hash for Word<'t> {
     fn hash<H: Hasher>(&self, state: &mut H) {
         state.write(self.0);
     }
-}
-
-/// Whether two words have the same bytes, which are compared one by one: most words are short.
-pub fn is_same(word: &[u8], other: &[u8]) -> bool
-    ensures { result ≡ same word.now other.now }
-{
-    if word.len() != other.len() {
-        return false;
-    }
-    for index in 0..word.len() {
-        if word[index] != other[index] {
-            return false;
-        }
-    }
-    true
 }

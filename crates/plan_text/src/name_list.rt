@@ -5,7 +5,7 @@ ghost use Rattle.std.specs.Cmp.Lexicographic.{pointwise};
 ghost use Rattle.deck.specs.Nets.{net_number, with_net};
 ghost use Rattle.plan_text.specs.NameLists.{name_words};
 
-use dom_base::{OutOfMemory, append_word};
+use dom_base::{OutOfMemory, append_word, is_same};
 use std::alloc::Global;
 use std::marker::Model;
 
@@ -28,22 +28,6 @@ impl Model for NameList {
     ghost view = { λ n. cut_words n.sizes.items n.words.items };
 
     ghost invariant = { λ n. AreWords n.sizes.items n.words.items };
-}
-
-/// Whether a word is this name, by their bytes one by one: most names are short.
-#[inline(always)]
-fn is_same(word: &[u8], name: &[u8]) -> bool
-    ensures { result ≡ pointwise nat_eq word.now name.now }
-{
-    if word.len() != name.len() {
-        return false;
-    }
-    'bytes: for index in 0..word.len() {
-        if word[index] != name[index] {
-            return false;
-        }
-    }
-    true
 }
 
 /// Whether a name is the word of this length behind the blank at this place.

@@ -13,7 +13,7 @@ use crate::cards::Card;
 use crate::recent_nets::RecentNets;
 use crate::words::net_name;
 use deck::{Circuit, Device, NetSet};
-use dom_base::{Kind, NetName, OutOfMemory};
+use dom_base::{Kind, NetName, OutOfMemory, is_same};
 use std::alloc::Global;
 
 /// Whether the net of this number has the name that this word is.
@@ -21,7 +21,7 @@ fn is_named(nets: &[NetName], number: usize, word: &[u8]) -> bool
     ensures { result ≡ true → slice_get nets.now number ≡ Some (str_to_ascii_lowercase word.now) }
 {
     match nets.get(number) {
-        Some(net) => net.as_bytes() == word,
+        Some(net) => is_same(net.as_bytes(), word),
         None => false,
     }
 }

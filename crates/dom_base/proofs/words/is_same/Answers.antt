@@ -1,7 +1,7 @@
 use Rattle.std.proofs.Common.{arith, ◌≤◌, length, sym, ◌∙◌}
 use Rattle.std.proofs.lemmas.List.{take_all}
 use Rattle.std.specs.Cmp.Lexicographic.{bytes_decides}
-use Rattle.numbered_file.proofs.word.is_same.Goals as goal
+use Rattle.dom_base.proofs.words.is_same.Goals as goal
 
 pub returns : goal.returns
 returns c =
